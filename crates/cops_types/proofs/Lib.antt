@@ -1,0 +1,14 @@
+pub mod ContextRule
+pub mod Examples
+pub mod FaultLemmas
+pub mod FrontLemmas
+pub mod GreatestLists
+mod HeadExamples
+pub mod HeadLemmas
+pub mod Padded
+pub mod PairLists
+pub mod PairPlaces
+pub mod Rising
+pub mod SortedSet
+pub mod VersionOrder
+pub mod WordLemmas

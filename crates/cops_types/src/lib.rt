@@ -1,0 +1,34 @@
+//! The types of the store, and the definitions that every layer speaks of.
+#![tactic(auto)]
+
+mod bytes;
+mod configs;
+mod contexts;
+mod faults;
+mod growing;
+mod keys;
+mod laws;
+mod names;
+pub mod pair_lists;
+mod pairs;
+mod quotas;
+mod records;
+pub mod shared;
+#[cfg(test)]
+mod tests;
+mod values;
+mod versions;
+
+pub use bytes::{ByteLists, Bytes};
+pub use configs::{Config, Tenant, Tenants};
+pub use contexts::{Read, Reads};
+pub use faults::Fault;
+pub use growing::{GrowingDeps, GrowingNear};
+pub use keys::Key;
+pub use laws::head_is_read;
+pub use names::Name;
+pub use pairs::{Deps, Near, Pair};
+pub use quotas::Quota;
+pub use records::{Dated, Entry, EntryParts, Record};
+pub use values::Value;
+pub use versions::Version;
