@@ -1,0 +1,14 @@
+pub mod Log
+pub mod Place
+pub mod Run
+pub mod Shape
+pub mod SoloNode
+pub mod Step
+pub use Rattle.cops_types.specs.Context
+pub use Rattle.cops_types.specs.Key
+pub use Rattle.cops_types.specs.Pairs
+pub use Rattle.cops_types.specs.Records
+pub use Rattle.cops_types.specs.Search
+pub use Rattle.cops_types.specs.Value
+pub use Rattle.cops_types.specs.Version
+pub use Rattle.cops_types.specs.TenantConfig

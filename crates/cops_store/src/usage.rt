@@ -1,0 +1,32 @@
+//! What records take up.
+ghost use Rattle.std.specs.Prelude.{◌≡◌, ◌<◌, ◌^◌};
+ghost use Rattle.cops_store.specs.Contents.{size_of};
+
+use cops_types::Entry;
+
+/// What a tenant keeps.
+#[derive(Clone, Copy, Debug)]
+pub struct InUse {
+    pub records: u64,
+    pub bytes: u64,
+}
+
+impl InUse {
+    // The two counts, which fit their type.
+    pub(crate) fn of(records: u64, bytes: u64) -> Self
+        ensures counts { result ≡ record { records = records; bytes = bytes } }
+        ensures fits { (result.records < 2 ^ 64) × (result.bytes < 2 ^ 64) }
+    {
+        InUse { records, bytes }
+    }
+}
+
+// The bytes of the key and the value.
+pub(crate) fn size(entry: &Entry) -> u64
+    ensures { result ≡ size_of entry.now }
+{
+    let parts = entry.parts();
+    let key = parts.key.bytes();
+    let value = parts.value.bytes();
+    key.len() as u64 + value.len() as u64
+}
