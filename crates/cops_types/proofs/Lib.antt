@@ -5,6 +5,7 @@ pub mod FrontLemmas
 pub mod GreatestLists
 mod HeadExamples
 pub mod HeadLemmas
+pub mod HeadLengths
 pub mod Padded
 pub mod PairLists
 pub mod PairPlaces
