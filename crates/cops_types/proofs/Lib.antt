@@ -10,6 +10,7 @@ pub mod Padded
 pub mod PairLists
 pub mod PairPlaces
 pub mod Rising
+pub mod SlotLemmas
 pub mod SortedSet
 pub mod VersionOrder
 pub mod WordLemmas

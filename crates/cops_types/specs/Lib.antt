@@ -12,6 +12,7 @@ pub mod Pairs
 pub mod Records
 pub mod Refusal
 pub mod Search
+pub mod Slots
 pub mod TenantConfig
 pub mod Value
 pub mod Version

@@ -14,13 +14,14 @@ mod pairs;
 mod quotas;
 mod records;
 pub mod shared;
+mod tenants;
 #[cfg(test)]
 mod tests;
 mod values;
 mod versions;
 
 pub use bytes::{ByteLists, Bytes};
-pub use configs::{Config, Tenant, Tenants};
+pub use configs::{Config, Tenant};
 pub use contexts::{Read, Reads};
 pub use faults::Fault;
 pub use growing::{GrowingDeps, GrowingNear};
@@ -30,5 +31,6 @@ pub use names::Name;
 pub use pairs::{Deps, Near, Pair};
 pub use quotas::Quota;
 pub use records::{Dated, Entry, EntryParts, Record};
+pub use tenants::Tenants;
 pub use values::Value;
 pub use versions::Version;
