@@ -5,6 +5,10 @@ pub mod FrontLemmas
 pub mod GreatestLists
 mod HeadExamples
 pub mod HeadLemmas
+pub mod KnownLemmas
+pub mod LineEndLemmas
+pub mod LineLemmas
+pub mod LineRunLemmas
 pub mod Padded
 pub mod PairLists
 pub mod PairPlaces
@@ -13,3 +17,4 @@ pub mod SlotLemmas
 pub mod SortedSet
 pub mod VersionOrder
 pub mod WordLemmas
+pub mod Writing
