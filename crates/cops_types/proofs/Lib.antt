@@ -6,6 +6,10 @@ pub mod GreatestLists
 mod HeadExamples
 pub mod HeadLemmas
 pub mod HeadLengths
+pub mod KnownLemmas
+pub mod LineEndLemmas
+pub mod LineLemmas
+pub mod LineRunLemmas
 pub mod Padded
 pub mod PairLists
 pub mod PairPlaces
@@ -14,3 +18,4 @@ pub mod SlotLemmas
 pub mod SortedSet
 pub mod VersionOrder
 pub mod WordLemmas
+pub mod Writing
