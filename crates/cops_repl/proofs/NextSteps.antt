@@ -1,21 +1,22 @@
 -- What comes next after the replies of each stage.
 use Rattle.std.proofs.Common.{◌≡◌, ℕ, zero, suc, ◌+◌, ◌<◌, ◌≤◌, Bool, true, false, not, ◌||◌, List, [], ◌∷◌, ◌++◌, map, length, drop, refl, sym, ◌∙◌, ap, subst, arith, append-nil, append_assoc}
+use Rattle.std.proofs.lemmas.List.{replicate-append-replicate}
 use Rattle.std.specs.Prelude.{Option, Some, None, slice_get, replicate, if◌then◌else◌}
 use Rattle.std.specs.List.{list_any}
 use Rattle.std.specs.Option.{option_or}
-use Rattle.cops_types.specs.declared.faults.Fault.{Fault}
 use Rattle.cops_types.specs.declared.pairs.Pair.{Pair}
 use Rattle.cops_types.specs.declared.records.EntryParts.{EntryParts as Entry}
-use Rattle.cops_node.specs.declared.NodeCall.TheVariants.{Ack}
+use Rattle.cops_types.specs.Version.{Timestamp}
+use Rattle.cops_node.specs.declared.NodeCall.TheVariants.{Ack, Commit, DepCheck}
 use Rattle.cops_node.specs.declared.NodeReply.{NodeReply}
 use Rattle.cops_node.specs.declared.NodeReply.TheVariants.{Checked, Pulled, Committed, Already, Acked, NotFront}
 use Rattle.cops_node.specs.Log.{Directed, Next, Call, Ended}
 use Rattle.cops_repl.specs.declared.Delivery.{Delivery}
 use Rattle.cops_repl.specs.declared.Delivery.TheVariants.{Carried}
-use Rattle.cops_repl.specs.declared.stages.After.{After}
+use Rattle.cops_repl.specs.declared.stages.After.TheVariants.{Goes, Ends}
 use Rattle.cops_repl.specs.declared.stages.Stage.TheVariants.{Pulling, Carrying, Stored}
-use Rattle.cops_repl.specs.Carrier.{Stream, acknowledge, call_or_end, check, commit, complete, delivery, first_end, is_acked, is_committed, is_foreign, next_after, pair_of_entry, pull, unless_end}
-use Rattle.cops_repl.specs.Stands.{AsksNext, FollowsFrom, FollowsReply, LeadTo, reply_of_commit}
+use Rattle.cops_repl.specs.Carrier.{Stream, acknowledge, call_or_end, check, commit, end_of, first_end, is_acked, is_committed, is_foreign, next_after, pair_of_entry, pull, unless_end}
+use Rattle.cops_repl.specs.Stands.{AsksNext, FollowsReply, reply_of_ack, reply_of_commit}
 
 module _ (shards : ℕ) (stream : Stream) where
   -- ---- checks that were answered
@@ -108,3 +109,81 @@ module _ (shards : ℕ) (stream : Stream) where
       by : (fresh : Bool) → replies ≡ Pulled led.0 ∷ (replicate (length led.0.near) (Checked true) ++ reply_of_commit fresh ∷ []) → next_after shards stream replies ≡ Call (acknowledge stream led.0)
       by true is = next-from led.0 (length led.0.near) (commit stream led.0 ∷ acknowledge stream led.0 ∷ []) (Committed ∷ []) replies led.1 (omega arith) (left-all led.0) is
       by false is = next-from led.0 (length led.0.near) (commit stream led.0 ∷ acknowledge stream led.0 ∷ []) (Already ∷ []) replies led.1 (omega arith) (left-all led.0) is
+
+  -- ---- what follows the reply
+
+  -- a reply that brings an end is the end
+  ended : (d : Directed) (reply : NodeReply) (rest : List NodeReply) (others : List Directed) (ending : Delivery) (next : Next Delivery) → end_of shards stream d.call reply ≡ Some ending →
+      unless_end (first_end shards stream (d ∷ others) (reply ∷ rest)) next ≡ Ended ending
+  ended d reply rest others ending next ends = ap (λ e. unless_end (option_or e (first_end shards stream others rest)) next) ends
+
+  pub ends_check : (entry : Entry) (k : ℕ) (p : Pair) (reply : NodeReply) (ending : Delivery) → slice_get entry.near k ≡ Some p → end_of shards stream (DepCheck p.key p.version) reply ≡ Some ending →
+      FollowsReply shards stream (Carrying entry k) reply (Ends ending)
+  ends_check entry k p reply ending is ends replies led =
+      next-from entry k (check shards stream p ∷ left entry (suc k)) (reply ∷ []) (replies ++ reply ∷ []) led.0 led.1 (left-check entry k p is) (led-one entry k replies reply led.2)
+      ∙ ended (check shards stream p) reply [] (left entry (suc k)) ending
+      (call_or_end (slice_get (check shards stream p ∷ left entry (suc k)) 1) (Carried (pair_of_entry entry) (list_any is_committed (reply ∷ [])) (list_any is_acked (reply ∷ []))))
+      ends
+
+  pub ends_commit : (entry : Entry) (reply : NodeReply) (ending : Delivery) → end_of shards stream (Commit entry) reply ≡ Some ending →
+      FollowsReply shards stream (Carrying entry (length entry.near)) reply (Ends ending)
+  ends_commit entry reply ending ends replies led =
+      next-from entry (length entry.near) (commit stream entry ∷ acknowledge stream entry ∷ []) (reply ∷ []) (replies ++ reply ∷ []) led.0 led.1 (left-all entry) (led-one entry (length entry.near) replies reply led.2)
+      ∙ ended (commit stream entry) reply [] (acknowledge stream entry ∷ []) ending
+      (call_or_end (Some (acknowledge stream entry)) (Carried (pair_of_entry entry) (list_any is_committed (reply ∷ [])) (list_any is_acked (reply ∷ []))))
+      ends
+
+  -- a check that brings no end found the pair committed
+  no_end_check : (key : List ℕ) (version : Timestamp) (reply : NodeReply) → end_of shards stream (DepCheck key version) reply ≡ None → reply ≡ Checked true
+  no_end_check key version (Checked true) none = refl
+  no_end_check key version reply none = cc
+
+  pub goes_check : (entry : Entry) (k : ℕ) (p : Pair) (reply : NodeReply) → k < length entry.near → end_of shards stream (DepCheck p.key p.version) reply ≡ None →
+      FollowsReply shards stream (Carrying entry k) reply (Goes (Carrying entry (k + 1)))
+  goes_check entry k p reply within none replies led =
+      (
+        led.0,
+        omega arith,
+        led-one entry k replies reply led.2
+        ∙ ap (λ r. Pulled entry ∷ (replicate k (Checked true) ++ r ∷ [])) (no_end_check p.key p.version reply none)
+        ∙ ap (λ rs. Pulled entry ∷ rs) (replicate-append-replicate k 1 (Checked true)),
+      )
+
+  -- the calls from the commit on, after a reply to it
+  after-commit : (fresh : Bool) (entry : Entry) (reply : NodeReply) (ending : Delivery) → is_foreign shards stream entry ≡ false → end_of shards stream (Ack stream.to_dc entry.version) reply ≡ Some ending →
+      (replies : List NodeReply) → replies ≡ Pulled entry ∷ (replicate (length entry.near) (Checked true) ++ reply_of_commit fresh ∷ []) → next_after shards stream (replies ++ reply ∷ []) ≡ Ended ending
+  after-commit true entry reply ending own ends replies led =
+      next-from entry (length entry.near) (commit stream entry ∷ acknowledge stream entry ∷ []) (Committed ∷ reply ∷ []) (replies ++ reply ∷ []) own (omega arith) (left-all entry)
+      (led-two entry (length entry.near) replies Committed reply led)
+      ∙ ended (acknowledge stream entry) reply [] [] ending
+      (call_or_end None (Carried (pair_of_entry entry) (list_any is_committed (Committed ∷ reply ∷ [])) (list_any is_acked (Committed ∷ reply ∷ []))))
+      ends
+  after-commit false entry reply ending own ends replies led =
+      next-from entry (length entry.near) (commit stream entry ∷ acknowledge stream entry ∷ []) (Already ∷ reply ∷ []) (replies ++ reply ∷ []) own (omega arith) (left-all entry)
+      (led-two entry (length entry.near) replies Already reply led)
+      ∙ ended (acknowledge stream entry) reply [] [] ending
+      (call_or_end None (Carried (pair_of_entry entry) (list_any is_committed (Already ∷ reply ∷ [])) (list_any is_acked (Already ∷ reply ∷ []))))
+      ends
+
+  pub ends_acknowledge : (pair : Pair) (fresh : Bool) (reply : NodeReply) (ending : Delivery) → end_of shards stream (Ack stream.to_dc pair.version) reply ≡ Some ending →
+      FollowsReply shards stream (Stored pair fresh) reply (Ends ending)
+  ends_acknowledge pair fresh reply ending ends replies led =
+      after-commit fresh led.0 reply ending led.1 (ap (λ (p : Pair). end_of shards stream (Ack stream.to_dc p.version) reply) (sym led.2) ∙ ends) replies led.3
+
+  pub acknowledged : (pair : Pair) (fresh acked : Bool) → FollowsReply shards stream (Stored pair fresh) (reply_of_ack acked) (Ends (Carried pair fresh acked))
+  acknowledged pair fresh acked replies led = by fresh acked led.3 ∙ ap (λ p. Ended (Carried p fresh acked)) (sym led.2)
+    where
+      from : (first reply : NodeReply) → replies ≡ Pulled led.0 ∷ (replicate (length led.0.near) (Checked true) ++ first ∷ []) →
+          next_after shards stream (replies ++ reply ∷ [])
+          ≡ unless_end (first_end shards stream (commit stream led.0 ∷ acknowledge stream led.0 ∷ []) (first ∷ reply ∷ []))
+              (call_or_end None (Carried (pair_of_entry led.0) (list_any is_committed (first ∷ reply ∷ [])) (list_any is_acked (first ∷ reply ∷ []))))
+      from first reply is =
+          next-from led.0 (length led.0.near) (commit stream led.0 ∷ acknowledge stream led.0 ∷ []) (first ∷ reply ∷ []) (replies ++ reply ∷ []) led.1 (omega arith) (left-all led.0)
+          (led-two led.0 (length led.0.near) replies first reply is)
+
+      by : (fresh acked : Bool) → replies ≡ Pulled led.0 ∷ (replicate (length led.0.near) (Checked true) ++ reply_of_commit fresh ∷ []) →
+          next_after shards stream (replies ++ reply_of_ack acked ∷ []) ≡ Ended (Carried (pair_of_entry led.0) fresh acked)
+      by true true is = from Committed Acked is
+      by true false is = from Committed NotFront is
+      by false true is = from Already Acked is
+      by false false is = from Already NotFront is

@@ -2,7 +2,7 @@
 use Rattle.std.specs.Prelude.{◌≡◌, ◌≢◌, ℕ, ◌<◌, ◌≤◌, Bool, true, false, List, [], ◌∷◌, ◌++◌, length, replicate, if◌then◌else◌}
 use Rattle.cops_types.specs.declared.records.EntryParts.{EntryParts as Entry}
 use Rattle.cops_node.specs.declared.NodeReply.{NodeReply}
-use Rattle.cops_node.specs.declared.NodeReply.TheVariants.{Checked, Pulled, Committed, Already}
+use Rattle.cops_node.specs.declared.NodeReply.TheVariants.{Checked, Pulled, Committed, Already, Acked, NotFront}
 use Rattle.cops_node.specs.Log.{LogStep, Directed, Call, Ended}
 use Rattle.cops_node.specs.Shape.{Shape}
 use Rattle.cops_repl.specs.declared.Progress.{Progress}
@@ -45,6 +45,9 @@ stream_of route = record { origin = route.origin; to_dc = route.to_dc }
 
 abbrev pub reply_of_commit : Bool → NodeReply
 reply_of_commit fresh = if fresh then Committed else Already
+
+abbrev pub reply_of_ack : Bool → NodeReply
+reply_of_ack acked = if acked then Acked else NotFront
 
 -- the replies that lead to a stage: none; an entry of the stream, and that its first near pairs are committed at the destination; all this, and that the entry is stored there
 abbrev pub LeadTo : ℕ → Stream → List NodeReply → Stage → Type 0
