@@ -1,0 +1,3 @@
+pub mod CarrierSteps
+pub mod Fitting
+pub mod NextSteps

@@ -1,0 +1,88 @@
+ghost use Rattle.std.specs.Prelude.{◌≡◌, ℕ, ◌<◌, max, false};
+ghost use Rattle.cops_node.specs.declared.NodeReply.{NodeReply};
+ghost use Rattle.cops_node.specs.Log.{Directed, Replied};
+ghost use Rattle.cops_repl.specs.Carrier.{Carrier as Solo, new_carrier};
+ghost use Rattle.cops_repl.specs.Stands.{CarrierStandsFor, IsStepOf, RunsIn, has_ended, is_done};
+
+use crate::Progress;
+use crate::stages::{After, Route, Stage};
+use cops_node::{NodeId, Nodes};
+use cops_types::Config;
+use std::marker::Model;
+use std::mem;
+
+/// A carrier: it takes the front of one stream to another data centre. It pulls the entry, checks at
+/// the destination each pair that the entry nearest depends on, commits the entry there, and then
+/// acknowledges it at its origin.
+///
+/// Contracts see its stream, the number of shards, the greatest moment that was handed to it, and how
+/// far it has come.
+#[derive(Debug, Drop)]
+pub struct Carrier {
+    route: Route,
+    moment: u64,
+    stage: Stage,
+}
+
+impl Model for Carrier {
+    ghost use Rattle.cops_repl.specs.Stands.{Kept, IsSound, stream_of};
+
+    ghost Value = { Kept };
+
+    ghost view = { λ c. record { stream = stream_of c.route; shards = c.route.shards; moment = c.moment; stage = c.stage } };
+
+    ghost invariant = { λ c. IsSound c.route.shards (stream_of c.route) c.stage };
+}
+
+impl Carrier {
+    /// A carrier of the stream from a node to another data centre. Its steps need that both exist.
+    pub fn new(config: &Config, origin: NodeId, to_dc: u64) -> Self
+        ensures { CarrierStandsFor config.now.shards result (new_carrier (record { origin = origin; to_dc = to_dc })) }
+    {
+        Carrier {
+            route: Route {
+                origin,
+                to_dc,
+                shards: config.shards,
+            },
+            moment: 0,
+            stage: Stage::Pulling,
+        }
+    }
+
+    /// Whether it has ended.
+    pub fn ended(&self) -> bool
+        ensures { result ≡ has_ended self.now }
+    {
+        matches!(self.stage, Stage::Over)
+    }
+
+    /// Takes the next step: one call at a node, for the tenant of a slot. It takes no memory.
+    pub fn step<N: Nodes>(&mut self, nodes: &mut N, slot: u64, moment: u64) -> Progress
+        requires goes_on { has_ended self.old ≡ false }
+        requires stream { RunsIn (N.shape nodes.old) self.old.shards self.old.stream }
+        requires slot { slot < (N.shape nodes.old).slots }
+
+        // One call is made. For each carrier of the definition that this one stood for, it is the next
+        // call, and the step is the definition's.
+        ensures called { (directed : Directed) × (reply : NodeReply)
+            × N.Answers nodes.old directed.node slot (max self.old.moment moment) directed.call reply nodes.new
+            × ((shards : ℕ) (solo : Solo) → CarrierStandsFor shards self.old solo →
+                IsStepOf shards solo directed (record { moment = max solo.moment moment; outcome = Replied reply }) result self.new) }
+        ensures stream { self.new.stream ≡ self.old.stream }
+        ensures shards { self.new.shards ≡ self.old.shards }
+        ensures moment { self.new.moment ≡ max self.old.moment moment }
+        ensures ended { has_ended self.new ≡ is_done result }
+        ensures shape { N.shape nodes.new ≡ N.shape nodes.old }
+    {
+        self.moment = self.moment.max(moment);
+        let stage = mem::replace(&mut self.stage, Stage::Over);
+        match self.route.step(nodes, slot, self.moment, stage) {
+            After::Goes(stage) => {
+                self.stage = stage;
+                Progress::Working
+            }
+            After::Ends(ending) => Progress::Done(ending),
+        }
+    }
+}
