@@ -36,7 +36,7 @@ told_from-left base (config ∷ list) clusters events fresh =
     sym (λ i. replies_from config (own base events) (here i) ∷ sym later i)
 
 -- a tenant who is named has a slot
-slot_there : (tenants : List Tenant) (name : List ℕ) (slot : ℕ) → slot_of_name tenants name ≡ Some slot → slot < length tenants
+pub slot_there : (tenants : List Tenant) (name : List ℕ) (slot : ℕ) → slot_of_name tenants name ≡ Some slot → slot < length tenants
 slot_there [] name slot e = cc
 slot_there (tenant ∷ tenants) name slot e = (position-Some (λ (t : Tenant). bytes_eq t.name name) (tenant ∷ tenants) slot tenant e).0
 
