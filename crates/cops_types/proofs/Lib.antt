@@ -10,6 +10,7 @@ pub mod KnownLemmas
 pub mod LineEndLemmas
 pub mod LineLemmas
 pub mod LineRunLemmas
+pub mod NumberLemmas
 pub mod Padded
 pub mod PairLists
 pub mod PairPlaces

@@ -20,8 +20,10 @@ mod sources;
 mod tenants;
 #[cfg(test)]
 mod tests;
+pub mod texts;
 mod values;
 mod versions;
+pub mod words;
 
 pub use bytes::{ByteLists, Bytes};
 pub use configs::{Config, Tenant};
