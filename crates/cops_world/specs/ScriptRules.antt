@@ -1,0 +1,61 @@
+-- What is answered to each line of a script, and what is left after it.
+use Rattle.std.specs.Prelude.{◌≡◌, ◌≢◌, ℕ, ◌<◌, IsFalse, List, [], length, Option, Some, None}
+use Rattle.cops_types.specs.declared.configs.Config.{Config}
+use Rattle.cops_types.specs.declared.faults.Fault.TheVariants.{Syntax}
+use Rattle.cops_types.specs.Counts.{counted}
+use Rattle.cops_types.specs.Head.{Front, AtStart, Within, Begun, front_after}
+use Rattle.cops_types.specs.HeadReader.{front_with}
+use Rattle.cops_types.specs.LineRules.{Rules}
+use Rattle.cops_world.specs.declared.acts.Event.{Event}
+use Rattle.cops_world.specs.declared.replies.Reply.{Reply}
+use Rattle.cops_world.specs.declared.replies.Reply.TheVariants.{Refused}
+use Rattle.cops_world.specs.declared.scripts.BadConfig.{BadConfig}
+use Rattle.cops_world.specs.declared.scripts.Script.{Script}
+use Rattle.cops_world.specs.declared.scripts.Script.TheVariants.{Head, Running}
+use Rattle.cops_world.specs.Cluster.{SoloCluster, cluster_step, new_cluster}
+use Rattle.cops_world.specs.Events.{config_at, is_out_of_memory}
+use Rattle.cops_world.specs.Script.{Said, OfNobody, Unformed, Acts, said_in, answer_line}
+
+module _ {W : Type 0} (setup : W → Config) (StandsFor : W → ℕ → SoloCluster → Type 0) where
+  -- a new world of the configuration
+  pub record IsNew (config : Config) (world : W) : Type 0 where
+    pub setup_is : setup world ≡ config
+    pub empty : (slot : ℕ) → slot < length config.tenants → StandsFor world slot (new_cluster (config_at config slot))
+
+  -- an event acted on its own tenant's cluster, unless memory was refused, and on no other
+  pub record HasActed (old : W) (event : Event) (reply : Reply) (new : W) : Type 0 where
+    pub same : setup new ≡ setup old
+    pub own : IsFalse (is_out_of_memory reply) → (cluster : SoloCluster) → StandsFor old event.slot cluster →
+        let turn = cluster_step (config_at (setup old) event.slot) event.act cluster in (reply ≡ turn.reply) × StandsFor new event.slot turn.after
+    pub others : (other : ℕ) → event.slot ≢ other → (cluster : SoloCluster) → StandsFor old other cluster → StandsFor new other cluster
+
+  -- what a line says is answered so
+  abbrev pub IsAnswered : W → Said → List ℕ → W → Type 0
+  IsAnswered old OfNobody text new = (text ≡ answer_line (setup old).tenants None) × (new ≡ old)
+  IsAnswered old (Unformed slot) text new = (text ≡ answer_line (setup old).tenants (Some (slot, Refused Syntax))) × (new ≡ old)
+  IsAnswered old (Acts event) text new = (reply : Reply) × HasActed old event reply new × (text ≡ answer_line (setup old).tenants (Some (event.slot, reply)))
+
+  -- with this line the head goes on, or the script begins
+  abbrev pub HeadGoesOn : ℕ → Front → Script W → Type 0
+  HeadGoesOn count AtStart new = ⊥
+  HeadGoesOn count (Within config) new = new ≡ Head (record { reader = Some (Within config); lines = counted count })
+  HeadGoesOn count (Begun config) new = (world : W) × IsNew config world × (new ≡ Running world)
+
+  abbrev pub line_answers : Script W → List ℕ → List ℕ → Script W → Type 0
+  line_answers (Head head) line text new = (next : Front) × (front_with head.reader line ≡ Some next) × (text ≡ []) × HeadGoesOn head.lines next new
+  line_answers (Running world) line text new = (after : W) × IsAnswered world (said_in (setup world).tenants line) text after × (new ≡ Running after)
+
+  abbrev pub line_refuses : Script W → List ℕ → BadConfig → Type 0
+  line_refuses (Head head) line bad = (front_with head.reader line ≡ None) × (bad.line ≡ counted head.lines)
+  line_refuses (Running world) line bad = ⊥
+
+  abbrev pub end_answers : Script W → List ℕ → Script W → Type 0
+  end_answers (Head head) text new = ⊥
+  end_answers (Running world) text new = (text ≡ []) × (new ≡ Running world)
+
+  abbrev pub end_refuses : Script W → BadConfig → Type 0
+  end_refuses (Head head) bad = bad.line ≡ counted head.lines
+  end_refuses (Running world) bad = ⊥
+
+  abbrev pub script_rules : Rules (Script W) BadConfig
+  script_rules = record { answers = line_answers; refuses = line_refuses; ends = end_answers; refuses_end = end_refuses }
