@@ -5,6 +5,7 @@ pub mod FrontLemmas
 pub mod GreatestLists
 mod HeadExamples
 pub mod HeadLemmas
+pub mod HeadReading
 pub mod KnownLemmas
 pub mod LineEndLemmas
 pub mod LineLemmas
