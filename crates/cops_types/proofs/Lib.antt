@@ -6,6 +6,7 @@ pub mod GreatestLists
 mod HeadExamples
 pub mod HeadLemmas
 pub mod HeadLengths
+pub mod HeadReading
 pub mod KnownLemmas
 pub mod LineEndLemmas
 pub mod LineLemmas

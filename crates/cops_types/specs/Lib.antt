@@ -4,6 +4,9 @@ pub mod FaultText
 pub mod Growing
 pub mod Head
 pub mod HeadLines
+pub mod HeadProgress
+pub mod HeadReader
+pub mod HeadWords
 pub mod Key
 pub mod Layout
 pub mod LineAnswers

@@ -1,0 +1,102 @@
+//! Reading the head of a script, line by line.
+ghost use Rattle.std.specs.Prelude.{◌≡◌, Some, OnErr, OnOk, IfOk};
+ghost use Rattle.cops_types.specs.Head.{AtStart, front_after, next_within};
+ghost use Rattle.cops_types.specs.HeadLines.{begin_line};
+ghost use Rattle.cops_types.specs.HeadProgress.{front_of};
+ghost use Rattle.cops_types.specs.HeadReader.{front_with, said_at, still_open};
+
+use crate::configs::Config;
+use crate::head_lines::{join, read_cluster};
+use std::alloc::{AllocError, Global};
+use std::marker::Model;
+use std::mem;
+
+/// What a line of a head says.
+#[derive(Debug, Drop)]
+pub enum HeadLine {
+    /// The head goes on.
+    More,
+    /// The head is whole, and this is what it says.
+    Begin(Config),
+    /// The line may not stand here, or the head is over.
+    BadLine,
+}
+
+/// How far a head has come. It is over after its end, and after a bad line.
+#[derive(Debug, Drop)]
+enum Progress {
+    Start,
+    Within(Config),
+    Over,
+}
+
+/// Reads a head line by line. Contracts see how far it has come: nowhere where a line was bad or
+/// the head is over, since nothing may follow then.
+#[derive(Debug, Drop)]
+pub struct ConfigReader {
+    progress: Progress,
+}
+
+impl Model for ConfigReader {
+    ghost use Rattle.std.specs.Prelude.{Option};
+    ghost use Rattle.cops_types.specs.Head.{Front};
+    ghost use Rattle.cops_types.specs.HeadProgress.{front_of};
+
+    ghost Value = { Option Front };
+
+    ghost view = { λ r. front_of r.progress };
+}
+
+/// Where the first line leads, and what it says.
+fn start(alloc: Global, line: &[u8]) -> (Progress, HeadLine)
+    ensures front { front_of result.0 ≡ still_open (front_after AtStart line.now) }
+    ensures said { result.1 ≡ said_at (front_after AtStart line.now) }
+{
+    match read_cluster(alloc, line) {
+        Some(config) => (Progress::Within(config), HeadLine::More),
+        None => (Progress::Over, HeadLine::BadLine),
+    }
+}
+
+/// What the line `begin` says after these tenants.
+fn begin(config: Config) -> HeadLine
+    ensures { result ≡ said_at (next_within config begin_line) }
+{
+    if config.tenants.len() == 0 {
+        return HeadLine::BadLine;
+    }
+    HeadLine::Begin(config)
+}
+
+impl ConfigReader {
+    /// A reader that has read no line.
+    pub fn new() -> Self
+        ensures { result ≡ Some AtStart }
+    {
+        ConfigReader {
+            progress: Progress::Start,
+        }
+    }
+
+    /// Reads the next line, which comes without its newline. After an `Err` it may be read again.
+    pub fn line(&mut self, alloc: Global, line: &[u8]) -> Result<HeadLine, AllocError>
+        ensures said { IfOk result (λ said. said ≡ said_at (front_with self.old line.now)) }
+        ensures front { OnOk result (self.new ≡ still_open (front_with self.old line.now)) }
+        ensures err { OnErr result (self.new ≡ self.old) }
+    {
+        if line != b"begin".as_slice() {
+            if let Progress::Within(config) = &mut self.progress {
+                if join(config, line)? {
+                    return Ok(HeadLine::More);
+                }
+            }
+        }
+        let (progress, said) = match mem::replace(&mut self.progress, Progress::Over) {
+            Progress::Start => start(alloc, line),
+            Progress::Within(config) if line == b"begin".as_slice() => (Progress::Over, begin(config)),
+            _ => (Progress::Over, HeadLine::BadLine),
+        };
+        self.progress = progress;
+        Ok(said)
+    }
+}
