@@ -52,7 +52,7 @@ impl Model for Session {
 impl Session {
     ghost use Rattle.cops_session.specs.Kept.{Kept, HasRoomFor, IsOpen, IsReadyFor, is_running};
     ghost use Rattle.cops_session.specs.Request.{Write, Fetch, next, values_or_full};
-    ghost use Rattle.cops_session.specs.Session.{Session as SoloSession, Running as SoloRunning, new_session, create_refusal, context_refusal, put_refusal, get_refusal, context_created, context_deleted, request_begun, request_of, obs_of, moment_at, OpenContext, context_extended, seen_in};
+    ghost use Rattle.cops_session.specs.Session.{Session as SoloSession, Running as SoloRunning, new_session, create_refusal, context_refusal, put_refusal, get_refusal, context_created, context_deleted, request_begun, request_of, obs_of, moment_at, OpenContext, context_extended, is_spent, seen_in};
     ghost use Rattle.cops_session.specs.SessionStands.{SessionStandsFor, ContextsStandFor, obs_in};
     ghost use Rattle.cops_session.specs.Stepping.{DoesNext, runs};
 
@@ -236,6 +236,7 @@ impl Session {
         requires left { self.old.next_request < 2 ^ 64 - 1 }
         requires ready { IsReadyFor work context self.old.contexts.rows }
         ensures number { result ≡ self.old.next_request }
+        ensures left { is_spent self.old.next_request ≡ false }
         ensures begun { self.new ≡ record self.old { next_request = self.old.next_request + 1; running = Some (record { number = self.old.next_request; context = context; work = work }) } }
     {
         let number = self.next_request;
