@@ -1,0 +1,219 @@
+-- A get transaction that runs stands for its log: after each step too.
+use Rattle.std.proofs.Common.{◌≡◌, ℕ, suc, zero, ◌+◌, ◌-◌, ◌<◌, ◌≤◌, Bool, true, false, List, [], ◌∷◌, ◌++◌, map, length, get_or, refl, sym, ◌∙◌, ap, subst, arith, append-nil}
+use Rattle.std.specs.Prelude.{Option, Some, None, slice_get, nat_lt, nat_le, unwrap_or, max, if◌then◌else◌}
+use Rattle.std.proofs.lemmas.Bool.Decides.{nat_tests}
+use Rattle.std.proofs.lemmas.List.Elements.{filter_map-append}
+use Rattle.cops_types.specs.declared.contexts.Read.{Read}
+use Rattle.cops_types.specs.declared.faults.Fault.{Fault}
+use Rattle.cops_types.specs.declared.faults.Fault.TheVariants.{Overrun}
+use Rattle.cops_types.specs.Context.{Observation}
+use Rattle.cops_types.specs.Key.{shard_of}
+use Rattle.cops_types.specs.TenantConfig.{TenantConfig}
+use Rattle.cops_node.specs.declared.NodeCall.{NodeCall}
+use Rattle.cops_node.specs.declared.NodeCall.TheVariants.{Get}
+use Rattle.cops_node.specs.declared.NodeId.{NodeId}
+use Rattle.cops_node.specs.declared.NodeReply.{NodeReply}
+use Rattle.cops_node.specs.declared.NodeReply.TheVariants.{Gone}
+use Rattle.cops_node.specs.declared.Wanted.{Wanted}
+use Rattle.cops_node.specs.declared.Wanted.TheVariants.{Latest, Exactly}
+use Rattle.cops_node.specs.Log.{Directed, LogStep, Outcome, Late, Replied, Next, Call, Restart, Ended, reply_in, fault_in, first_fault}
+use Rattle.cops_session.specs.declared.Answer.{Answer}
+use Rattle.cops_session.specs.declared.Answer.TheVariants as ended
+use Rattle.cops_session.specs.declared.Progress.{Progress}
+use Rattle.cops_session.specs.declared.Progress.TheVariants as shows
+use Rattle.cops_session.specs.declared.ongoing.Reading.{Reading}
+use Rattle.cops_session.specs.declared.ongoing.Round.{Round}
+use Rattle.cops_session.specs.declared.ongoing.Round.TheVariants.{First, Second}
+use Rattle.cops_session.specs.declared.rounds.Wish.{Wish}
+use Rattle.cops_session.specs.Asking.{is_gone}
+use Rattle.cops_session.specs.Reading.{IsOfAttempt, IsReading, RoundStandsFor, first_moment, is_past}
+use Rattle.cops_session.specs.Request.{Attempt, Request, Fetch, answer, answer_in, attempt_after, attempt_of, begins_again, call_after, call_or_answer, calls_of, complete, home_of, is_late, next, replies_of, unless_fault, unless_late, values_or_full}
+use Rattle.cops_session.specs.Rounds.{FirstReads, wishes_of}
+use Rattle.cops_session.specs.Session.{has_restarted, progress, raised, shown}
+use Rattle.cops_session.specs.Stands.{IsFirstOf, IsOver, IsSecondOf}
+use Rattle.cops_session.specs.Transaction.{Asked, gets, reads_of}
+use Rattle.cops_session.proofs.Faults.{attempt_of-push, ended_by_fault, ended_with_reads, fault_of_next}
+use Rattle.cops_session.proofs.RoundsStand.{length-gets, length-push, slice_get-at}
+use Rattle.std.proofs.lemmas.List.{length-drop, length-map}
+
+-- ---- replies that begin no other attempt
+
+pub not_gone_of_latest : (key : List ℕ) (reply : NodeReply) → fault_in (Get key Latest) reply ≡ None → is_gone reply ≡ false
+not_gone_of_latest key (Gone now) none = cc
+not_gone_of_latest key _ none = refl
+
+pub not_gone_of_faulty : (key : List ℕ) (reply : NodeReply) (wish : Wish) (fault : Fault) → fault_in (Get key (Exactly wish.version)) reply ≡ Some fault → is_gone reply ≡ false
+not_gone_of_faulty key (Gone now) wish fault some = cc
+not_gone_of_faulty key _ wish fault some = refl
+
+pub goes_on_unless_gone : (keys : List (List ℕ)) (n : ℕ) (reply : NodeReply) → is_gone reply ≡ false → begins_again (Fetch keys) n (Replied reply) ≡ false
+goes_on_unless_gone keys n (Gone now) not = cc
+goes_on_unless_gone keys n _ not = refl
+
+pub goes_on_in_first : (keys : List (List ℕ)) (n : ℕ) (reply : NodeReply) → n < length keys → begins_again (Fetch keys) n (Replied reply) ≡ false
+goes_on_in_first keys n (Gone now) fewer = let test : nat_le (length keys) n ≡ false = grind (arith, nat_tests) in test
+goes_on_in_first keys n _ fewer = refl
+
+pub again_in_second : (keys : List (List ℕ)) (n : ℕ) (now : ℕ) → length keys ≤ n → begins_again (Fetch keys) n (Replied (Gone now)) ≡ true
+again_in_second keys n now past = let test : nat_le (length keys) n ≡ true = grind (arith, nat_tests) in test
+
+-- ---- lists
+
+slice_get-map : {A B : Type 0} (f : A → B) (xs : List A) (n : ℕ) (x : A) → slice_get xs n ≡ Some x → slice_get (map f xs) n ≡ Some (f x)
+slice_get-map f [] n x is = cc
+slice_get-map f (y ∷ xs) zero x is = let same : y ≡ x = cc in ap (λ z. Some (f z)) same
+slice_get-map f (y ∷ xs) (suc n) x is = slice_get-map f xs n x is
+
+replies_of-push : (steps : List LogStep) (moment : ℕ) (reply : NodeReply) → replies_of (steps ++ record { moment = moment; outcome = Replied reply } ∷ []) ≡ replies_of steps ++ reply ∷ []
+replies_of-push steps moment reply = filter_map-append (λ (s : LogStep). reply_in s.outcome) steps (record { moment = moment; outcome = Replied reply } ∷ [])
+
+first_moment-push : (steps : List LogStep) (start : Option ℕ) (step : LogStep) → start ≡ first_moment steps → Some (unwrap_or start step.moment) ≡ first_moment (steps ++ step ∷ [])
+first_moment-push [] start step is = ap (λ s. Some (unwrap_or s step.moment)) is
+first_moment-push (first ∷ steps) start step is = ap (λ s. Some (unwrap_or s step.moment)) is
+
+late_is : (trans_time : ℕ) (keys : List (List ℕ)) (steps : List LogStep) (moment : ℕ) → is_late trans_time (Fetch keys) steps moment ≡ is_past trans_time (first_moment steps) moment
+late_is trans_time keys [] moment = refl
+late_is trans_time keys (first ∷ steps) moment = refl
+
+-- a round that goes on has a call to make
+unfinished : (keys : List (List ℕ)) (replies : List NodeReply) (round : Round) → RoundStandsFor keys replies round → length replies < length (gets keys replies)
+unfinished keys replies (First round) stands =
+    let some : nat_lt (length replies) (length keys) ≡ true = let h = stands.unfinished in grind (arith, nat_tests) in
+    rw some (omega (arith, stands.unfinished, length-map {A = List ℕ} {B = Asked} keys (λ key. record { key = key; wanted = Latest })))
+unfinished keys replies (Second round) stands =
+    omega (arith, length-gets keys replies stands.past_first, stands.unfinished, stands.past_first, ap length stands.left_is ∙ length-drop (length replies - length keys) (wishes_of (reads_of keys replies)))
+
+has_next : (keys : List (List ℕ)) (replies : List NodeReply) → length replies < length (gets keys replies) → (asked : Asked) × (slice_get (gets keys replies) (length replies) ≡ Some asked)
+has_next keys replies fewer =
+    let none : Asked = record { key = []; wanted = Latest } in
+    (get_or (gets keys replies) (length replies) none, slice_get-at (gets keys replies) (length replies) none fewer)
+
+-- ---- one step
+
+module _ (config : TenantConfig) (dc : ℕ) (obs : List Observation) (keys : List (List ℕ)) where
+  abbrev of_keys : Request
+  of_keys = record { dc = dc; obs = obs; action = Fetch keys }
+
+  -- an attempt with no fault makes the next call
+  calls_next : (attempt : Attempt) (asked : Asked) → nat_lt config.restarts attempt.restarts ≡ false →
+      first_fault (calls_of config of_keys (replies_of attempt.steps) (Fetch keys)) (replies_of attempt.steps) ≡ None →
+      slice_get (gets keys (replies_of attempt.steps)) (length (replies_of attempt.steps)) ≡ Some asked →
+      call_after config of_keys attempt ≡ Call (record { node = home_of config dc asked.key; call = Get asked.key asked.wanted })
+  calls_next attempt asked few none is =
+      let replies = replies_of attempt.steps in
+      let direct : Asked → Directed = λ g. record { node = home_of config dc g.key; call = Get g.key g.wanted } in
+      let calls = calls_of config of_keys replies (Fetch keys) in
+      rw few (ap (λ f. unless_fault f (call_or_answer (slice_get calls (length replies)) (complete config of_keys replies (Fetch keys)))) none
+      ∙ ap (λ c. call_or_answer c (complete config of_keys replies (Fetch keys))) (slice_get-map direct (gets keys replies) (length replies) asked is))
+
+  module _ (log : List LogStep) (reading : Reading) (stands : IsReading config of_keys keys log reading) where
+    abbrev attempt : Attempt
+    attempt = attempt_of (Fetch keys) log
+
+    abbrev replies : List NodeReply
+    replies = replies_of attempt.steps
+
+    abbrev replied : ℕ → NodeReply → LogStep
+    replied moment reply = record { moment = moment; outcome = Replied reply }
+
+    late-as_kept : (trans_time moment : ℕ) → is_late trans_time (Fetch keys) attempt.steps moment ≡ is_past trans_time reading.start moment
+    late-as_kept trans_time moment = late_is trans_time keys attempt.steps moment ∙ ap (λ start. is_past trans_time start moment) (sym stands.start_is)
+
+    pub next_call : (moment : ℕ) (asked : Asked) → is_past config.trans_time reading.start moment ≡ false → slice_get (gets keys replies) (length replies) ≡ Some asked →
+        next config of_keys log moment ≡ Call (record { node = home_of config dc asked.key; call = Get asked.key asked.wanted })
+    next_call moment asked in_time is =
+        ap (λ late. unless_late late (call_after config of_keys attempt)) (late-as_kept config.trans_time moment ∙ in_time) ∙ calls_next attempt asked stands.few_restarts stands.no_fault is
+
+    pub next_late : (moment : ℕ) → is_past config.trans_time reading.start moment ≡ true → next config of_keys log moment ≡ Restart
+    next_late moment late =
+        let some = has_next keys replies (unfinished keys replies reading.round stands.round_is) in
+        (λ i. unless_late ((late-as_kept config.trans_time moment ∙ late) i) (calls_next attempt some.0 stands.few_restarts stands.no_fault some.1 i))
+
+    module _ (moment : ℕ) (asked : Asked) (reply : NodeReply) (is : slice_get (gets keys replies) (length replies) ≡ Some asked)
+        (stays : begins_again (Fetch keys) (length attempt.steps) (Replied reply) ≡ false) where
+      abbrev step : LogStep
+      step = replied moment reply
+
+      abbrev longer : Attempt
+      longer = record { restarts = attempt.restarts; steps = attempt.steps ++ step ∷ [] }
+
+      attempt_is : attempt_of (Fetch keys) (log ++ step ∷ []) ≡ longer
+      attempt_is = attempt_of-push (Fetch keys) log step ∙ rw stays refl
+
+      fault_is : first_fault (calls_of config of_keys (replies_of longer.steps) (Fetch keys)) (replies_of longer.steps) ≡ fault_in (Get asked.key asked.wanted) reply
+      fault_is =
+          let direct : Asked → Directed = λ g. record { node = home_of config dc g.key; call = Get g.key g.wanted } in
+          ap (λ rs. first_fault (calls_of config of_keys rs (Fetch keys)) rs) (replies_of-push attempt.steps moment reply)
+          ∙ fault_of_next config of_keys keys replies (direct asked) reply stands.no_fault (slice_get-map direct (gets keys replies) (length replies) asked is)
+          (unfinished keys replies reading.round stands.round_is)
+
+      -- the answer shows
+      ends : (given : Answer) → call_after config of_keys longer ≡ Ended given → progress config of_keys log step ≡ shows.Done given
+      ends given e =
+          λ i. shown ((ap (λ a. answer_in (call_after config of_keys a)) attempt_is ∙ ap answer_in e) i) (has_restarted (Fetch keys) log step) (attempt_of (Fetch keys) (log ++ step ∷ [])).restarts
+
+      pub ends_with_fault : (fault : Fault) → fault_in (Get asked.key asked.wanted) reply ≡ Some fault → progress config of_keys log step ≡ shows.Done (ended.Refused fault)
+      ends_with_fault fault brings = ends (ended.Refused fault) (ended_by_fault config of_keys keys longer fault refl stands.few_restarts (fault_is ∙ brings))
+
+      pub ends_with_reads : (reads : List Read) → fault_in (Get asked.key asked.wanted) reply ≡ None → IsOver keys (replies ++ reply ∷ []) reads →
+          progress config of_keys log step ≡ shows.Done (values_or_full config.quota.deps obs reads)
+      ends_with_reads reads brings over =
+          ends (values_or_full config.quota.deps obs reads) (ended_with_reads config of_keys keys longer reads refl stands.few_restarts (fault_is ∙ brings)
+          (subst (λ (rs : List NodeReply). IsOver keys rs reads) (sym (replies_of-push attempt.steps moment reply)) over))
+
+      pub goes_on : (round : Round) → fault_in (Get asked.key asked.wanted) reply ≡ None → RoundStandsFor keys (replies ++ reply ∷ []) round →
+          (progress config of_keys log step ≡ shows.Working) × IsReading config of_keys keys (log ++ step ∷ []) (record { restarts = reading.restarts; start = Some (unwrap_or reading.start moment); round = round })
+      goes_on round brings stand =
+          let now : RoundStandsFor keys (replies_of longer.steps) round = subst (λ (rs : List NodeReply). RoundStandsFor keys rs round) (sym (replies_of-push attempt.steps moment reply)) stand in
+          let some = has_next keys (replies_of longer.steps) (unfinished keys (replies_of longer.steps) round now) in
+          let call = calls_next longer some.0 stands.few_restarts (fault_is ∙ brings) some.1 in
+          let after : Reading = record { restarts = reading.restarts; start = Some (unwrap_or reading.start moment); round = round } in (
+            λ i. shown ((ap (λ a. answer_in (call_after config of_keys a)) attempt_is ∙ ap answer_in call) i) (stays i) (attempt_of (Fetch keys) (log ++ step ∷ [])).restarts,
+            subst (λ (a : Attempt). IsOfAttempt config of_keys keys a after) (sym attempt_is) (record {
+              distinct = stands.distinct;
+              restarts_are = stands.restarts_are;
+              few_restarts = stands.few_restarts;
+              start_is = first_moment-push attempt.steps reading.start step stands.start_is;
+              all_replied = ap length (replies_of-push attempt.steps moment reply) ∙ length-push replies reply ∙ ap (λ n. n + 1) stands.all_replied ∙ sym (length-push attempt.steps step);
+              no_fault = fault_is ∙ brings;
+              round_is = now;
+            }),
+          )
+
+    module _ (step : LogStep) (again : has_restarted (Fetch keys) log step ≡ true) where
+      abbrev anew : Attempt
+      anew = record { restarts = attempt.restarts + 1; steps = [] }
+
+      anew_is : attempt_of (Fetch keys) (log ++ step ∷ []) ≡ anew
+      anew_is = attempt_of-push (Fetch keys) log step ∙ rw again refl
+
+      -- one restart too many
+      pub overruns : nat_lt reading.restarts config.restarts ≡ false → progress config of_keys log step ≡ shows.Done (ended.Refused Overrun)
+      overruns spent =
+          let over : nat_lt config.restarts (attempt.restarts + 1) ≡ true = let h = ap (λ r. nat_lt r config.restarts) (sym stands.restarts_are) ∙ spent in grind (arith, nat_tests) in
+          let call : call_after config of_keys anew ≡ Ended (ended.Refused Overrun) = rw over refl in
+          λ i. shown ((ap (λ a. answer_in (call_after config of_keys a)) anew_is ∙ ap answer_in call) i) (has_restarted (Fetch keys) log step) (attempt_of (Fetch keys) (log ++ step ∷ [])).restarts
+
+      pub restarts : (round : FirstReads) → nat_lt reading.restarts config.restarts ≡ true → IsFirstOf keys [] round →
+          (progress config of_keys log step ≡ shows.Restarted (reading.restarts + 1)) × IsReading config of_keys keys (log ++ step ∷ []) (record { restarts = reading.restarts + 1; start = None; round = First round })
+      restarts round left begun =
+          let few : nat_lt config.restarts (attempt.restarts + 1) ≡ false = let h = ap (λ r. nat_lt r config.restarts) (sym stands.restarts_are) ∙ left in grind (arith, nat_tests) in
+          let some = has_next keys [] (unfinished keys [] (First round) begun) in
+          let none : first_fault (calls_of config of_keys [] (Fetch keys)) [] ≡ None = no_replies (calls_of config of_keys [] (Fetch keys)) in
+          let call = calls_next anew some.0 few none some.1 in
+          let after : Reading = record { restarts = reading.restarts + 1; start = None; round = First round } in (
+            λ i. shown ((ap (λ a. answer_in (call_after config of_keys a)) anew_is ∙ ap answer_in call) i) (again i) ((ap (λ (a : Attempt). a.restarts) anew_is ∙ ap (λ n. n + 1) (sym stands.restarts_are)) i),
+            subst (λ (a : Attempt). IsOfAttempt config of_keys keys a after) (sym anew_is) (record {
+              distinct = stands.distinct;
+              restarts_are = ap (λ n. n + 1) stands.restarts_are;
+              few_restarts = few;
+              start_is = refl;
+              all_replied = refl;
+              no_fault = none;
+              round_is = begun;
+            }),
+          )
+        where
+          no_replies : (calls : List Directed) → first_fault calls [] ≡ None
+          no_replies [] = refl
+          no_replies (c ∷ calls) = refl

@@ -1,0 +1,231 @@
+-- A session stands for that of the definitions after each step.
+use Rattle.std.proofs.Common.{◌≡◌, ℕ, Bool, true, false, List, [], ◌∷◌, ◌++◌, refl, sym, ◌∙◌, ap, subst, arith, ◌⊎◌, inl, inr}
+use Rattle.std.specs.Prelude.{Option, Some, None, max, nat_lt, if◌then◌else◌}
+use Rattle.std.proofs.lemmas.Bool.Decides.{nat_tests}
+use Rattle.cops_types.specs.declared.contexts.Read.{Read}
+use Rattle.cops_types.specs.declared.faults.Fault.{Fault}
+use Rattle.cops_types.specs.declared.faults.Fault.TheVariants.{OutOfMemory, Torn}
+use Rattle.cops_types.specs.declared.pairs.Pair.{Pair}
+use Rattle.cops_types.specs.Context.{Observation, all_of, near_of}
+use Rattle.cops_types.specs.Key.{shard_of}
+use Rattle.cops_types.specs.TenantConfig.{TenantConfig}
+use Rattle.cops_node.specs.declared.NodeCall.{NodeCall}
+use Rattle.cops_node.specs.declared.NodeCall.TheVariants as call
+use Rattle.cops_node.specs.declared.NodeId.{NodeId}
+use Rattle.cops_node.specs.declared.NodeReply.{NodeReply}
+use Rattle.cops_node.specs.declared.NodeReply.TheVariants as reply
+use Rattle.cops_node.specs.Log.{LogStep, Late, Replied, Next, Call, Restart, Ended}
+use Rattle.cops_handles.specs.declared.tables.Open.{Open}
+use Rattle.cops_context.specs.Lists.{Lists}
+use Rattle.cops_session.specs.declared.Answer.{Answer}
+use Rattle.cops_session.specs.declared.Answer.TheVariants as answer
+use Rattle.cops_session.specs.declared.Progress.{Progress}
+use Rattle.cops_session.specs.declared.Progress.TheVariants.{Working, Restarted, Done}
+use Rattle.cops_session.specs.declared.ongoing.Ongoing.{Ongoing}
+use Rattle.cops_session.specs.declared.ongoing.Reading.{Reading}
+use Rattle.cops_session.specs.declared.ongoing.Work.TheVariants.{Put, Get}
+use Rattle.cops_session.specs.declared.ongoing.Writing.{Writing}
+use Rattle.cops_session.specs.declared.reading.Came.{Came}
+use Rattle.cops_session.specs.declared.reading.Came.TheVariants as came
+use Rattle.cops_session.specs.declared.reading.Turn.{Turn}
+use Rattle.cops_session.specs.declared.settings.Setting.{Setting}
+use Rattle.cops_session.specs.Kept.{Kept}
+use Rattle.cops_session.specs.Reading.{IsReading}
+use Rattle.cops_session.specs.Request.{Action, Request, Write, Fetch, home_of, next, values_or_full}
+use Rattle.cops_session.specs.Session.{OpenContext, Running, Session, context_extended, has_restarted, moment_after, moment_at, obs_of, progress, raised, request_of, seen_in, session_after}
+use Rattle.cops_session.specs.SessionStands.{ContextsStandFor, IsSettingOf, IsWriting, RunningStandsFor, SessionStandsFor, obs_in}
+use Rattle.cops_session.specs.Stepping.{DoesNext, HasStepped}
+use Rattle.cops_session.specs.Turns.{CameOf, HasTurned, TurnsNext}
+use Rattle.cops_session.specs.Writing.{answer_to_put}
+use Rattle.cops_session.proofs.ContextRows.{context_extended-nothing}
+
+-- ---- the request has ended
+
+pub done_stands : (config : TenantConfig) (kept after : Kept) (session : Session) (running : Running) (step : LogStep) (ended : Answer) → SessionStandsFor config kept session →
+    after.setting ≡ kept.setting → after.moment ≡ moment_after running step → ContextsStandFor after.contexts.rows (context_extended running.context (seen_in ended) session.contexts) →
+    after.contexts.limit ≡ kept.contexts.limit → after.contexts.next ≡ kept.contexts.next → after.next_request ≡ kept.next_request → after.running ≡ None →
+    SessionStandsFor config after (session_after session running step (Done ended))
+done_stands config kept after session running step ended stands setting moment contexts limit next_context next_request idle =
+    record {
+      setting_is = subst (λ (s : Setting). IsSettingOf config s) (sym setting) stands.setting_is;
+      dc_is = ap (λ s. s.dc) setting ∙ stands.dc_is;
+      moment_is = moment;
+      contexts_are = contexts;
+      limit_is = limit ∙ stands.limit_is;
+      next_context_is = next_context ∙ stands.next_context_is;
+      next_request_is = next_request ∙ stands.next_request_is;
+      running_is = subst (λ (r : Option Ongoing). RunningStandsFor config (session_after session running step (Done ended)) r None) (sym idle) tt;
+    }
+
+-- ---- a put
+
+none_restarted : (config : TenantConfig) → nat_lt config.restarts 0 ≡ false
+none_restarted config = grind (arith, nat_tests)
+
+put_next : (config : TenantConfig) (dc : ℕ) (obs : List Observation) (key value : List ℕ) (moment : ℕ) →
+    next config (record { dc = dc; obs = obs; action = Write key value }) [] moment ≡ Call (record { node = home_of config dc key; call = call.Put key value (all_of obs) (near_of obs) })
+put_next config dc obs key value moment = rw (none_restarted config) refl
+
+put_progress : (config : TenantConfig) (dc : ℕ) (obs : List Observation) (key value : List ℕ) (moment : ℕ) (r : NodeReply) →
+    progress config (record { dc = dc; obs = obs; action = Write key value }) [] (record { moment = moment; outcome = Replied r }) ≡ Done (answer_to_put key r)
+put_progress config dc obs key value moment (reply.Stored version) = rw (none_restarted config) refl
+put_progress config dc obs key value moment (reply.Refused fault) = rw (none_restarted config) refl
+put_progress config dc obs key value moment _ = rw (none_restarted config) refl
+
+module _ (config : TenantConfig) (kept after : Kept) (session : Session) (running : Running) (number context : ℕ) where
+  abbrev with_put : Writing → Kept
+  with_put writing = record kept { running = Some (record { number = number; context = context; work = Put writing }) }
+
+  abbrev with_get : Reading → Kept
+  with_get reading = record kept { running = Some (record { number = number; context = context; work = Get reading }) }
+
+  pub put_steps : (called : ℕ → NodeId → NodeCall → NodeReply → Type 0) (stays : Type 0) (writing : Writing) (moment now : ℕ) (r : NodeReply) (ended : Answer) →
+      SessionStandsFor config (with_put writing) session → session.running ≡ Some running → now ≡ max kept.moment moment →
+      called now (record { dc = kept.setting.dc; shard = shard_of writing.key kept.setting.shards }) (call.Put writing.key writing.value writing.deps writing.near) r → ended ≡ answer_to_put writing.key r →
+      after.setting ≡ kept.setting → after.moment ≡ now → ContextsStandFor after.contexts.rows (context_extended context (seen_in ended) session.contexts) →
+      after.contexts.limit ≡ kept.contexts.limit → after.contexts.next ≡ kept.contexts.next → after.next_request ≡ kept.next_request → after.running ≡ None →
+      DoesNext (called (moment_at moment session)) stays config session running (moment_at moment session) (Done ended) after (next config (request_of session running) running.log (moment_at moment session))
+  put_steps called stays writing moment now r ended stands is now_is answers ended_is setting moment_is contexts limit next_context next_request idle =
+      let at = moment_at moment session in
+      let own : (number ≡ running.number) × (context ≡ running.context) × IsWriting (request_of session running) running.log writing =
+      subst (λ (b : Option Running). RunningStandsFor config session (Some (record { number = number; context = context; work = Put writing })) b) is stands.running_is in
+      let w = own.2 in
+      let key = writing.key in
+      let obs = obs_of running.context session in
+      let step : LogStep = record { moment = at; outcome = Replied r } in
+      let req : request_of session running ≡ record { dc = session.dc; obs = obs; action = Write key writing.value } = λ i. record { dc = session.dc; obs = obs; action = w.action_is i } in
+      let at_is : now ≡ at = now_is ∙ ap (λ t. max t moment) stands.moment_is in
+      let calls : next config (request_of session running) running.log at ≡ Call (record { node = home_of config session.dc key; call = call.Put key writing.value (all_of obs) (near_of obs) }) =
+      (λ i. next config (req i) (w.no_step i) at) ∙ put_next config session.dc obs key writing.value at in
+      let shows : progress config (request_of session running) running.log step ≡ Done (answer_to_put key r) =
+      (λ i. progress config (req i) (w.no_step i) step) ∙ put_progress config session.dc obs key writing.value at r in
+      let made : called at (home_of config session.dc key) (call.Put key writing.value (all_of obs) (near_of obs)) r =
+      subst (λ (t : ℕ). called t (home_of config session.dc key) (call.Put key writing.value (all_of obs) (near_of obs)) r) at_is
+      (subst (λ (d : ℕ). called now (record { dc = d; shard = shard_of key config.shards }) (call.Put key writing.value (all_of obs) (near_of obs)) r) stands.dc_is
+      (subst (λ (s : ℕ). called now (record { dc = kept.setting.dc; shard = shard_of key s }) (call.Put key writing.value (all_of obs) (near_of obs)) r) stands.setting_is.shards
+      (subst (λ ps. called now (record { dc = kept.setting.dc; shard = shard_of key kept.setting.shards }) (call.Put key writing.value ps (near_of obs)) r) w.deps_are
+      (subst (λ ps. called now (record { dc = kept.setting.dc; shard = shard_of key kept.setting.shards }) (call.Put key writing.value writing.deps ps) r) w.near_are answers)))) in
+      let same : has_restarted running.action running.log step ≡ false = ap (λ a. has_restarted a running.log step) w.action_is in
+      let has : HasStepped config session running step (Done ended) after = record {
+        shown_is = inl (ap Done ended_is ∙ sym shows);
+        stands =
+            done_stands config (with_put writing) after session running step ended stands setting (moment_is ∙ at_is ∙ sym (ap (λ b. if b then raised at (Replied r) else at) same))
+            (subst (λ (n : ℕ). ContextsStandFor after.contexts.rows (context_extended n (seen_in ended) session.contexts)) own.1 contexts) limit next_context next_request idle;
+      } in
+      subst (λ (n : Next Answer). DoesNext (called at) stays config session running at (Done ended) after n) (sym calls) (r, made, has)
+
+  -- ---- a get transaction
+
+  turns_as : (called : NodeId → NodeCall → NodeReply → Type 0) (stays : Type 0) (keys : List (List ℕ)) (moment : ℕ) (turn : Turn) (shown : Progress) (n : Next Answer) →
+      ((step : LogStep) → HasTurned config (request_of session running) keys running.log step turn → HasStepped config session running step shown after) →
+      TurnsNext called stays config (request_of session running) keys running.log moment turn n → DoesNext called stays config session running moment shown after n
+  turns_as called stays keys moment turn shown (Call directed) steps h = (h.0, h.1, steps _ h.2)
+  turns_as called stays keys moment turn shown Restart steps h = (h.0, steps _ h.1)
+  turns_as called stays keys moment turn shown (Ended ended) steps h = h
+
+  pub get_steps : (called : ℕ → NodeId → NodeCall → NodeReply → Type 0) (stays : Type 0) (reading : Reading) (moment now : ℕ) (turn : Turn) (shown : Progress) →
+      SessionStandsFor config (with_get reading) session → session.running ≡ Some running → now ≡ max kept.moment moment →
+      ((config : TenantConfig) (obs : List Observation) (keys : List (List ℕ)) (log : List LogStep) → IsSettingOf config kept.setting →
+      IsReading config (record { dc = kept.setting.dc; obs = obs; action = Fetch keys }) keys log reading →
+      TurnsNext (called now) stays config (record { dc = kept.setting.dc; obs = obs; action = Fetch keys }) keys log now turn (next config (record { dc = kept.setting.dc; obs = obs; action = Fetch keys }) log now)) →
+      ((keys : List (List ℕ)) (step : LogStep) → context ≡ running.context → number ≡ running.number → running.action ≡ Fetch keys → HasTurned config (request_of session running) keys running.log step turn →
+      HasStepped config session running step shown after) →
+      DoesNext (called (moment_at moment session)) stays config session running (moment_at moment session) shown after (next config (request_of session running) running.log (moment_at moment session))
+  get_steps called stays reading moment now turn shown stands is now_is turned steps =
+      let own : (number ≡ running.number) × (context ≡ running.context) × ((keys : List (List ℕ)) × (running.action ≡ Fetch keys) × IsReading config (request_of session running) keys running.log reading) =
+      subst (λ (b : Option Running). RunningStandsFor config session (Some (record { number = number; context = context; work = Get reading })) b) is stands.running_is in
+      let keys = own.2.0 in
+      let action = own.2.1 in
+      let obs = obs_of running.context session in
+      let at_is : now ≡ moment_at moment session = now_is ∙ ap (λ t. max t moment) stands.moment_is in
+      let req : request_of session running ≡ record { dc = kept.setting.dc; obs = obs; action = Fetch keys } = λ i. record { dc = sym stands.dc_is i; obs = obs; action = action i } in
+      let read = subst (λ (r : Request). IsReading config r keys running.log reading) req own.2.2 in
+      let turns : TurnsNext (called (moment_at moment session)) stays config (request_of session running) keys running.log (moment_at moment session) turn (next config (request_of session running) running.log (moment_at moment session)) =
+      subst (λ (t : ℕ). TurnsNext (called t) stays config (request_of session running) keys running.log t turn (next config (request_of session running) running.log t)) at_is
+      (subst (λ (r : Request). TurnsNext (called now) stays config r keys running.log now turn (next config r running.log now)) (sym req) (turned config obs keys running.log stands.setting_is read)) in
+      turns_as (called (moment_at moment session)) stays keys (moment_at moment session) turn shown (next config (request_of session running) running.log (moment_at moment session)) (λ step. steps keys step own.1 own.0 action) turns
+
+  -- the moment after the step
+  moment_turned : (keys : List (List ℕ)) (step : LogStep) (turn : Turn) → running.action ≡ Fetch keys → HasTurned config (request_of session running) keys running.log step turn → turn.moment ≡ moment_after running step
+  moment_turned keys step turn action has = has.moment_is ∙ ap (λ a. if has_restarted a running.log step then raised step.moment step.outcome else step.moment) (sym action)
+
+  -- the session goes on with the same request
+  goes_on : (reading next_reading : Reading) (keys : List (List ℕ)) (step : LogStep) (turn : Turn) → SessionStandsFor config (with_get reading) session → after ≡ record (with_get next_reading) { moment = turn.moment } →
+      context ≡ running.context → number ≡ running.number → running.action ≡ Fetch keys → HasTurned config (request_of session running) keys running.log step turn →
+      IsReading config (request_of session running) keys (running.log ++ step ∷ []) next_reading →
+      SessionStandsFor config after (record session { moment = moment_after running step; running = Some (record running { log = running.log ++ step ∷ [] }) })
+  goes_on reading next_reading keys step turn stands after_is same_context same_number action has read =
+      let later : Session = record session { moment = moment_after running step; running = Some (record running { log = running.log ++ step ∷ [] }) } in
+      subst (λ (k : Kept). SessionStandsFor config k later) (sym after_is) (record {
+        setting_is = stands.setting_is;
+        dc_is = stands.dc_is;
+        moment_is = moment_turned keys step turn action has;
+        contexts_are = stands.contexts_are;
+        limit_is = stands.limit_is;
+        next_context_is = stands.next_context_is;
+        next_request_is = stands.next_request_is;
+        running_is = (same_number, same_context, (keys, action, read));
+      })
+
+  pub works : (reading next_reading : Reading) (turn : Turn) (keys : List (List ℕ)) (step : LogStep) → SessionStandsFor config (with_get reading) session → turn.came ≡ came.Working next_reading → after ≡ record (with_get next_reading) { moment = turn.moment } →
+      context ≡ running.context → number ≡ running.number → running.action ≡ Fetch keys → HasTurned config (request_of session running) keys running.log step turn → HasStepped config session running step Working after
+  works reading next_reading turn keys step stands came_is after_is same_context same_number action has =
+      let here = subst (λ (c : Came). CameOf config (request_of session running) keys running.log step c) came_is has.came_is in
+      record { shown_is = inl (sym here.0); stands = goes_on reading next_reading keys step turn stands after_is same_context same_number action has here.1 }
+
+  pub restarts : (reading next_reading : Reading) (turn : Turn) (keys : List (List ℕ)) (step : LogStep) → SessionStandsFor config (with_get reading) session → turn.came ≡ came.Restarted next_reading → after ≡ record (with_get next_reading) { moment = turn.moment } →
+      context ≡ running.context → number ≡ running.number → running.action ≡ Fetch keys → HasTurned config (request_of session running) keys running.log step turn → HasStepped config session running step (Restarted next_reading.restarts) after
+  restarts reading next_reading turn keys step stands came_is after_is same_context same_number action has =
+      let here = subst (λ (c : Came). CameOf config (request_of session running) keys running.log step c) came_is has.came_is in
+      record { shown_is = inl (sym here.0); stands = goes_on reading next_reading keys step turn stands after_is same_context same_number action has here.1 }
+
+  pub fails : (reading : Reading) (turn : Turn) (fault : Fault) (keys : List (List ℕ)) (step : LogStep) → SessionStandsFor config (with_get reading) session → turn.came ≡ came.Failed fault → after ≡ record kept { moment = turn.moment; running = None } →
+      running.action ≡ Fetch keys → HasTurned config (request_of session running) keys running.log step turn → HasStepped config session running step (Done (answer.Refused fault)) after
+  fails reading turn fault keys step stands came_is after_is action has =
+      let here = subst (λ (c : Came). CameOf config (request_of session running) keys running.log step c) came_is has.came_is in
+      record {
+        shown_is = shows here;
+        stands =
+            subst (λ (k : Kept). SessionStandsFor config k (session_after session running step (Done (answer.Refused fault)))) (sym after_is)
+            (done_stands config (with_get reading) (record kept { moment = turn.moment; running = None }) session running step (answer.Refused fault) stands refl (moment_turned keys step turn action has)
+            (subst (λ (cs : List OpenContext). ContextsStandFor kept.contexts.rows cs) (sym (context_extended-nothing running.context session.contexts)) stands.contexts_are) refl refl refl refl);
+      }
+    where
+      shows : (progress config (request_of session running) running.log step ≡ Done (answer.Refused fault)) ⊎ (fault ≡ OutOfMemory) →
+          (Done (answer.Refused fault) ≡ progress config (request_of session running) running.log step) ⊎ (Done (answer.Refused fault) ≡ Done (answer.Refused OutOfMemory))
+      shows (inl h) = inl (sym h)
+      shows (inr h) = inr (ap (λ f. Done (answer.Refused f)) h)
+
+  pub completes : (reading : Reading) (turn : Turn) (reads : List Read) (ended : Answer) (keys : List (List ℕ)) (step : LogStep) → SessionStandsFor config (with_get reading) session → turn.came ≡ came.Complete reads →
+      (ended ≡ values_or_full kept.setting.deps (obs_in context session.contexts) reads) ⊎ (ended ≡ answer.Refused OutOfMemory) →
+      ContextsStandFor after.contexts.rows (context_extended context (seen_in ended) session.contexts) →
+      after ≡ record kept { moment = turn.moment; contexts = record kept.contexts { rows = after.contexts.rows }; running = None } → context ≡ running.context →
+      running.action ≡ Fetch keys → HasTurned config (request_of session running) keys running.log step turn → HasStepped config session running step (Done ended) after
+  completes reading turn reads ended keys step stands came_is ended_is contexts after_is same_context action has =
+      let here = subst (λ (c : Came). CameOf config (request_of session running) keys running.log step c) came_is has.came_is in
+      record {
+        shown_is = shows here ended_is;
+        stands =
+            done_stands config (with_get reading) after session running step ended stands (ap (λ k. k.setting) after_is) (ap (λ k. k.moment) after_is ∙ moment_turned keys step turn action has)
+            (subst (λ (n : ℕ). ContextsStandFor after.contexts.rows (context_extended n (seen_in ended) session.contexts)) same_context contexts)
+            (ap (λ k. k.contexts.limit) after_is) (ap (λ k. k.contexts.next) after_is) (ap (λ k. k.next_request) after_is) (ap (λ k. k.running) after_is);
+      }
+    where
+      shows : progress config (request_of session running) running.log step ≡ Done (values_or_full config.quota.deps (obs_of running.context session) reads) →
+          (ended ≡ values_or_full kept.setting.deps (obs_in context session.contexts) reads) ⊎ (ended ≡ answer.Refused OutOfMemory) →
+          (Done ended ≡ progress config (request_of session running) running.log step) ⊎ (Done ended ≡ Done (answer.Refused OutOfMemory))
+      shows h (inl e) = inl (ap Done (e ∙ (λ i. values_or_full (stands.setting_is.deps i) (obs_in (same_context i) session.contexts) reads)) ∙ sym h)
+      shows h (inr e) = inr (ap Done e)
+
+-- ---- an answer with nothing to see
+
+as_refused : (fault : Fault) (ended : Answer) (context : ℕ) (rows : List (Open Lists)) (opens : List OpenContext) → ended ≡ answer.Refused fault → ContextsStandFor rows opens →
+    ContextsStandFor rows (context_extended context (seen_in ended) opens)
+as_refused fault ended context rows opens is stand =
+    subst (λ (a : Answer). ContextsStandFor rows (context_extended context (seen_in a) opens)) (sym is) (subst (λ (cs : List OpenContext). ContextsStandFor rows cs) (sym (context_extended-nothing context opens)) stand)
+
+pub unseen : (key : List ℕ) (r : NodeReply) (ended : Answer) (context : ℕ) (rows : List (Open Lists)) (opens : List OpenContext) → ended ≡ answer_to_put key r → ((pair : Pair) → ended ≡ answer.Stored pair → ⊥) →
+    ContextsStandFor rows opens → ContextsStandFor rows (context_extended context (seen_in ended) opens)
+unseen key (reply.Stored version) ended context rows opens is not stand = absurd (not (record { key = key; version = version }) is)
+unseen key (reply.Refused fault) ended context rows opens is not stand = as_refused fault ended context rows opens is stand
+unseen key _ ended context rows opens is not stand = as_refused Torn ended context rows opens is stand

@@ -1,0 +1,32 @@
+use Rattle.std.proofs.Common.{◌≡◌, ◌∙◌, ℕ, Bool, true, false, List, [], ◌∷◌, length, ap, sym, refl, subst, arith, ◌⊎◌, inl, inr}
+use Rattle.std.specs.Prelude.{Option, Some, None, not, nat_lt, is_some}
+use Rattle.std.proofs.lemmas.Bool.Decides.{nat_tests}
+use Rattle.cops_session.specs.Kept.{Kept}
+use Rattle.cops_session.specs.SessionStands.{SessionStandsFor}
+use Rattle.cops_session.proofs.SessionLaws.{answered, create_refusal-idle, SessionStandsFor-created}
+use Rattle.cops_session.proofs.sessions.Session.create_context.Goals as goal
+use Rattle.cops_session.proofs.sessions.Session.create_context.Goals.{in-Ok, in-Err}
+
+pub returns-clause-created : goal.returns-clause-created
+returns-clause-created c = λ config session stand.
+    let stands = subst (λ (k : Kept). SessionStandsFor config k session) (sym c.self.view_is) stand in
+    let idle = sym c.is_some.ensures ∙ c.if-is_some.false in
+    elim c.match-open.branch [
+      | in-Ok w ↦
+          rw w.result-is (
+            w.in-Ok.ensures.ok ∙ stands.next_context_is,
+            SessionStandsFor-created config _ session stands _ c.new.result idle (record { all_is = ap (λ l. l.all) c.new.ensures; near_is = ap (λ l. l.near) c.new.ensures })
+                (λ i. record { setting = c.self.inside.setting; moment = c.self.inside.moment; contexts = w.in-Ok.ensures.opened i; next_request = c.self.inside.next_request; running = c.self.inside.running }),
+          )
+      | in-Err w ↦ rw w.result-is tt
+    ]
+
+pub returns-clause-refused : goal.returns-clause-refused
+returns-clause-refused c = λ config session stand.
+    let stands = subst (λ (k : Kept). SessionStandsFor config k session) (sym c.self.view_is) stand in
+    let idle = sym c.is_some.ensures ∙ c.if-is_some.false in
+    answered _ _ c.match-open.result (create_refusal-idle config _ session stands idle)
+    (elim c.match-open.branch [
+      | in-Ok w ↦ rw w.result-is w.in-Ok.ensures.refused
+      | in-Err w ↦ rw w.result-is w.in-Err.ensures.refused.1
+    ])

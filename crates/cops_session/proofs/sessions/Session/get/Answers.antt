@@ -1,0 +1,58 @@
+use Rattle.std.proofs.Common.{◌≡◌, ◌∙◌, ℕ, ap, sym, refl, subst, inl, inr}
+use Rattle.std.specs.Prelude.{Some}
+use Rattle.cops_session.specs.declared.Progress.{Progress}
+use Rattle.cops_session.specs.declared.Progress.TheVariants.{Working, Restarted, Done}
+use Rattle.cops_session.specs.declared.Answer.TheVariants as answer
+use Rattle.cops_session.specs.declared.ongoing.Work.TheVariants.{Get}
+use Rattle.cops_session.specs.Kept.{Kept}
+use Rattle.cops_session.specs.Request.{next}
+use Rattle.cops_session.specs.Session.{moment_at, request_of}
+use Rattle.cops_session.specs.SessionStands.{SessionStandsFor}
+use Rattle.cops_session.specs.Stepping.{DoesNext}
+use Rattle.cops_session.proofs.StepLaws.{completes, fails, get_steps, restarts, works}
+use Rattle.cops_session.proofs.sessions.Session.get.Goals as goal
+
+pub returns-in-Working-clause-stepped : goal.returns-in-Working-clause-stepped
+returns-in-Working-clause-stepped g c = λ config session running stand is.
+    let inside = c.self.inside in
+    let turn = c.read_step-moment.result in
+    let kept : Kept = record { setting = inside.setting; moment = inside.moment; contexts = inside.contexts; next_request = inside.next_request; running = inside.running } in
+    let after : Kept = record { setting = inside.setting; moment = turn.moment; contexts = inside.contexts; next_request = inside.next_request; running = Some (record { number = c.args.number; context = c.args.context; work = Get c.in-Working.reading }) } in
+    let stands = subst (λ (k : Kept). SessionStandsFor config (record k { running = Some (record { number = c.args.number; context = c.args.context; work = Get c.args.reading }) }) session) (sym c.self.view_is) stand in
+    subst
+    (λ (k : Kept). DoesNext (λ id call reply. g.N.Nodes.Answers c.args.nodes.now id k.setting.slot (moment_at c.args.moment session) call reply c.read_step-moment.new.nodes) (c.read_step-moment.new.nodes ≡ c.args.nodes.now)
+    config session running (moment_at c.args.moment session) Working after (next config (request_of session running) running.log (moment_at c.args.moment session)))
+    c.self.view_is
+    (get_steps config kept after session running c.args.number c.args.context (λ t id call reply. g.N.Nodes.Answers c.args.nodes.now id inside.setting.slot t call reply c.read_step-moment.new.nodes)
+    (c.read_step-moment.new.nodes ≡ c.args.nodes.now) c.args.reading c.args.moment c.max-now.result turn Working stands is c.max-now.ensures c.read_step-moment.ensures.turned
+    (λ keys step same number action has. works config kept after session running c.args.number c.args.context c.args.reading c.in-Working.reading turn keys step stands c.in-Working.is refl same number action has))
+
+pub returns-in-Restarted-clause-stepped : goal.returns-in-Restarted-clause-stepped
+returns-in-Restarted-clause-stepped g c = λ config session running stand is.
+    let inside = c.self.inside in
+    let turn = c.read_step-moment.result in
+    let kept : Kept = record { setting = inside.setting; moment = inside.moment; contexts = inside.contexts; next_request = inside.next_request; running = inside.running } in
+    let after : Kept = record { setting = inside.setting; moment = turn.moment; contexts = inside.contexts; next_request = inside.next_request; running = Some (record { number = c.args.number; context = c.args.context; work = Get c.in-Restarted.reading }) } in
+    let stands = subst (λ (k : Kept). SessionStandsFor config (record k { running = Some (record { number = c.args.number; context = c.args.context; work = Get c.args.reading }) }) session) (sym c.self.view_is) stand in
+    subst
+    (λ (k : Kept). DoesNext (λ id call reply. g.N.Nodes.Answers c.args.nodes.now id k.setting.slot (moment_at c.args.moment session) call reply c.read_step-moment.new.nodes) (c.read_step-moment.new.nodes ≡ c.args.nodes.now)
+    config session running (moment_at c.args.moment session) (Restarted c.in-Restarted.reading.restarts) after (next config (request_of session running) running.log (moment_at c.args.moment session)))
+    c.self.view_is
+    (get_steps config kept after session running c.args.number c.args.context (λ t id call reply. g.N.Nodes.Answers c.args.nodes.now id inside.setting.slot t call reply c.read_step-moment.new.nodes)
+    (c.read_step-moment.new.nodes ≡ c.args.nodes.now) c.args.reading c.args.moment c.max-now.result turn (Restarted c.in-Restarted.reading.restarts) stands is c.max-now.ensures c.read_step-moment.ensures.turned
+    (λ keys step same number action has. restarts config kept after session running c.args.number c.args.context c.args.reading c.in-Restarted.reading turn keys step stands c.in-Restarted.is refl same number action has))
+
+pub returns-in-Failed-clause-stepped : goal.returns-in-Failed-clause-stepped
+returns-in-Failed-clause-stepped g c = λ config session running stand is.
+    let inside = c.self.inside in
+    let turn = c.read_step-moment.result in
+    let kept : Kept = record { setting = inside.setting; moment = inside.moment; contexts = inside.contexts; next_request = inside.next_request; running = inside.running } in
+    let after : Kept = record { setting = inside.setting; moment = turn.moment; contexts = inside.contexts; next_request = inside.next_request; running = inside.running } in
+    let stands = subst (λ (k : Kept). SessionStandsFor config (record k { running = Some (record { number = c.args.number; context = c.args.context; work = Get c.args.reading }) }) session) (sym c.self.view_is) stand in
+    subst
+    (λ (k : Kept). DoesNext (λ id call reply. g.N.Nodes.Answers c.args.nodes.now id k.setting.slot (moment_at c.args.moment session) call reply c.read_step-moment.new.nodes) (c.read_step-moment.new.nodes ≡ c.args.nodes.now)
+    config session running (moment_at c.args.moment session) (Done (answer.Refused c.in-Failed.fault)) after (next config (request_of session running) running.log (moment_at c.args.moment session)))
+    c.self.view_is
+    (get_steps config kept after session running c.args.number c.args.context (λ t id call reply. g.N.Nodes.Answers c.args.nodes.now id inside.setting.slot t call reply c.read_step-moment.new.nodes)
+    (c.read_step-moment.new.nodes ≡ c.args.nodes.now) c.args.reading c.args.moment c.max-now.result turn (Done (answer.Refused c.in-Failed.fault)) stands is c.max-now.ensures c.read_step-moment.ensures.turned
+    (λ keys step same number action has. fails config kept after session running c.args.number c.args.context c.args.reading turn c.in-Failed.fault keys step stands c.in-Failed.is (λ i. record { setting = inside.setting; moment = turn.moment; contexts = inside.contexts; next_request = inside.next_request; running = (ap (λ k. k.running) c.self.view_is ∙ c.requires.idle) i }) action has))

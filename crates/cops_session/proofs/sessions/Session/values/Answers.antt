@@ -1,0 +1,23 @@
+use Rattle.std.proofs.Common.{◌≡◌, ◌∙◌, ℕ, Bool, true, false, List, [], ◌∷◌, length, ap, sym, refl, subst, arith, ◌⊎◌, inl, inr}
+use Rattle.std.specs.Prelude.{Option, Some, None, not, nat_lt, is_some}
+use Rattle.std.proofs.lemmas.Bool.Decides.{nat_tests}
+use Rattle.cops_session.specs.Kept.{Kept}
+use Rattle.cops_session.specs.SessionStands.{SessionStandsFor}
+use Rattle.cops_session.specs.Session.{OpenContext, context_extended}
+use Rattle.cops_session.specs.SessionStands.{ContextsStandFor}
+use Rattle.cops_types.specs.Context.{observations_of}
+use Rattle.cops_types.specs.declared.contexts.Read.{Read}
+use Rattle.cops_session.proofs.ContextRows.{context_extended-nothing}
+use Rattle.cops_session.proofs.sessions.Session.values.Goals as goal
+use Rattle.cops_session.proofs.sessions.Session.values.Goals.{in-Ok, in-Err}
+
+pub returns-clause-stands : goal.returns-clause-stands
+returns-clause-stands c = λ opens stand.
+    let stands = subst (λ (k : Kept). ContextsStandFor k.contexts.rows opens) (sym c.self.view_is) stand in
+    elim c.match-see_reads.branch [
+      | in-Ok w ↦
+          rw w.result-is (subst (λ (rs : List Read). ContextsStandFor c.see_reads.new.contexts.rows (context_extended c.args.context (observations_of rs) opens)) c.as_slice.ensures (w.in-Ok.ensures.stands opens stands))
+      | in-Err w ↦
+          rw w.result-is (subst (λ (os : List OpenContext). ContextsStandFor c.see_reads.new.contexts.rows os) (sym (context_extended-nothing c.args.context opens))
+          (subst (λ t. ContextsStandFor t.rows opens) (sym w.in-Err.ensures.err) stands))
+    ]

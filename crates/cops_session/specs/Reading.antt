@@ -1,0 +1,37 @@
+-- A get transaction that runs stands for the log of its steps.
+use Rattle.std.specs.Prelude.{◌≡◌, ℕ, Bool, false, ◌-◌, nat_lt, List, [], ◌∷◌, length, Option, Some, None}
+use Rattle.cops_types.specs.TenantConfig.{TenantConfig}
+use Rattle.cops_node.specs.declared.NodeReply.{NodeReply}
+use Rattle.cops_node.specs.Log.{LogStep, first_fault}
+use Rattle.cops_session.specs.declared.ongoing.Reading.{Reading}
+use Rattle.cops_session.specs.declared.ongoing.Round.{Round}
+use Rattle.cops_session.specs.declared.ongoing.Round.TheVariants.{First, Second}
+use Rattle.cops_session.specs.Request.{Attempt, Request, Fetch, attempt_of, calls_of, replies_of}
+use Rattle.cops_session.specs.Stands.{AreDistinct, IsFirstOf, IsSecondOf}
+
+-- the moment of the first step, if there is one
+abbrev pub first_moment : List LogStep → Option ℕ
+first_moment [] = None
+first_moment (first ∷ steps) = Some first.moment
+
+-- the moment is more than `trans_time` past the start
+abbrev pub is_past : ℕ → Option ℕ → ℕ → Bool
+is_past trans_time None moment = false
+is_past trans_time (Some start) moment = nat_lt trans_time (moment - start)
+
+abbrev pub RoundStandsFor : List (List ℕ) → List NodeReply → Round → Type 0
+RoundStandsFor keys replies (First round) = IsFirstOf keys replies round
+RoundStandsFor keys replies (Second round) = IsSecondOf keys replies round
+
+-- it keeps the restarts, the start and the reads of an attempt, which goes on: each step has its reply, and none brings a fault
+pub record IsOfAttempt (config : TenantConfig) (request : Request) (keys : List (List ℕ)) (attempt : Attempt) (reading : Reading) : Type 0 where
+  pub distinct : AreDistinct keys
+  pub restarts_are : reading.restarts ≡ attempt.restarts
+  pub few_restarts : nat_lt config.restarts attempt.restarts ≡ false
+  pub start_is : reading.start ≡ first_moment attempt.steps
+  pub all_replied : length (replies_of attempt.steps) ≡ length attempt.steps
+  pub no_fault : first_fault (calls_of config request (replies_of attempt.steps) (Fetch keys)) (replies_of attempt.steps) ≡ None
+  pub round_is : RoundStandsFor keys (replies_of attempt.steps) reading.round
+
+abbrev pub IsReading : TenantConfig → Request → List (List ℕ) → List LogStep → Reading → Type 0
+IsReading config request keys log reading = IsOfAttempt config request keys (attempt_of (Fetch keys) log) reading

@@ -1,0 +1,37 @@
+-- A step of a get transaction that runs.
+use Rattle.std.specs.Prelude.{◌≡◌, ◌⊎◌, ℕ, List, [], ◌∷◌, ◌++◌, if◌then◌else◌}
+use Rattle.cops_types.specs.declared.faults.Fault.TheVariants.{OutOfMemory}
+use Rattle.cops_types.specs.TenantConfig.{TenantConfig}
+use Rattle.cops_node.specs.declared.NodeCall.{NodeCall}
+use Rattle.cops_node.specs.declared.NodeId.{NodeId}
+use Rattle.cops_node.specs.declared.NodeReply.{NodeReply}
+use Rattle.cops_node.specs.Log.{LogStep, Late, Replied, Next, Call, Restart, Ended}
+use Rattle.cops_session.specs.declared.Answer.{Answer}
+use Rattle.cops_session.specs.declared.Answer.TheVariants as answer
+use Rattle.cops_session.specs.declared.Progress.TheVariants as progress
+use Rattle.cops_session.specs.declared.reading.Came.{Came}
+use Rattle.cops_session.specs.declared.reading.Came.TheVariants.{Working, Restarted, Complete, Failed}
+use Rattle.cops_session.specs.declared.reading.Turn.{Turn}
+use Rattle.cops_session.specs.Reading.{IsReading}
+use Rattle.cops_session.specs.Request.{Request, Fetch, values_or_full}
+use Rattle.cops_session.specs.Session.{has_restarted, raised}
+use Rattle.cops_session.specs.Session as session
+
+-- what the step shows, and that the transaction stands for one more step, where it goes on
+abbrev pub CameOf : TenantConfig → Request → List (List ℕ) → List LogStep → LogStep → Came → Type 0
+CameOf config request keys log step (Working reading) = (session.progress config request log step ≡ progress.Working) × IsReading config request keys (log ++ step ∷ []) reading
+CameOf config request keys log step (Restarted reading) =
+    (session.progress config request log step ≡ progress.Restarted reading.restarts) × IsReading config request keys (log ++ step ∷ []) reading
+CameOf config request keys log step (Complete reads) = session.progress config request log step ≡ progress.Done (values_or_full config.quota.deps request.obs reads)
+CameOf config request keys log step (Failed fault) = (session.progress config request log step ≡ progress.Done (answer.Refused fault)) ⊎ (fault ≡ OutOfMemory)
+
+pub record HasTurned (config : TenantConfig) (request : Request) (keys : List (List ℕ)) (log : List LogStep) (step : LogStep) (turn : Turn) : Type 0 where
+  pub moment_is : turn.moment ≡ (if has_restarted (Fetch keys) log step then raised step.moment step.outcome else step.moment)
+  pub came_is : CameOf config request keys log step turn.came
+
+-- the step does what comes next
+abbrev pub TurnsNext : (NodeId → NodeCall → NodeReply → Type 0) → Type 0 → TenantConfig → Request → List (List ℕ) → List LogStep → ℕ → Turn → Next Answer → Type 0
+TurnsNext called stays config request keys log moment turn (Call directed) =
+    (reply : NodeReply) × called directed.node directed.call reply × HasTurned config request keys log (record { moment = moment; outcome = Replied reply }) turn
+TurnsNext called stays config request keys log moment turn Restart = stays × HasTurned config request keys log (record { moment = moment; outcome = Late }) turn
+TurnsNext called stays config request keys log moment turn (Ended answer) = ⊥

@@ -1,0 +1,103 @@
+//! The contexts of a session, by their handles.
+ghost use Rattle.std.specs.Prelude.{◌≡◌, [], ◌∷◌, List, not, IfOk, OnOk, OnErr};
+ghost use Rattle.cops_types.specs.Context.{Put, all_of, near_of, observations_of, can_put, can_observe};
+ghost use Rattle.cops_types.specs.Refusal.{IsAnswer, refused_if};
+ghost use Rattle.cops_handles.specs.Rows.{replaced};
+ghost use Rattle.cops_session.specs.Kept.{HasRoomFor, IsOpen};
+ghost use Rattle.cops_session.specs.Session.{OpenContext, context_extended};
+ghost use Rattle.cops_session.specs.SessionStands.{ContextsStandFor, obs_in};
+
+use crate::kinds::Contexts;
+use cops_context::Context;
+use cops_handles::{Handle, Table};
+use cops_types::{Deps, Fault, Key, Near, Pair, Read};
+use std::alloc::Global;
+
+/// Puts a context under its number.
+fn put_back(contexts: &mut Table<Contexts>, handle: Handle<Contexts>, context: Context)
+    requires { IsOpen handle contexts.old.rows }
+    ensures { contexts.new ≡ record contexts.old { rows = replaced handle context contexts.old.rows } }
+{
+    match contexts.replace(handle, context) {
+        Ok(_) => {}
+        Err(_) => unreachable!(),
+    }
+}
+
+/// The two lists that a put of the key sends. From here on the context has room for that put.
+pub(crate) fn prepare_put(
+    alloc: Global,
+    contexts: &mut Table<Contexts>,
+    handle: Handle<Contexts>,
+    key: &Key,
+    limit: u64,
+) -> Result<(Deps, Near), Fault>
+    requires { IsOpen handle contexts.old.rows }
+    ensures lists { IfOk result (λ lists. (opens : List OpenContext) → ContextsStandFor contexts.old.rows opens →
+        (lists.0 ≡ all_of (obs_in handle opens)) × (lists.1 ≡ near_of (obs_in handle opens))) }
+    ensures stands { OnOk result ((opens : List OpenContext) → ContextsStandFor contexts.old.rows opens → ContextsStandFor contexts.new.rows opens) }
+    ensures room { OnOk result (HasRoomFor handle key.now contexts.new.rows) }
+    ensures refused { (opens : List OpenContext) → ContextsStandFor contexts.old.rows opens →
+        IsAnswer (refused_if (not (can_put limit (obs_in handle opens) key.now)) Fault.DependenciesFull) result }
+    ensures numbers { contexts.new ≡ record contexts.old { rows = contexts.new.rows } }
+    ensures err { OnErr result (contexts.new ≡ contexts.old) }
+{
+    let same = handle;
+    match contexts.replace(handle, Context::new(alloc)) {
+        Ok(mut context) => {
+            let lists = context.put_args(key, limit);
+            put_back(contexts, same, context);
+            lists
+        }
+        Err(_) => unreachable!(),
+    }
+}
+
+/// The context sees a pair that was put, for which there is room.
+pub(crate) fn see_put(
+    alloc: Global,
+    contexts: &mut Table<Contexts>,
+    handle: Handle<Contexts>,
+    pair: Pair,
+)
+    requires { HasRoomFor handle pair.key contexts.old.rows }
+    ensures stands { (opens : List OpenContext) → ContextsStandFor contexts.old.rows opens →
+        ContextsStandFor contexts.new.rows (context_extended handle (Put pair ∷ []) opens) }
+    ensures numbers { contexts.new ≡ record contexts.old { rows = contexts.new.rows } }
+{
+    let same = handle;
+    match contexts.replace(handle, Context::new(alloc)) {
+        Ok(mut context) => {
+            context.after_put(pair);
+            put_back(contexts, same, context);
+        }
+        Err(_) => unreachable!(),
+    }
+}
+
+/// The context sees what was read, in order: all of it or nothing.
+pub(crate) fn see_reads(
+    alloc: Global,
+    contexts: &mut Table<Contexts>,
+    handle: Handle<Contexts>,
+    reads: &[Read],
+    limit: u64,
+) -> Result<(), Fault>
+    requires { IsOpen handle contexts.old.rows }
+    ensures stands { OnOk result ((opens : List OpenContext) → ContextsStandFor contexts.old.rows opens →
+        ContextsStandFor contexts.new.rows (context_extended handle (observations_of reads.now) opens)) }
+    ensures refused { (opens : List OpenContext) → ContextsStandFor contexts.old.rows opens →
+        IsAnswer (refused_if (not (can_observe limit (obs_in handle opens) (observations_of reads.now))) Fault.DependenciesFull) result }
+    ensures numbers { contexts.new ≡ record contexts.old { rows = contexts.new.rows } }
+    ensures err { OnErr result (contexts.new ≡ contexts.old) }
+{
+    let same = handle;
+    match contexts.replace(handle, Context::new(alloc)) {
+        Ok(mut context) => {
+            let seen = context.observe_all(reads, limit);
+            put_back(contexts, same, context);
+            seen
+        }
+        Err(_) => unreachable!(),
+    }
+}

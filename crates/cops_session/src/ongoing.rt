@@ -1,0 +1,43 @@
+use crate::kinds::Contexts;
+use crate::rounds::{FirstRound, SecondRound};
+use cops_handles::Handle;
+use cops_types::{Deps, Key, Near, Value};
+
+/// The request that a session runs: its number, its context, and what is to be done.
+#[derive(Drop)]
+pub struct Ongoing {
+    pub number: u64,
+    pub context: Handle<Contexts>,
+    pub work: Work,
+}
+
+/// What a request does.
+#[derive(Debug, Drop)]
+pub enum Work {
+    Put(Writing),
+    Get(Reading),
+}
+
+/// A put: the pair to store, and the two lists of its context.
+#[derive(Debug, Drop)]
+pub struct Writing {
+    pub key: Key,
+    pub value: Value,
+    pub deps: Deps,
+    pub near: Near,
+}
+
+/// A get transaction: how often it restarted, the moment of its attempt's first step, and its round.
+#[derive(Debug, Drop)]
+pub struct Reading {
+    pub restarts: u64,
+    pub start: Option<u64>,
+    pub round: Round,
+}
+
+/// The round in which a get transaction is.
+#[derive(Debug, Drop)]
+pub enum Round {
+    First(FirstRound),
+    Second(SecondRound),
+}

@@ -1,0 +1,213 @@
+ghost use Rattle.std.specs.Prelude.{◌≡◌, ◌⊎◌, ◌+◌, ◌<◌, ℕ, false, List, [], Some, None, nat_lt, unwrap_or, if◌then◌else◌};
+ghost use Rattle.cops_types.specs.Context.{Observation};
+ghost use Rattle.cops_types.specs.TenantConfig.{TenantConfig};
+ghost use Rattle.cops_types.specs.declared.faults.Fault.TheVariants.{Overrun};
+ghost use Rattle.cops_node.specs.declared.NodeCall.{NodeCall};
+ghost use Rattle.cops_node.specs.declared.NodeId.{NodeId};
+ghost use Rattle.cops_node.specs.declared.NodeReply.{NodeReply};
+ghost use Rattle.cops_node.specs.Log.{LogStep};
+ghost use Rattle.cops_session.specs.Reading.{IsReading, RoundStandsFor, is_past};
+ghost use Rattle.cops_session.specs.Stands.{IsFirstOf};
+ghost use Rattle.cops_session.specs.Request.{Fetch, next};
+ghost use Rattle.cops_session.specs.SessionStands.{IsSettingOf};
+ghost use Rattle.cops_session.specs.Turns.{TurnsNext};
+ghost use Rattle.cops_session.specs.declared.ongoing.Round.TheVariants.{First, Second};
+ghost use Rattle.cops_session.specs.declared.reading.Came.TheVariants.{Restarted, Failed};
+
+use crate::asking::{Asked, AskedAgain, ask_first, ask_second};
+use crate::ongoing::{Reading, Round};
+use crate::rounds::{AfterFirst, AfterSecond, FirstRound, SecondRound};
+use crate::settings::Setting;
+use cops_node::Nodes;
+use cops_types::{Fault, Reads};
+use std::alloc::Global;
+
+/// What came of a step of a get transaction.
+#[derive(Drop)]
+pub enum Came {
+    /// It goes on.
+    Working(Reading),
+    /// It begins again.
+    Restarted(Reading),
+    /// All is read.
+    Complete(Reads),
+    /// It ends with this fault.
+    Failed(Fault),
+}
+
+/// What came of a step of a get transaction, and the session's moment after it.
+#[derive(Drop)]
+pub struct Turn {
+    pub moment: u64,
+    pub came: Came,
+}
+
+/// Whether the moment is more than `trans_time` past the start.
+fn is_late(start: Option<u64>, moment: u64, trans_time: u64) -> bool
+    ensures { result ≡ is_past trans_time start moment }
+{
+    match start {
+        Some(start) => moment.saturating_sub(start) > trans_time,
+        None => false,
+    }
+}
+
+/// Another attempt, unless there were as many restarts as may be.
+fn begin_again(round: FirstRound, restarts: u64, limit: u64) -> Came
+    ensures { result ≡ (if nat_lt restarts limit then Restarted (record { restarts = restarts + 1; start = None; round = First round }) else Failed Overrun) }
+{
+    if restarts < limit {
+        Came::Restarted(Reading {
+            restarts: restarts + 1,
+            start: None,
+            round: Round::First(round),
+        })
+    } else {
+        Came::Failed(Fault::Overrun)
+    }
+}
+
+/// A step in the first round, in time.
+fn read_first<N: Nodes>(
+    alloc: Global,
+    nodes: &mut N,
+    setting: Setting,
+    round: FirstRound,
+    restarts: u64,
+    start: Option<u64>,
+    moment: u64,
+) -> Turn
+    requires dc { setting.dc < (N.shape nodes.old).data_centres }
+    requires shards { setting.shards ≡ (N.shape nodes.old).shards }
+    requires some_shard { 0 < setting.shards }
+    requires slot { setting.slot < (N.shape nodes.old).slots }
+    requires in_time { is_past setting.trans_time start moment ≡ false }
+    ensures turned { (config : TenantConfig) (obs : List Observation) (keys : List (List ℕ)) (log : List LogStep) → IsSettingOf config setting →
+        IsReading config (record { dc = setting.dc; obs = obs; action = Fetch keys }) keys log (record { restarts = restarts; start = start; round = First round }) →
+        TurnsNext (λ id call reply. N.Answers nodes.old id setting.slot moment call reply nodes.new) (nodes.new ≡ nodes.old)
+            config (record { dc = setting.dc; obs = obs; action = Fetch keys }) keys log moment result (next config (record { dc = setting.dc; obs = obs; action = Fetch keys }) log moment) }
+    ensures once { (id : NodeId) × (call : NodeCall) × (reply : NodeReply) × N.Answers nodes.old id setting.slot moment call reply nodes.new }
+    ensures shape { N.shape nodes.new ≡ N.shape nodes.old }
+{
+    let started = Some(start.unwrap_or(moment));
+    match ask_first(alloc, nodes, round, setting, moment) {
+        Asked::Went(AfterFirst::More(round)) => Turn {
+            moment,
+            came: Came::Working(Reading {
+                restarts,
+                start: started,
+                round: Round::First(round),
+            }),
+        },
+        Asked::Went(AfterFirst::Second(round)) => Turn {
+            moment,
+            came: Came::Working(Reading {
+                restarts,
+                start: started,
+                round: Round::Second(round),
+            }),
+        },
+        Asked::Went(AfterFirst::Complete(reads)) => Turn {
+            moment,
+            came: Came::Complete(reads),
+        },
+        Asked::Failed(fault) => Turn {
+            moment,
+            came: Came::Failed(fault),
+        },
+    }
+}
+
+/// A step in the second round, in time.
+fn read_second<N: Nodes>(
+    nodes: &mut N,
+    setting: Setting,
+    round: SecondRound,
+    restarts: u64,
+    start: Option<u64>,
+    moment: u64,
+) -> Turn
+    requires dc { setting.dc < (N.shape nodes.old).data_centres }
+    requires shards { setting.shards ≡ (N.shape nodes.old).shards }
+    requires some_shard { 0 < setting.shards }
+    requires slot { setting.slot < (N.shape nodes.old).slots }
+    requires in_time { is_past setting.trans_time start moment ≡ false }
+    ensures turned { (config : TenantConfig) (obs : List Observation) (keys : List (List ℕ)) (log : List LogStep) → IsSettingOf config setting →
+        IsReading config (record { dc = setting.dc; obs = obs; action = Fetch keys }) keys log (record { restarts = restarts; start = start; round = Second round }) →
+        TurnsNext (λ id call reply. N.Answers nodes.old id setting.slot moment call reply nodes.new) (nodes.new ≡ nodes.old)
+            config (record { dc = setting.dc; obs = obs; action = Fetch keys }) keys log moment result (next config (record { dc = setting.dc; obs = obs; action = Fetch keys }) log moment) }
+    ensures once { (id : NodeId) × (call : NodeCall) × (reply : NodeReply) × N.Answers nodes.old id setting.slot moment call reply nodes.new }
+    ensures shape { N.shape nodes.new ≡ N.shape nodes.old }
+{
+    let started = Some(start.unwrap_or(moment));
+    match ask_second(nodes, round, setting, moment) {
+        AskedAgain::Went(AfterSecond::More(round)) => Turn {
+            moment,
+            came: Came::Working(Reading {
+                restarts,
+                start: started,
+                round: Round::Second(round),
+            }),
+        },
+        AskedAgain::Went(AfterSecond::Complete(reads)) => Turn {
+            moment,
+            came: Came::Complete(reads),
+        },
+        AskedAgain::Gone(round, now) => Turn {
+            moment: moment.max(now),
+            came: begin_again(round, restarts, setting.restarts),
+        },
+        AskedAgain::Failed(fault) => Turn {
+            moment,
+            came: Came::Failed(fault),
+        },
+    }
+}
+
+impl Round {
+    /// The first round again.
+    fn restart(self) -> FirstRound
+        ensures { (keys : List (List ℕ)) (replies : List NodeReply) → RoundStandsFor keys replies self → IsFirstOf keys [] result }
+    {
+        match self {
+            Round::First(round) => round.restart(),
+            Round::Second(round) => round.restart(),
+        }
+    }
+}
+
+/// A step of a get transaction: a late one makes no call.
+pub(crate) fn read_step<N: Nodes>(
+    alloc: Global,
+    nodes: &mut N,
+    setting: Setting,
+    reading: Reading,
+    moment: u64,
+) -> Turn
+    requires dc { setting.dc < (N.shape nodes.old).data_centres }
+    requires shards { setting.shards ≡ (N.shape nodes.old).shards }
+    requires some_shard { 0 < setting.shards }
+    requires slot { setting.slot < (N.shape nodes.old).slots }
+    ensures turned { (config : TenantConfig) (obs : List Observation) (keys : List (List ℕ)) (log : List LogStep) → IsSettingOf config setting →
+        IsReading config (record { dc = setting.dc; obs = obs; action = Fetch keys }) keys log reading →
+        TurnsNext (λ id call reply. N.Answers nodes.old id setting.slot moment call reply nodes.new) (nodes.new ≡ nodes.old)
+            config (record { dc = setting.dc; obs = obs; action = Fetch keys }) keys log moment result (next config (record { dc = setting.dc; obs = obs; action = Fetch keys }) log moment) }
+    ensures once { (nodes.new ≡ nodes.old) ⊎ ((id : NodeId) × (call : NodeCall) × (reply : NodeReply) × N.Answers nodes.old id setting.slot moment call reply nodes.new) }
+    ensures shape { N.shape nodes.new ≡ N.shape nodes.old }
+{
+    let Reading {
+        restarts,
+        start,
+        round,
+    } = reading;
+    if is_late(start, moment, setting.trans_time) {
+        return Turn {
+            moment,
+            came: begin_again(round.restart(), restarts, setting.restarts),
+        };
+    }
+    match round {
+        Round::First(round) => read_first(alloc, nodes, setting, round, restarts, start, moment),
+        Round::Second(round) => read_second(nodes, setting, round, restarts, start, moment),
+    }
+}

@@ -1,0 +1,404 @@
+ghost use Rattle.std.specs.Prelude.{◌≡◌, ◌⊎◌, ◌<◌, ◌+◌, ◌-◌, ◌^◌, ℕ, List, false, length, Some, None, IfOk, OnOk, OnErr, MatchResult, slice_get};
+ghost use Rattle.std.specs.Option.{option_map};
+ghost use Rattle.cops_types.specs.Refusal.{IsAnswer};
+ghost use Rattle.cops_types.specs.TenantConfig.{TenantConfig, tenant_config};
+ghost use Rattle.cops_types.specs.declared.configs.Tenant.{Tenant};
+ghost use Rattle.cops_node.specs.declared.NodeCall.{NodeCall};
+ghost use Rattle.cops_node.specs.declared.NodeId.{NodeId};
+ghost use Rattle.cops_node.specs.declared.NodeReply.{NodeReply};
+ghost use Rattle.cops_context.specs.Lists.{StandsFor};
+ghost use Rattle.cops_types.specs.declared.faults.Fault.TheVariants.{OutOfMemory};
+ghost use Rattle.cops_session.specs.declared.Answer.TheVariants as answer;
+ghost use Rattle.cops_session.specs.declared.ongoing.Work.TheVariants as work;
+
+use crate::contexts::{prepare_put, see_put, see_reads};
+use crate::kinds::{Contexts, Running};
+use crate::ongoing::{Ongoing, Reading, Round, Work, Writing};
+use crate::reading::{Came, Turn, read_step};
+use crate::repeats::has_repeats;
+use crate::rounds::FirstRound;
+use crate::settings::Setting;
+use crate::writing::write_step;
+use crate::{Answer, Progress};
+use cops_context::Context;
+use cops_handles::{Handle, Table};
+use cops_node::Nodes;
+use cops_types::{Config, Fault, Key, Reads, Value};
+use std::alloc::Global;
+use std::marker::Model;
+
+/// A client's session: its contexts, and the request that it runs, as steps of at most one node
+/// call each. Contracts see what it keeps, and say what it stands for.
+#[derive(Drop)]
+pub struct Session {
+    alloc: Global,
+    setting: Setting,
+    moment: u64,
+    contexts: Table<Contexts>,
+    next_request: u64,
+    running: Option<Ongoing>,
+}
+
+impl Model for Session {
+    ghost use Rattle.cops_session.specs.Kept.{Kept, IsKept};
+
+    ghost Value = { Kept };
+
+    ghost view = { λ s. record { setting = s.setting; moment = s.moment; contexts = s.contexts; next_request = s.next_request; running = s.running } };
+
+    ghost invariant = { λ s. IsKept s.setting s.contexts s.running };
+}
+
+impl Session {
+    ghost use Rattle.cops_session.specs.Kept.{Kept, HasRoomFor, IsOpen, IsReadyFor, is_running};
+    ghost use Rattle.cops_session.specs.Request.{Write, Fetch, next, values_or_full};
+    ghost use Rattle.cops_session.specs.Session.{Session as SoloSession, Running as SoloRunning, new_session, create_refusal, context_refusal, put_refusal, get_refusal, context_created, context_deleted, request_begun, request_of, obs_of, moment_at, OpenContext, context_extended, is_spent, seen_in};
+    ghost use Rattle.cops_session.specs.SessionStands.{SessionStandsFor, ContextsStandFor, obs_in};
+    ghost use Rattle.cops_session.specs.Stepping.{DoesNext, runs};
+
+    /// A session of a tenant in a data centre, with no contexts. Its first numbers are 1.
+    pub fn new(alloc: Global, config: &Config, slot: u64, dc: u64) -> Self
+        requires slot { slot < length config.now.tenants }
+        requires dc { dc < config.now.data_centres }
+        requires shards { 0 < config.now.shards }
+        ensures stands { (tenant : Tenant) → slice_get config.now.tenants slot ≡ Some tenant →
+            SessionStandsFor (tenant_config config.now tenant) result (new_session dc 1) }
+        ensures slot { result.setting.slot ≡ slot }
+    {
+        Session::starting_at(alloc, config, slot, dc, 1)
+    }
+
+    /// A session whose numbers begin with `first`.
+    pub fn starting_at(alloc: Global, config: &Config, slot: u64, dc: u64, first: u64) -> Self
+        requires slot { slot < length config.now.tenants }
+        requires dc { dc < config.now.data_centres }
+        requires shards { 0 < config.now.shards }
+        ensures stands { (tenant : Tenant) → slice_get config.now.tenants slot ≡ Some tenant →
+            SessionStandsFor (tenant_config config.now tenant) result (new_session dc first) }
+        ensures slot { result.setting.slot ≡ slot }
+    {
+        let quota = config.tenants.tenant(slot).quota;
+        Session {
+            alloc,
+            setting: Setting {
+                slot,
+                dc,
+                data_centres: config.data_centres,
+                shards: config.shards,
+                trans_time: config.trans_time,
+                restarts: config.restarts,
+                deps: quota.deps,
+            },
+            moment: 0,
+            contexts: Table::starting_at(alloc, first, quota.contexts),
+            next_request: first,
+            running: None,
+        }
+    }
+
+    /// Opens a context that has seen nothing.
+    pub fn create_context(&mut self) -> Result<Handle<Contexts>, Fault>
+        ensures created { (config : TenantConfig) (session : SoloSession) → SessionStandsFor config self.old session →
+            IfOk result (λ handle. (handle ≡ session.next_context) × SessionStandsFor config self.new (context_created session)) }
+        ensures refused { (config : TenantConfig) (session : SoloSession) → SessionStandsFor config self.old session → IsAnswer (create_refusal config session) result }
+        ensures setting { self.new.setting ≡ self.old.setting }
+        ensures err { OnErr result (self.new ≡ self.old) }
+    {
+        if self.running.is_some() {
+            return Err(Fault::Busy);
+        }
+        match self.contexts.open(Context::new(self.alloc)) {
+            Ok(handle) => Ok(handle),
+            Err(back) => Err(back.fault),
+        }
+    }
+
+    /// Closes a context. Its number is open no more.
+    pub fn delete_context(&mut self, handle: Handle<Contexts>) -> Result<(), Fault>
+        ensures deleted { (config : TenantConfig) (session : SoloSession) → SessionStandsFor config self.old session →
+            OnOk result (SessionStandsFor config self.new (context_deleted handle session)) }
+        ensures refused { (config : TenantConfig) (session : SoloSession) → SessionStandsFor config self.old session →
+            MatchResult result (λ _. context_refusal handle session ≡ None) (λ fault. context_refusal handle session ≡ Some fault) }
+        ensures setting { self.new.setting ≡ self.old.setting }
+        ensures err { OnErr result (self.new ≡ self.old) }
+    {
+        if self.running.is_some() {
+            return Err(Fault::Busy);
+        }
+        match self.contexts.close(handle) {
+            Ok(_) => Ok(()),
+            Err(fault) => Err(fault),
+        }
+    }
+
+    /// An open context.
+    pub fn context(&self, handle: Handle<Contexts>) -> Result<&Context, Fault>
+        ensures stands { (config : TenantConfig) (session : SoloSession) → SessionStandsFor config self.now session →
+            IfOk result (λ context. StandsFor context.now (obs_of handle session)) }
+        ensures refused { (config : TenantConfig) (session : SoloSession) → SessionStandsFor config self.now session →
+            MatchResult result (λ _. context_refusal handle session ≡ None) (λ fault. context_refusal handle session ≡ Some fault) }
+    {
+        if self.running.is_some() {
+            return Err(Fault::Busy);
+        }
+        self.contexts.get(handle)
+    }
+
+    /// The request that runs.
+    pub fn running(&self) -> Option<Handle<Running>>
+        ensures { (config : TenantConfig) (session : SoloSession) → SessionStandsFor config self.now session → result ≡ option_map (λ running. running.number) session.running }
+    {
+        match &self.running {
+            Some(ongoing) => Some(Handle::of_number(ongoing.number)),
+            None => None,
+        }
+    }
+
+    /// Begins a put of a value under a key, which then takes one step.
+    pub fn begin_put(
+        &mut self,
+        handle: Handle<Contexts>,
+        key: Key,
+        value: Value,
+    ) -> Result<Handle<Running>, Fault>
+        ensures begun { (config : TenantConfig) (session : SoloSession) → SessionStandsFor config self.old session →
+            IfOk result (λ number. (number ≡ session.next_request) × SessionStandsFor config self.new (request_begun handle (Write key value) session)) }
+        ensures refused { (config : TenantConfig) (session : SoloSession) → SessionStandsFor config self.old session → IsAnswer (put_refusal config handle key session) result }
+        ensures setting { self.new.setting ≡ self.old.setting }
+        ensures err { OnErr result (self.new ≡ self.old) }
+    {
+        let same = handle;
+        let again = handle;
+        if self.running.is_some() {
+            return Err(Fault::Busy);
+        }
+        if !self.contexts.get(handle)?.can_put(&key, self.setting.deps) {
+            return Err(Fault::DependenciesFull);
+        }
+        if self.next_request == u64::MAX {
+            return Err(Fault::IdsSpent);
+        }
+        let (deps, near) = prepare_put(
+            self.alloc,
+            &mut self.contexts,
+            same,
+            &key,
+            self.setting.deps,
+        )?;
+        let writing = Writing {
+            key,
+            value,
+            deps,
+            near,
+        };
+        Ok(self.begin(again, Work::Put(writing)))
+    }
+
+    /// Begins a get transaction over keys.
+    pub fn begin_get_trans(
+        &mut self,
+        handle: Handle<Contexts>,
+        keys: &[Key],
+    ) -> Result<Handle<Running>, Fault>
+        ensures begun { (config : TenantConfig) (session : SoloSession) → SessionStandsFor config self.old session →
+            IfOk result (λ number. (number ≡ session.next_request) × SessionStandsFor config self.new (request_begun handle (Fetch keys.now) session)) }
+        ensures refused { (config : TenantConfig) (session : SoloSession) → SessionStandsFor config self.old session → IsAnswer (get_refusal config handle keys.now session) result }
+        ensures setting { self.new.setting ≡ self.old.setting }
+        ensures err { OnErr result (self.new ≡ self.old) }
+    {
+        let same = handle;
+        if keys.is_empty() {
+            return Err(Fault::Syntax);
+        }
+        if self.running.is_some() {
+            return Err(Fault::Busy);
+        }
+        let _ = self.contexts.get(handle)?;
+        if keys.len() > 32 {
+            return Err(Fault::TooManyKeys);
+        }
+        if has_repeats(keys) {
+            return Err(Fault::RepeatedKey);
+        }
+        if self.next_request == u64::MAX {
+            return Err(Fault::IdsSpent);
+        }
+        let reading = Reading {
+            restarts: 0,
+            start: None,
+            round: Round::First(FirstRound::begin(self.alloc, keys)?),
+        };
+        Ok(self.begin(same, Work::Get(reading)))
+    }
+
+    /// Runs a request, under the next number.
+    fn begin(&mut self, context: Handle<Contexts>, work: Work) -> Handle<Running>
+        requires left { self.old.next_request < 2 ^ 64 - 1 }
+        requires ready { IsReadyFor work context self.old.contexts.rows }
+        ensures number { result ≡ self.old.next_request }
+        ensures left { is_spent self.old.next_request ≡ false }
+        ensures begun { self.new ≡ record self.old { next_request = self.old.next_request + 1; running = Some (record { number = self.old.next_request; context = context; work = work }) } }
+    {
+        let number = self.next_request;
+        self.next_request = number + 1;
+        self.running = Some(Ongoing {
+            number,
+            context,
+            work,
+        });
+        Handle::of_number(number)
+    }
+
+    /// Takes a step of the running request, at the greatest moment so far.
+    pub fn step<N: Nodes>(
+        &mut self,
+        nodes: &mut N,
+        handle: Handle<Running>,
+        moment: u64,
+    ) -> Result<Progress, Fault>
+        requires data_centres { self.old.setting.data_centres ≡ (N.shape nodes.old).data_centres }
+        requires shards { self.old.setting.shards ≡ (N.shape nodes.old).shards }
+        requires slot { self.old.setting.slot < (N.shape nodes.old).slots }
+        ensures stepped { (config : TenantConfig) (session : SoloSession) → SessionStandsFor config self.old session → MatchResult result
+            (λ shown. (running : SoloRunning) × (session.running ≡ Some running) × (running.number ≡ handle)
+                × DoesNext (λ id call reply. N.Answers nodes.old id self.old.setting.slot (moment_at moment session) call reply nodes.new) (nodes.new ≡ nodes.old)
+                    config session running (moment_at moment session) shown self.new (next config (request_of session running) running.log (moment_at moment session)))
+            (λ fault. (fault ≡ Fault.Idle) × (runs handle session ≡ false)) }
+        ensures once { (nodes.new ≡ nodes.old)
+            ⊎ ((id : NodeId) × (at : ℕ) × (call : NodeCall) × (reply : NodeReply) × N.Answers nodes.old id self.old.setting.slot at call reply nodes.new) }
+        ensures shape { N.shape nodes.new ≡ N.shape nodes.old }
+        ensures setting { self.new.setting ≡ self.old.setting }
+        ensures err { OnErr result (self.new ≡ self.old) }
+        ensures err_nodes { OnErr result (nodes.new ≡ nodes.old) }
+    {
+        if !self.runs(handle) {
+            return Err(Fault::Idle);
+        }
+        match self.running.take() {
+            Some(ongoing) => {
+                let Ongoing {
+                    number,
+                    context,
+                    work,
+                } = ongoing;
+                match work {
+                    Work::Put(writing) => Ok(self.put(nodes, context, writing, moment)),
+                    Work::Get(reading) => Ok(self.get(nodes, number, context, reading, moment)),
+                }
+            }
+            None => Err(Fault::Idle),
+        }
+    }
+
+    /// Whether the request of this number runs.
+    fn runs(&self, handle: Handle<Running>) -> bool
+        ensures { result ≡ is_running handle self.now.running }
+    {
+        match &self.running {
+            Some(ongoing) => ongoing.number == handle.number(),
+            None => false,
+        }
+    }
+
+    /// The one step of a put, with which it ends.
+    fn put<N: Nodes>(
+        &mut self,
+        nodes: &mut N,
+        context: Handle<Contexts>,
+        writing: Writing,
+        moment: u64,
+    ) -> Progress
+        requires data_centres { self.old.setting.data_centres ≡ (N.shape nodes.old).data_centres }
+        requires shards { self.old.setting.shards ≡ (N.shape nodes.old).shards }
+        requires slot { self.old.setting.slot < (N.shape nodes.old).slots }
+        requires idle { self.old.running ≡ None }
+        requires ready { HasRoomFor context writing.key self.old.contexts.rows }
+        ensures stepped { (config : TenantConfig) (session : SoloSession) (running : SoloRunning) (number : ℕ) →
+            SessionStandsFor config (record self.old { running = Some (record { number = number; context = context; work = work.Put writing }) }) session → session.running ≡ Some running →
+            DoesNext (λ id call reply. N.Answers nodes.old id self.old.setting.slot (moment_at moment session) call reply nodes.new) (nodes.new ≡ nodes.old)
+                config session running (moment_at moment session) result self.new (next config (request_of session running) running.log (moment_at moment session)) }
+        ensures once { (id : NodeId) × (at : ℕ) × (call : NodeCall) × (reply : NodeReply) × N.Answers nodes.old id self.old.setting.slot at call reply nodes.new }
+        ensures shape { N.shape nodes.new ≡ N.shape nodes.old }
+        ensures setting { self.new.setting ≡ self.old.setting }
+    {
+        self.moment = self.moment.max(moment);
+        match write_step(nodes, self.setting, writing, self.moment) {
+            Answer::Stored(pair) => {
+                let stored = pair;
+                see_put(self.alloc, &mut self.contexts, context, pair);
+                Progress::Done(Answer::Stored(stored))
+            }
+            answer => Progress::Done(answer),
+        }
+    }
+
+    /// A step of a get transaction.
+    fn get<N: Nodes>(
+        &mut self,
+        nodes: &mut N,
+        number: u64,
+        context: Handle<Contexts>,
+        reading: Reading,
+        moment: u64,
+    ) -> Progress
+        requires data_centres { self.old.setting.data_centres ≡ (N.shape nodes.old).data_centres }
+        requires shards { self.old.setting.shards ≡ (N.shape nodes.old).shards }
+        requires slot { self.old.setting.slot < (N.shape nodes.old).slots }
+        requires idle { self.old.running ≡ None }
+        requires ready { IsOpen context self.old.contexts.rows }
+        ensures stepped { (config : TenantConfig) (session : SoloSession) (running : SoloRunning) →
+            SessionStandsFor config (record self.old { running = Some (record { number = number; context = context; work = work.Get reading }) }) session → session.running ≡ Some running →
+            DoesNext (λ id call reply. N.Answers nodes.old id self.old.setting.slot (moment_at moment session) call reply nodes.new) (nodes.new ≡ nodes.old)
+                config session running (moment_at moment session) result self.new (next config (request_of session running) running.log (moment_at moment session)) }
+        ensures once { (nodes.new ≡ nodes.old)
+            ⊎ ((id : NodeId) × (at : ℕ) × (call : NodeCall) × (reply : NodeReply) × N.Answers nodes.old id self.old.setting.slot at call reply nodes.new) }
+        ensures shape { N.shape nodes.new ≡ N.shape nodes.old }
+        ensures setting { self.new.setting ≡ self.old.setting }
+    {
+        let now = self.moment.max(moment);
+        let Turn { moment, came } = read_step(self.alloc, nodes, self.setting, reading, now);
+        self.moment = moment;
+        match came {
+            Came::Working(reading) => {
+                self.running = Some(Ongoing {
+                    number,
+                    context,
+                    work: Work::Get(reading),
+                });
+                Progress::Working
+            }
+            Came::Restarted(reading) => {
+                let times = reading.restarts;
+                self.running = Some(Ongoing {
+                    number,
+                    context,
+                    work: Work::Get(reading),
+                });
+                Progress::Restarted(times)
+            }
+            Came::Complete(reads) => Progress::Done(self.values(context, reads)),
+            Came::Failed(fault) => Progress::Done(Answer::Refused(fault)),
+        }
+    }
+
+    /// The answer to a transaction that read all its keys: the context sees it, or has no room.
+    fn values(&mut self, context: Handle<Contexts>, reads: Reads) -> Answer
+        requires idle { self.old.running ≡ None }
+        requires ready { IsOpen context self.old.contexts.rows }
+        ensures stands { (opens : List OpenContext) → ContextsStandFor self.old.contexts.rows opens → ContextsStandFor self.new.contexts.rows (context_extended context (seen_in result) opens) }
+        ensures answer { (opens : List OpenContext) → ContextsStandFor self.old.contexts.rows opens →
+            (result ≡ values_or_full self.old.setting.deps (obs_in context opens) reads) ⊎ (result ≡ answer.Refused OutOfMemory) }
+        ensures others { self.new ≡ record self.old { contexts = record self.old.contexts { rows = self.new.contexts.rows } } }
+    {
+        match see_reads(
+            self.alloc,
+            &mut self.contexts,
+            context,
+            reads.as_slice(),
+            self.setting.deps,
+        ) {
+            Ok(()) => Answer::Values(reads),
+            Err(fault) => Answer::Refused(fault),
+        }
+    }
+}

@@ -1,0 +1,58 @@
+ghost use Rattle.std.specs.Prelude.{◌≡◌, ◌<◌};
+ghost use Rattle.cops_types.specs.Key.{shard_of};
+ghost use Rattle.cops_node.specs.declared.NodeCall.TheVariants.{Put};
+ghost use Rattle.cops_node.specs.declared.NodeReply.{NodeReply};
+ghost use Rattle.cops_session.specs.Writing.{answer_to_put};
+
+use crate::Answer;
+use crate::ongoing::Writing;
+use crate::settings::Setting;
+use cops_node::{NodeCall, NodeId, NodeReply, Nodes};
+use cops_types::{Fault, Key, Pair};
+
+/// The answer that a node's reply gives to a put of the key.
+fn answer_of(key: Key, reply: NodeReply) -> Answer
+    ensures { result ≡ answer_to_put key reply }
+{
+    match reply {
+        NodeReply::Stored(version) => Answer::Stored(Pair { key, version }),
+        NodeReply::Refused(fault) => Answer::Refused(fault),
+        _ => Answer::Refused(Fault::Torn),
+    }
+}
+
+/// The one step of a put: one call, at the node of the data centre where the key is placed.
+pub(crate) fn write_step<N: Nodes>(
+    nodes: &mut N,
+    setting: Setting,
+    writing: Writing,
+    moment: u64,
+) -> Answer
+    requires dc { setting.dc < (N.shape nodes.old).data_centres }
+    requires shards { setting.shards ≡ (N.shape nodes.old).shards }
+    requires some_shard { 0 < setting.shards }
+    requires slot { setting.slot < (N.shape nodes.old).slots }
+    ensures called { (reply : NodeReply)
+        × N.Answers nodes.old (record { dc = setting.dc; shard = shard_of writing.key setting.shards }) setting.slot moment (Put writing.key writing.value writing.deps writing.near) reply nodes.new
+        × (result ≡ answer_to_put writing.key reply) }
+    ensures shape { N.shape nodes.new ≡ N.shape nodes.old }
+{
+    let Writing {
+        key,
+        value,
+        deps,
+        near,
+    } = writing;
+    let id = NodeId {
+        dc: setting.dc,
+        shard: key.shard(setting.shards),
+    };
+    let same = key;
+    let reply = nodes.step(
+        id,
+        setting.slot,
+        moment,
+        NodeCall::Put(key, value, deps, near),
+    );
+    answer_of(same, reply)
+}
