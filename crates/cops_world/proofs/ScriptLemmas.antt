@@ -14,6 +14,7 @@ use Rattle.cops_types.specs.Counts.{counted}
 use Rattle.cops_types.specs.declared.configs.Tenant.{Tenant}
 use Rattle.cops_types.specs.Head.{Front, AtStart, Within, Begun, is_begun, Follows, front_after, HeadReading, Whole, BadAt, reading_from, head_of}
 use Rattle.cops_types.specs.HeadLines.{is_tenant, is_distinct}
+use Rattle.cops_types.specs.HeadReader.{front_with}
 use Rattle.cops_types.specs.LineRules.{Run}
 use Rattle.cops_types.specs.LineRuns.{AnswersAll, IfRunRefused, StopsEarly}
 use Rattle.cops_types.specs.Lines.{lines_of, cut_line, cut_lines, longest_line}
@@ -30,7 +31,7 @@ use Rattle.cops_world.specs.declared.scripts.Script.TheVariants.{Head, Running}
 use Rattle.cops_world.specs.Cluster.{SoloCluster, cluster_step, new_cluster}
 use Rattle.cops_world.specs.Events.{config_at, is_out_of_memory, with_cluster}
 use Rattle.cops_world.specs.Script.{Said, OfNobody, Unformed, Acts, AreNamed, said_in, answer_line, answers_to, script_after, script_out}
-use Rattle.cops_world.specs.ScriptRules.{IsNew, HasActed, IsAnswered, HeadGoesOn, line_refuses, end_answers, end_refuses, script_rules}
+use Rattle.cops_world.specs.ScriptRules.{IsNew, HasActed, IsAnswered, HeadGoesOn, IsHeadAt, line_refuses, end_answers, end_refuses, script_rules}
 use Rattle.cops_world.specs.ScriptRuns.{Answers, is_lack, AreSpared, text_of, text_in, WritesScript, WritesFront}
 use Rattle.cops_world.proofs.AnswersTo.{IsThere, said_in-there, new_at, answers_to-from}
 use Rattle.cops_world.proofs.CutLemmas.{said_in-cut}
@@ -50,7 +51,7 @@ by_test {C} false holds fails = fails refl
 min_is : (n : ℕ) → n ≤ 2 ^ 64 - 1 → min n (2 ^ 64 - 1) ≡ n
 min_is n small = min-eq_left small
 
-tenants_in : Front → List Tenant
+abbrev tenants_in : Front → List Tenant
 tenants_in AtStart = []
 tenants_in (Within config) = config.tenants
 tenants_in (Begun config) = config.tenants
@@ -219,7 +220,7 @@ module _ {W : Type 0} (setup : W → Config) (StandsFor : W → ℕ → SoloClus
 
   -- a run that begins in the head ends in it, or past it
   data HeadRun (front : Front) (count : ℕ) (lines : List (List ℕ)) (text : List ℕ) (state : Script W) : Type 0 where
-    InHead : (next : Front) (later : ℕ) → IsCounted next later → is_begun next ≡ false → state ≡ Head (record { reader = Some next; lines = later }) → text ≡ []
+    InHead : (next : Front) (later : ℕ) → IsCounted next later → is_begun next ≡ false → IsHeadAt setup StandsFor next later state → text ≡ []
         → ((others : List (List ℕ)) → reading_from (lines ++ others) (count + 1) front ≡ reading_from others (later + 1) next) → HeadRun front count lines text state
     PastHead : (config : Config) (rest : List (List ℕ)) (world : W) → AreGood (Begun config) → IsNew setup StandsFor config world
         → Run (script_rules setup StandsFor) (Running world) (map (cut_line longest_line) rest) text state
@@ -234,14 +235,14 @@ module _ {W : Type 0} (setup : W → Config) (StandsFor : W → ℕ → SoloClus
   head_line : (line : List ℕ) (lines : List (List ℕ)) (front : Front) (count : ℕ) (text : List ℕ) (state : Script W) (first later : List ℕ) (mid : Script W) (next : Front) →
       IsCounted front count → is_begun front ≡ false → front_after front line ≡ Some next → first ≡ [] → HeadGoesOn setup StandsFor count next mid →
       Run (script_rules setup StandsFor) mid (map (cut_line longest_line) lines) later state → text ≡ first ++ later →
-      ((on : Front) (n : ℕ) → IsCounted on n → is_begun on ≡ false → Run (script_rules setup StandsFor) (Head (record { reader = Some on; lines = n })) (map (cut_line longest_line) lines) text state → HeadRun on n lines text state) →
+      ((on : Front) (n : ℕ) (m : Script W) → IsCounted on n → is_begun on ≡ false → IsHeadAt setup StandsFor on n m → Run (script_rules setup StandsFor) m (map (cut_line longest_line) lines) text state → HeadRun on n lines text state) →
       HeadRun front count (line ∷ lines) text state
   head_line line lines front count text state first later mid AtStart c still e silent goes run whole on_from = absurd goes
   head_line line lines front count text state first later mid (Within config) c still e silent goes run whole on_from =
       let n = counted_next front count line config c e in
       let text_is : later ≡ text = sym (whole ∙ ap (λ t. t ++ later) silent) in
       let run_on = subst (λ t. Run (script_rules setup StandsFor) mid (map (cut_line longest_line) lines) t state) text_is run in
-      one_more (on_from (Within config) (counted count) n refl (subst (λ m. Run (script_rules setup StandsFor) m (map (cut_line longest_line) lines) text state) goes run_on))
+      one_more (on_from (Within config) (counted count) mid n refl goes run_on)
     where
       number : counted count + 1 ≡ count + 1 + 1
       number = ap (λ k. k + 1) (counted-small front count c)
@@ -258,12 +259,14 @@ module _ {W : Type 0} (setup : W → Config) (StandsFor : W → ℕ → SoloClus
       (subst (λ m. Run (script_rules setup StandsFor) m (map (cut_line longest_line) lines) text state) is (subst (λ t. Run (script_rules setup StandsFor) mid (map (cut_line longest_line) lines) t state) text_is run))
       (λ others. read_once front (count + 1) line (lines ++ others) (Begun config) still e)
 
-  heads : (lines : List (List ℕ)) (front : Front) (count : ℕ) (text : List ℕ) (state : Script W) → IsCounted front count → is_begun front ≡ false →
-      Run (script_rules setup StandsFor) (Head (record { reader = Some front; lines = count })) (map (cut_line longest_line) lines) text state → HeadRun front count lines text state
-  heads [] front count text state c still h = InHead front count c still h.1 h.0 (λ others. refl)
-  heads (line ∷ lines) front count text state c still (first, mid, later, (next, found, silent, goes), run, whole) =
-      head_line line lines front count text state first later mid next c still (sym (cut_in_head front line) ∙ found) silent goes run whole
-      (λ on n counts still run_on. heads lines on n text state counts still run_on)
+  heads : (lines : List (List ℕ)) (front : Front) (count : ℕ) (m : Script W) (text : List ℕ) (state : Script W) → IsCounted front count → is_begun front ≡ false → IsHeadAt setup StandsFor front count m →
+      Run (script_rules setup StandsFor) m (map (cut_line longest_line) lines) text state → HeadRun front count lines text state
+  heads lines front count (Running world) text state c still here run = absurd here
+  heads [] front count (Head head) text state c still here h = InHead front count c still (subst (IsHeadAt setup StandsFor front count) (sym h.1) here) h.0 (λ others. refl)
+  heads (line ∷ lines) front count (Head head) text state c still here (first, mid, later, (next, found, silent, goes), run, whole) =
+      let found_here : front_after front line ≡ Some next = sym (cut_in_head front line) ∙ sym (ap (λ r. front_with r (cut_line longest_line line)) here.0) ∙ found in
+      head_line line lines front count text state first later mid next c still found_here silent (subst (λ n. HeadGoesOn setup StandsFor n next mid) here.1 goes) run whole
+      (λ on n m counts open_on there run_on. heads lines on n m text state counts open_on there run_on)
 
   -- ---- the whole script
 
@@ -293,14 +296,25 @@ module _ {W : Type 0} (setup : W → Config) (StandsFor : W → ℕ → SoloClus
       let found = p.right spared (new_at config) (stands_new config world fresh) in
       sym (ap (answers_to config) (sym (append-nil rest)) ∙ answers_to-from config (rest ++ []) ∙ found.2 [] ∙ append-nil p.told)
 
-  abbrev begins : Script W
-  begins = Head (record { reader = Some AtStart; lines = 0 })
+  -- a run stops in its head or past it
+  not_ended : (front : Front) (count : ℕ) (state new : Script W) (last : List ℕ) → IsHeadAt setup StandsFor front count state → end_answers setup StandsFor state last new → ⊥
+  not_ended front count (Head head) new last here ends = ends
+  not_ended front count (Running world) new last here ends = here
 
-  module _ (old_contents new_contents new_remaining : Option (List ℕ)) where
+  refused_line : (front : Front) (count : ℕ) (state : Script W) (line : List ℕ) (bad : BadConfig) → IsHeadAt setup StandsFor front count state → line_refuses setup StandsFor state line bad →
+      (front_after front line ≡ None) × (bad.line ≡ counted count)
+  refused_line front count (Head head) line bad here refused = (sym (ap (λ r. front_with r line) here.0) ∙ refused.0, refused.1 ∙ ap counted here.1)
+  refused_line front count (Running world) line bad here refused = absurd here
+
+  refused_end : (front : Front) (count : ℕ) (state : Script W) (bad : BadConfig) → IsHeadAt setup StandsFor front count state → end_refuses setup StandsFor state bad → bad.line ≡ counted count
+  refused_end front count (Head head) bad here refused = refused ∙ ap counted here.1
+  refused_end front count (Running world) bad here refused = absurd here
+
+  module _ (old_contents new_contents new_remaining : Option (List ℕ)) (begins : Script W) (begun : IsHeadAt setup StandsFor AtStart 0 begins) where
     -- the end comes after a whole head
     ended : (bytes : List ℕ) (new : Script W) (text last : List ℕ) (machine : Script W) → HeadRun AtStart 0 (lines_of bytes) text machine → end_answers setup StandsFor machine last new → Appends old_contents new_contents (text ++ last) →
         WritesScript bytes old_contents new_contents
-    ended bytes new text last machine (InHead next later n still is silent reads) ends written = absurd (subst (λ m. end_answers setup StandsFor m last new) is ends)
+    ended bytes new text last machine (InHead next later n still is silent reads) ends written = absurd (not_ended next later machine new last is ends)
     ended bytes new text last machine (PastHead config rest world good fresh run reads) ends written =
         let done = running config (named_of config good) rest world text machine fresh.setup_is run in
         let p = done.2 in
@@ -321,7 +335,7 @@ module _ {W : Type 0} (setup : W → Config) (StandsFor : W → ℕ → SoloClus
     all_written new (Some bytes) p =
         let same : lines_of p.input ≡ lines_of bytes = ap lines_of (sym (input_is bytes p.input new_remaining p.read p.at_end)) in
         let run = subst (λ ls. Run (script_rules setup StandsFor) begins (map (cut_line longest_line) ls) p.text p.machine) same p.run in
-        ended bytes new p.text p.last p.machine (heads (lines_of bytes) AtStart 0 p.text p.machine start refl run) p.ended p.written
+        ended bytes new p.text p.last p.machine (heads (lines_of bytes) AtStart 0 begins p.text p.machine start refl begun run) p.ended p.written
 
     -- ---- ends before the end
 
@@ -352,7 +366,7 @@ module _ {W : Type 0} (setup : W → Config) (StandsFor : W → ℕ → SoloClus
           rest = real.1;
           whole = real.2;
           others_are = real.4;
-          ran = heads real.0 AtStart 0 text machine start refl (subst (λ ls. Run (script_rules setup StandsFor) begins ls text machine) real.3 run);
+          ran = heads real.0 AtStart 0 begins text machine start refl begun (subst (λ ls. Run (script_rules setup StandsFor) begins ls text machine) real.3 run);
         }
 
     nothing_written : (bytes : List ℕ) (text : List ℕ) → text ≡ [] → AppendsFront old_contents new_contents text → WritesFront bytes old_contents new_contents
@@ -438,7 +452,7 @@ module _ {W : Type 0} (setup : W → Config) (StandsFor : W → ℕ → SoloClus
             by_run (InHead next later n still is silent reads) [] whole same = cc
             by_run (InHead next later n still is silent reads) (real ∷ rest) whole same =
                 let cut : line ≡ cut_line longest_line real = cc in
-                let none = subst (λ m. line_refuses setup StandsFor m line bad) is refused in
+                let none = refused_line next later p.machine line bad is refused in
                 let stuck : front_after next real ≡ None = sym (cut_in_head next real) ∙ ap (front_after next) (sym cut) ∙ none.0 in
                 (ap head_of whole ∙ reads (real ∷ rest) ∙ bad_first next (later + 1) real rest still stuck ∙ ap BadAt (sym (none.1 ∙ counted-small next later n)), silent)
 
@@ -450,7 +464,7 @@ module _ {W : Type 0} (setup : W → Config) (StandsFor : W → ℕ → SoloClus
                 let there = no_refusal config after world p.text p.machine good fresh run in absurd (subst (λ m. end_refuses setup StandsFor m bad) there.1 refused)
             by_run (InHead next later n still is silent reads) (real ∷ rest) whole same = cc
             by_run (InHead next later n still is silent reads) [] whole same =
-                let number = subst (λ m. end_refuses setup StandsFor m bad) is refused in
+                let number = refused_end next later p.machine bad is refused in
                 (ap head_of whole ∙ reads [] ∙ bad_end next (later + 1) still ∙ ap BadAt (sym (number ∙ counted-small next later n)), silent)
 
     pub bad_head : (known : Option (List ℕ)) (why : RunFault BadConfig) → StopsEarly (script_rules setup StandsFor) longest_line known new_remaining begins old_contents new_contents why →

@@ -35,10 +35,15 @@ module _ {W : Type 0} (setup : W → Config) (StandsFor : W → ℕ → SoloClus
   IsAnswered old (Unformed slot) text new = (text ≡ answer_line (setup old).tenants (Some (slot, Refused Syntax))) × (new ≡ old)
   IsAnswered old (Acts event) text new = (reply : Reply) × HasActed old event reply new × (text ≡ answer_line (setup old).tenants (Some (event.slot, reply)))
 
+  -- the head has come so far, with so many lines
+  abbrev pub IsHeadAt : Front → ℕ → Script W → Type 0
+  IsHeadAt front count (Head head) = (head.reader ≡ Some front) × (head.lines ≡ count)
+  IsHeadAt front count (Running world) = ⊥
+
   -- with this line the head goes on, or the script begins
   abbrev pub HeadGoesOn : ℕ → Front → Script W → Type 0
   HeadGoesOn count AtStart new = ⊥
-  HeadGoesOn count (Within config) new = new ≡ Head (record { reader = Some (Within config); lines = counted count })
+  HeadGoesOn count (Within config) new = IsHeadAt (Within config) (counted count) new
   HeadGoesOn count (Begun config) new = (world : W) × IsNew config world × (new ≡ Running world)
 
   abbrev pub line_answers : Script W → List ℕ → List ℕ → Script W → Type 0
