@@ -1,0 +1,40 @@
+-- A step of a session or a carrier is a step of the actor that it is.
+use Rattle.std.proofs.Common.{◌≡◌, ℕ, false, subst, refl, sym}
+use Rattle.cops_types.specs.TenantConfig.{TenantConfig}
+use Rattle.cops_node.specs.declared.NodeCall.{NodeCall}
+use Rattle.cops_node.specs.declared.NodeId.{NodeId}
+use Rattle.cops_node.specs.declared.NodeReply.{NodeReply}
+use Rattle.cops_node.specs.Shape.{Shape}
+use Rattle.cops_session.specs.Kept.{Kept as KeptSession}
+use Rattle.cops_session.specs.Session.{Session}
+use Rattle.cops_session.specs.SessionStands.{SessionStandsFor}
+use Rattle.cops_repl.specs.Carrier.{Carrier}
+use Rattle.cops_repl.specs.Stands.{CarrierStandsFor, Kept as KeptCarrier}
+use Rattle.cops_world.specs.declared.actors.Actor.{Actor as Kept}
+use Rattle.cops_world.specs.declared.actors.Actor.TheVariants as kept
+use Rattle.cops_world.specs.declared.actors.Stepped.{Stepped}
+use Rattle.cops_world.specs.declared.replies.Reply.{Reply}
+use Rattle.cops_world.specs.Cluster.{Actor, OfSession, OfCarrier}
+use Rattle.cops_world.specs.ActorsStand.{ActorStandsFor, ActorSteps, CarrierSteps, SessionSteps, RunsAt}
+
+module _ (called : ℕ → ℕ → NodeId → NodeCall → NodeReply → Type 0) (stays : Type 0) (shape : Shape) (slot : ℕ) (config : TenantConfig) (moment : ℕ) where
+  pub session_steps : (before after : KeptSession) (reply : Reply) (old : Kept) (solo : Actor) → old ≡ kept.OfSession before → RunsAt shape slot old → ActorStandsFor config old solo →
+      ((session : Session) → SessionStandsFor config before session → SessionSteps (called before.setting.slot) stays config session moment reply after session.running) →
+      ActorSteps (called slot) stays config moment (record { reply = reply; is_over = false }) solo (kept.OfSession after)
+  session_steps before after reply old solo is runs stands steps = by_solo solo (subst (λ o. ActorStandsFor config o solo) is stands)
+    where
+      same_slot : before.setting.slot ≡ slot
+      same_slot = (subst (RunsAt shape slot) is runs).2
+
+      by_solo : (solo : Actor) → ActorStandsFor config (kept.OfSession before) solo → ActorSteps (called slot) stays config moment (record { reply = reply; is_over = false }) solo (kept.OfSession after)
+      by_solo (OfSession session) s = (subst (λ n. SessionSteps (called n) stays config session moment reply after session.running) same_slot (steps session s), refl)
+      by_solo (OfCarrier carrier) s = absurd s
+
+  pub carrier_steps : (before after : KeptCarrier) (stepped : Stepped) (old : Kept) (solo : Actor) → old ≡ kept.OfCarrier before → ActorStandsFor config old solo →
+      ((carrier : Carrier) → CarrierStandsFor config.shards before carrier → CarrierSteps (called slot) config carrier moment stepped after) →
+      ActorSteps (called slot) stays config moment stepped solo (kept.OfCarrier after)
+  carrier_steps before after stepped old solo is stands steps = by_solo solo (subst (λ o. ActorStandsFor config o solo) is stands)
+    where
+      by_solo : (solo : Actor) → ActorStandsFor config (kept.OfCarrier before) solo → ActorSteps (called slot) stays config moment stepped solo (kept.OfCarrier after)
+      by_solo (OfSession session) s = absurd s
+      by_solo (OfCarrier carrier) s = steps carrier s

@@ -1,0 +1,73 @@
+-- Sessions and carriers as they are kept, and those of the definition that they stand for.
+use Rattle.std.specs.Prelude.{◌≡◌, ℕ, false, max, IsFalse, Option, Some, None}
+use Rattle.cops_types.specs.declared.faults.Fault.TheVariants.{Idle}
+use Rattle.cops_types.specs.TenantConfig.{TenantConfig}
+use Rattle.cops_node.specs.declared.NodeCall.{NodeCall}
+use Rattle.cops_node.specs.declared.NodeId.{NodeId}
+use Rattle.cops_node.specs.declared.NodeReply.{NodeReply}
+use Rattle.cops_node.specs.Log.{Directed, Replied}
+use Rattle.cops_node.specs.Shape.{Shape}
+use Rattle.cops_session.specs.declared.Progress.{Progress}
+use Rattle.cops_session.specs.Kept.{Kept as KeptSession}
+use Rattle.cops_session.specs.Request.{next}
+use Rattle.cops_session.specs.Session.{Session, Running, request_of, moment_at}
+use Rattle.cops_session.specs.Stepping.{DoesNext}
+use Rattle.cops_session.specs.SessionStands.{SessionStandsFor}
+use Rattle.cops_repl.specs.declared.Progress.{Progress as CarrierProgress}
+use Rattle.cops_repl.specs.declared.Progress.TheVariants as carrying
+use Rattle.cops_repl.specs.Carrier.{Carrier}
+use Rattle.cops_repl.specs.Stands.{CarrierStandsFor, IsStepOf, Kept as KeptCarrier, RunsIn, is_done}
+use Rattle.cops_world.specs.declared.actors.Actor.{Actor as Kept}
+use Rattle.cops_world.specs.declared.actors.Actor.TheVariants as kept
+use Rattle.cops_world.specs.declared.actors.Stepped.{Stepped}
+use Rattle.cops_world.specs.declared.replies.Reply.{Reply}
+use Rattle.cops_world.specs.declared.replies.Reply.TheVariants.{Working, Refused}
+use Rattle.cops_world.specs.Cluster.{Actor, OfSession, OfCarrier, reply_of_progress, reply_of_delivery}
+use Rattle.cops_world.specs.ActorTurns.{ActorTurn}
+use Rattle.cops_world.specs.Events.{is_out_of_memory}
+
+abbrev pub ActorStandsFor : TenantConfig → Kept → Actor → Type 0
+ActorStandsFor config (kept.OfSession s) (OfSession session) = SessionStandsFor config s session
+ActorStandsFor config (kept.OfCarrier c) (OfCarrier carrier) = CarrierStandsFor config.shards c carrier
+ActorStandsFor config (kept.OfSession s) (OfCarrier carrier) = ⊥
+ActorStandsFor config (kept.OfCarrier c) (OfSession session) = ⊥
+
+-- its steps may be made at nodes of this shape, for the tenant of this slot
+abbrev pub RunsAt : Shape → ℕ → Kept → Type 0
+RunsAt shape slot (kept.OfSession s) = (s.setting.data_centres ≡ shape.data_centres) × (s.setting.shards ≡ shape.shards) × (s.setting.slot ≡ slot)
+RunsAt shape slot (kept.OfCarrier c) = RunsIn shape c.shards c.stream
+
+-- ---- steps
+
+-- a session without a request refuses to step; the running request does what comes next
+abbrev pub SessionSteps : (ℕ → NodeId → NodeCall → NodeReply → Type 0) → Type 0 → TenantConfig → Session → ℕ → Reply → KeptSession → Option Running → Type 0
+SessionSteps called stays config session moment reply after None = (reply ≡ Refused Idle) × stays × SessionStandsFor config after session
+SessionSteps called stays config session moment reply after (Some running) =
+    (shown : Progress) × (reply ≡ reply_of_progress shown)
+    × DoesNext (called (moment_at moment session)) stays config session running (moment_at moment session) shown after
+    (next config (request_of session running) running.log (moment_at moment session))
+
+abbrev pub reply_of_carrying : CarrierProgress → Reply
+reply_of_carrying carrying.Working = Working
+reply_of_carrying (carrying.Done ending) = reply_of_delivery ending
+
+-- a carrier makes its next call, and is over where it is done
+pub record CarrierSteps (called : ℕ → NodeId → NodeCall → NodeReply → Type 0) (config : TenantConfig) (carrier : Carrier) (moment : ℕ) (stepped : Stepped) (after : KeptCarrier) : Type 0 where
+  pub directed : Directed
+  pub reply : NodeReply
+  pub shown : CarrierProgress
+  pub made : called (max carrier.moment moment) directed.node directed.call reply
+  pub step_of : IsStepOf config.shards carrier directed (record { moment = max carrier.moment moment; outcome = Replied reply }) shown after
+  pub reply_is : stepped.reply ≡ reply_of_carrying shown
+  pub over_is : stepped.is_over ≡ is_done shown
+
+abbrev pub ActorSteps : (ℕ → NodeId → NodeCall → NodeReply → Type 0) → Type 0 → TenantConfig → ℕ → Stepped → Actor → Kept → Type 0
+ActorSteps called stays config moment stepped (OfSession session) (kept.OfSession after) =
+    SessionSteps called stays config session moment stepped.reply after session.running × (stepped.is_over ≡ false)
+ActorSteps called stays config moment stepped (OfCarrier carrier) (kept.OfCarrier after) = CarrierSteps called config carrier moment stepped after
+ActorSteps called stays config moment stepped (OfSession session) (kept.OfCarrier after) = ⊥
+ActorSteps called stays config moment stepped (OfCarrier carrier) (kept.OfSession after) = ⊥
+
+-- the actor did what the definition's does, where memory was not refused
+abbrev pub HasDone : TenantConfig → Actor → ActorTurn → Reply → Kept → Type 0
+HasDone config actor turn reply after = IsFalse (is_out_of_memory reply) → (reply ≡ turn.reply) × ActorStandsFor config after turn.after

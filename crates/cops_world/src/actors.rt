@@ -1,0 +1,295 @@
+//! The actors of tenants: sessions and carriers.
+ghost use Rattle.std.specs.Prelude.{◌≡◌, ◌<◌, ◌⊎◌, ℕ, false, IfOk};
+ghost use Rattle.cops_types.specs.TenantConfig.{TenantConfig};
+ghost use Rattle.cops_node.specs.Shape.{Shape};
+ghost use Rattle.cops_session.specs.Session.{Session as SoloSession};
+ghost use Rattle.cops_session.specs.SessionStands.{SessionStandsFor};
+ghost use Rattle.cops_node.specs.declared.NodeCall.{NodeCall};
+ghost use Rattle.cops_node.specs.declared.NodeId.{NodeId};
+ghost use Rattle.cops_node.specs.declared.NodeReply.{NodeReply};
+ghost use Rattle.cops_repl.specs.Carrier.{Carrier as SoloCarrier};
+ghost use Rattle.cops_repl.specs.Stands.{CarrierStandsFor, RunsIn, has_ended};
+ghost use Rattle.cops_world.specs.ActorsStand.{ActorStandsFor, ActorSteps, CarrierSteps, SessionSteps, RunsAt, HasDone};
+ghost use Rattle.cops_world.specs.ActorTurns.{actor_does, session_does};
+ghost use Rattle.cops_world.specs.Cluster.{Actor as Solo, reply_of_answer, reply_of_progress, reply_of_delivery};
+ghost use Rattle.cops_world.specs.declared.actors.Actor.TheVariants.{OfSession as KeptSession};
+ghost use Rattle.cops_world.specs.declared.actors.Deed.TheVariants as deeds;
+
+use crate::Reply;
+use cops_context::Context;
+use cops_handles::Handle;
+use cops_node::Nodes;
+use cops_repl::{Carrier, Delivery, Progress as Carrying};
+use cops_session::{Answer, Progress, Session};
+use cops_types::{Deps, Fault, Key, Name, Near, Value};
+use std::alloc::{AllocError, Global};
+use std::marker::Model;
+
+/// An actor, by its tenant and its name.
+#[derive(Clone, Copy, Debug, PartialEq, Eq, Hash)]
+pub struct ActorId {
+    pub slot: u64,
+    pub name: Name,
+}
+
+/// A session or a carrier.
+#[derive(Drop)]
+pub enum Actor {
+    OfSession(Session),
+    OfCarrier(Carrier),
+}
+
+/// The keys of a transaction. Contracts see the list.
+#[derive(Debug, Drop)]
+pub struct Keys {
+    keys: Vec<Key>,
+}
+
+impl Model for Keys {
+    ghost use Rattle.std.specs.Prelude.{List, ℕ};
+
+    ghost Value = { List (List ℕ) };
+
+    ghost view = { λ k. k.keys.items };
+}
+
+impl Keys {
+    /// These keys.
+    pub(crate) fn of(keys: Vec<Key>) -> Self
+        ensures { result ≡ keys.items }
+    {
+        Keys { keys }
+    }
+
+    /// The keys, in order.
+    pub(crate) fn as_slice(&self) -> &[Key]
+        ensures { result.now ≡ self.now }
+    {
+        self.keys.as_slice()
+    }
+}
+
+/// What a step of an actor shows, and whether it was its last.
+#[derive(Debug, Drop)]
+pub struct Stepped {
+    pub reply: Reply,
+    pub is_over: bool,
+}
+
+/// What a session is asked to do without a step.
+#[derive(Debug, Drop)]
+pub enum Deed {
+    /// To create a context.
+    Create,
+    /// To delete a context.
+    Delete(u64),
+    /// To begin a put, in a context.
+    Put(u64, Key, Value),
+    /// To begin a get transaction, in a context.
+    Get(u64, Keys),
+    /// To show the two lists of a context.
+    Show(u64),
+}
+
+fn create(session: &mut Session) -> Reply
+    ensures own { (config : TenantConfig) (solo : SoloSession) → SessionStandsFor config session.old solo →
+        HasDone config (Solo.OfSession solo) (session_does config solo deeds.Create) result (KeptSession session.new) }
+    ensures setting { session.new.setting ≡ session.old.setting }
+{
+    match session.create_context() {
+        Ok(handle) => Reply::Created(handle.number()),
+        Err(fault) => Reply::Refused(fault),
+    }
+}
+
+fn delete(session: &mut Session, number: u64) -> Reply
+    ensures own { (config : TenantConfig) (solo : SoloSession) → SessionStandsFor config session.old solo →
+        HasDone config (Solo.OfSession solo) (session_does config solo (deeds.Delete number)) result (KeptSession session.new) }
+    ensures setting { session.new.setting ≡ session.old.setting }
+{
+    match session.delete_context(Handle::of_number(number)) {
+        Ok(()) => Reply::Deleted,
+        Err(fault) => Reply::Refused(fault),
+    }
+}
+
+fn begin_put(session: &mut Session, number: u64, key: Key, value: Value) -> Reply
+    ensures own { (config : TenantConfig) (solo : SoloSession) → SessionStandsFor config session.old solo →
+        HasDone config (Solo.OfSession solo) (session_does config solo (deeds.Put number key value)) result (KeptSession session.new) }
+    ensures setting { session.new.setting ≡ session.old.setting }
+{
+    match session.begin_put(Handle::of_number(number), key, value) {
+        Ok(_) => Reply::Started,
+        Err(fault) => Reply::Refused(fault),
+    }
+}
+
+fn begin_get(session: &mut Session, number: u64, keys: &Keys) -> Reply
+    ensures own { (config : TenantConfig) (solo : SoloSession) → SessionStandsFor config session.old solo →
+        HasDone config (Solo.OfSession solo) (session_does config solo (deeds.Get number keys.now)) result (KeptSession session.new) }
+    ensures setting { session.new.setting ≡ session.old.setting }
+{
+    match session.begin_get_trans(Handle::of_number(number), keys.as_slice()) {
+        Ok(_) => Reply::Started,
+        Err(fault) => Reply::Refused(fault),
+    }
+}
+
+/// Copies of the two lists of a context.
+fn lists_of(alloc: Global, context: &Context) -> Result<(Deps, Near), AllocError>
+    ensures all { IfOk result (λ lists. lists.0 ≡ context.now.all) }
+    ensures near { IfOk result (λ lists. lists.1 ≡ context.now.near) }
+{
+    let all = Deps::copy_of(alloc, context.all())?;
+    let near = Near::copy_of(alloc, context.near())?;
+    Ok((all, near))
+}
+
+fn show(alloc: Global, session: &Session, number: u64) -> Reply
+    ensures { (config : TenantConfig) (solo : SoloSession) → SessionStandsFor config session.now solo →
+        HasDone config (Solo.OfSession solo) (session_does config solo (deeds.Show number)) result (KeptSession session.now) }
+{
+    match session.context(Handle::of_number(number)) {
+        Ok(context) => match lists_of(alloc, context) {
+            Ok((all, near)) => Reply::Lists(all, near),
+            Err(_) => Reply::Refused(Fault::OutOfMemory),
+        },
+        Err(fault) => Reply::Refused(fault),
+    }
+}
+
+/// Does what a session is asked to do.
+fn act_in(alloc: Global, session: &mut Session, deed: Deed) -> Reply
+    ensures own { (config : TenantConfig) (solo : SoloSession) → SessionStandsFor config session.old solo →
+        HasDone config (Solo.OfSession solo) (session_does config solo deed) result (KeptSession session.new) }
+    ensures setting { session.new.setting ≡ session.old.setting }
+{
+    match deed {
+        Deed::Create => create(session),
+        Deed::Delete(number) => delete(session, number),
+        Deed::Put(number, key, value) => begin_put(session, number, key, value),
+        Deed::Get(number, keys) => begin_get(session, number, &keys),
+        Deed::Show(number) => show(alloc, session, number),
+    }
+}
+
+/// What an answer is as a reply.
+fn reply_of_answer(answer: Answer) -> Reply
+    ensures { result ≡ reply_of_answer answer }
+{
+    match answer {
+        Answer::Stored(pair) => Reply::Stored(pair),
+        Answer::Values(reads) => Reply::Values(reads),
+        Answer::Refused(fault) => Reply::Refused(fault),
+    }
+}
+
+/// What a step of a session shows, as a reply.
+fn reply_of_progress(progress: Progress) -> Reply
+    ensures { result ≡ reply_of_progress progress }
+{
+    match progress {
+        Progress::Working => Reply::Working,
+        Progress::Restarted(times) => Reply::Restarted(times),
+        Progress::Done(answer) => reply_of_answer(answer),
+    }
+}
+
+/// How a carrier ended, as a reply.
+fn reply_of_delivery(delivery: Delivery) -> Reply
+    ensures { result ≡ reply_of_delivery delivery }
+{
+    match delivery {
+        Delivery::Nothing => Reply::Nothing,
+        Delivery::Waits(pair) => Reply::Waits(pair),
+        Delivery::Carried { pair, fresh, acked } => Reply::Carried(pair, fresh, acked),
+        Delivery::OutOfOrder(mark) => Reply::OutOfOrder(mark),
+        Delivery::Refused(fault) => Reply::Refused(fault),
+    }
+}
+
+/// A step of a session.
+fn step_session<N: Nodes>(session: &mut Session, nodes: &mut N, moment: u64) -> Reply
+    requires data_centres { session.old.setting.data_centres ≡ (N.shape nodes.old).data_centres }
+    requires shards { session.old.setting.shards ≡ (N.shape nodes.old).shards }
+    requires slot { session.old.setting.slot < (N.shape nodes.old).slots }
+    ensures steps { (config : TenantConfig) (solo : SoloSession) → SessionStandsFor config session.old solo →
+        SessionSteps (λ at id call reply. N.Answers nodes.old id session.old.setting.slot at call reply nodes.new) (nodes.new ≡ nodes.old) config solo moment result session.new solo.running }
+    ensures once { (nodes.new ≡ nodes.old)
+        ⊎ ((id : NodeId) × (at : ℕ) × (call : NodeCall) × (reply : NodeReply) × N.Answers nodes.old id session.old.setting.slot at call reply nodes.new) }
+    ensures shape { N.shape nodes.new ≡ N.shape nodes.old }
+    ensures setting { session.new.setting ≡ session.old.setting }
+{
+    match session.running() {
+        Some(handle) => match session.step(nodes, handle, moment) {
+            Ok(progress) => reply_of_progress(progress),
+            Err(fault) => Reply::Refused(fault),
+        },
+        None => Reply::Refused(Fault::Idle),
+    }
+}
+
+/// A step of a carrier.
+fn step_carrier<N: Nodes>(carrier: &mut Carrier, nodes: &mut N, slot: u64, moment: u64) -> Stepped
+    requires goes_on { has_ended carrier.old ≡ false }
+    requires stream { RunsIn (N.shape nodes.old) carrier.old.shards carrier.old.stream }
+    requires slot { slot < (N.shape nodes.old).slots }
+    ensures steps { (config : TenantConfig) (solo : SoloCarrier) → CarrierStandsFor config.shards carrier.old solo →
+        CarrierSteps (λ at id call reply. N.Answers nodes.old id slot at call reply nodes.new) config solo moment result carrier.new }
+    ensures once { (id : NodeId) × (at : ℕ) × (call : NodeCall) × (reply : NodeReply) × N.Answers nodes.old id slot at call reply nodes.new }
+    ensures shape { N.shape nodes.new ≡ N.shape nodes.old }
+    ensures stream { carrier.new.stream ≡ carrier.old.stream }
+    ensures shards { carrier.new.shards ≡ carrier.old.shards }
+{
+    match carrier.step(nodes, slot, moment) {
+        Carrying::Working => Stepped {
+            reply: Reply::Working,
+            is_over: false,
+        },
+        Carrying::Done(delivery) => Stepped {
+            reply: reply_of_delivery(delivery),
+            is_over: true,
+        },
+    }
+}
+
+impl Actor {
+    /// Does what it is asked to do, where it is a session.
+    pub(crate) fn act(&mut self, alloc: Global, deed: Deed) -> Reply
+        ensures own { (config : TenantConfig) (solo : Solo) → ActorStandsFor config self.old solo → HasDone config solo (actor_does config deed solo) result self.new }
+        ensures runs { (shape : Shape) (slot : ℕ) → RunsAt shape slot self.old → RunsAt shape slot self.new }
+    {
+        match self {
+            Actor::OfSession(session) => act_in(alloc, session, deed),
+            Actor::OfCarrier(_) => Reply::Refused(Fault::UnknownName),
+        }
+    }
+
+    /// Takes a step at a moment, for the tenant of a slot.
+    pub(crate) fn step<N: Nodes>(&mut self, nodes: &mut N, slot: u64, moment: u64) -> Stepped
+        requires runs { RunsAt (N.shape nodes.old) slot self.old }
+        requires slot { slot < (N.shape nodes.old).slots }
+        ensures steps { (config : TenantConfig) (solo : Solo) → ActorStandsFor config self.old solo →
+            ActorSteps (λ at id call reply. N.Answers nodes.old id slot at call reply nodes.new) (nodes.new ≡ nodes.old) config moment result solo self.new }
+        ensures once { (nodes.new ≡ nodes.old)
+            ⊎ ((id : NodeId) × (at : ℕ) × (call : NodeCall) × (reply : NodeReply) × N.Answers nodes.old id slot at call reply nodes.new) }
+        ensures shape { N.shape nodes.new ≡ N.shape nodes.old }
+        ensures runs { (shape : Shape) (slot : ℕ) → RunsAt shape slot self.old → RunsAt shape slot self.new }
+    {
+        match self {
+            Actor::OfSession(session) => Stepped {
+                reply: step_session(session, nodes, moment),
+                is_over: false,
+            },
+            Actor::OfCarrier(carrier) => {
+                if carrier.ended() {
+                    return Stepped {
+                        reply: Reply::Refused(Fault::Torn),
+                        is_over: true,
+                    };
+                }
+                step_carrier(carrier, nodes, slot, moment)
+            }
+        }
+    }
+}
