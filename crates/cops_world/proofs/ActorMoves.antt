@@ -219,3 +219,23 @@ count-joined name actor cluster = length-append cluster.actors (record { name = 
 
 pub count-without : (name : List ℕ) (cluster : SoloCluster) (found : Actor) → AreDistinct cluster.actors → find_actor name cluster ≡ Some found → length (without_actor name cluster).actors + 1 ≡ length cluster.actors
 count-without name cluster found distinct e = length-without name cluster.actors found distinct e
+
+-- the actor that is there put in its own place
+pub with_actor-same : (name : List ℕ) (actor : Actor) (cluster : SoloCluster) → AreDistinct cluster.actors → find_actor name cluster ≡ Some actor → (with_actor name actor cluster).actors ≡ cluster.actors
+with_actor-same name actor cluster distinct found = go cluster.actors distinct found
+  where
+    others_stay : (actors : List NamedActor) → list_any (λ (b : NamedActor). key_eq b.name name) actors ≡ false → map (replaced name actor) actors ≡ actors
+    others_stay [] none = refl
+    others_stay (b ∷ bs) none = by_test (key_eq b.name name)
+        (λ is. let clash : true ≡ false = sym (rw is refl) ∙ none in cc)
+        (λ is. rw is (ap (λ xs. b ∷ xs) (others_stay bs (sym (rw is refl) ∙ none))))
+
+    go : (actors : List NamedActor) → AreDistinct actors → actor_in name actors ≡ Some actor → map (replaced name actor) actors ≡ actors
+    go [] h e = cc
+    go (a ∷ actors) h e = by_test (key_eq a.name name)
+        (λ is.
+        let own : a.actor ≡ actor = (let both : Some a.actor ≡ Some actor = sym (found_first name a actors is) ∙ e in cc) in
+        let named : name ≡ a.name = sym (key_eq-true a.name name is) in
+        let none : list_any (λ (b : NamedActor). key_eq b.name name) actors ≡ false = ap (λ n. list_any (λ (b : NamedActor). key_eq b.name n) actors) named ∙ h.0 in
+        rw is (λ i. (let one : NamedActor = record { name = named i; actor = sym own i } in one) ∷ others_stay actors none i))
+        (λ is. rw is (ap (λ xs. a ∷ xs) (go actors h.1 (sym (found_later name a actors is) ∙ e))))

@@ -1,12 +1,16 @@
 -- Sessions and carriers as they are kept, and those of the definition that they stand for.
-use Rattle.std.specs.Prelude.{◌≡◌, ℕ, false, max, IsFalse, Option, Some, None}
-use Rattle.cops_types.specs.declared.faults.Fault.TheVariants.{Idle}
+use Rattle.std.specs.Prelude.{◌≡◌, ◌⊎◌, ℕ, Bool, true, false, max, IsFalse, List, slice_index_or, slice_set, Option, Some, None}
+use Rattle.cops_types.specs.declared.faults.Fault.TheVariants.{Idle, OutOfMemory}
 use Rattle.cops_types.specs.TenantConfig.{TenantConfig}
 use Rattle.cops_node.specs.declared.NodeCall.{NodeCall}
 use Rattle.cops_node.specs.declared.NodeId.{NodeId}
 use Rattle.cops_node.specs.declared.NodeReply.{NodeReply}
+use Rattle.cops_node.specs.declared.NodeReply.TheVariants as node_reply
 use Rattle.cops_node.specs.Log.{Directed, Replied}
+use Rattle.cops_node.specs.Place.{place_of, number_of}
 use Rattle.cops_node.specs.Shape.{Shape}
+use Rattle.cops_node.specs.SoloNode.{SoloNode, new_node}
+use Rattle.cops_node.specs.Step.{node_step}
 use Rattle.cops_session.specs.declared.Progress.{Progress}
 use Rattle.cops_session.specs.Kept.{Kept as KeptSession}
 use Rattle.cops_session.specs.Request.{next}
@@ -22,7 +26,7 @@ use Rattle.cops_world.specs.declared.actors.Actor.TheVariants as kept
 use Rattle.cops_world.specs.declared.actors.Stepped.{Stepped}
 use Rattle.cops_world.specs.declared.replies.Reply.{Reply}
 use Rattle.cops_world.specs.declared.replies.Reply.TheVariants.{Working, Refused}
-use Rattle.cops_world.specs.Cluster.{Actor, OfSession, OfCarrier, reply_of_progress, reply_of_delivery}
+use Rattle.cops_world.specs.Cluster.{SoloCluster, Turn, Actor, OfSession, OfCarrier, with_actor, without_actor, reply_of_progress, reply_of_delivery}
 use Rattle.cops_world.specs.ActorTurns.{ActorTurn}
 use Rattle.cops_world.specs.Events.{is_out_of_memory}
 
@@ -71,3 +75,24 @@ ActorSteps called stays config moment stepped (OfCarrier carrier) (kept.OfSessio
 -- the actor did what the definition's does, where memory was not refused
 abbrev pub HasDone : TenantConfig → Actor → ActorTurn → Reply → Kept → Type 0
 HasDone config actor turn reply after = IsFalse (is_out_of_memory reply) → (reply ≡ turn.reply) × ActorStandsFor config after turn.after
+
+-- ---- what the step of an actor does to its cluster
+
+-- the nodes' turn: the reply and the next nodes are the definition's, or memory was refused and nothing changed
+abbrev pub NodesTurn : TenantConfig → List SoloNode → List SoloNode → ℕ → NodeId → NodeCall → NodeReply → Type 0
+NodesTurn config before after at id call reply =
+    ((reply ≡ node_reply.Refused OutOfMemory) × (after ≡ before))
+    ⊎ (let number = number_of config.shards id in
+       let turn = node_step (place_of config id) at call (slice_index_or before number (new_node config.data_centres)) in
+       (reply ≡ turn.reply) × (after ≡ slice_set before number turn.after))
+
+-- the actor after the step, or none
+abbrev pub IsAfter : TenantConfig → List ℕ → SoloCluster → SoloCluster → Kept → Bool → Type 0
+IsAfter config name before after actor false = (solo : Actor) × (after.actors ≡ (with_actor name solo before).actors) × ActorStandsFor config actor solo
+IsAfter config name before after actor true = after.actors ≡ (without_actor name before).actors
+
+-- the step did to the cluster what the definition's does
+pub record StepsCluster (config : TenantConfig) (name : List ℕ) (before : SoloCluster) (nodes : List SoloNode) (turn : Turn) (stepped : Stepped) (after : Kept) : Type 0 where
+  pub reply_is : stepped.reply ≡ turn.reply
+  pub nodes_are : turn.after.nodes ≡ nodes
+  pub actors_are : IsAfter config name before turn.after after stepped.is_over

@@ -1,0 +1,162 @@
+-- The step of an actor, at nodes that take the definition's turns, is the step of the cluster.
+use Rattle.std.proofs.Common.{◌≡◌, ◌⊎◌, ℕ, Bool, true, false, cond, inl, inr, List, [], ◌∷◌, map, length, refl, sym, ◌∙◌, ap, subst, max, true≢false}
+use Rattle.std.specs.Prelude.{IsFalse, Option, Some, None, find, slice_index_or, slice_set}
+use Rattle.std.specs.Option.{option_map}
+use Rattle.cops_types.specs.declared.faults.Fault.TheVariants.{Idle, OutOfMemory}
+use Rattle.cops_types.specs.TenantConfig.{TenantConfig}
+use Rattle.cops_node.specs.declared.NodeCall.{NodeCall}
+use Rattle.cops_node.specs.declared.NodeId.{NodeId}
+use Rattle.cops_node.specs.declared.NodeReply.{NodeReply}
+use Rattle.cops_node.specs.declared.NodeReply.TheVariants as node_reply
+use Rattle.cops_node.specs.Log.{LogStep, Late, Replied, Directed, Next, Call, Restart, Ended}
+use Rattle.cops_node.specs.SoloNode.{SoloNode}
+use Rattle.cops_session.specs.declared.Answer.{Answer}
+use Rattle.cops_session.specs.declared.Answer.TheVariants as answer
+use Rattle.cops_session.specs.declared.Progress.{Progress}
+use Rattle.cops_session.specs.declared.Progress.TheVariants as session_progress
+use Rattle.cops_session.specs.Kept.{Kept as KeptSession}
+use Rattle.cops_session.specs.Request.{next}
+use Rattle.cops_session.specs.Session.{Session, Running, request_of, moment_at, session_after}
+use Rattle.cops_session.specs.Session as session
+use Rattle.cops_session.specs.SessionStands.{SessionStandsFor}
+use Rattle.cops_session.specs.Stepping.{DoesNext, HasStepped}
+use Rattle.cops_repl.specs.declared.Delivery.{Delivery}
+use Rattle.cops_repl.specs.declared.Delivery.TheVariants as delivery
+use Rattle.cops_repl.specs.declared.Progress.{Progress as CarrierProgress}
+use Rattle.cops_repl.specs.declared.Progress.TheVariants as carrying
+use Rattle.cops_repl.specs.Carrier.{Carrier, carrier_after}
+use Rattle.cops_repl.specs.Carrier as carrier
+use Rattle.cops_repl.specs.Stands.{CarrierStandsFor, IsStepOf, Kept as KeptCarrier, StandsIfWorking, is_done}
+use Rattle.cops_world.specs.declared.actors.Actor.{Actor as Kept}
+use Rattle.cops_world.specs.declared.actors.Actor.TheVariants as kept
+use Rattle.cops_world.specs.declared.actors.Stepped.{Stepped}
+use Rattle.cops_world.specs.declared.replies.Reply.{Reply}
+use Rattle.cops_world.specs.declared.replies.Reply.TheVariants.{Working, Refused}
+use Rattle.cops_world.specs.ActorsStand.{ActorStandsFor, ActorSteps, CarrierSteps, SessionSteps, NodesTurn, IsAfter, StepsCluster, reply_of_carrying}
+use Rattle.cops_world.specs.Actors.{AreDistinct}
+use Rattle.cops_world.specs.Cluster.{SoloCluster, Turn, Actor, OfSession, OfCarrier, find_actor, with_actor, without_actor, call_node, request_does, running_step, session_stepped, carrier_does, carrier_step, carrier_stepped, step_of, actor_step, reply_of_answer, reply_of_progress, reply_of_delivery}
+use Rattle.cops_world.specs.Events.{is_out_of_memory}
+use Rattle.cops_world.proofs.ActorMoves.{with_actor-same}
+use Rattle.cops_world.proofs.RefusedSteps.{carrier_refused, request_refused}
+
+not_spared : (reply : Reply) → IsFalse (is_out_of_memory reply) → reply ≡ Refused OutOfMemory → ⊥
+not_spared reply spared is = true≢false (ap is_out_of_memory (sym is) ∙ spared)
+
+module _ (config : TenantConfig) (name : List ℕ) (before : SoloCluster) (nodes : List SoloNode) (moment : ℕ) where
+  abbrev AtNodes : ℕ → NodeId → NodeCall → NodeReply → Type 0
+  AtNodes = NodesTurn config before.nodes nodes
+
+  -- ---- sessions
+
+  module _ (s : Session) (running : Running) (kept_after : KeptSession) where
+    abbrev stepped_at : ℕ → Bool → Reply → Turn → Type 0
+    stepped_at at over reply turn = StepsCluster config name before nodes turn (record { reply = reply; is_over = over }) (kept.OfSession kept_after)
+
+    -- the session took this step, and its nodes are these
+    session_took : (step : LogStep) (shown : Progress) (reply : Reply) (after : SoloCluster) → after.actors ≡ before.actors → after.nodes ≡ nodes →
+        IsFalse (is_out_of_memory reply) → reply ≡ reply_of_progress shown → HasStepped config s running step shown kept_after →
+        StepsCluster config name before nodes (session_stepped config name s running step after) (record { reply = reply; is_over = false }) (kept.OfSession kept_after)
+    session_took step shown reply after same_actors same_nodes spared reply_is stepped =
+        by_shown stepped.shown_is
+      where
+        by_shown : (shown ≡ session.progress config (request_of s running) running.log step) ⊎ (shown ≡ session_progress.Done (answer.Refused OutOfMemory)) →
+            StepsCluster config name before nodes (session_stepped config name s running step after) (record { reply = reply; is_over = false }) (kept.OfSession kept_after)
+        by_shown (inr lack) = absurd (not_spared reply spared (reply_is ∙ ap reply_of_progress lack))
+        by_shown (inl is) = record {
+          reply_is = reply_is ∙ ap reply_of_progress is;
+          nodes_are = same_nodes;
+          actors_are = (OfSession (session_after s running step (session.progress config (request_of s running) running.log step)),
+            ap (λ actors. (with_actor name (OfSession (session_after s running step (session.progress config (request_of s running) running.log step))) (record before { actors = actors })).actors) same_actors,
+            subst (λ p. SessionStandsFor config kept_after (session_after s running step p)) is stepped.stands);
+        }
+
+    session_does_next : (at : ℕ) (shown : Progress) (reply : Reply) (n : Next Answer) → next config (request_of s running) running.log at ≡ n → IsFalse (is_out_of_memory reply) → reply ≡ reply_of_progress shown →
+        DoesNext (AtNodes at) (nodes ≡ before.nodes) config s running at shown kept_after n →
+        StepsCluster config name before nodes (request_does config name s running at before n) (record { reply = reply; is_over = false }) (kept.OfSession kept_after)
+    session_does_next at shown reply (Call d) comes spared reply_is (answered, made, stepped) = by_turn made
+      where
+        by_turn : AtNodes at d.node d.call answered → StepsCluster config name before nodes (request_does config name s running at before (Call d)) (record { reply = reply; is_over = false }) (kept.OfSession kept_after)
+        by_turn (inl (lack, stays)) =
+            let refused : session.progress config (request_of s running) running.log (record { moment = at; outcome = Replied answered }) ≡ session_progress.Done (answer.Refused OutOfMemory) =
+            ap (λ r. session.progress config (request_of s running) running.log (record { moment = at; outcome = Replied r })) lack ∙ request_refused config (request_of s running) running.log at at d OutOfMemory comes in
+            let lacks : shown ≡ session_progress.Done (answer.Refused OutOfMemory) = elim stepped.shown_is [ inl is ↦ is ∙ refused | inr is ↦ is ] in
+            absurd (not_spared reply spared (reply_is ∙ ap reply_of_progress lacks))
+        by_turn (inr (is, moved)) =
+            let turn = call_node config d.node at d.call before in
+            session_took (record { moment = at; outcome = Replied turn.reply }) shown reply turn.after refl (sym moved) spared reply_is
+            (subst (λ r. HasStepped config s running (record { moment = at; outcome = Replied r }) shown kept_after) is stepped)
+    session_does_next at shown reply Restart comes spared reply_is (stays, stepped) =
+        session_took (record { moment = at; outcome = Late }) shown reply before refl (sym stays) spared reply_is stepped
+    session_does_next at shown reply (Ended a) comes spared reply_is none = absurd none
+
+  session_turn : (s : Session) (kept_after : KeptSession) (reply : Reply) → AreDistinct before.actors → find_actor name before ≡ Some (OfSession s) → IsFalse (is_out_of_memory reply) → (running : Option Running) →
+      SessionSteps AtNodes (nodes ≡ before.nodes) config s moment reply kept_after running →
+      StepsCluster config name before nodes (running_step config name s moment before running) (record { reply = reply; is_over = false }) (kept.OfSession kept_after)
+  session_turn s kept_after reply distinct found spared None (is, stays, stands) = record {
+    reply_is = is;
+    nodes_are = sym stays;
+    actors_are = (OfSession s, sym (with_actor-same name (OfSession s) before distinct found), stands);
+  }
+  session_turn s kept_after reply distinct found spared (Some running) (shown, is, does) =
+      session_does_next s running kept_after (moment_at moment s) shown reply (next config (request_of s running) running.log (moment_at moment s)) refl spared is does
+
+  -- ---- carriers
+
+  carrier_turn : (c : Carrier) (kept_after : KeptCarrier) (stepped : Stepped) → IsFalse (is_out_of_memory stepped.reply) → CarrierSteps AtNodes config c moment stepped kept_after →
+      StepsCluster config name before nodes (carrier_step config name c (max c.moment moment) before) stepped (kept.OfCarrier kept_after)
+  carrier_turn c kept_after stepped spared p = by_turn p.made
+    where
+      at : ℕ
+      at = max c.moment moment
+
+      d : Directed
+      d = p.directed
+
+      Took : Turn → Type 0
+      Took turn = StepsCluster config name before nodes turn stepped (kept.OfCarrier kept_after)
+
+      step_of_reply : NodeReply → LogStep
+      step_of_reply reply = record { moment = at; outcome = Replied reply }
+
+      by_shown : (reply : NodeReply) (after : SoloCluster) (shown : CarrierProgress) → after.actors ≡ before.actors → after.nodes ≡ nodes → stepped.reply ≡ reply_of_carrying shown → stepped.is_over ≡ is_done shown →
+          StandsIfWorking config.shards kept_after (carrier_after c (step_of_reply reply)) shown → Took (carrier_stepped name (carrier_after c (step_of_reply reply)) shown after)
+      by_shown reply after carrying.Working same_actors same_nodes reply_is over_is stands = record {
+        reply_is = reply_is;
+        nodes_are = same_nodes;
+        actors_are = subst (IsAfter config name before (with_actor name (OfCarrier (carrier_after c (step_of_reply reply))) after) (kept.OfCarrier kept_after)) (sym over_is)
+            (OfCarrier (carrier_after c (step_of_reply reply)), ap (λ actors. (with_actor name (OfCarrier (carrier_after c (step_of_reply reply))) (record before { actors = actors })).actors) same_actors, stands);
+      }
+      by_shown reply after (carrying.Done ending) same_actors same_nodes reply_is over_is stands = record {
+        reply_is = reply_is;
+        nodes_are = same_nodes;
+        actors_are = subst (IsAfter config name before (without_actor name after) (kept.OfCarrier kept_after)) (sym over_is)
+            (ap (λ actors. (without_actor name (record before { actors = actors })).actors) same_actors);
+      }
+
+      whole_turn : carrier_step config name c at before ≡ carrier_does config name c at before (Call d)
+      whole_turn = ap (carrier_does config name c at before) p.step_of.asked
+
+      by_turn : AtNodes at d.node d.call p.reply → Took (carrier_step config name c at before)
+      by_turn (inl (lack, stays)) =
+          let ends : carrier.progress config.shards c (step_of_reply p.reply) ≡ carrying.Done (delivery.Refused OutOfMemory) =
+          ap (λ r. carrier.progress config.shards c (step_of_reply r)) lack ∙ ap carrier.shown (carrier_refused config.shards c.stream c.log d at OutOfMemory p.step_of.asked) in
+          absurd (not_spared stepped.reply spared (p.reply_is ∙ ap reply_of_carrying (p.step_of.shown ∙ ends)))
+      by_turn (inr (is, moved)) =
+          let turn = call_node config d.node at d.call before in
+          subst Took (sym whole_turn)
+          (subst (λ r. Took (carrier_stepped name (carrier_after c (step_of_reply r)) (carrier.progress config.shards c (step_of_reply r)) turn.after)) is
+          (subst (λ shown. Took (carrier_stepped name (carrier_after c (step_of_reply p.reply)) shown turn.after)) p.step_of.shown
+          (by_shown p.reply turn.after p.shown refl (sym moved) p.reply_is p.over_is p.step_of.stands)))
+
+  -- ---- any actor
+
+  pub actor_turn : (solo : Actor) (kept_after : Kept) (stepped : Stepped) → AreDistinct before.actors → find_actor name before ≡ Some solo → IsFalse (is_out_of_memory stepped.reply) →
+      ActorSteps AtNodes (nodes ≡ before.nodes) config moment stepped solo kept_after → StepsCluster config name before nodes (actor_step config name moment before) stepped kept_after
+  actor_turn (OfSession s) (kept.OfSession after) stepped distinct found spared (steps, lasts) =
+      subst (λ over. StepsCluster config name before nodes (actor_step config name moment before) (record { reply = stepped.reply; is_over = over }) (kept.OfSession after)) (sym lasts)
+      (subst (λ o. StepsCluster config name before nodes (step_of config name moment before o) (record { reply = stepped.reply; is_over = false }) (kept.OfSession after)) (sym found)
+      (session_turn s after stepped.reply distinct found spared s.running steps))
+  actor_turn (OfCarrier c) (kept.OfCarrier after) stepped distinct found spared steps =
+      subst (λ o. StepsCluster config name before nodes (step_of config name moment before o) stepped (kept.OfCarrier after)) (sym found) (carrier_turn c after stepped spared steps)
+  actor_turn (OfSession s) (kept.OfCarrier after) stepped distinct found spared steps = absurd steps
+  actor_turn (OfCarrier c) (kept.OfSession after) stepped distinct found spared steps = absurd steps
