@@ -1,0 +1,73 @@
+//! The actors of all tenants, by slot and name.
+ghost use Rattle.std.specs.Prelude.{◌≡◌, ◌≢◌, ◌<◌, ◌⊎◌, ℕ, position, slice_get, Some, None};
+ghost use Rattle.std.specs.List.{IsDistinct};
+ghost use Rattle.indexmap.specs.IndexMap.{keys, values};
+ghost use Rattle.cops_types.specs.TenantConfig.{TenantConfig};
+ghost use Rattle.cops_types.specs.declared.faults.Fault.TheVariants.{UnknownName};
+ghost use Rattle.cops_node.specs.Shape.{Shape};
+ghost use Rattle.cops_node.specs.declared.NodeCall.{NodeCall};
+ghost use Rattle.cops_node.specs.declared.NodeId.{NodeId};
+ghost use Rattle.cops_node.specs.declared.NodeReply.{NodeReply};
+ghost use Rattle.cops_world.specs.ActorTables.{same_actor, actor_at, AllRun, PutsBack};
+ghost use Rattle.cops_world.specs.ActorTurns.{actor_does};
+ghost use Rattle.cops_world.specs.ActorsStand.{ActorStandsFor, ActorSteps, HasDone, RunsAt};
+ghost use Rattle.cops_world.specs.Cluster.{Actor as Solo};
+ghost use Rattle.cops_world.specs.declared.actors.Actor.{Actor as Kept};
+ghost use Rattle.cops_world.specs.declared.replies.Reply.TheVariants.{Refused};
+
+use crate::Reply;
+use crate::actors::{Actor, ActorId, Deed, Stepped};
+use cops_node::Nodes;
+use cops_types::Fault;
+use indexmap::IndexMap;
+use std::alloc::Global;
+
+/// Has the actor do what is asked.
+pub(crate) fn act_at(
+    actors: &mut IndexMap<ActorId, Actor>,
+    id: ActorId,
+    alloc: Global,
+    deed: Deed,
+) -> Reply
+    requires { IsDistinct same_actor (keys actors.old) }
+    ensures found { (before : Kept) → actor_at actors.old id ≡ Some before → (after : Kept) × PutsBack actors.old id after actors.new
+        × ((config : TenantConfig) (solo : Solo) → ActorStandsFor config before solo → HasDone config solo (actor_does config deed solo) result after)
+        × ((shape : Shape) → RunsAt shape id.slot before → RunsAt shape id.slot after) }
+    ensures absent { actor_at actors.old id ≡ None → (result ≡ Refused UnknownName) × (actors.new ≡ actors.old) }
+    ensures unique { IsDistinct same_actor (keys actors.new) }
+{
+    match actors.get_index_of(&id) {
+        Some(place) => {
+            let actor = &mut actors[place];
+            actor.act(alloc, deed)
+        }
+        None => Reply::Refused(Fault::UnknownName),
+    }
+}
+
+/// Takes a step of the actor at a place of the table.
+pub(crate) fn step_at<N: Nodes>(
+    actors: &mut IndexMap<ActorId, Actor>,
+    place: usize,
+    id: ActorId,
+    nodes: &mut N,
+    moment: u64,
+) -> Stepped
+    requires place { Some place ≡ position (same_actor id) (keys actors.old) }
+    requires value { slice_get (values actors.old) place ≡ actor_at actors.old id }
+    requires unique { IsDistinct same_actor (keys actors.old) }
+    requires runs { AllRun (N.shape nodes.old) actors.old }
+    requires slot { id.slot < (N.shape nodes.old).slots }
+    ensures stepped { (before : Kept) → actor_at actors.old id ≡ Some before → (after : Kept) × PutsBack actors.old id after actors.new
+        × ((config : TenantConfig) (solo : Solo) → ActorStandsFor config before solo →
+            ActorSteps (λ at node call reply. N.Answers nodes.old node id.slot at call reply nodes.new) (nodes.new ≡ nodes.old) config moment result solo after)
+        × ((shape : Shape) → RunsAt shape id.slot before → RunsAt shape id.slot after) }
+    ensures there { (before : Kept) × (actor_at actors.old id ≡ Some before) }
+    ensures once { (nodes.new ≡ nodes.old)
+        ⊎ ((node : NodeId) × (at : ℕ) × (call : NodeCall) × (reply : NodeReply) × N.Answers nodes.old node id.slot at call reply nodes.new) }
+    ensures shape { N.shape nodes.new ≡ N.shape nodes.old }
+    ensures unique { IsDistinct same_actor (keys actors.new) }
+{
+    let actor = &mut actors[place];
+    actor.step(nodes, id.slot, moment)
+}
