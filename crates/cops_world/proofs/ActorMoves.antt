@@ -157,7 +157,7 @@ length-without name (a ∷ actors) found h e = by_test (key_eq a.name name)
 -- ---- what is kept
 
 module _ {A : Type 0} (Stands : A → Actor → Type 0) (name : List ℕ) (before after : List ℕ → Option A) (cluster : SoloCluster) (h : ActorsStandFor Stands before cluster) where
-  absent_too : before name ≡ None → find_actor name cluster ≡ None
+  pub absent_too : before name ≡ None → find_actor name cluster ≡ None
   absent_too none = neither (before name) (find_actor name cluster) none (h.same name)
     where
       neither : (kept : Option A) (solo : Option Actor) → kept ≡ None → AreSame Stands kept solo → solo ≡ None

@@ -1,0 +1,40 @@
+-- A world as contracts see it, and the cluster that a tenant's part of it stands for.
+use Rattle.std.specs.Prelude.{◌≡◌, ◌≢◌, ℕ, ◌<◌, IsFalse, IsTrue, List, length, slice_index, Option, Some}
+use Rattle.cops_types.specs.declared.configs.Config.{Config}
+use Rattle.cops_types.specs.TenantConfig.{TenantConfig}
+use Rattle.cops_node.specs.Clusters.{Cluster, HasTenant, nodes_of, shape_of}
+use Rattle.cops_world.specs.declared.actors.Actor.{Actor}
+use Rattle.cops_world.specs.declared.actors.ActorId.{ActorId}
+use Rattle.cops_world.specs.declared.replies.Reply.{Reply}
+use Rattle.cops_world.specs.Actors.{ActorsStandFor}
+use Rattle.cops_world.specs.ActorsStand.{ActorStandsFor, RunsAt}
+use Rattle.cops_world.specs.Cluster.{SoloCluster, Turn}
+use Rattle.cops_world.specs.Events.{config_at, is_out_of_memory}
+use Rattle.cops_world.specs.GoodHeads.{is_good}
+
+-- the configuration, the nodes, the actors by slot and name, and how many actors each tenant has
+pub record World : Type 0 where
+  pub setup : Config
+  pub nodes : Cluster
+  pub actors : ActorId → Option Actor
+  pub counts : List ℕ
+
+pub record IsWorld (world : World) : Type 0 where
+  pub shape_is : world.nodes.shape ≡ shape_of world.setup
+  pub good : IsTrue (is_good world.setup)
+  pub counted : length world.counts ≡ length world.setup.tenants
+  pub run : (id : ActorId) (actor : Actor) → world.actors id ≡ Some actor → RunsAt (shape_of world.setup) id.slot actor
+
+-- the tenant of a slot has this cluster
+pub record StandsAt (world : World) (slot : ℕ) (cluster : SoloCluster) : Type 0 where
+  pub has : HasTenant (config_at world.setup slot) slot world.nodes
+  pub nodes_are : nodes_of (config_at world.setup slot) slot world.nodes ≡ cluster.nodes
+  pub actors_are : ActorsStandFor (ActorStandsFor (config_at world.setup slot)) (λ name. world.actors (record { slot = slot; name = name })) cluster
+  pub count_is : slice_index world.counts slot ≡ length cluster.actors
+
+-- the tenant's cluster took this turn, unless memory was refused, and no other tenant's changed
+pub record Moves (turn_of : TenantConfig → SoloCluster → Turn) (old : World) (slot : ℕ) (reply : Reply) (new : World) : Type 0 where
+  pub same : new.setup ≡ old.setup
+  pub own : IsFalse (is_out_of_memory reply) → (cluster : SoloCluster) → StandsAt old slot cluster →
+      (reply ≡ (turn_of (config_at old.setup slot) cluster).reply) × StandsAt new slot (turn_of (config_at old.setup slot) cluster).after
+  pub others : (other : ℕ) → slot ≢ other → (cluster : SoloCluster) → StandsAt old other cluster → StandsAt new other cluster
