@@ -2,12 +2,19 @@
 #![tactic(auto)]
 
 mod copies;
+mod gets;
 mod laws;
 mod nodes;
+mod parts;
+mod puts;
+mod queues;
+mod replies;
 
 use cops_types::{Deps, Entry, Fault, Key, Near, Quota, Value, Version};
 pub use laws::{audit_tells_all, greatest_version_stays, marks_never_fall};
 pub use nodes::Nodes;
+pub use parts::{Audited, Counters, Part};
+pub use replies::Replies;
 
 /// A node, by its data centre and its shard.
 #[derive(Clone, Copy, Debug)]

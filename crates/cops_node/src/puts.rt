@@ -1,0 +1,127 @@
+//! What stores an entry: puts, and commits of what other data centres sent.
+ghost use Rattle.std.specs.Prelude.{◌≡◌, ◌≢◌, ℕ, ◌+◌, ◌<◌, ◌≤◌, max, length, slice_set, slice_index_or, ok_or, List, [], ◌∷◌, ◌++◌, Option, Some, None, IsTrue, IfOk, IfErr, OnOk, OnErr};
+ghost use Rattle.cops_types.specs.declared.pairs.Pair.{Pair};
+ghost use Rattle.cops_types.specs.Layout.{NODES};
+ghost use Rattle.cops_types.specs.Pairs.{greatest_clock as greatest_clock_of};
+ghost use Rattle.cops_types.specs.Records.{Tracked, StandsFor};
+ghost use Rattle.cops_types.specs.Version.{next_version as version_after, last_clock};
+ghost use Rattle.cops_store.specs.Contents.{rows_of, use_of, refusal, size_of, HasRoom, LacksVersion, NoneLater};
+ghost use Rattle.cops_outbox.specs.Queues.{queue_of};
+ghost use Rattle.cops_node.specs.Parts.{IsPlace, StandsAt, HasSolo, IsDone, OthersStay};
+ghost use Rattle.cops_node.specs.Place.{own_number as own_number_of, fits};
+ghost use Rattle.cops_node.specs.SoloNode.{SoloNode};
+ghost use Rattle.cops_node.specs.Step.{version_of_put, put_refusal, put as put_turn, unchanged};
+
+use crate::parts::{self, Counters};
+use crate::replies::Replies;
+use crate::{NodeReply, Place};
+use cops_outbox::Outbox;
+use cops_store::Store;
+use cops_types::{Deps, Entry, EntryParts, Fault, Key, Near, Pair, Quota, Value, Version};
+use std::alloc::{AllocError, Global};
+
+// The greatest clock among pairs.
+fn greatest_clock(pairs: &[Pair]) -> u64
+    ensures value { result ≡ greatest_clock_of pairs.now }
+    ensures fits { result ≤ last_clock }
+{
+    let mut greatest = 0;
+    for pair in pairs {
+        greatest = greatest.max(parts::clock_of(pair.version));
+    }
+    greatest
+}
+
+// The version that a put with these dependencies gets.
+fn next_version(place: &Place, counters: &Counters, deps: &Deps) -> Result<Version, Fault>
+    requires place { IsPlace place.now }
+    requires clock_fits { counters.now.clock ≤ last_clock }
+    ensures { result ≡ ok_or (version_after counters.now.clock (greatest_clock_of deps.now) (own_number_of place.now)) Fault.ClockFull }
+{
+    let node = parts::own_number(place);
+    let deps_clock = greatest_clock(deps.pairs());
+    Version::next(counters.clock, deps_clock, node)
+}
+
+// The version of a put, or why it is refused.
+fn version_for(
+    place: &Place,
+    counters: &Counters,
+    store: &Store,
+    outbox: &Outbox,
+    slot: usize,
+    key: &Key,
+    value: &Value,
+    deps: &Deps,
+) -> Result<Version, Fault>
+    requires { (solo : SoloNode) × StandsAt slot place.now counters.now store.now outbox.now solo }
+    ensures version { IfOk result (λ version. (solo : SoloNode) → StandsAt slot place.now counters.now store.now outbox.now solo → version_of_put place.now solo deps.now ≡ Some version) }
+    ensures unrefused { IfOk result (λ version. (solo : SoloNode) → StandsAt slot place.now counters.now store.now outbox.now solo → put_refusal place.now solo key.now value.now ≡ None) }
+    ensures room { IfOk result (λ version. refusal place.now.quota (length key.now + length value.now) (use_of (rows_of slot store.now)) ≡ None) }
+    ensures refused { IfErr result (λ fault. (solo : SoloNode) → StandsAt slot place.now counters.now store.now outbox.now solo → (near : List Pair) → put_turn place.now solo key.now value.now deps.now near ≡ unchanged (NodeReply.Refused fault) solo) }
+{
+    let version = next_version(place, counters, deps)?;
+    if let Some(fault) = store.refused(slot, key, value, &place.quota) {
+        return Err(fault);
+    }
+    if outbox.is_full(slot, place.quota.outbox) {
+        return Err(Fault::OutboxFull);
+    }
+    Ok(version)
+}
+
+// The entry of a put.
+fn entry_of(
+    alloc: Global,
+    version: Version,
+    prev: Version,
+    key: &Key,
+    value: &Value,
+    deps: &Deps,
+    near: &Near,
+) -> Result<Entry, AllocError>
+    ensures { IfOk result (λ entry. entry ≡ record { key = key.now; version = version; value = value.now; deps = deps.now; near = near.now; prev = prev }) }
+{
+    let value = value.copy(alloc)?;
+    let deps = deps.copy(alloc)?;
+    let near = near.copy(alloc)?;
+    let key = *key;
+    Entry::new(
+        alloc,
+        EntryParts {
+            key,
+            version,
+            value,
+            deps,
+            near,
+            prev,
+        },
+    )
+}
+
+// Keeps an entry for which there is room.
+fn keep(
+    counters: &mut Counters,
+    store: &mut Store,
+    slot: usize,
+    now: u64,
+    quota: &Quota,
+    entry: Entry,
+)
+    requires slot { slot < store.old.tenants }
+    requires marks { length counters.old.marks.items ≡ NODES }
+    requires new_version { LacksVersion entry.key entry.version (rows_of slot store.old) }
+    requires room { HasRoom slot entry.key store.old }
+    requires unrefused { refusal quota.now (size_of entry) (use_of (rows_of slot store.old)) ≡ None }
+    ensures stands_for { (tracked : List Tracked) → StandsFor (rows_of slot store.old) tracked → NoneLater now tracked → StandsFor (rows_of slot store.new) (tracked ++ record { record_of = record { entry = entry; at = now }; removed = false } ∷ []) }
+    ensures others { (other : ℕ) → other ≢ slot → rows_of other store.new ≡ rows_of other store.old }
+    ensures tenants { store.new.tenants ≡ store.old.tenants }
+    ensures clock { counters.new.clock ≡ max counters.old.clock entry.version.clock }
+    ensures marks { counters.new.marks.items ≡ slice_set counters.old.marks.items entry.version.node entry.version }
+{
+    parts::raise(counters, entry.version());
+    match store.insert(slot, entry, now, quota) {
+        Ok(()) => {}
+        Err(_) => unreachable!(),
+    }
+}
