@@ -1,4 +1,6 @@
 pub mod AuditLaws
+pub mod NewRecords
+pub mod Effects
 mod Examples
 pub mod Fresh
 pub mod Greatest

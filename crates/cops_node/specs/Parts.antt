@@ -113,6 +113,13 @@ pub record OthersStay (slot : ℕ) (store : Contents) (outbox : Queues) (store' 
   pub queued : outbox'.tenants ≡ outbox.tenants
   pub data_centres : length outbox'.queues ≡ length outbox.queues
 
+-- what is kept is as it was, but for room that was made
+pub record IsUnchanged (counters : Counters) (store : Contents) (outbox : Queues) (counters' : Counters) (store' : Contents) (outbox' : Queues) : Type 0 where
+  pub counters_are : counters' ≡ counters
+  pub rows : store'.rows ≡ store.rows
+  pub tenants : store'.tenants ≡ store.tenants
+  pub outbox_is : outbox' ≡ outbox
+
 -- the call has the definition's reply and effect, whatever solo node with the moment `now` the slot stood for
 abbrev pub IsDone : ℕ → ℕ → Place → NodeCall → NodeReply → Counters → Contents → Queues → Counters → Contents → Queues → Type 0
 IsDone slot now place call reply counters store outbox counters' store' outbox' =

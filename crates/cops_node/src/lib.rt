@@ -1,6 +1,7 @@
 //! A node: one shard of one data centre. This crate has the calls, the replies, and what a call does.
 #![tactic(auto)]
 
+mod commits;
 mod copies;
 mod gets;
 mod laws;

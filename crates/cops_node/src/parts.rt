@@ -86,12 +86,30 @@ pub(crate) fn was_committed(counters: &Counters, version: Version) -> bool
     version <= counters.marks[version.place()]
 }
 
+// The mark of a version's node.
+pub(crate) fn mark_for(counters: &Counters, version: Version) -> Version
+    requires { length counters.now.marks.items ≡ NODES }
+    ensures { (recs : List Tracked) → AreMarks counters.now.marks.items recs → result ≡ mark version.node recs }
+{
+    counters.marks[version.place()]
+}
+
+// The mark of the place's own node.
+pub(crate) fn own_mark(place: &Place, counters: &Counters) -> Version
+    requires place { IsPlace place.now }
+    requires marks { length counters.now.marks.items ≡ NODES }
+    ensures { (recs : List Tracked) → AreMarks counters.now.marks.items recs → result ≡ mark (own_number_of place.now) recs }
+{
+    counters.marks[own_number(place) as usize]
+}
+
 // Counts a version that is committed: the clock is raised to its clock, and it is the mark of its node.
 pub(crate) fn raise(counters: &mut Counters, version: Version)
     requires { length counters.old.marks.items ≡ NODES }
     ensures clock { counters.new.clock ≡ max counters.old.clock version.clock }
     ensures marks { counters.new.marks.items ≡ slice_set counters.old.marks.items version.node version }
+    ensures fits { version.clock ≤ last_clock }
 {
-    counters.clock = counters.clock.max(version.clock());
+    counters.clock = counters.clock.max(clock_of(version));
     counters.marks[version.place()] = version;
 }

@@ -1,5 +1,5 @@
-//! What stores an entry: puts, and commits of what other data centres sent.
-ghost use Rattle.std.specs.Prelude.{◌≡◌, ◌≢◌, ℕ, ◌+◌, ◌<◌, ◌≤◌, max, length, slice_set, slice_index_or, ok_or, List, [], ◌∷◌, ◌++◌, Option, Some, None, IsTrue, IfOk, IfErr, OnOk, OnErr};
+//! Puts.
+ghost use Rattle.std.specs.Prelude.{◌≡◌, ◌≢◌, ℕ, ◌+◌, ◌<◌, ◌≤◌, max, length, slice_set, slice_index_or, ok_or, List, [], ◌∷◌, ◌++◌, Option, Some, None, false, IsTrue, IfOk, IfErr, OnOk, OnErr};
 ghost use Rattle.cops_types.specs.declared.pairs.Pair.{Pair};
 ghost use Rattle.cops_types.specs.Layout.{NODES};
 ghost use Rattle.cops_types.specs.Pairs.{greatest_clock as greatest_clock_of};
@@ -7,14 +7,17 @@ ghost use Rattle.cops_types.specs.Records.{Tracked, StandsFor};
 ghost use Rattle.cops_types.specs.Version.{next_version as version_after, last_clock};
 ghost use Rattle.cops_store.specs.Contents.{rows_of, use_of, refusal, size_of, HasRoom, LacksVersion, NoneLater};
 ghost use Rattle.cops_outbox.specs.Queues.{queue_of};
-ghost use Rattle.cops_node.specs.Parts.{IsPlace, StandsAt, HasSolo, IsDone, OthersStay};
+ghost use Rattle.cops_node.specs.declared.NodeCall.{NodeCall};
+ghost use Rattle.cops_node.specs.declared.NodeReply.{NodeReply};
+ghost use Rattle.cops_node.specs.Parts.{IsPlace, StandsAt, HasSolo, IsDone, OthersStay, IsUnchanged};
 ghost use Rattle.cops_node.specs.Place.{own_number as own_number_of, fits};
 ghost use Rattle.cops_node.specs.SoloNode.{SoloNode};
 ghost use Rattle.cops_node.specs.Step.{version_of_put, put_refusal, put as put_turn, unchanged};
 
+use crate::commits;
 use crate::parts::{self, Counters};
 use crate::replies::Replies;
-use crate::{NodeReply, Place};
+use crate::Place;
 use cops_outbox::Outbox;
 use cops_store::Store;
 use cops_types::{Deps, Entry, EntryParts, Fault, Key, Near, Pair, Quota, Value, Version};
@@ -99,29 +102,35 @@ fn entry_of(
     )
 }
 
-// Keeps an entry for which there is room.
-fn keep(
+// A call `Put`.
+pub(crate) fn put(
+    alloc: Global,
+    place: &Place,
     counters: &mut Counters,
     store: &mut Store,
+    outbox: &mut Outbox,
     slot: usize,
     now: u64,
-    quota: &Quota,
-    entry: Entry,
-)
-    requires slot { slot < store.old.tenants }
-    requires marks { length counters.old.marks.items ≡ NODES }
-    requires new_version { LacksVersion entry.key entry.version (rows_of slot store.old) }
-    requires room { HasRoom slot entry.key store.old }
-    requires unrefused { refusal quota.now (size_of entry) (use_of (rows_of slot store.old)) ≡ None }
-    ensures stands_for { (tracked : List Tracked) → StandsFor (rows_of slot store.old) tracked → NoneLater now tracked → StandsFor (rows_of slot store.new) (tracked ++ record { record_of = record { entry = entry; at = now }; removed = false } ∷ []) }
-    ensures others { (other : ℕ) → other ≢ slot → rows_of other store.new ≡ rows_of other store.old }
-    ensures tenants { store.new.tenants ≡ store.old.tenants }
-    ensures clock { counters.new.clock ≡ max counters.old.clock entry.version.clock }
-    ensures marks { counters.new.marks.items ≡ slice_set counters.old.marks.items entry.version.node entry.version }
+    key: &Key,
+    value: &Value,
+    deps: &Deps,
+    near: &Near,
+) -> Result<Replies, AllocError>
+    requires { HasSolo slot now place.now counters.old store.old outbox.old }
+    ensures done { IfOk result (λ replies. IsDone slot now place.now (NodeCall.Put key.now value.now deps.now near.now) replies.told counters.old store.old outbox.old counters.new store.new outbox.new) }
+    ensures kept { IfOk result (λ replies. replies.kept ≡ replies.told) }
+    ensures others { OthersStay slot store.old outbox.old store.new outbox.new }
+    ensures err { OnErr result (IsUnchanged counters.old store.old outbox.old counters.new store.new outbox.new) }
 {
-    parts::raise(counters, entry.version());
-    match store.insert(slot, entry, now, quota) {
-        Ok(()) => {}
-        Err(_) => unreachable!(),
-    }
+    let version = match version_for(place, counters, store, outbox, slot, key, value, deps) {
+        Ok(version) => version,
+        Err(fault) => return Ok(Replies::refused(fault)),
+    };
+    let replies = Replies::stored(&version);
+    let prev = parts::own_mark(place, counters);
+    let entry = entry_of(alloc, version, prev, key, value, deps, near)?;
+    commits::reserve(store, slot, key)?;
+    outbox.push(slot, &entry)?;
+    commits::keep(counters, store, slot, now, &place.quota, entry);
+    Ok(replies)
 }
