@@ -1,6 +1,7 @@
 pub mod AuditLaws
 pub mod NewRecords
 pub mod Effects
+pub mod Slots
 pub mod Stored
 mod Examples
 pub mod Fresh

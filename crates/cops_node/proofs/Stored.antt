@@ -1,6 +1,6 @@
 -- What puts and commits that nothing refuses do to what is kept of a slot.
 use Rattle.std.proofs.Common.{◌≡◌, ◌≢◌, ℕ, ◌+◌, ◌*◌, ◌/◌, ◌%◌, ◌<◌, ◌≤◌, Bool, true, false, cond, not, ◌&&◌, List, [], ◌∷◌, ◌++◌, length, refl, sym, ap, ◌∙◌, subst, arith, true≢false, nat_lt, max, set, append-nil, IsTrue}
-use Rattle.std.specs.Prelude.{if◌then◌else◌, ◌==◌, Option, Some, None}
+use Rattle.std.specs.Prelude.{if◌then◌else◌, ◌==◌, drop, Option, Some, None}
 use Rattle.std.proofs.lemmas.Bool.Decides.{Decides-eqb, nat_tests}
 use Rattle.std.proofs.lemmas.Nat.{div-mul-add}
 use Rattle.cops_types.specs.declared.faults.Fault.{Fault}
@@ -11,17 +11,19 @@ use Rattle.cops_types.specs.Pairs.{greatest_clock}
 use Rattle.cops_types.specs.Records.{Tracked, StandsFor, clock, mark}
 use Rattle.cops_types.specs.Version.{Timestamp, version_le, version_eq, next_version, last_clock}
 use Rattle.cops_store.specs.Contents.{Contents, rows_of, rows_in, NoneLater, LacksVersion}
-use Rattle.cops_outbox.specs.Queues.{Queues, queue_of}
+use Rattle.cops_outbox.specs.Queues.{Queues, queue_of, is_front}
+use Rattle.cops_outbox.specs.Queues as outbox_queues
 use Rattle.cops_node.specs.declared.parts.Counters.{Counters}
+use Rattle.cops_node.specs.declared.replies.Replies.{Replies}
 use Rattle.cops_node.specs.declared.Place.{Place}
-use Rattle.cops_node.specs.declared.NodeCall.TheVariants.{Put, Commit}
+use Rattle.cops_node.specs.declared.NodeCall.TheVariants.{Put, Commit, Ack}
 use Rattle.cops_node.specs.declared.NodeReply.{NodeReply}
-use Rattle.cops_node.specs.declared.NodeReply.TheVariants.{Stored, Committed, Already, OutOfOrder, Refused}
+use Rattle.cops_node.specs.declared.NodeReply.TheVariants.{Stored, Committed, Already, OutOfOrder, Refused, Acked, NotFront}
 use Rattle.cops_node.specs.Parts.{StandsAt}
 use Rattle.cops_node.specs.Place.{is_other_dc, is_other_equivalent, own_number}
-use Rattle.cops_node.specs.SoloNode.{SoloNode}
+use Rattle.cops_node.specs.SoloNode.{SoloNode, queue, front}
 use Rattle.cops_node.specs.Step.{Turn, committed, version_of_put, put, put_at, put_refusal, commit, commit_refusal, store_unless, entry_of_put, effect, unchanged, was_committed}
-use Rattle.cops_node.proofs.Effects.{StandsAt-committed, sent}
+use Rattle.cops_node.proofs.Effects.{StandsAt-committed, sent, StandsAt-acked, ack_turn, acknowledge_is}
 use Rattle.cops_node.proofs.NewRecords.{is_new, above_marks}
 
 -- ---- a put
@@ -184,3 +186,26 @@ module _ (slot now : ℕ) (place : Place) (counters counters' : Counters) (store
 pub equivalent_of : (a b : Bool) → (a && b) ≡ true → b ≡ true
 equivalent_of true b h = h
 equivalent_of false b h = absurd (true≢false (sym h))
+
+-- ---- an acknowledgement
+
+same_front : (es : List Entry) → front es ≡ outbox_queues.front es
+same_front [] = refl
+same_front (e ∷ es) = refl
+
+pub ack_done : (slot dc : ℕ) (version : Timestamp) (b : Bool) (place : Place) (counters : Counters) (store : Contents) (outbox outbox' : Queues) (solo : SoloNode) (replies : Replies) → StandsAt slot place counters store outbox solo →
+    IsTrue (is_other_dc place dc) → b ≡ is_front version (outbox_queues.front (queue_of slot dc outbox)) →
+    queue_of slot dc outbox' ≡ (if b then drop 1 (queue_of slot dc outbox) else queue_of slot dc outbox) →
+    ((at : ℕ) → at ≢ dc → queue_of slot at outbox' ≡ queue_of slot at outbox) →
+    outbox'.own ≡ outbox.own → outbox'.tenants ≡ outbox.tenants → length outbox'.queues ≡ length outbox.queues →
+    replies ≡ (if b then record { told = Acked; kept = Acked } else record { told = NotFront; kept = NotFront }) →
+    (replies.told ≡ (effect place (Ack dc version) solo).reply) × StandsAt slot place counters store outbox' (effect place (Ack dc version) solo).after
+ack_done slot dc version b place counters store outbox outbox' solo replies h other found entry elsewhere own queued dcs is =
+    let test : b ≡ is_front version (front (queue place dc solo)) = found ∙ ap (λ es. is_front version (outbox_queues.front es)) (h.queues dc other) ∙ ap (is_front version) (sym (same_front (queue place dc solo))) in
+    let turn : ack_turn b dc solo ≡ effect place (Ack dc version) solo = ap (λ t. ack_turn t dc solo) test ∙ sym (acknowledge_is dc version solo (front (queue place dc solo))) in
+    (ap (λ (r : Replies). r.told) is ∙ reply b ∙ ap (λ (t : Turn). t.reply) turn,
+    subst (λ (t : Turn). StandsAt slot place counters store outbox' t.after) turn (StandsAt-acked slot dc version b place counters store outbox outbox' solo h other found entry elsewhere own queued dcs (other_dc place dc other).0))
+  where
+    reply : (t : Bool) → (let both : Replies = (if t then record { told = Acked; kept = Acked } else record { told = NotFront; kept = NotFront }) in both.told) ≡ (ack_turn t dc solo).reply
+    reply true = refl
+    reply false = refl
