@@ -2,7 +2,7 @@
 use Rattle.std.proofs.Common.{◌≡◌, ◌≢◌, ℕ, zero, suc, ◌+◌, ◌<◌, ◌≤◌, Bool, true, false, cond, not, List, [], ◌∷◌, ◌++◌, length, map, filter, refl, sym, ap, ◌∙◌, subst, arith, true≢false, nat_eq, nat_lt, max, get_or, set, length-append, append-nil, IsTrue, inl, inr, ◌⊎◌}
 use Rattle.std.specs.Prelude.{if◌then◌else◌, ◌==◌, ◌&&◌, ◌/◌, ◌%◌, Option, Some, None}
 use Rattle.std.proofs.lemmas.Bool.Decides.{Decides-eqb, nat_tests}
-use Rattle.std.proofs.lemmas.List.{get_or-set_same, get_or-set_other, map-append}
+use Rattle.std.proofs.lemmas.List.{get_or-set_same, get_or-set_other, get_or_default, map-append}
 use Rattle.std.proofs.Math.ListN.{length-set}
 use Rattle.cops_types.specs.declared.faults.Fault.{Fault}
 use Rattle.cops_types.specs.declared.faults.Fault.TheVariants.{AuditFull}
@@ -275,10 +275,21 @@ not_yes : (b : Bool) → not b ≡ true → b ≡ false
 not_yes true h = absurd (true≢false (sym h))
 not_yes false h = refl
 
-pub full_turn : (id : NodeId) (dcs shards slot moment : ℕ) (call : NodeCall) (parts : List Part) (p : Part) (store : Contents) (outbox : Queues) (audit : List Audited) (full : Bool) → IsNode id dcs shards parts store outbox audit → slot < length parts → p ≡ get_or parts slot p
+full_turn : (id : NodeId) (dcs shards slot moment : ℕ) (call : NodeCall) (parts : List Part) (p : Part) (store : Contents) (outbox : Queues) (audit : List Audited) (full : Bool) → IsNode id dcs shards parts store outbox audit → slot < length parts → p ≡ get_or parts slot p
     → full ≡ not (nat_lt (length p.trail.items) p.place.quota.audit) → full ≡ true → node_step p.place moment call (left_by p.place (trail_of slot audit)) ≡ unchanged (Refused AuditFull) (left_by p.place (trail_of slot audit))
 full_turn id dcs shards slot moment call parts p store outbox audit full node within read test closed =
     step_full p.place moment call (left_by p.place (trail_of slot audit)) (audit_room id dcs shards slot p store outbox audit (node.each slot p within read) ∙ not_yes _ (sym test ∙ closed))
+
+pub full_done : (id : NodeId) (dcs shards slot moment : ℕ) (call : NodeCall) (parts : List Part) (p : Part) (store : Contents) (outbox : Queues) (audit : List Audited) (full : Bool) → IsNode id dcs shards parts store outbox audit → slot < length parts → p ≡ get_or parts slot p
+    → full ≡ not (nat_lt (length p.trail.items) p.place.quota.audit) → full ≡ true → (place : Place) (before : List Audited) → place ≡ p.place → audit ≡ before
+    → (Refused AuditFull ≡ (node_step place moment call (left_by place (trail_of slot before))).reply) × (left_by place (trail_of slot before) ≡ (node_step place moment call (left_by place (trail_of slot before))).after)
+full_done id dcs shards slot moment call parts p store outbox audit full node within read test closed place before place_is shown =
+    let back : p.place ≡ place = sym place_is in
+    let hidden : before ≡ audit = sym shown in
+    let turn : node_step place moment call (left_by place (trail_of slot before)) ≡ unchanged (Refused AuditFull) (left_by place (trail_of slot before)) =
+    (λ i. node_step (place_is i) moment call (left_by (place_is i) (trail_of slot (hidden i)))) ∙ full_turn id dcs shards slot moment call parts p store outbox audit full node within read test closed
+    ∙ (λ i. unchanged (Refused AuditFull) (left_by (back i) (trail_of slot (shown i)))) in
+    (sym (ap (λ (t : Turn). t.reply) turn), sym (ap (λ (t : Turn). t.after) turn))
 
 -- some solo node is what the slot stands for, at the raised moment
 pub raised_solo : (id : NodeId) (dcs shards slot now moment : ℕ) (parts : List Part) (p : Part) (store : Contents) (outbox : Queues) (audit : List Audited) → IsNode id dcs shards parts store outbox audit → slot < length parts → p ≡ get_or parts slot p → now ≡ max p.moment moment
@@ -386,3 +397,6 @@ view_set id dcs shards slot parts p new audit audit' read same is =
     let long = length-set parts slot new in
     let places = places_set parts slot p new read same in
     λ i. record { home = record { id = id; shape = record { data_centres = dcs; shards = shards; slots = long i }; places = places i }; audit = is i }
+
+pub same_part : (parts : List Part) (slot : ℕ) (p q : Part) → slot < length parts → p ≡ get_or parts slot p → q ≡ get_or parts slot q → p ≡ q
+same_part parts slot p q within read again = read ∙ get_or_default parts slot p q within ∙ sym again
