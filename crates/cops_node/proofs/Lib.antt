@@ -1,5 +1,10 @@
 pub mod AuditLaws
+pub mod NewRecords
+pub mod Effects
+pub mod Slots
+pub mod Stored
 mod Examples
+pub mod Fresh
 pub mod Greatest
 pub mod MarkLaws
 pub mod Turns

@@ -12,3 +12,4 @@ pub use Rattle.cops_types.specs.Search
 pub use Rattle.cops_types.specs.Value
 pub use Rattle.cops_types.specs.Version
 pub use Rattle.cops_types.specs.TenantConfig
+pub mod Parts

@@ -1,13 +1,24 @@
 //! A node: one shard of one data centre. This crate has the calls, the replies, and what a call does.
 #![tactic(auto)]
 
+mod calls;
+mod commits;
 mod copies;
+mod gets;
 mod laws;
+mod node;
 mod nodes;
+mod parts;
+mod puts;
+mod queues;
+mod replies;
 
 use cops_types::{Deps, Entry, Fault, Key, Near, Quota, Value, Version};
 pub use laws::{audit_tells_all, greatest_version_stays, marks_never_fall};
+pub use node::Node;
 pub use nodes::Nodes;
+pub use parts::{Audited, Counters, Part};
+pub use replies::Replies;
 
 /// A node, by its data centre and its shard.
 #[derive(Clone, Copy, Debug)]

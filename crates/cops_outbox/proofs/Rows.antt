@@ -1,6 +1,6 @@
 -- Facts about the rows of a queue.
 use Rattle.std.proofs.Common.{◌≡◌, ◌≢◌, ℕ, zero, suc, ◌+◌, ◌-◌, ◌<◌, ◌≤◌, Bool, true, false, cond, not, List, [], ◌∷◌, ◌++◌, length, map, filter, refl, sym, ap, ◌∙◌, subst, arith, true≢false, nat_eq, get_or, set, length-append, append-nil}
-use Rattle.std.specs.Prelude.{Option, Some, None, if◌then◌else◌, position}
+use Rattle.std.specs.Prelude.{Option, Some, None, if◌then◌else◌, position, drop, ◌==◌}
 use Rattle.std.specs.List.{remove, position_from}
 use Rattle.std.proofs.lemmas.Iterator.Adapters.{position_from-zero}
 use Rattle.std.proofs.lemmas.Bool.Decides.{Decides-eqb}
@@ -11,7 +11,7 @@ use Rattle.std.proofs.Math.ListN.{length-set}
 use Rattle.cops_types.specs.declared.records.EntryParts.{EntryParts as Entry}
 use Rattle.cops_types.specs.Version.{Timestamp, version_eq}
 use Rattle.cops_outbox.specs.declared.queue.Waiting.{Waiting}
-use Rattle.cops_outbox.specs.Queues.{entries_of, front, is_front, without_front, AreCounted}
+use Rattle.cops_outbox.specs.Queues.{entries_of, front, is_front, without_front, pushed, AreCounted}
 
 -- the slot's first row: what is left without it, and that its entry is the first
 first_at : (slot : ℕ) (rows : List Waiting) (i : ℕ) (d : Waiting) → i < length rows → nat_eq (get_or rows i d).slot slot ≡ true → ((k : ℕ) → k < i → nat_eq (get_or rows k d).slot slot ≡ false)
@@ -160,3 +160,65 @@ count_set counts slot n rows next h own others s d lt = by (nat_eq s slot) refl
     by false e =
         let differ : s ≢ slot = λ same. true≢false (sym ((Decides-eqb s slot).1 same) ∙ e) in
         get_or-set_other counts slot s n d differ ∙ h s d inside ∙ ap length (sym (others s differ))
+
+-- ---- what joins all queues, and what leaves one
+
+-- the queue for a data centre, once a row joined all
+pushed_at : (dc own : ℕ) (w : Waiting) (queues : List (List Waiting)) (at : ℕ) → at < length queues → get_or (pushed dc own w queues) at [] ≡ (if dc + at == own then get_or queues at [] else get_or queues at [] ++ w ∷ [])
+pushed_at dc own w [] at lt = absurd (omega arith)
+pushed_at dc own w (rows ∷ queues) zero lt = let same : dc ≡ dc + 0 = omega arith in ap (λ n. if n == own then rows else rows ++ w ∷ []) same
+pushed_at dc own w (rows ∷ queues) (suc at) lt =
+    let same : dc + 1 + at ≡ dc + suc at = omega arith in
+    pushed_at (dc + 1) own w queues at (omega arith) ∙ ap (λ n. if n == own then get_or queues at [] else get_or queues at [] ++ w ∷ []) same
+
+pub pushed_entry : (own : ℕ) (w : Waiting) (queues : List (List Waiting)) (at : ℕ) → at < length queues → at ≢ own → entries_of w.slot (get_or (pushed 0 own w queues) at []) ≡ entries_of w.slot (get_or queues at []) ++ w.entry ∷ []
+pushed_entry own w queues at lt differ =
+    let same : 0 + at ≡ at = omega arith in
+    ap (entries_of w.slot) (pushed_at 0 own w queues at lt ∙ ap (λ n. if n == own then get_or queues at [] else get_or queues at [] ++ w ∷ []) same ∙ ap (λ b. if b then get_or queues at [] else get_or queues at [] ++ w ∷ []) (differ_test at own differ))
+    ∙ push_own w.slot (get_or queues at []) w refl
+
+pub pushed_other : (dc own : ℕ) (w : Waiting) (queues : List (List Waiting)) (other at : ℕ) → other ≢ w.slot → entries_of other (get_or (pushed dc own w queues) at []) ≡ entries_of other (get_or queues at [])
+pushed_other dc own w [] other at differ = refl
+pushed_other dc own w (rows ∷ queues) other zero differ = by (dc == own)
+  where
+    by : (b : Bool) → entries_of other (if b then rows else rows ++ w ∷ []) ≡ entries_of other rows
+    by true = refl
+    by false = push_other other rows w (λ same. differ (sym same))
+pushed_other dc own w (rows ∷ queues) other (suc at) differ = pushed_other (dc + 1) own w queues other at differ
+
+-- without its first, a slot's queue is one shorter in front
+front_gone : (slot : ℕ) (rows : List Waiting) → entries_of slot (without_front slot rows) ≡ drop 1 (entries_of slot rows)
+front_gone slot [] = refl
+front_gone slot (w ∷ rows) = by (nat_eq w.slot slot) refl (front_gone slot rows)
+  where
+    by : (b : Bool) → nat_eq w.slot slot ≡ b → entries_of slot (without_front slot rows) ≡ drop 1 (entries_of slot rows)
+        → entries_of slot (if b then rows else w ∷ without_front slot rows) ≡ drop 1 (map (λ (w : Waiting). w.entry) (cond b (w ∷ filter (λ w. nat_eq w.slot slot) rows) (filter (λ w. nat_eq w.slot slot) rows)))
+    by true e k = refl
+    by false e k = ap (λ b. map (λ (w : Waiting). w.entry) (cond b (w ∷ filter (λ w. nat_eq w.slot slot) (without_front slot rows)) (filter (λ w. nat_eq w.slot slot) (without_front slot rows)))) e ∙ k
+
+abbrev pub acked_rows : ℕ → Bool → List Waiting → List Waiting
+acked_rows slot b rows = if b then without_front slot rows else rows
+
+pub acked_entry : (slot dc : ℕ) (b : Bool) (queues : List (List Waiting)) → dc < length queues → entries_of slot (get_or (set queues dc (acked_rows slot b (get_or queues dc []))) dc []) ≡ (if b then drop 1 (entries_of slot (get_or queues dc [])) else entries_of slot (get_or queues dc []))
+acked_entry slot dc b queues lt = ap (entries_of slot) (get_or-set_same queues dc (acked_rows slot b (get_or queues dc [])) [] lt) ∙ by b
+  where
+    by : (b : Bool) → entries_of slot (acked_rows slot b (get_or queues dc [])) ≡ (if b then drop 1 (entries_of slot (get_or queues dc [])) else entries_of slot (get_or queues dc []))
+    by true = front_gone slot (get_or queues dc [])
+    by false = refl
+
+pub acked_elsewhere : (slot dc : ℕ) (rows : List Waiting) (queues : List (List Waiting)) (at : ℕ) → at ≢ dc → entries_of slot (get_or (set queues dc rows) at []) ≡ entries_of slot (get_or queues at [])
+acked_elsewhere slot dc rows queues at differ = ap (entries_of slot) (get_or-set_other queues dc at rows [] differ)
+
+pub acked_other : (slot dc : ℕ) (b : Bool) (queues : List (List Waiting)) (other at : ℕ) → dc < length queues → other ≢ slot → entries_of other (get_or (set queues dc (acked_rows slot b (get_or queues dc []))) at []) ≡ entries_of other (get_or queues at [])
+acked_other slot dc b queues other at lt differ = by (nat_eq at dc) refl
+  where
+    same_row : (b : Bool) → entries_of other (acked_rows slot b (get_or queues dc [])) ≡ entries_of other (get_or queues dc [])
+    same_row true = others_kept slot other (get_or queues dc []) differ
+    same_row false = refl
+
+    by : (t : Bool) → nat_eq at dc ≡ t → entries_of other (get_or (set queues dc (acked_rows slot b (get_or queues dc []))) at []) ≡ entries_of other (get_or queues at [])
+    by true e =
+        let same : at ≡ dc = (Decides-eqb at dc).0 e in
+        subst (λ m. entries_of other (get_or (set queues dc (acked_rows slot b (get_or queues dc []))) m []) ≡ entries_of other (get_or queues m [])) (sym same)
+        (ap (entries_of other) (get_or-set_same queues dc (acked_rows slot b (get_or queues dc [])) [] lt) ∙ same_row b)
+    by false e = acked_elsewhere other dc (acked_rows slot b (get_or queues dc [])) queues at (λ same. true≢false (sym ((Decides-eqb at dc).1 same) ∙ e))

@@ -1,0 +1,154 @@
+-- What a node holds of all tenants, and what it stands for.
+use Rattle.std.specs.Prelude.{◌≡◌, ◌≢◌, ℕ, ◌+◌, ◌*◌, ◌<◌, ◌≤◌, nat_eq, IsTrue, List, [], ◌∷◌, ◌++◌, length, map, filter, slice_index, slice_index_or, ◌⊎◌, replicate, if◌then◌else◌}
+use Rattle.cops_types.specs.declared.configs.Config.{Config}
+use Rattle.cops_types.specs.declared.configs.Tenant.{Tenant}
+use Rattle.cops_types.specs.declared.faults.Fault.TheVariants.{OutOfMemory, AuditFull}
+use Rattle.cops_types.specs.Layout.{NODES}
+use Rattle.cops_types.specs.Records.{Tracked, StandsFor, clock, mark}
+use Rattle.cops_types.specs.TenantConfig.{tenant_config}
+use Rattle.cops_types.specs.Version.{Timestamp, no_version, last_clock}
+use Rattle.cops_store.specs.Contents.{Contents, rows_of, NoneLater}
+use Rattle.cops_outbox.specs.Queues.{Queues, queue_of}
+use Rattle.cops_node.specs.declared.AuditEntry.{AuditEntry}
+use Rattle.cops_node.specs.declared.NodeCall.{NodeCall}
+use Rattle.cops_node.specs.declared.NodeId.{NodeId}
+use Rattle.cops_node.specs.declared.NodeReply.{NodeReply}
+use Rattle.cops_node.specs.declared.NodeReply.TheVariants.{Refused}
+use Rattle.cops_node.specs.declared.Place.{Place}
+use Rattle.cops_node.specs.declared.parts.Audited.{Audited}
+use Rattle.cops_node.specs.declared.parts.Counters.{Counters}
+use Rattle.cops_node.specs.declared.parts.Part.{Part}
+use Rattle.cops_node.specs.Place.{is_other_dc, place_of}
+use Rattle.cops_node.specs.Run.{node_after, calls_of}
+use Rattle.cops_node.specs.Shape.{Shape}
+use Rattle.cops_node.specs.SoloNode.{SoloNode, new_node, queue, issued}
+use Rattle.cops_node.specs.Step.{node_step, effect}
+
+-- ---- a node as contracts see it
+
+-- what never changes: which node it is, the sizes of the cluster, and the place of each slot
+pub record Home : Type 0 where
+  pub id : NodeId
+  pub shape : Shape
+  pub places : List Place
+
+-- the home, and the calls of all slots
+pub record Shared : Type 0 where
+  pub home : Home
+  pub audit : List Audited
+
+-- the audit of one slot
+abbrev pub trail_of : ℕ → List Audited → List AuditEntry
+trail_of slot audit = map (λ a. a.entry) (filter (λ a. nat_eq a.slot slot) audit)
+
+-- the solo node that an audit leaves
+abbrev pub left_by : Place → List AuditEntry → SoloNode
+left_by place trail = node_after place (calls_of trail) (new_node place.data_centres)
+
+-- the solo node that a slot stands for: the one that its audit leaves
+abbrev pub solo_of : ℕ → Place → Shared → SoloNode
+solo_of slot place node = left_by place (trail_of slot node.audit)
+
+-- a node of a configuration
+abbrev pub home_of : Config → NodeId → Home
+home_of config id =
+    record {
+      id = id;
+      shape = record { data_centres = config.data_centres; shards = config.shards; slots = length config.tenants };
+      places = map (λ tenant. place_of (tenant_config config tenant) id) config.tenants;
+    }
+
+-- the nodes that a clock and a node number name
+pub record IsPlace (place : Place) : Type 0 where
+  pub dc_exists : place.id.dc < place.data_centres
+  pub shard_exists : place.id.shard < place.shards
+  pub numbers_fit : place.data_centres * place.shards ≤ NODES
+  pub clock_fits : place.first_clock ≤ last_clock
+
+-- a turn of a slot: it is the turn of the solo node, or memory was refused and nothing changed
+abbrev pub IsTurn : ℕ → ℕ → NodeCall → NodeReply → Place → Shared → Shared → Type 0
+IsTurn slot moment call reply place old new =
+    ((reply ≡ Refused OutOfMemory) × (new ≡ old))
+    ⊎ ((reply ≡ (node_step place moment call (solo_of slot place old)).reply) × (solo_of slot place new ≡ (node_step place moment call (solo_of slot place old)).after))
+
+-- the audit is longer by exactly this call and reply, or the call was refused before it, and nothing changed
+abbrev pub IsAudited : ℕ → ℕ → NodeCall → NodeReply → Shared → Shared → Type 0
+IsAudited slot moment call reply old new =
+    (((reply ≡ Refused OutOfMemory) ⊎ (reply ≡ Refused AuditFull)) × (new ≡ old))
+    ⊎ (new.audit ≡ old.audit ++ record { slot = slot; entry = record { moment = moment; call = call; reply = reply } } ∷ [])
+
+-- ---- what is kept of a slot
+
+-- the list has the mark of each node
+pub record AreMarks (marks : List Timestamp) (recs : List Tracked) : Type 0 where
+  pub all : length marks ≡ NODES
+  pub each : (node : ℕ) → node < length marks → slice_index_or marks node (mark node recs) ≡ mark node recs
+
+-- what is kept of a slot is what the solo node has
+pub record StandsAt (slot : ℕ) (place : Place) (counters : Counters) (store : Contents) (outbox : Queues) (solo : SoloNode) : Type 0 where
+  pub place_is : IsPlace place
+  pub stored : slot < store.tenants
+  pub queued : slot < outbox.tenants
+  pub own_is : outbox.own ≡ place.id.dc
+  pub all_queues : length outbox.queues ≡ place.data_centres
+  pub rows : StandsFor (rows_of slot store) solo.recs
+  pub queues : (dc : ℕ) → IsTrue (is_other_dc place dc) → queue_of slot dc outbox ≡ queue place dc solo
+  pub all_acked : length solo.acked ≡ place.data_centres
+  pub acked : (dc : ℕ) → slice_index solo.acked dc ≤ length (issued place solo)
+  pub clock_is : counters.clock ≡ clock place.first_clock solo.recs
+  pub clock_fits : counters.clock ≤ last_clock
+  pub marks : AreMarks counters.marks.items solo.recs
+  pub late : NoneLater solo.moment solo.recs
+
+-- some solo node with the moment `now` is what the slot stands for
+abbrev pub HasSolo : ℕ → ℕ → Place → Counters → Contents → Queues → Type 0
+HasSolo slot now place counters store outbox = (solo : SoloNode) × (solo.moment ≡ now) × StandsAt slot place counters store outbox solo
+
+-- what is kept of other slots is as it was
+pub record OthersStay (slot : ℕ) (store : Contents) (outbox : Queues) (store' : Contents) (outbox' : Queues) : Type 0 where
+  pub rows : (other : ℕ) → other ≢ slot → rows_of other store' ≡ rows_of other store
+  pub queues : (other dc : ℕ) → other ≢ slot → queue_of other dc outbox' ≡ queue_of other dc outbox
+  pub tenants : store'.tenants ≡ store.tenants
+  pub own : outbox'.own ≡ outbox.own
+  pub queued : outbox'.tenants ≡ outbox.tenants
+  pub data_centres : length outbox'.queues ≡ length outbox.queues
+
+-- what is kept is as it was, but for room that was made
+pub record IsUnchanged (counters : Counters) (store : Contents) (outbox : Queues) (counters' : Counters) (store' : Contents) (outbox' : Queues) : Type 0 where
+  pub counters_are : counters' ≡ counters
+  pub rows : store'.rows ≡ store.rows
+  pub tenants : store'.tenants ≡ store.tenants
+  pub outbox_is : outbox' ≡ outbox
+
+-- the call has the definition's reply and effect, whatever solo node with the moment `now` the slot stood for
+abbrev pub IsDone : ℕ → ℕ → Place → NodeCall → NodeReply → Counters → Contents → Queues → Counters → Contents → Queues → Type 0
+IsDone slot now place call reply counters store outbox counters' store' outbox' =
+    (solo : SoloNode) → solo.moment ≡ now → StandsAt slot place counters store outbox solo →
+    (reply ≡ (effect place call solo).reply) × StandsAt slot place counters' store' outbox' (effect place call solo).after
+
+-- ---- all slots
+
+-- where the calls of a slot stand in an audit, the first of which stands at this place
+abbrev pub places_from : ℕ → ℕ → List Audited → List ℕ
+places_from at slot [] = []
+places_from at slot (a ∷ audit) = if nat_eq a.slot slot then at ∷ places_from (at + 1) slot audit else places_from (at + 1) slot audit
+
+-- what is kept of a slot stands for what its audit leaves
+pub record IsPart (id : NodeId) (data_centres shards slot : ℕ) (part : Part) (store : Contents) (outbox : Queues) (audit : List Audited) : Type 0 where
+  pub id_is : part.place.id ≡ id
+  pub data_centres_are : part.place.data_centres ≡ data_centres
+  pub shards_are : part.place.shards ≡ shards
+  pub stands : StandsAt slot part.place part.counters store outbox (left_by part.place (trail_of slot audit))
+  pub moment : (left_by part.place (trail_of slot audit)).moment ≡ part.moment
+  pub trail_is : (left_by part.place (trail_of slot audit)).trail ≡ trail_of slot audit
+  pub places : part.trail.items ≡ places_from 0 slot audit
+
+pub record IsNode (id : NodeId) (data_centres shards : ℕ) (parts : List Part) (store : Contents) (outbox : Queues) (audit : List Audited) : Type 0 where
+  pub each : (slot : ℕ) (part : Part) → slot < length parts → part ≡ slice_index_or parts slot part → IsPart id data_centres shards slot part store outbox audit
+
+-- a part before any call
+pub record IsFresh (part : Part) : Type 0 where
+  pub moment : part.moment ≡ 0
+  pub clock_is : part.counters.clock ≡ part.place.first_clock
+  pub marks : part.counters.marks.items ≡ replicate NODES no_version
+  pub trail : part.trail.items ≡ []

@@ -1,0 +1,100 @@
+//! Commits of entries, a node's own and those that other data centres sent.
+ghost use Rattle.std.specs.Prelude.{◌≡◌, ◌≢◌, ℕ, ◌<◌, ◌≤◌, max, length, slice_set, List, [], ◌∷◌, ◌++◌, None, false, IsTrue, IfOk, OnOk, OnErr};
+ghost use Rattle.cops_types.specs.Layout.{NODES};
+ghost use Rattle.cops_types.specs.Records.{Tracked, StandsFor};
+ghost use Rattle.cops_types.specs.Version.{last_clock};
+ghost use Rattle.cops_store.specs.Contents.{rows_of, use_of, refusal, size_of, HasRoom, LacksVersion, NoneLater};
+ghost use Rattle.cops_outbox.specs.Queues.{Queues};
+ghost use Rattle.cops_node.specs.declared.NodeCall.{NodeCall};
+ghost use Rattle.cops_node.specs.Parts.{HasSolo, IsDone};
+ghost use Rattle.cops_node.specs.Place.{fits};
+
+use crate::parts::{self, Counters};
+use crate::replies::Replies;
+use crate::{NodeReply, Place};
+use cops_store::Store;
+use cops_types::{Entry, Key, Quota};
+use std::alloc::{AllocError, Global};
+
+// Makes room in the store for an entry of the slot and key.
+pub(crate) fn reserve(store: &mut Store, slot: usize, key: &Key) -> Result<(), AllocError>
+    requires { slot < store.old.tenants }
+    ensures ready { OnOk result (HasRoom slot key.now store.new) }
+    ensures rows { store.new.rows ≡ store.old.rows }
+    ensures tenants { store.new.tenants ≡ store.old.tenants }
+{
+    match store.reserve(slot, key) {
+        Ok(()) => Ok(()),
+        Err(_) => Err(AllocError),
+    }
+}
+
+// Keeps an entry for which there is room.
+pub(crate) fn keep(
+    counters: &mut Counters,
+    store: &mut Store,
+    slot: usize,
+    now: u64,
+    quota: &Quota,
+    entry: Entry,
+)
+    requires slot { slot < store.old.tenants }
+    requires marks { length counters.old.marks.items ≡ NODES }
+    requires new_version { LacksVersion entry.key entry.version (rows_of slot store.old) }
+    requires room { HasRoom slot entry.key store.old }
+    requires unrefused { refusal quota.now (size_of entry) (use_of (rows_of slot store.old)) ≡ None }
+    ensures stands_for { (tracked : List Tracked) → StandsFor (rows_of slot store.old) tracked → NoneLater now tracked → StandsFor (rows_of slot store.new) (tracked ++ record { record_of = record { entry = entry; at = now }; removed = false } ∷ []) }
+    ensures others { (other : ℕ) → other ≢ slot → rows_of other store.new ≡ rows_of other store.old }
+    ensures tenants { store.new.tenants ≡ store.old.tenants }
+    ensures fits { entry.version.clock ≤ last_clock }
+    ensures clock { counters.new.clock ≡ max counters.old.clock entry.version.clock }
+    ensures marks { counters.new.marks.items ≡ slice_set counters.old.marks.items entry.version.node entry.version }
+{
+    parts::raise(counters, entry.version());
+    match store.insert(slot, entry, now, quota) {
+        Ok(()) => {}
+        Err(_) => unreachable!(),
+    }
+}
+
+// A call `Commit`.
+pub(crate) fn commit(
+    alloc: Global,
+    place: &Place,
+    counters: &mut Counters,
+    store: &mut Store,
+    slot: usize,
+    now: u64,
+    entry: &Entry,
+) -> Result<Replies, AllocError>
+    requires stands { (outbox : Queues) × HasSolo slot now place.now counters.old store.old outbox }
+    requires fits { IsTrue (fits place.now (NodeCall.Commit entry.now)) }
+    ensures done { IfOk result (λ replies. (outbox : Queues) → IsDone slot now place.now (NodeCall.Commit entry.now) replies.told counters.old store.old outbox counters.new store.new outbox) }
+    ensures kept { IfOk result (λ replies. replies.kept ≡ replies.told) }
+    ensures others { (other : ℕ) → other ≢ slot → rows_of other store.new ≡ rows_of other store.old }
+    ensures tenants { store.new.tenants ≡ store.old.tenants }
+    ensures counters { OnErr result (counters.new ≡ counters.old) }
+    ensures rows { OnErr result (store.new.rows ≡ store.old.rows) }
+{
+    if parts::was_committed(counters, entry.version()) {
+        return Ok(Replies {
+            told: NodeReply::Already,
+            kept: NodeReply::Already,
+        });
+    }
+    let mark = parts::mark_for(counters, entry.version());
+    let parts = entry.parts();
+    if parts.prev != mark {
+        return Ok(Replies::out_of_order(&mark));
+    }
+    if let Some(fault) = store.refused(slot, &parts.key, &parts.value, &place.quota) {
+        return Ok(Replies::refused(fault));
+    }
+    let copy = entry.copy(alloc)?;
+    reserve(store, slot, &parts.key)?;
+    keep(counters, store, slot, now, &place.quota, copy);
+    Ok(Replies {
+        told: NodeReply::Committed,
+        kept: NodeReply::Committed,
+    })
+}

@@ -1,0 +1,115 @@
+//! What a node keeps of one tenant beside the store and the outbox.
+ghost use Rattle.std.specs.Prelude.{◌≡◌, ◌<◌, ◌≤◌, max, map, not, nat_lt, length, slice_set, List, IfOk};
+ghost use Rattle.std.specs.List.{AllByRecursion};
+ghost use Rattle.cops_types.specs.Layout.{NODES};
+ghost use Rattle.cops_types.specs.Records.{Tracked, mark};
+ghost use Rattle.cops_types.specs.Version.{version_le, last_clock};
+ghost use Rattle.cops_node.specs.Parts.{AreMarks, IsFresh, IsPlace};
+ghost use Rattle.cops_node.specs.Place.{own_number as own_number_of};
+
+use crate::{AuditEntry, Place};
+use cops_types::Version;
+use std::alloc::{AllocError, Global};
+
+/// A call in the audit, with the slot that it was for.
+#[derive(Debug, Drop)]
+pub struct Audited {
+    pub slot: usize,
+    pub entry: AuditEntry,
+}
+
+/// The clock of a slot, and its mark of each node.
+#[derive(Debug, Drop)]
+pub struct Counters {
+    pub clock: u64,
+    pub marks: Vec<Version>,
+}
+
+/// What a node keeps of one slot: its place, its `now`, its counters, and where its calls stand in
+/// the audit of all slots.
+#[derive(Debug, Drop)]
+pub struct Part {
+    pub place: Place,
+    pub moment: u64,
+    pub counters: Counters,
+    pub trail: Vec<usize>,
+}
+
+// The part of a tenant before any call.
+fn fresh(alloc: Global, place: Place) -> Result<Part, AllocError>
+    ensures fresh { IfOk result IsFresh }
+    ensures place { IfOk result (λ part. part.place ≡ place) }
+{
+    let marks = vec![in alloc; Version::none(); 256]?;
+    let clock = place.first_clock;
+    Ok(Part {
+        place,
+        moment: 0,
+        counters: Counters { clock, marks },
+        trail: Vec::new(alloc),
+    })
+}
+
+// Whether the audit of the part is full.
+pub(crate) fn is_audit_full(part: &Part) -> bool
+    ensures { result ≡ not (nat_lt (length part.now.trail.items) part.now.place.quota.audit) }
+{
+    let quota = part.place.quota;
+    part.trail.len() as u64 >= quota.audit
+}
+
+// The number of the place's node.
+pub(crate) fn own_number(place: &Place) -> u64
+    requires { IsPlace place.now }
+    ensures value { result ≡ own_number_of place.now }
+    ensures fits { result < NODES }
+{
+    let shards = place.shards;
+    let id = place.id;
+    id.dc * shards + id.shard
+}
+
+// The clock of a version.
+pub(crate) fn clock_of(version: Version) -> u64
+    ensures value { result ≡ version.clock }
+    ensures fits { result ≤ last_clock }
+{
+    let _place = version.place();
+    version.to_u64() / 256
+}
+
+// Whether a version was committed: the mark of its node has reached it.
+pub(crate) fn was_committed(counters: &Counters, version: Version) -> bool
+    requires { length counters.now.marks.items ≡ NODES }
+    ensures { (recs : List Tracked) → AreMarks counters.now.marks.items recs → result ≡ version_le version (mark version.node recs) }
+{
+    version <= counters.marks[version.place()]
+}
+
+// The mark of a version's node.
+pub(crate) fn mark_for(counters: &Counters, version: Version) -> Version
+    requires { length counters.now.marks.items ≡ NODES }
+    ensures { (recs : List Tracked) → AreMarks counters.now.marks.items recs → result ≡ mark version.node recs }
+{
+    counters.marks[version.place()]
+}
+
+// The mark of the place's own node.
+pub(crate) fn own_mark(place: &Place, counters: &Counters) -> Version
+    requires place { IsPlace place.now }
+    requires marks { length counters.now.marks.items ≡ NODES }
+    ensures { (recs : List Tracked) → AreMarks counters.now.marks.items recs → result ≡ mark (own_number_of place.now) recs }
+{
+    counters.marks[own_number(place) as usize]
+}
+
+// Counts a version that is committed: the clock is raised to its clock, and it is the mark of its node.
+pub(crate) fn raise(counters: &mut Counters, version: Version)
+    requires { length counters.old.marks.items ≡ NODES }
+    ensures clock { counters.new.clock ≡ max counters.old.clock version.clock }
+    ensures marks { counters.new.marks.items ≡ slice_set counters.old.marks.items version.node version }
+    ensures fits { version.clock ≤ last_clock }
+{
+    counters.clock = counters.clock.max(clock_of(version));
+    counters.marks[version.place()] = version;
+}

@@ -1,0 +1,136 @@
+//! Puts.
+ghost use Rattle.std.specs.Prelude.{◌≡◌, ◌≢◌, ℕ, ◌+◌, ◌<◌, ◌≤◌, max, length, slice_set, slice_index_or, ok_or, List, [], ◌∷◌, ◌++◌, Option, Some, None, false, IsTrue, IfOk, IfErr, OnOk, OnErr};
+ghost use Rattle.cops_types.specs.declared.pairs.Pair.{Pair};
+ghost use Rattle.cops_types.specs.Layout.{NODES};
+ghost use Rattle.cops_types.specs.Pairs.{greatest_clock as greatest_clock_of};
+ghost use Rattle.cops_types.specs.Records.{Tracked, StandsFor};
+ghost use Rattle.cops_types.specs.Version.{next_version as version_after, last_clock};
+ghost use Rattle.cops_store.specs.Contents.{rows_of, use_of, refusal, size_of, HasRoom, LacksVersion, NoneLater};
+ghost use Rattle.cops_outbox.specs.Queues.{queue_of};
+ghost use Rattle.cops_node.specs.declared.NodeCall.{NodeCall};
+ghost use Rattle.cops_node.specs.declared.NodeReply.{NodeReply};
+ghost use Rattle.cops_node.specs.Parts.{IsPlace, StandsAt, HasSolo, IsDone, OthersStay, IsUnchanged};
+ghost use Rattle.cops_node.specs.Place.{own_number as own_number_of, fits};
+ghost use Rattle.cops_node.specs.SoloNode.{SoloNode};
+ghost use Rattle.cops_node.specs.Step.{version_of_put, put_refusal, put as put_turn, unchanged};
+
+use crate::commits;
+use crate::parts::{self, Counters};
+use crate::replies::Replies;
+use crate::Place;
+use cops_outbox::Outbox;
+use cops_store::Store;
+use cops_types::{Deps, Entry, EntryParts, Fault, Key, Near, Pair, Quota, Value, Version};
+use std::alloc::{AllocError, Global};
+
+// The greatest clock among pairs.
+fn greatest_clock(pairs: &[Pair]) -> u64
+    ensures value { result ≡ greatest_clock_of pairs.now }
+    ensures fits { result ≤ last_clock }
+{
+    let mut greatest = 0;
+    for pair in pairs {
+        greatest = greatest.max(parts::clock_of(pair.version));
+    }
+    greatest
+}
+
+// The version that a put with these dependencies gets.
+fn next_version(place: &Place, counters: &Counters, deps: &Deps) -> Result<Version, Fault>
+    requires place { IsPlace place.now }
+    requires clock_fits { counters.now.clock ≤ last_clock }
+    ensures { result ≡ ok_or (version_after counters.now.clock (greatest_clock_of deps.now) (own_number_of place.now)) Fault.ClockFull }
+{
+    let node = parts::own_number(place);
+    let deps_clock = greatest_clock(deps.pairs());
+    Version::next(counters.clock, deps_clock, node)
+}
+
+// The version of a put, or why it is refused.
+fn version_for(
+    place: &Place,
+    counters: &Counters,
+    store: &Store,
+    outbox: &Outbox,
+    slot: usize,
+    key: &Key,
+    value: &Value,
+    deps: &Deps,
+) -> Result<Version, Fault>
+    requires { (solo : SoloNode) × StandsAt slot place.now counters.now store.now outbox.now solo }
+    ensures version { IfOk result (λ version. (solo : SoloNode) → StandsAt slot place.now counters.now store.now outbox.now solo → version_of_put place.now solo deps.now ≡ Some version) }
+    ensures unrefused { IfOk result (λ version. (solo : SoloNode) → StandsAt slot place.now counters.now store.now outbox.now solo → put_refusal place.now solo key.now value.now ≡ None) }
+    ensures room { IfOk result (λ version. refusal place.now.quota (length key.now + length value.now) (use_of (rows_of slot store.now)) ≡ None) }
+    ensures refused { IfErr result (λ fault. (solo : SoloNode) → StandsAt slot place.now counters.now store.now outbox.now solo → (near : List Pair) → put_turn place.now solo key.now value.now deps.now near ≡ unchanged (NodeReply.Refused fault) solo) }
+{
+    let version = next_version(place, counters, deps)?;
+    if let Some(fault) = store.refused(slot, key, value, &place.quota) {
+        return Err(fault);
+    }
+    if outbox.is_full(slot, place.quota.outbox) {
+        return Err(Fault::OutboxFull);
+    }
+    Ok(version)
+}
+
+// The entry of a put.
+fn entry_of(
+    alloc: Global,
+    version: Version,
+    prev: Version,
+    key: &Key,
+    value: &Value,
+    deps: &Deps,
+    near: &Near,
+) -> Result<Entry, AllocError>
+    ensures { IfOk result (λ entry. entry ≡ record { key = key.now; version = version; value = value.now; deps = deps.now; near = near.now; prev = prev }) }
+{
+    let value = value.copy(alloc)?;
+    let deps = deps.copy(alloc)?;
+    let near = near.copy(alloc)?;
+    let key = *key;
+    Entry::new(
+        alloc,
+        EntryParts {
+            key,
+            version,
+            value,
+            deps,
+            near,
+            prev,
+        },
+    )
+}
+
+// A call `Put`.
+pub(crate) fn put(
+    alloc: Global,
+    place: &Place,
+    counters: &mut Counters,
+    store: &mut Store,
+    outbox: &mut Outbox,
+    slot: usize,
+    now: u64,
+    key: &Key,
+    value: &Value,
+    deps: &Deps,
+    near: &Near,
+) -> Result<Replies, AllocError>
+    requires { HasSolo slot now place.now counters.old store.old outbox.old }
+    ensures done { IfOk result (λ replies. IsDone slot now place.now (NodeCall.Put key.now value.now deps.now near.now) replies.told counters.old store.old outbox.old counters.new store.new outbox.new) }
+    ensures kept { IfOk result (λ replies. replies.kept ≡ replies.told) }
+    ensures others { OthersStay slot store.old outbox.old store.new outbox.new }
+    ensures err { OnErr result (IsUnchanged counters.old store.old outbox.old counters.new store.new outbox.new) }
+{
+    let version = match version_for(place, counters, store, outbox, slot, key, value, deps) {
+        Ok(version) => version,
+        Err(fault) => return Ok(Replies::refused(fault)),
+    };
+    let replies = Replies::stored(&version);
+    let prev = parts::own_mark(place, counters);
+    let entry = entry_of(alloc, version, prev, key, value, deps, near)?;
+    commits::reserve(store, slot, key)?;
+    outbox.push(slot, &entry)?;
+    commits::keep(counters, store, slot, now, &place.quota, entry);
+    Ok(replies)
+}
