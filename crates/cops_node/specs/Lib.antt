@@ -1,3 +1,4 @@
+pub mod Clusters
 pub mod Log
 pub mod Place
 pub mod Run

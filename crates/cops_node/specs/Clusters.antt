@@ -1,0 +1,69 @@
+-- A cluster of nodes as contracts see it, and what a call at one of them does for each tenant.
+use Rattle.std.specs.Prelude.{◌≡◌, ◌≢◌, ℕ, ◌+◌, ◌*◌, ◌/◌, ◌%◌, ◌<◌, ◌≤◌, ◌⊎◌, List, [], map, length, slice_get, slice_index_or, slice_set, Some}
+use Rattle.std.specs.List.{AllByRecursion, range_with_len}
+use Rattle.cops_types.specs.declared.configs.Config.{Config}
+use Rattle.cops_types.specs.declared.faults.Fault.TheVariants.{OutOfMemory}
+use Rattle.cops_types.specs.Layout.{NODES}
+use Rattle.cops_types.specs.TenantConfig.{TenantConfig}
+use Rattle.cops_node.specs.declared.NodeCall.{NodeCall}
+use Rattle.cops_node.specs.declared.NodeId.{NodeId}
+use Rattle.cops_node.specs.declared.NodeReply.{NodeReply}
+use Rattle.cops_node.specs.declared.NodeReply.TheVariants.{Refused}
+use Rattle.cops_node.specs.Parts.{Home, Shared, home_of, solo_of}
+use Rattle.cops_node.specs.Place.{place_of, number_of}
+use Rattle.cops_node.specs.Shape.{Shape}
+use Rattle.cops_node.specs.SoloNode.{SoloNode, new_node}
+use Rattle.cops_node.specs.Step.{Turn, node_step}
+
+-- the sizes, and the nodes by number
+pub record Cluster : Type 0 where
+  pub shape : Shape
+  pub nodes : List Shared
+
+-- the node of a number
+abbrev pub id_of : ℕ → ℕ → NodeId
+id_of shards number = record { dc = number / shards; shard = number % shards }
+
+-- a node of a configuration that no call has reached
+abbrev pub new_shared : Config → ℕ → Shared
+new_shared config number = record { home = home_of config (id_of config.shards number); audit = [] }
+
+abbrev pub shape_of : Config → Shape
+shape_of config = record { data_centres = config.data_centres; shards = config.shards; slots = length config.tenants }
+
+-- the nodes of a configuration, in number order, before any call
+abbrev pub new_nodes : Config → Cluster
+new_nodes config = record { shape = shape_of config; nodes = map (new_shared config) (range_with_len 0 (config.data_centres * config.shards)) }
+
+-- ---- one tenant's part of it
+
+-- the solo nodes that the slot of a tenant stands for, by node number
+abbrev pub nodes_of : TenantConfig → ℕ → Cluster → List SoloNode
+nodes_of config slot cluster = map (λ node. solo_of slot (place_of config node.home.id) node) cluster.nodes
+
+-- the slot is that of a tenant with this configuration: at each node its place is the tenant's
+abbrev pub HasTenant : TenantConfig → ℕ → Cluster → Type 0
+HasTenant config slot cluster = AllByRecursion (λ node. slice_get node.home.places slot ≡ Some (place_of config node.home.id)) cluster.nodes
+
+-- the turn of the tenant's solo node
+abbrev pub turn_at : TenantConfig → NodeId → ℕ → ℕ → NodeCall → Cluster → Turn
+turn_at config id slot moment call cluster = node_step (place_of config id) moment call (slice_index_or (nodes_of config slot cluster) (number_of config.shards id) (new_node config.data_centres))
+
+-- the reply is that of the tenant's solo node, which alone of his nodes changes
+pub record IsTurnOf (config : TenantConfig) (id : NodeId) (slot moment : ℕ) (call : NodeCall) (reply : NodeReply) (old new : Cluster) : Type 0 where
+  pub reply_is : reply ≡ (turn_at config id slot moment call old).reply
+  pub after : nodes_of config slot new ≡ slice_set (nodes_of config slot old) (number_of config.shards id) (turn_at config id slot moment call old).after
+
+-- a call at a node for the tenant of a slot: the turn of his solo node, or memory was refused and nothing changed; other tenants' nodes stay
+pub record IsCall (old : Cluster) (id : NodeId) (slot moment : ℕ) (call : NodeCall) (reply : NodeReply) (new : Cluster) : Type 0 where
+  pub turn : ((reply ≡ Refused OutOfMemory) × (new ≡ old)) ⊎ ((config : TenantConfig) → config.shards ≡ old.shape.shards → HasTenant config slot old → IsTurnOf config id slot moment call reply old new)
+  pub others : (config : TenantConfig) (other : ℕ) → other ≢ slot → nodes_of config other new ≡ nodes_of config other old
+  pub tenants : (config : TenantConfig) (other : ℕ) → HasTenant config other old → HasTenant config other new
+  pub homes : map (λ node. node.home) new.nodes ≡ map (λ node. node.home) old.nodes
+
+-- ---- the nodes are those of the cluster
+
+pub record IsCluster (shape : Shape) (nodes : List Shared) : Type 0 where
+  pub numbers_fit : shape.data_centres * shape.shards ≤ NODES
+  pub all : length nodes ≡ shape.data_centres * shape.shards
+  pub each : (number : ℕ) (node : Shared) → number < length nodes → node ≡ slice_index_or nodes number node → (node.home.id ≡ id_of shape.shards number) × (node.home.shape ≡ shape)
