@@ -4,16 +4,18 @@ use Rattle.std.specs.Prelude.{IsFalse, Option, Some, None, find, slice_index, sl
 use Rattle.std.specs.Option.{option_map, option_and_then}
 use Rattle.cops_types.specs.declared.faults.Fault.{Fault}
 use Rattle.cops_types.specs.declared.faults.Fault.TheVariants.{UnknownName}
+use Rattle.cops_types.specs.Context.{all_of, near_of}
 use Rattle.cops_types.specs.Key.{key_eq}
 use Rattle.cops_types.specs.TenantConfig.{TenantConfig}
 use Rattle.cops_node.specs.Clusters.{Cluster, HasTenant, nodes_of}
-use Rattle.cops_session.specs.Session.{Session}
+use Rattle.cops_session.specs.Request.{Write, Fetch}
+use Rattle.cops_session.specs.Session.{Session, obs_of, create_refusal, context_refusal, context_created, context_deleted, put_refusal, get_refusal, request_begun}
 use Rattle.cops_world.specs.declared.actors.Actor.{Actor as Kept}
 use Rattle.cops_world.specs.declared.actors.ActorId.{ActorId}
 use Rattle.cops_world.specs.declared.actors.Deed.{Deed}
 use Rattle.cops_world.specs.declared.actors.Deed.TheVariants.{Create, Delete, Put, Get, Show}
 use Rattle.cops_world.specs.declared.replies.Reply.{Reply}
-use Rattle.cops_world.specs.declared.replies.Reply.TheVariants.{Refused}
+use Rattle.cops_world.specs.declared.replies.Reply.TheVariants.{Created, Deleted, Started, Lists, Refused}
 use Rattle.cops_world.specs.Actors.{AreSame, ActorsStandFor, AreDistinct}
 use Rattle.cops_world.specs.ActorsStand.{ActorStandsFor, HasDone}
 use Rattle.cops_world.specs.ActorTables.{same_actor}
@@ -47,11 +49,11 @@ module _ (name : List ℕ) (cluster : SoloCluster) (distinct : AreDistinct clust
   shows (Some fault) reply = same_again (Refused fault)
 
   deed_of_session : (config : TenantConfig) (deed : Deed) → Agrees name cluster (session_deed config name cluster deed s) (session_does config s deed)
-  deed_of_session config Create = changes _ _ _
-  deed_of_session config (Delete number) = changes _ _ _
-  deed_of_session config (Put number key value) = changes _ _ _
-  deed_of_session config (Get number keys) = changes _ _ _
-  deed_of_session config (Show number) = shows _ _
+  deed_of_session config Create = changes (create_refusal config s) (Created s.next_context) (OfSession (context_created s))
+  deed_of_session config (Delete number) = changes (context_refusal number s) Deleted (OfSession (context_deleted number s))
+  deed_of_session config (Put number key value) = changes (put_refusal config number key s) Started (OfSession (request_begun number (Write key value) s))
+  deed_of_session config (Get number keys) = changes (get_refusal config number keys s) Started (OfSession (request_begun number (Fetch keys) s))
+  deed_of_session config (Show number) = shows (context_refusal number s) (Lists (all_of (obs_of number s)) (near_of (obs_of number s)))
 
 deed_found : (config : TenantConfig) (name : List ℕ) (deed : Deed) (cluster : SoloCluster) (actor : Actor) → AreDistinct cluster.actors → find_actor name cluster ≡ Some actor →
     Agrees name cluster (deed_step config name deed cluster) (actor_does config deed actor)
@@ -130,10 +132,10 @@ module _ (old : World) (slot : ℕ) (name : List ℕ) (actors : ActorId → Opti
           let solo = found_too (ActorStandsFor config) name (λ n. old.actors (id_of slot n)) (λ n. actors (id_of slot n)) cluster h.actors_are before there in
           let did = done.found before there in
           let turn = deed_found config name deed cluster solo.0 h.actors_are.distinct solo.1 in
-          let own = did.2 config solo.0 solo.2 spared in
-          let here : actors (id_of slot name) ≡ Some did.0 = did.1 (id_of slot name) ∙ rw (same_actor-refl (id_of slot name)) refl in
+          let own = did.1.1 config solo.0 solo.2 spared in
+          let here : actors (id_of slot name) ≡ Some did.0 = did.1.0 (id_of slot name) ∙ rw (same_actor-refl (id_of slot name)) refl in
           let placed = put_in_place (ActorStandsFor config) name (λ n. old.actors (id_of slot n)) (λ n. actors (id_of slot n)) cluster h.actors_are did.0 (actor_does config deed solo.0).after solo.0 solo.1 here
-              (λ other apart. did.1 (id_of slot other) ∙ rw (other_name slot name other apart) refl) own.1 in
+              (λ other apart. did.1.0 (id_of slot other) ∙ rw (other_name slot name other apart) refl) own.1 in
           (own.0 ∙ sym turn.reply_is, record {
             has = h.has;
             nodes_are = h.nodes_are ∙ sym turn.nodes_stay;
@@ -146,7 +148,7 @@ module _ (old : World) (slot : ℕ) (name : List ℕ) (actors : ActorId → Opti
     where
       by_actor : (o : Option Kept) → old.actors (id_of slot name) ≡ o → actors q ≡ old.actors q
       by_actor None none = ap (λ f. f q) (done.absent none).1
-      by_actor (Some before) there = (done.found before there).1 q ∙ rw (other_slot (id_of slot name) q differ) refl
+      by_actor (Some before) there = (done.found before there).1.0 q ∙ rw (other_slot (id_of slot name) q differ) refl
 
   pub deed_moves : Moves (λ config. deed_step config name deed) old slot reply (record old { actors = actors })
   deed_moves = record {
