@@ -31,7 +31,8 @@ use Rattle.cops_world.specs.declared.scripts.Script.TheVariants.{Head, Running}
 use Rattle.cops_world.specs.Cluster.{SoloCluster, cluster_step, new_cluster}
 use Rattle.cops_world.specs.Events.{config_at, is_out_of_memory, with_cluster}
 use Rattle.cops_world.specs.Script.{Said, OfNobody, Unformed, Acts, AreNamed, said_in, answer_line, answers_to, script_after, script_out}
-use Rattle.cops_world.specs.ScriptRules.{IsNew, HasActed, IsAnswered, HeadGoesOn, IsHeadAt, line_refuses, end_answers, end_refuses, script_rules}
+use Rattle.cops_world.specs.Acting.{IsNew, HasActed}
+use Rattle.cops_world.specs.ScriptRules.{IsAnswered, HeadGoesOn, IsHeadAt, line_refuses, end_answers, end_refuses, script_rules}
 use Rattle.cops_world.specs.ScriptRuns.{Answers, is_lack, AreSpared, text_of, text_in, WritesScript, WritesFront}
 use Rattle.cops_world.proofs.AnswersTo.{IsThere, said_in-there, new_at, answers_to-from}
 use Rattle.cops_world.proofs.CutLemmas.{said_in-cut}

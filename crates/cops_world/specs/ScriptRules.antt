@@ -1,5 +1,5 @@
 -- What is answered to each line of a script, and what is left after it.
-use Rattle.std.specs.Prelude.{◌≡◌, ◌≢◌, ℕ, ◌<◌, IsFalse, List, [], length, Option, Some, None}
+use Rattle.std.specs.Prelude.{◌≡◌, ℕ, List, [], Option, Some, None}
 use Rattle.cops_types.specs.declared.configs.Config.{Config}
 use Rattle.cops_types.specs.declared.faults.Fault.TheVariants.{Syntax}
 use Rattle.cops_types.specs.Counts.{counted}
@@ -12,28 +12,16 @@ use Rattle.cops_world.specs.declared.replies.Reply.TheVariants.{Refused}
 use Rattle.cops_world.specs.declared.scripts.BadConfig.{BadConfig}
 use Rattle.cops_world.specs.declared.scripts.Script.{Script}
 use Rattle.cops_world.specs.declared.scripts.Script.TheVariants.{Head, Running}
-use Rattle.cops_world.specs.Cluster.{SoloCluster, cluster_step, new_cluster}
-use Rattle.cops_world.specs.Events.{config_at, is_out_of_memory}
+use Rattle.cops_world.specs.Cluster.{SoloCluster}
+use Rattle.cops_world.specs.Acting.{IsNew, HasActed}
 use Rattle.cops_world.specs.Script.{Said, OfNobody, Unformed, Acts, said_in, answer_line}
 
 module _ {W : Type 0} (setup : W → Config) (StandsFor : W → ℕ → SoloCluster → Type 0) where
-  -- a new world of the configuration
-  pub record IsNew (config : Config) (world : W) : Type 0 where
-    pub setup_is : setup world ≡ config
-    pub empty : (slot : ℕ) → slot < length config.tenants → StandsFor world slot (new_cluster (config_at config slot))
-
-  -- an event acted on its own tenant's cluster, unless memory was refused, and on no other
-  pub record HasActed (old : W) (event : Event) (reply : Reply) (new : W) : Type 0 where
-    pub same : setup new ≡ setup old
-    pub own : IsFalse (is_out_of_memory reply) → (cluster : SoloCluster) → StandsFor old event.slot cluster →
-        let turn = cluster_step (config_at (setup old) event.slot) event.act cluster in (reply ≡ turn.reply) × StandsFor new event.slot turn.after
-    pub others : (other : ℕ) → event.slot ≢ other → (cluster : SoloCluster) → StandsFor old other cluster → StandsFor new other cluster
-
   -- what a line says is answered so
   abbrev pub IsAnswered : W → Said → List ℕ → W → Type 0
   IsAnswered old OfNobody text new = (text ≡ answer_line (setup old).tenants None) × (new ≡ old)
   IsAnswered old (Unformed slot) text new = (text ≡ answer_line (setup old).tenants (Some (slot, Refused Syntax))) × (new ≡ old)
-  IsAnswered old (Acts event) text new = (reply : Reply) × HasActed old event reply new × (text ≡ answer_line (setup old).tenants (Some (event.slot, reply)))
+  IsAnswered old (Acts event) text new = (reply : Reply) × HasActed setup StandsFor old event reply new × (text ≡ answer_line (setup old).tenants (Some (event.slot, reply)))
 
   -- the head has come so far, with so many lines
   abbrev pub IsHeadAt : Front → ℕ → Script W → Type 0
@@ -44,7 +32,7 @@ module _ {W : Type 0} (setup : W → Config) (StandsFor : W → ℕ → SoloClus
   abbrev pub HeadGoesOn : ℕ → Front → Script W → Type 0
   HeadGoesOn count AtStart new = ⊥
   HeadGoesOn count (Within config) new = IsHeadAt (Within config) (counted count) new
-  HeadGoesOn count (Begun config) new = (world : W) × IsNew config world × (new ≡ Running world)
+  HeadGoesOn count (Begun config) new = (world : W) × IsNew setup StandsFor config world × (new ≡ Running world)
 
   abbrev pub line_answers : Script W → List ℕ → List ℕ → Script W → Type 0
   line_answers (Head head) line text new = (next : Front) × (front_with head.reader line ≡ Some next) × (text ≡ []) × HeadGoesOn head.lines next new

@@ -1,0 +1,20 @@
+-- What a world of many tenants does, however it is kept.
+use Rattle.std.specs.Prelude.{◌≡◌, ◌≢◌, ℕ, ◌<◌, IsFalse, length}
+use Rattle.cops_types.specs.declared.configs.Config.{Config}
+use Rattle.cops_world.specs.declared.acts.Event.{Event}
+use Rattle.cops_world.specs.declared.replies.Reply.{Reply}
+use Rattle.cops_world.specs.Cluster.{SoloCluster, cluster_step, new_cluster}
+use Rattle.cops_world.specs.Events.{config_at, is_out_of_memory}
+
+module _ {W : Type 0} (setup : W → Config) (StandsFor : W → ℕ → SoloCluster → Type 0) where
+  -- a new world of the configuration
+  pub record IsNew (config : Config) (world : W) : Type 0 where
+    pub setup_is : setup world ≡ config
+    pub empty : (slot : ℕ) → slot < length config.tenants → StandsFor world slot (new_cluster (config_at config slot))
+
+  -- an event acted on its own tenant's cluster, unless memory was refused, and on no other
+  pub record HasActed (old : W) (event : Event) (reply : Reply) (new : W) : Type 0 where
+    pub same : setup new ≡ setup old
+    pub own : IsFalse (is_out_of_memory reply) → (cluster : SoloCluster) → StandsFor old event.slot cluster →
+        let turn = cluster_step (config_at (setup old) event.slot) event.act cluster in (reply ≡ turn.reply) × StandsFor new event.slot turn.after
+    pub others : (other : ℕ) → event.slot ≢ other → (cluster : SoloCluster) → StandsFor old other cluster → StandsFor new other cluster
