@@ -1,14 +1,14 @@
 -- A world as contracts see it, and the cluster that a tenant's part of it stands for.
-use Rattle.std.specs.Prelude.{◌≡◌, ◌≢◌, ℕ, ◌<◌, IsFalse, IsTrue, List, length, slice_index, Option, Some}
+use Rattle.std.specs.Prelude.{◌≡◌, ◌≢◌, ℕ, true, ◌<◌, IsFalse, IsTrue, List, length, slice_index, Option, Some}
 use Rattle.cops_types.specs.declared.configs.Config.{Config}
 use Rattle.cops_types.specs.TenantConfig.{TenantConfig}
 use Rattle.cops_node.specs.Clusters.{Cluster, HasTenant, nodes_of, shape_of}
-use Rattle.cops_world.specs.declared.actors.Actor.{Actor}
+use Rattle.cops_world.specs.declared.actors.Actor.{Actor as Kept}
 use Rattle.cops_world.specs.declared.actors.ActorId.{ActorId}
 use Rattle.cops_world.specs.declared.replies.Reply.{Reply}
 use Rattle.cops_world.specs.Actors.{ActorsStandFor}
 use Rattle.cops_world.specs.ActorsStand.{ActorStandsFor, RunsAt}
-use Rattle.cops_world.specs.Cluster.{SoloCluster, Turn}
+use Rattle.cops_world.specs.Cluster.{SoloCluster, Turn, Actor, actor_refusal, reply_with, unless_refused, with_new_actor}
 use Rattle.cops_world.specs.Events.{config_at, is_out_of_memory}
 use Rattle.cops_world.specs.GoodHeads.{is_good}
 
@@ -16,14 +16,14 @@ use Rattle.cops_world.specs.GoodHeads.{is_good}
 pub record World : Type 0 where
   pub setup : Config
   pub nodes : Cluster
-  pub actors : ActorId → Option Actor
+  pub actors : ActorId → Option Kept
   pub counts : List ℕ
 
 pub record IsWorld (world : World) : Type 0 where
   pub shape_is : world.nodes.shape ≡ shape_of world.setup
   pub good : IsTrue (is_good world.setup)
   pub counted : length world.counts ≡ length world.setup.tenants
-  pub run : (id : ActorId) (actor : Actor) → world.actors id ≡ Some actor → RunsAt (shape_of world.setup) id.slot actor
+  pub run : (id : ActorId) (actor : Kept) → world.actors id ≡ Some actor → RunsAt (shape_of world.setup) id.slot actor
 
 -- the tenant of a slot has this cluster
 pub record StandsAt (world : World) (slot : ℕ) (cluster : SoloCluster) : Type 0 where
@@ -38,3 +38,7 @@ pub record Moves (turn_of : TenantConfig → SoloCluster → Turn) (old : World)
   pub own : IsFalse (is_out_of_memory reply) → (cluster : SoloCluster) → StandsAt old slot cluster →
       (reply ≡ (turn_of (config_at old.setup slot) cluster).reply) × StandsAt new slot (turn_of (config_at old.setup slot) cluster).after
   pub others : (other : ℕ) → slot ≢ other → (cluster : SoloCluster) → StandsAt old other cluster → StandsAt new other cluster
+
+-- a new actor joins, where its place exists, unless its name is taken or the tenant has as many as he may
+abbrev pub join_step : List ℕ → Actor → Reply → TenantConfig → SoloCluster → Turn
+join_step name actor reply config cluster = unless_refused (actor_refusal config true name cluster) cluster (reply_with reply (with_new_actor name actor cluster))

@@ -1,0 +1,114 @@
+-- A new actor in the world, and a refusal.
+use Rattle.std.proofs.Common.{◌≡◌, ◌≢◌, ℕ, ◌+◌, ◌<◌, ◌≤◌, Bool, zero, suc, true, false, cond, not, List, [], ◌∷◌, length, map, get_or, set, refl, sym, subst, ap, ◌∙◌, true≢false, arith}
+use Rattle.std.specs.Prelude.{IsFalse, Option, Some, None, is_some, nat_le, slice_get, slice_index, slice_set}
+use Rattle.std.specs.Option.{option_map}
+use Rattle.std.proofs.lemmas.List.{get_or-set_same, get_or-set_other}
+use Rattle.cops_types.specs.declared.configs.Config.{Config}
+use Rattle.cops_types.specs.declared.configs.Tenant.{Tenant}
+use Rattle.cops_types.specs.declared.faults.Fault.{Fault}
+use Rattle.cops_types.specs.declared.faults.Fault.TheVariants.{NoSuchPlace, NameTaken, ActorsFull, OutOfMemory}
+use Rattle.cops_types.specs.Search.{first_refusal}
+use Rattle.cops_types.specs.TenantConfig.{TenantConfig, tenant_config}
+use Rattle.cops_node.specs.Clusters.{Cluster, HasTenant, nodes_of}
+use Rattle.cops_world.specs.declared.actors.Actor.{Actor as Kept}
+use Rattle.cops_world.specs.declared.actors.ActorId.{ActorId}
+use Rattle.cops_world.specs.declared.replies.Reply.{Reply}
+use Rattle.cops_world.specs.declared.replies.Reply.TheVariants.{Refused}
+use Rattle.cops_world.specs.Actors.{ActorsStandFor}
+use Rattle.cops_world.specs.ActorsStand.{ActorStandsFor}
+use Rattle.cops_world.specs.ActorTables.{same_actor}
+use Rattle.cops_world.specs.Cluster.{SoloCluster, Turn, Actor, actor_refusal, find_actor, with_new_actor, reply_with, unless_refused}
+use Rattle.cops_world.specs.Events.{config_at, is_out_of_memory}
+use Rattle.cops_world.specs.Worlds.{World, StandsAt, Moves, join_step}
+use Rattle.cops_world.proofs.ActorMoves.{absent_too, found_too, joins, count-joined}
+use Rattle.cops_world.proofs.ActorTableLemmas.{same_actor-refl, other_slot, other_name}
+use Rattle.cops_world.proofs.AnswersTo.{config_at-found}
+use Rattle.cops_world.proofs.WorldMoves.{actors_alone, others_stay}
+
+abbrev id_of : ℕ → List ℕ → ActorId
+id_of slot name = record { slot = slot; name = name }
+
+-- ---- refusals
+
+-- an act that is refused leaves the world
+pub refused_moves : (turn_of : TenantConfig → SoloCluster → Turn) (old : World) (slot : ℕ) (fault : Fault) →
+    ((cluster : SoloCluster) → StandsAt old slot cluster → turn_of (config_at old.setup slot) cluster ≡ reply_with (Refused fault) cluster) → Moves turn_of old slot (Refused fault) old
+refused_moves turn_of old slot fault refuses = record {
+  same = refl;
+  own = λ spared cluster h.
+      let is = refuses cluster h in
+      (ap (λ (t : Turn). t.reply) (sym is), subst (λ (t : Turn). StandsAt old slot t.after) (sym is) h);
+  others = λ other differ cluster h. h;
+}
+
+-- want of memory may leave the world in place of any act
+pub lack_moves : (turn_of : TenantConfig → SoloCluster → Turn) (old : World) (slot : ℕ) → Moves turn_of old slot (Refused OutOfMemory) old
+lack_moves turn_of old slot = record { same = refl; own = λ spared. absurd (true≢false spared); others = λ other differ cluster h. h }
+
+-- the same turns by another name
+pub same_moves : (one other : TenantConfig → SoloCluster → Turn) (old : World) (slot : ℕ) (reply : Reply) (new : World) → ((cluster : SoloCluster) → one (config_at old.setup slot) cluster ≡ other (config_at old.setup slot) cluster) →
+    Moves one old slot reply new → Moves other old slot reply new
+same_moves one other old slot reply new same h = record {
+  same = h.same;
+  own = λ spared cluster stands.
+      subst (λ (t : Turn). (reply ≡ t.reply) × StandsAt new slot t.after) (same cluster) (h.own spared cluster stands);
+  others = h.others;
+}
+
+-- ---- a new actor
+
+pub quota_at : (config : Config) (slot : ℕ) (tenant : Tenant) → slice_get config.tenants slot ≡ Some tenant → config_at config slot ≡ tenant_config config tenant
+quota_at config slot tenant at = config_at-found config slot (tenant_config config tenant) (mapped config.tenants slot at)
+  where
+    mapped : (list : List Tenant) (k : ℕ) → slice_get list k ≡ Some tenant → slice_get (map (tenant_config config) list) k ≡ Some (tenant_config config tenant)
+    mapped [] k e = cc
+    mapped (t ∷ list) zero e = ap (option_map (tenant_config config)) e
+    mapped (t ∷ list) (suc k) e = mapped list k e
+
+module _ (old : World) (slot : ℕ) (name : List ℕ) (solo : Actor) (reply : Reply) where
+  taken_refuses : (kept : Kept) → old.actors (id_of slot name) ≡ Some kept → (cluster : SoloCluster) → StandsAt old slot cluster → join_step name solo reply (config_at old.setup slot) cluster ≡ reply_with (Refused NameTaken) cluster
+  taken_refuses kept there cluster h =
+      let found = found_too (ActorStandsFor (config_at old.setup slot)) name (λ n. old.actors (id_of slot n)) (λ n. old.actors (id_of slot n)) cluster h.actors_are kept there in
+      ap (λ o. unless_refused (first_refusal ((not true, NoSuchPlace) ∷ (is_some o, NameTaken) ∷ (nat_le (config_at old.setup slot).quota.actors (length cluster.actors), ActorsFull) ∷ [])) cluster (reply_with reply (with_new_actor name solo cluster))) found.1
+
+  full_refuses : old.actors (id_of slot name) ≡ None → nat_le (config_at old.setup slot).quota.actors (slice_index old.counts slot) ≡ true → (cluster : SoloCluster) → StandsAt old slot cluster →
+      join_step name solo reply (config_at old.setup slot) cluster ≡ reply_with (Refused ActorsFull) cluster
+  full_refuses none full cluster h =
+      let gone = absent_too (ActorStandsFor (config_at old.setup slot)) name (λ n. old.actors (id_of slot n)) (λ n. old.actors (id_of slot n)) cluster h.actors_are none in
+      (λ i. unless_refused (first_refusal ((not true, NoSuchPlace) ∷ (is_some (gone i), NameTaken) ∷ (nat_le (config_at old.setup slot).quota.actors (sym h.count_is i), ActorsFull) ∷ [])) cluster (reply_with reply (with_new_actor name solo cluster)))
+      ∙ ap (λ b. unless_refused (first_refusal ((not true, NoSuchPlace) ∷ (false, NameTaken) ∷ (b, ActorsFull) ∷ [])) cluster (reply_with reply (with_new_actor name solo cluster))) full
+
+  room_joins : old.actors (id_of slot name) ≡ None → nat_le (config_at old.setup slot).quota.actors (slice_index old.counts slot) ≡ false → (cluster : SoloCluster) → StandsAt old slot cluster →
+      join_step name solo reply (config_at old.setup slot) cluster ≡ reply_with reply (with_new_actor name solo cluster)
+  room_joins none room cluster h =
+      let gone = absent_too (ActorStandsFor (config_at old.setup slot)) name (λ n. old.actors (id_of slot n)) (λ n. old.actors (id_of slot n)) cluster h.actors_are none in
+      (λ i. unless_refused (first_refusal ((not true, NoSuchPlace) ∷ (is_some (gone i), NameTaken) ∷ (nat_le (config_at old.setup slot).quota.actors (sym h.count_is i), ActorsFull) ∷ [])) cluster (reply_with reply (with_new_actor name solo cluster)))
+      ∙ ap (λ b. unless_refused (first_refusal ((not true, NoSuchPlace) ∷ (false, NameTaken) ∷ (b, ActorsFull) ∷ [])) cluster (reply_with reply (with_new_actor name solo cluster))) room
+
+  pub taken_moves : (kept : Kept) → old.actors (id_of slot name) ≡ Some kept → Moves (join_step name solo reply) old slot (Refused NameTaken) old
+  taken_moves kept there = refused_moves (join_step name solo reply) old slot NameTaken (taken_refuses kept there)
+
+  pub full_moves : old.actors (id_of slot name) ≡ None → nat_le (config_at old.setup slot).quota.actors (slice_index old.counts slot) ≡ true → Moves (join_step name solo reply) old slot (Refused ActorsFull) old
+  full_moves none full = refused_moves (join_step name solo reply) old slot ActorsFull (full_refuses none full)
+
+  pub join_moves : (kept : Kept) (actors : ActorId → Option Kept) → ActorStandsFor (config_at old.setup slot) kept solo → old.actors (id_of slot name) ≡ None →
+      nat_le (config_at old.setup slot).quota.actors (slice_index old.counts slot) ≡ false → slot < length old.counts →
+      ((q : ActorId) → actors q ≡ cond (same_actor (id_of slot name) q) (Some kept) (old.actors q)) →
+      Moves (join_step name solo reply) old slot reply (record old { actors = actors; counts = slice_set old.counts slot (slice_index old.counts slot + 1) })
+  join_moves kept actors stands none room within updates = record {
+    same = refl;
+    own = λ spared cluster h.
+        let is = room_joins none room cluster h in
+        let here : actors (id_of slot name) ≡ Some kept = updates (id_of slot name) ∙ rw (same_actor-refl (id_of slot name)) refl in
+        let joined = joins (ActorStandsFor (config_at old.setup slot)) name (λ n. old.actors (id_of slot n)) (λ n. actors (id_of slot n)) cluster h.actors_are kept solo none here
+            (λ other apart. updates (id_of slot other) ∙ rw (other_name slot name other apart) refl) stands in
+        (ap (λ (t : Turn). t.reply) (sym is), subst (λ (t : Turn). StandsAt (record old { actors = actors; counts = slice_set old.counts slot (slice_index old.counts slot + 1) }) slot t.after) (sym is) (record {
+          has = h.has;
+          nodes_are = h.nodes_are;
+          actors_are = joined;
+          count_is = get_or-set_same old.counts slot (slice_index old.counts slot + 1) 0 within ∙ ap (λ n. n + 1) h.count_is ∙ sym (count-joined name solo cluster);
+        }));
+    others = λ other differ. others_stay old old.nodes actors (slice_set old.counts slot (slice_index old.counts slot + 1)) slot other differ (λ config. refl) (λ config has. has)
+        (λ q apart. updates q ∙ rw (other_slot (id_of slot name) q apart) refl)
+        (get_or-set_other old.counts slot other (slice_index old.counts slot + 1) 0 (λ same. differ (sym same)));
+  }
