@@ -1,0 +1,262 @@
+-- A step of an actor, steps in a row, and a collection, in the world.
+use Rattle.std.proofs.Common.{◌≡◌, ◌≢◌, ◌⊎◌, inl, inr, ℕ, zero, suc, ◌+◌, ◌-◌, ◌<◌, Bool, true, false, cond, List, [], ◌∷◌, length, get_or, set, refl, sym, subst, ap, ◌∙◌, true≢false, arith}
+use Rattle.std.specs.Prelude.{IsFalse, Option, Some, None, slice_index, slice_index_or, slice_set}
+use Rattle.std.proofs.lemmas.List.{get_or-set_same, get_or-set_other}
+use Rattle.cops_types.specs.declared.configs.Config.{Config}
+use Rattle.cops_types.specs.declared.faults.Fault.TheVariants.{UnknownName, NoSuchPlace, Torn, OutOfMemory}
+use Rattle.cops_types.specs.TenantConfig.{TenantConfig}
+use Rattle.cops_node.specs.declared.NodeCall.{NodeCall}
+use Rattle.cops_node.specs.declared.NodeCall.TheVariants as node_call
+use Rattle.cops_node.specs.declared.NodeId.{NodeId}
+use Rattle.cops_node.specs.declared.NodeReply.{NodeReply}
+use Rattle.cops_node.specs.declared.NodeReply.TheVariants as node_reply
+use Rattle.cops_node.specs.Clusters.{Cluster, HasTenant, nodes_of, shape_of, IsCall}
+use Rattle.cops_node.specs.Log.{Next, Call, Restart, Ended}
+use Rattle.cops_session.specs.declared.Answer.{Answer}
+use Rattle.cops_session.specs.declared.Progress.{Progress}
+use Rattle.cops_session.specs.Kept.{Kept as KeptSession}
+use Rattle.cops_session.specs.Request.{next}
+use Rattle.cops_session.specs.Session.{Session, Running, request_of, moment_at}
+use Rattle.cops_session.specs.Stepping.{DoesNext}
+use Rattle.cops_repl.specs.Carrier.{Carrier}
+use Rattle.cops_world.specs.declared.actors.Actor.{Actor as Kept}
+use Rattle.cops_world.specs.declared.actors.Actor.TheVariants as kept
+use Rattle.cops_world.specs.declared.actors.ActorId.{ActorId}
+use Rattle.cops_world.specs.declared.actors.Stepped.{Stepped}
+use Rattle.cops_world.specs.declared.replies.Reply.{Reply}
+use Rattle.cops_world.specs.declared.replies.Reply.TheVariants.{Removed, Refused}
+use Rattle.cops_world.specs.Actors.{ActorsStandFor, AreDistinct}
+use Rattle.cops_world.specs.ActorsStand.{ActorStandsFor, ActorSteps, CarrierSteps, SessionSteps, NodesTurn, IsAfter, StepsCluster}
+use Rattle.cops_world.specs.ActorTables.{same_actor}
+use Rattle.cops_world.specs.Cluster.{SoloCluster, Turn, Actor, OfSession, OfCarrier, find_actor, with_actor, without_actor, actor_step, actor_steps, step_of, goes_on, call_node, collect_at, reply_of_collect, reply_with}
+use Rattle.cops_world.specs.Events.{config_at, is_out_of_memory}
+use Rattle.cops_world.specs.Worlds.{World, StandsAt, Moves, IsWorld}
+use Rattle.cops_world.proofs.ActorMoves.{absent_too, found_too, put_in_place, leaves, count-with_actor, count-without}
+use Rattle.cops_world.proofs.ActorTableLemmas.{same_actor-refl, other_slot, other_name}
+use Rattle.cops_world.proofs.ClusterSteps.{actor_turn}
+use Rattle.cops_world.proofs.WorldJoins.{refused_moves}
+use Rattle.cops_world.proofs.WorldMoves.{actors_alone, others_stay}
+
+abbrev id_of : ℕ → List ℕ → ActorId
+id_of slot name = record { slot = slot; name = name }
+
+-- ---- calls at the nodes
+
+-- what a call does for its tenant
+call_turns : (config : TenantConfig) (old new : Cluster) (slot at : ℕ) (id : NodeId) (call : NodeCall) (reply : NodeReply) → config.shards ≡ old.shape.shards → HasTenant config slot old →
+    IsCall old id slot at call reply new → NodesTurn config (nodes_of config slot old) (nodes_of config slot new) at id call reply
+call_turns config old new slot at id call reply shards has h = elim h.turn [
+  | inl lack ↦ inl (lack.0, ap (nodes_of config slot) lack.1)
+  | inr turn ↦ let is = turn config shards has in inr (is.reply_is, is.after)
+]
+
+-- a weaker word for what was called serves a step as well
+module _ (called weaker : ℕ → NodeId → NodeCall → NodeReply → Type 0) (stays lasts : Type 0) (weakens : (at : ℕ) (id : NodeId) (call : NodeCall) (reply : NodeReply) → called at id call reply → weaker at id call reply) (outlasts : stays → lasts) where
+  does_weaker : (config : TenantConfig) (session : Session) (running : Running) (at : ℕ) (shown : Progress) (after : KeptSession) (n : Next Answer) →
+      DoesNext (called at) stays config session running at shown after n → DoesNext (weaker at) lasts config session running at shown after n
+  does_weaker config session running at shown after (Call d) (reply, made, stepped) = (reply, weakens at d.node d.call reply made, stepped)
+  does_weaker config session running at shown after Restart (stood, stepped) = (outlasts stood, stepped)
+  does_weaker config session running at shown after (Ended a) none = absurd none
+
+  session_weaker : (config : TenantConfig) (session : Session) (moment : ℕ) (reply : Reply) (after : KeptSession) (running : Option Running) →
+      SessionSteps called stays config session moment reply after running → SessionSteps weaker lasts config session moment reply after running
+  session_weaker config session moment reply after None (is, stood, stands) = (is, outlasts stood, stands)
+  session_weaker config session moment reply after (Some running) (shown, is, does) =
+      (shown, is, does_weaker config session running (moment_at moment session) shown after (next config (request_of session running) running.log (moment_at moment session)) does)
+
+  steps_weaker : (config : TenantConfig) (moment : ℕ) (stepped : Stepped) (solo : Actor) (after : Kept) → ActorSteps called stays config moment stepped solo after → ActorSteps weaker lasts config moment stepped solo after
+  steps_weaker config moment stepped (OfSession session) (kept.OfSession after) (steps, is) = (session_weaker config session moment stepped.reply after session.running steps, is)
+  steps_weaker config moment stepped (OfCarrier carrier) (kept.OfCarrier after) p = record {
+    directed = p.directed;
+    reply = p.reply;
+    shown = p.shown;
+    made = weakens _ p.directed.node p.directed.call p.reply p.made;
+    step_of = p.step_of;
+    reply_is = p.reply_is;
+    over_is = p.over_is;
+  }
+  steps_weaker config moment stepped (OfSession session) (kept.OfCarrier after) none = absurd none
+  steps_weaker config moment stepped (OfCarrier carrier) (kept.OfSession after) none = absurd none
+
+-- ---- one step
+
+-- the nodes stay, or one call was made for this tenant
+abbrev pub CalledOnce : Cluster → ℕ → Cluster → Type 0
+CalledOnce old slot new = (new ≡ old) ⊎ ((node : NodeId) × (at : ℕ) × (call : NodeCall) × (reply : NodeReply) × IsCall old node slot at call reply new)
+
+once_nodes : (old new : Cluster) (slot other : ℕ) → slot ≢ other → CalledOnce old slot new → (config : TenantConfig) → nodes_of config other new ≡ nodes_of config other old
+once_nodes old new slot other differ (inl same) config = ap (nodes_of config other) same
+once_nodes old new slot other differ (inr (node, at, call, reply, h)) config = h.others config other (λ same. differ (sym same))
+
+once_tenants : (old new : Cluster) (slot other : ℕ) → CalledOnce old slot new → (config : TenantConfig) → HasTenant config other old → HasTenant config other new
+once_tenants old new slot other (inl same) config has = subst (HasTenant config other) (sym same) has
+once_tenants old new slot other (inr (node, at, call, reply, h)) config has = h.tenants config other has
+
+-- the table after a step: the actor is put in its place, or taken out where it is over
+abbrev pub table_after : Bool → (ActorId → Option Kept) → ActorId → Kept → ActorId → Option Kept
+table_after false actors id after q = cond (same_actor id q) (Some after) (actors q)
+table_after true actors id after q = cond (same_actor id q) None (actors q)
+
+abbrev pub counts_after : Bool → List ℕ → ℕ → List ℕ
+counts_after false counts slot = counts
+counts_after true counts slot = slice_set counts slot (slice_index counts slot - 1)
+
+-- what a step was
+pub record HasSteppedAt (old : World) (slot : ℕ) (name : List ℕ) (moment : ℕ) (stepped : Stepped) (nodes : Cluster) (before after : Kept) : Type 0 where
+  pub there : old.actors (id_of slot name) ≡ Some before
+  pub steps : (config : TenantConfig) (solo : Actor) → ActorStandsFor config before solo →
+      ActorSteps (λ at node call reply. IsCall old.nodes node slot at call reply nodes) (nodes ≡ old.nodes) config moment stepped solo after
+  pub once : CalledOnce old.nodes slot nodes
+
+module _ (old : World) (whole : IsWorld old) (slot : ℕ) (name : List ℕ) (moment : ℕ) (stepped : Stepped) (nodes : Cluster) (before after : Kept) (h : HasSteppedAt old slot name moment stepped nodes before after)
+    (actors : ActorId → Option Kept) (updates : (q : ActorId) → actors q ≡ table_after stepped.is_over old.actors (id_of slot name) after q) where
+  abbrev config_of_slot : TenantConfig
+  config_of_slot = config_at old.setup slot
+
+  abbrev stepped_world : World
+  stepped_world = record old { nodes = nodes; actors = actors; counts = counts_after stepped.is_over old.counts slot }
+
+  table_elsewhere : (over : Bool) (q : ActorId) → same_actor (id_of slot name) q ≡ false → table_after over old.actors (id_of slot name) after q ≡ old.actors q
+  table_elsewhere false q apart = rw apart refl
+  table_elsewhere true q apart = rw apart refl
+
+  table_here : (over : Bool) → table_after over old.actors (id_of slot name) after (id_of slot name) ≡ cond over None (Some after)
+  table_here false = rw (same_actor-refl (id_of slot name)) refl
+  table_here true = rw (same_actor-refl (id_of slot name)) refl
+
+  counts_elsewhere : (over : Bool) (other : ℕ) → slot ≢ other → slice_index (counts_after over old.counts slot) other ≡ slice_index old.counts other
+  counts_elsewhere false other differ = refl
+  counts_elsewhere true other differ = get_or-set_other old.counts slot other (slice_index old.counts slot - 1) 0 (λ same. differ (sym same))
+
+  -- the tenant's own cluster
+  stands_after : (cluster : SoloCluster) (solo : Actor) (turn : Turn) → StandsAt old slot cluster → slot < length old.counts → find_actor name cluster ≡ Some solo → StepsCluster config_of_slot name cluster (nodes_of config_of_slot slot nodes) turn stepped after →
+      StandsAt stepped_world slot turn.after
+  stands_after cluster solo turn stood within found took = record {
+    has = once_tenants old.nodes nodes slot slot h.once config_of_slot stood.has;
+    nodes_are = sym took.nodes_are;
+    actors_are = by_end stepped.is_over refl;
+    count_is = count_end stepped.is_over refl;
+  }
+    where
+      others : (other : List ℕ) → same_actor (id_of slot name) (id_of slot other) ≡ false → actors (id_of slot other) ≡ old.actors (id_of slot other)
+      others other apart = updates (id_of slot other) ∙ table_elsewhere stepped.is_over (id_of slot other) apart
+
+      by_end : (over : Bool) → stepped.is_over ≡ over → ActorsStandFor (ActorStandsFor config_of_slot) (λ n. actors (id_of slot n)) turn.after
+      by_end false e =
+          let is = subst (IsAfter config_of_slot name cluster turn.after after) e took.actors_are in
+          actors_alone (ActorStandsFor config_of_slot) (λ n. actors (id_of slot n)) (with_actor name is.0 cluster) turn.after (sym is.1)
+          (put_in_place (ActorStandsFor config_of_slot) name (λ n. old.actors (id_of slot n)) (λ n. actors (id_of slot n)) cluster stood.actors_are after is.0 solo found
+          (updates (id_of slot name) ∙ table_here stepped.is_over ∙ ap (λ b. cond b None (Some after)) e)
+          (λ other apart. others other (other_name slot name other apart)) is.2)
+      by_end true e =
+          let is = subst (IsAfter config_of_slot name cluster turn.after after) e took.actors_are in
+          actors_alone (ActorStandsFor config_of_slot) (λ n. actors (id_of slot n)) (without_actor name cluster) turn.after (sym is)
+          (leaves (ActorStandsFor config_of_slot) name (λ n. old.actors (id_of slot n)) (λ n. actors (id_of slot n)) cluster stood.actors_are
+          (updates (id_of slot name) ∙ table_here stepped.is_over ∙ ap (λ b. cond b None (Some after)) e)
+          (λ other apart. others other (other_name slot name other apart)))
+
+      count_end : (over : Bool) → stepped.is_over ≡ over → slice_index (counts_after stepped.is_over old.counts slot) slot ≡ length turn.after.actors
+      count_end false e =
+          let is = subst (IsAfter config_of_slot name cluster turn.after after) e took.actors_are in
+          ap (λ b. slice_index (counts_after b old.counts slot) slot) e ∙ stood.count_is ∙ sym (count-with_actor name is.0 cluster) ∙ ap length (sym is.1)
+      count_end true e =
+          let is = subst (IsAfter config_of_slot name cluster turn.after after) e took.actors_are in
+          let one_less = count-without name cluster solo stood.actors_are.distinct found in
+          ap (λ b. slice_index (counts_after b old.counts slot) slot) e
+          ∙ get_or-set_same old.counts slot (slice_index old.counts slot - 1) 0 within
+          ∙ ap (λ n. n - 1) (stood.count_is ∙ sym one_less)
+          ∙ minus_one (length (without_actor name cluster).actors)
+          ∙ ap length (sym is)
+        where
+          minus_one : (n : ℕ) → n + 1 - 1 ≡ n
+          minus_one n = omega arith
+
+  pub step_moves : slot < length old.counts → (config_at old.setup slot).shards ≡ old.nodes.shape.shards → Moves (λ config. actor_step config name moment) old slot stepped.reply stepped_world
+  step_moves within shards = record {
+    same = refl;
+    own = λ spared cluster stood.
+        let solo = found_too (ActorStandsFor config_of_slot) name (λ n. old.actors (id_of slot n)) (λ n. actors (id_of slot n)) cluster stood.actors_are before h.there in
+        let weaker = steps_weaker (λ at node call reply. IsCall old.nodes node slot at call reply nodes) (NodesTurn config_of_slot cluster.nodes (nodes_of config_of_slot slot nodes))
+            (nodes ≡ old.nodes) (nodes_of config_of_slot slot nodes ≡ cluster.nodes)
+            (λ at node call reply made. subst (λ ns. NodesTurn config_of_slot ns (nodes_of config_of_slot slot nodes) at node call reply) stood.nodes_are (call_turns config_of_slot old.nodes nodes slot at node call reply shards stood.has made))
+            (λ stays. ap (nodes_of config_of_slot slot) stays ∙ stood.nodes_are)
+            config_of_slot moment stepped solo.0 after (h.steps config_of_slot solo.0 solo.2) in
+        let took = actor_turn config_of_slot name cluster (nodes_of config_of_slot slot nodes) moment solo.0 after stepped stood.actors_are.distinct solo.1 spared weaker in
+        (took.reply_is, stands_after cluster solo.0 (actor_step config_of_slot name moment cluster) stood within solo.1 took);
+    others = λ other differ. others_stay old nodes actors (counts_after stepped.is_over old.counts slot) slot other differ
+        (once_nodes old.nodes nodes slot other differ h.once) (once_tenants old.nodes nodes slot other h.once)
+        (λ q apart. updates q ∙ table_elsewhere stepped.is_over q (other_slot (id_of slot name) q apart)) (counts_elsewhere stepped.is_over other differ);
+  }
+
+-- nobody of the name is there
+pub absent_step : (old : World) (slot : ℕ) (name : List ℕ) (moment : ℕ) → old.actors (id_of slot name) ≡ None → Moves (λ config. actor_step config name moment) old slot (Refused UnknownName) old
+absent_step old slot name moment none = refused_moves (λ config. actor_step config name moment) old slot UnknownName (λ cluster h.
+    let gone = absent_too (ActorStandsFor (config_at old.setup slot)) name (λ n. old.actors (id_of slot n)) (λ n. old.actors (id_of slot n)) cluster h.actors_are none in
+    ap (step_of (config_at old.setup slot) name moment cluster) gone)
+
+-- ---- steps in a row
+
+goes_on-spared : (reply : Reply) → goes_on reply ≡ true → is_out_of_memory reply ≡ false
+goes_on-spared reply e = by (is_out_of_memory reply) refl
+  where
+    by : (t : Bool) → is_out_of_memory reply ≡ t → t ≡ false
+    by false is = refl
+    by true is = lack reply is e
+      where
+        lack : (r : Reply) → is_out_of_memory r ≡ true → goes_on r ≡ true → true ≡ false
+        lack (Refused fault) is e = sym e
+        lack r is e = sym is
+
+-- the first step was the last
+pub steps_end : (more : ℕ) (name : List ℕ) (moment : ℕ) (old : World) (slot : ℕ) (reply : Reply) (new : World) → goes_on reply ≡ false → Moves (λ config. actor_step config name moment) old slot reply new →
+    Moves (λ config. actor_steps more config name moment) old slot reply new
+steps_end zero name moment old slot reply new ends h = h
+steps_end (suc more) name moment old slot reply new ends h = record {
+  same = h.same;
+  own = λ spared cluster stands.
+      let one = h.own spared cluster stands in
+      let turn = actor_step (config_at old.setup slot) name moment cluster in
+      let last : goes_on turn.reply ≡ false = ap goes_on (sym one.0) ∙ ends in
+      subst (λ (t : Turn). (reply ≡ t.reply) × StandsAt new slot t.after)
+      (sym (ap (λ b. elim b [ true ↦ actor_steps more (config_at old.setup slot) name moment turn.after | false ↦ turn ]) last)) one;
+  others = h.others;
+}
+
+-- the first step goes on, and the others follow it
+pub steps_on : (more : ℕ) (name : List ℕ) (moment : ℕ) (old : World) (slot : ℕ) (first : Reply) (mid : World) (reply : Reply) (new : World) → goes_on first ≡ true →
+    Moves (λ config. actor_step config name moment) old slot first mid → Moves (λ config. actor_steps more config name moment) mid slot reply new →
+    Moves (λ config. actor_steps (suc more) config name moment) old slot reply new
+steps_on more name moment old slot first mid reply new goes h later = record {
+  same = later.same ∙ h.same;
+  own = λ spared cluster stands.
+      let one = h.own (goes_on-spared first goes) cluster stands in
+      let turn = actor_step (config_at old.setup slot) name moment cluster in
+      let on : goes_on turn.reply ≡ true = ap goes_on (sym one.0) ∙ goes in
+      let rest = later.own spared turn.after one.1 in
+      subst (λ (t : Turn). (reply ≡ t.reply) × StandsAt new slot t.after)
+      (ap (λ (c : Config). actor_steps more (config_at c slot) name moment turn.after) h.same
+      ∙ sym (ap (λ b. elim b [ true ↦ actor_steps more (config_at old.setup slot) name moment turn.after | false ↦ turn ]) on)) rest;
+  others = λ other differ cluster stands. later.others other differ cluster (h.others other differ cluster stands);
+}
+
+-- ---- a collection
+
+pub collect_moves : (old : World) (slot : ℕ) (id : NodeId) (moment : ℕ) (answered : NodeReply) (nodes : Cluster) (reply : Reply) → (config_at old.setup slot).shards ≡ old.nodes.shape.shards →
+    IsCall old.nodes id slot moment node_call.Collect answered nodes → reply ≡ reply_of_collect answered → Moves (λ config. collect_at config id moment) old slot reply (record old { nodes = nodes })
+collect_moves old slot id moment answered nodes reply shards made is = record {
+  same = refl;
+  own = λ spared cluster stood. by_turn spared cluster stood (subst (λ ns. NodesTurn (config_at old.setup slot) ns (nodes_of (config_at old.setup slot) slot nodes) moment id node_call.Collect answered) stood.nodes_are
+      (call_turns (config_at old.setup slot) old.nodes nodes slot moment id node_call.Collect answered shards stood.has made));
+  others = λ other differ. others_stay old nodes old.actors old.counts slot other differ (λ config. made.others config other (λ same. differ (sym same))) (λ config. made.tenants config other) (λ q apart. refl) refl;
+}
+  where
+    by_turn : IsFalse (is_out_of_memory reply) → (cluster : SoloCluster) → StandsAt old slot cluster → NodesTurn (config_at old.setup slot) cluster.nodes (nodes_of (config_at old.setup slot) slot nodes) moment id node_call.Collect answered →
+        (reply ≡ (collect_at (config_at old.setup slot) id moment cluster).reply) × StandsAt (record old { nodes = nodes }) slot (collect_at (config_at old.setup slot) id moment cluster).after
+    by_turn spared cluster stood (inl (lack, stays)) = absurd (true≢false (ap is_out_of_memory (sym (is ∙ ap reply_of_collect lack)) ∙ spared))
+    by_turn spared cluster stood (inr (reply_is, moved)) =
+        (is ∙ ap reply_of_collect reply_is, record {
+          has = made.tenants (config_at old.setup slot) slot stood.has;
+          nodes_are = moved;
+          actors_are = actors_alone (ActorStandsFor (config_at old.setup slot)) (λ n. old.actors (id_of slot n)) cluster (collect_at (config_at old.setup slot) id moment cluster).after refl stood.actors_are;
+          count_is = stood.count_is;
+        })
