@@ -1,3 +1,4 @@
+pub mod Bounds
 pub mod CarrierSteps
 pub mod Fitting
 pub mod NextSteps
