@@ -5,10 +5,18 @@ pub mod FrontLemmas
 pub mod GreatestLists
 mod HeadExamples
 pub mod HeadLemmas
+pub mod HeadLengths
+pub mod KnownLemmas
+pub mod LineEndLemmas
+pub mod LineLemmas
+pub mod LineRunLemmas
+pub mod NumberLemmas
 pub mod Padded
 pub mod PairLists
 pub mod PairPlaces
 pub mod Rising
+pub mod SlotLemmas
 pub mod SortedSet
 pub mod VersionOrder
 pub mod WordLemmas
+pub mod Writing

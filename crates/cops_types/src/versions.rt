@@ -1,12 +1,14 @@
-ghost use Rattle.std.specs.Prelude.{◌≡◌, ◌+◌, ◌*◌, ◌<◌, ◌≤◌, ◌^◌, ok_or};
+ghost use Rattle.std.specs.Prelude.{◌≡◌, ◌+◌, ◌*◌, ◌<◌, ◌≤◌, ◌^◌, Some, ok_or};
 ghost use Rattle.std.proofs.Common.{rules, refl};
 ghost use Rattle.std.specs.Cmp.Rules.{comparing};
 ghost use Rattle.std.specs.Ordering.{as_partial_cmp};
 ghost use Rattle.cops_types.specs.Layout.{NODES, number_of_version, version_of_number};
+ghost use Rattle.cops_types.specs.Words.{version_text};
 ghost use Rattle.cops_types.specs.Version.{version_eq, version_cmp, version_max, no_version, next_version, last_clock};
 
 use crate::faults::Fault;
 use std::cmp::Ordering;
+use std::fmt;
 use std::marker::Model;
 
 /// A version, a Lamport timestamp: a clock and the node that issued it. Contracts see that pair.
@@ -141,5 +143,15 @@ impl PartialOrd for Version {
 
     fn partial_cmp(&self, other: &Version) -> Option<Ordering> {
         Some(self.cmp(other))
+    }
+}
+
+impl fmt::Display for Version {
+    ghost output = { λ version. Some (version_text version) };
+
+    fn fmt<W: fmt::Write>(&self, f: &mut fmt::Formatter<W>) -> fmt::Result {
+        let clock = self.clock();
+        let node = self.node();
+        write!(f, "{clock}.{node}")
     }
 }

@@ -1,0 +1,6 @@
+use Rattle.std.proofs.Common.{◌≡◌, ◌∙◌, ℕ, Bool, List, [], not, ap, sym}
+use Rattle.cops_types.proofs.WordLemmas.{none_left}
+use Rattle.cops_types.proofs.words.Words.is_empty.Goals as goal
+
+pub returns : goal.returns
+returns c = none_left c.self.inside.rest c.is_none.result c.args.self.now c.is_none.ensures c.self.view_is

@@ -1,0 +1,76 @@
+//! Texts of numbers, versions, pairs and faults, put at the end of a vector.
+ghost use Rattle.std.specs.Prelude.{◌≡◌, ◌++◌, decimal, OnOk, OnErr};
+ghost use Rattle.cops_types.specs.FaultText.{fault_text};
+ghost use Rattle.cops_types.specs.Words.{StartsWith, list_text, more_text, pair_text, version_text};
+
+use crate::faults::Fault;
+use crate::pairs::Pair;
+use crate::versions::Version;
+use std::alloc::AllocError;
+
+/// Puts the decimal digits of a number at the end. After an `Err` nothing is put.
+pub fn push_number(out: &mut Vec<u8>, number: u64) -> Result<(), AllocError>
+    ensures ok { OnOk result (out.new.items ≡ out.old.items ++ decimal number) }
+    ensures err { OnErr result (out.new.items ≡ out.old.items) }
+{
+    let mut buffer = itoa::Buffer::new();
+    out.extend_from_slice(buffer.format(number).as_bytes())?;
+    Ok(())
+}
+
+/// Puts the clock, a dot and the node at the end. After an `Err` a front of it may be there.
+pub fn push_version(out: &mut Vec<u8>, version: Version) -> Result<(), AllocError>
+    ensures ok { OnOk result (out.new.items ≡ out.old.items ++ version_text version) }
+    ensures front { StartsWith out.new.items out.old.items }
+{
+    push_number(out, version.clock())?;
+    out.push(b'.')?;
+    push_number(out, version.node())?;
+    Ok(())
+}
+
+/// Puts the key, a colon and the version at the end. After an `Err` a front of it may be there.
+pub fn push_pair(out: &mut Vec<u8>, pair: &Pair) -> Result<(), AllocError>
+    ensures ok { OnOk result (out.new.items ≡ out.old.items ++ pair_text pair.now) }
+    ensures front { StartsWith out.new.items out.old.items }
+{
+    out.extend_from_slice(pair.key.bytes())?;
+    out.push(b':')?;
+    push_version(out, pair.version)?;
+    Ok(())
+}
+
+/// Puts the pairs with commas between, or a hyphen for none, at the end. After an `Err` a front of
+/// it may be there.
+pub fn push_list(out: &mut Vec<u8>, pairs: &[Pair]) -> Result<(), AllocError>
+    ensures ok { OnOk result (out.new.items ≡ out.old.items ++ list_text pairs.now) }
+    ensures front { StartsWith out.new.items out.old.items }
+{
+    let Some((first, rest)) = pairs.split_first() else {
+        out.push(b'-')?;
+        return Ok(());
+    };
+    push_pair(out, first)?;
+    push_more(out, rest)
+}
+
+/// Puts each pair after a comma at the end.
+fn push_more(out: &mut Vec<u8>, pairs: &[Pair]) -> Result<(), AllocError>
+    ensures ok { OnOk result (out.new.items ≡ out.old.items ++ more_text pairs.now) }
+    ensures front { StartsWith out.new.items out.old.items }
+{
+    for pair in pairs {
+        out.push(b',')?;
+        push_pair(out, pair)?;
+    }
+    Ok(())
+}
+
+/// Puts `E` and two digits at the end. After an `Err` nothing is put.
+pub fn push_fault(out: &mut Vec<u8>, fault: Fault) -> Result<(), AllocError>
+    ensures ok { OnOk result (out.new.items ≡ out.old.items ++ fault_text fault) }
+    ensures err { OnErr result (out.new.items ≡ out.old.items) }
+{
+    out.extend_from_slice(&fault.text())?;
+    Ok(())
+}

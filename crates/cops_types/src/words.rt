@@ -1,0 +1,111 @@
+//! The words of a line, and the numbers that they write.
+ghost use Rattle.std.specs.Prelude.{◌≡◌, ◌+◌, ◌-◌, ◌*◌, ◌^◌, ◌<◌, ◌≤◌, [], ◌∷◌, ◌++◌, ◌&&◌, ◌==◌, nat_lt, length, slice_index, MatchOption, IfSome, IfNone};
+ghost use Rattle.std.specs.Option.{option_map_or};
+ghost use Rattle.std.specs.Str.Parse.{AllDigits, digits_value};
+ghost use Rattle.cops_types.specs.Words.{IsUnspaced, first_word, no_words, number_of, parts_at, space};
+
+use std::marker::Model;
+
+/// The words of a line that are still to come, between single spaces. Contracts see the list.
+#[derive(Debug, Drop)]
+pub struct Words<'a> {
+    rest: Option<&'a [u8]>,
+}
+
+impl<'a> Model for Words<'a> {
+    ghost use Rattle.std.specs.Prelude.{List, ℕ, []};
+    ghost use Rattle.std.specs.Option.{option_map_or};
+    ghost use Rattle.cops_types.specs.Words.{parts_at, space};
+
+    ghost Value = { List (List ℕ) };
+
+    ghost view = { λ w. option_map_or (λ rest. parts_at space rest.now) w.rest [] };
+}
+
+/// The bytes before the first space, and those after it where there is one.
+pub fn split_word(bytes: &[u8]) -> (&[u8], Option<&[u8]>)
+    ensures word { result.0.now ≡ first_word bytes.now }
+    ensures parts { parts_at space bytes.now ≡ result.0.now ∷ option_map_or (λ rest. parts_at space rest.now) result.1 [] }
+{
+    match split_at_space(bytes) {
+        Some((word, rest)) => (word, Some(rest)),
+        None => (bytes, None),
+    }
+}
+
+/// The bytes before the first space, and those after it.
+fn split_at_space(bytes: &[u8]) -> Option<(&[u8], &[u8])>
+    ensures some { IfSome result (λ parts. IsUnspaced parts.0.now × (bytes.now ≡ parts.0.now ++ 32 ∷ parts.1.now)) }
+    ensures none { IfNone result (IsUnspaced bytes.now) }
+{
+    let at = memchr::memchr(b' ', bytes)?;
+    Some((&bytes[..at], &bytes[at + 1..]))
+}
+
+impl<'a> Words<'a> {
+    /// The words of a line.
+    pub fn of(line: &'a [u8]) -> Self
+        ensures { result ≡ parts_at space line.now }
+    {
+        Words { rest: Some(line) }
+    }
+
+    /// The next word. What stands between two spaces side by side is an empty one.
+    pub fn next_word(&mut self) -> Option<&'a [u8]>
+        ensures { MatchOption result ((self.old ≡ []) × (self.new ≡ [])) (λ word. self.old ≡ word.now ∷ self.new) }
+    {
+        let (word, rest) = split_word(self.rest?);
+        self.rest = rest;
+        Some(word)
+    }
+
+    /// Whether no word is to come.
+    pub fn is_empty(&self) -> bool
+        ensures { result ≡ no_words self.now }
+    {
+        self.rest.is_none()
+    }
+}
+
+/// The number that decimal digits write, where it is below 2 to the 64.
+fn value_of(word: &[u8]) -> Option<u64>
+    ensures some { IfSome result (λ n. (n < 2 ^ 64) × AllDigits 10 word.now × (n ≡ digits_value 10 word.now)) }
+    ensures none { IfNone result (AllDigits 10 word.now → 2 ^ 64 ≤ digits_value 10 word.now) }
+{
+    let mut value = 0;
+    for byte in word {
+        value = with_digit(value, *byte)?;
+    }
+    Some(value)
+}
+
+/// The number with one more digit at its end, where it is below 2 to the 64.
+fn with_digit(value: u64, byte: u8) -> Option<u64>
+    ensures some { IfSome result (λ n. (48 ≤ byte) × (byte ≤ 57) × (n ≡ value * 10 + (byte - 48)) × (n < 2 ^ 64)) }
+    ensures none { IfNone result (48 ≤ byte → byte ≤ 57 → 2 ^ 64 ≤ value * 10 + (byte - 48)) }
+{
+    if !byte.is_ascii_digit() {
+        return None;
+    }
+    value.checked_mul(10)?.checked_add(u64::from(byte - b'0'))
+}
+
+/// The number that the word writes: decimal, without a leading zero, and below 2 to the 64.
+pub fn parse_number(word: &[u8]) -> Option<u64>
+    ensures { result ≡ number_of word.now }
+{
+    if word.is_empty() {
+        return None;
+    }
+    if has_leading_zero(word) {
+        return None;
+    }
+    value_of(word)
+}
+
+/// Whether a zero stands before more.
+fn has_leading_zero(word: &[u8]) -> bool
+    ensures { result ≡ (nat_lt 1 (length word.now) && (slice_index word.now 0 == 48)) }
+{
+    word.len() > 1 && word[0] == b'0'
+}

@@ -1,0 +1,16 @@
+use Rattle.std.proofs.Common.{◌≡◌, ℕ, length, take}
+use Rattle.cops_world.specs.Cluster.{SoloCluster}
+use Rattle.cops_world.specs.Events.{own, replies, IsSpared, ToldAlone}
+use Rattle.cops_world.proofs.runs.run_all.Given as goal
+
+-- each tenant was told so far what he is told alone, and his part of the world is as it is then
+abbrev pub invariant-loop-event : goal.invariant-loop-event
+invariant-loop-event g l =
+    let config = g.W.Tenancy.config in
+    let past = take l.event-index l.events in
+    record {
+      same : config l.world ≡ config l.fn.world;
+      as_long : length l.told.items ≡ l.event-index;
+      alone : (slot : ℕ) (cluster : SoloCluster) → g.W.Tenancy.StandsFor l.fn.world slot cluster → IsSpared (replies slot past l.told.items) →
+          ToldAlone (config l.fn.world slot) cluster (own slot past) (replies slot past l.told.items) (g.W.Tenancy.StandsFor l.world slot);
+    }
