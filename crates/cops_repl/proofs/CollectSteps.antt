@@ -57,8 +57,7 @@ module _ {S : Type 0} (answers : S → NodeId → ℕ → ℕ → NodeCall → N
 
       by : (result : Result ℕ Fault) → CollectsAll answers slot moment total more mid new result → CollectsAll answers slot moment start (ids ++ more) old new result
       by (Ok sum_of_all) later =
-          let rest = later.2.0 in
-          (
+          let rest = later.2.0 in (
             map Removed counts ++ later.0,
             collected-append ids more (map Removed counts) later.0 old mid new all made later.1,
             (
@@ -71,8 +70,7 @@ module _ {S : Type 0} (answers : S → NodeId → ℕ → ℕ → NodeCall → N
       by (Err fault) later =
           let rest = later.2.0 in
           let last = later.2.1 in
-          let same : total + sum rest ≡ start + sum (counts ++ rest) = omega (arith, sum-append counts rest, first.2.3) in
-          (
+          let same : total + sum rest ≡ start + sum (counts ++ rest) = omega (arith, sum-append counts rest, first.2.3) in (
             map Removed counts ++ later.0,
             collected-append ids more (map Removed counts) later.0 old mid new all made later.1,
             (
@@ -118,8 +116,7 @@ all_nodes-more dcs shards =
 -- the nodes of the first shards are the first nodes
 pub nodes_of-rest : (k shards dc : ℕ) → k ≤ shards → (rest : List NodeId) × (nodes_of shards dc ≡ nodes_of k dc ++ rest)
 nodes_of-rest k shards dc within =
-    let id_of : ℕ → NodeId = λ shard. record { dc = dc; shard = shard } in
-    (
+    let id_of : ℕ → NodeId = λ shard. record { dc = dc; shard = shard } in (
       drop k (nodes_of shards dc),
       sym (take-append-drop k (nodes_of shards dc)) ∙ ap (λ ids. ids ++ drop k (nodes_of shards dc)) (take-map-range_with_len id_of 0 shards k within),
     )
@@ -134,8 +131,7 @@ all_nodes-rest k (suc dcs) shards within = by (eq-or-lt_of_le within) (λ h. all
     by : (k ≡ suc dcs) ⊎ (k < suc dcs) → (k ≤ dcs → (rest : List NodeId) × (all_nodes dcs shards ≡ all_nodes k shards ++ rest)) → (rest : List NodeId) × (all_nodes (suc dcs) shards ≡ all_nodes k shards ++ rest)
     by (inl same) fewer = ([], sym (append-nil (all_nodes (suc dcs) shards)) ∙ ap (λ n. all_nodes n shards ++ []) (sym same))
     by (inr less) fewer =
-        let before = fewer (omega arith) in
-        (
+        let before = fewer (omega arith) in (
           before.0 ++ nodes_of shards dcs,
           ap (λ n. all_nodes n shards) one ∙ all_nodes-more dcs shards ∙ ap (λ ids. ids ++ nodes_of shards dcs) before.1 ∙ append_assoc (all_nodes k shards) before.0 (nodes_of shards dcs),
         )
