@@ -1,5 +1,5 @@
 -- How many replies a carrier gets before its answer.
-use Rattle.std.proofs.Common.{◌≡◌, ℕ, suc, ◌+◌, ◌<◌, ◌≤◌, false, List, [], ◌∷◌, ◌++◌, map, length, refl, sym, ◌∙◌, ap, arith}
+use Rattle.std.proofs.Common.{◌≡◌, ℕ, ◌+◌, ◌≤◌, false, List, [], ◌∷◌, map, length, refl, arith}
 use Rattle.std.specs.Prelude.{Option, Some, None, slice_get}
 use Rattle.std.proofs.lemmas.List.{length-append, length-map}
 use Rattle.std.proofs.lemmas.Option.{slice_get_within}
@@ -8,7 +8,7 @@ use Rattle.cops_node.specs.declared.NodeReply.{NodeReply}
 use Rattle.cops_node.specs.declared.NodeReply.TheVariants.{Pulled}
 use Rattle.cops_node.specs.Log.{Directed, LogStep}
 use Rattle.cops_repl.specs.declared.Delivery.{Delivery}
-use Rattle.cops_repl.specs.Carrier.{Stream, acknowledge, call_or_end, calls_of, check, commit, complete, first_end, has_answer, near_pairs, next, next_after, replies_of, unless_end}
+use Rattle.cops_repl.specs.Carrier.{Stream, acknowledge, call_or_end, calls_of, check, commit, complete, first_end, has_answer, near_pairs, next, replies_of, unless_end}
 
 -- a carrier without an answer has a call left
 unanswered : (ending : Option Delivery) (call : Option Directed) (answer : Delivery) → has_answer (unless_end ending (call_or_end call answer)) ≡ false → (d : Directed) × (call ≡ Some d)

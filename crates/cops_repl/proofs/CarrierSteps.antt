@@ -1,18 +1,18 @@
 -- A step of a carrier is the definition's, for each carrier that it stands for.
-use Rattle.std.proofs.Common.{◌≡◌, ℕ, ◌+◌, ◌<◌, ◌≤◌, Bool, true, false, List, [], ◌∷◌, ◌++◌, length, max, get_or, refl, sym, ◌∙◌, ap, subst, arith, ◌⊎◌, inl, inr}
+use Rattle.std.proofs.Common.{◌≡◌, ℕ, ◌<◌, false, List, [], ◌∷◌, ◌++◌, length, max, get_or, refl, sym, ◌∙◌, ap, subst, ◌⊎◌, inl, inr}
 use Rattle.std.proofs.Math.Nat.{eq-or-lt_of_le}
 use Rattle.std.proofs.lemmas.List.Elements.{filter_map-append}
 use Rattle.std.proofs.lemmas.Option.{slice_get-get_or}
 use Rattle.cops_types.specs.declared.pairs.Pair.{Pair}
 use Rattle.cops_types.specs.Version.{no_version}
 use Rattle.cops_node.specs.declared.NodeReply.{NodeReply}
-use Rattle.cops_node.specs.Log.{Directed, LogStep, Next, Call, Ended, Replied, reply_in}
+use Rattle.cops_node.specs.Log.{Directed, LogStep, Call, Replied, reply_in}
 use Rattle.cops_repl.specs.declared.Delivery.{Delivery}
 use Rattle.cops_repl.specs.declared.Progress.TheVariants.{Working, Done}
 use Rattle.cops_repl.specs.declared.stages.After.TheVariants.{Goes, Ends}
 use Rattle.cops_repl.specs.declared.stages.Stage.{Stage}
 use Rattle.cops_repl.specs.declared.stages.Stage.TheVariants.{Pulling, Carrying, Stored, Over}
-use Rattle.cops_repl.specs.Carrier.{Stream, Carrier, carrier_after, next_after, replies_of, shown}
+use Rattle.cops_repl.specs.Carrier.{Stream, Carrier, next_after, replies_of, shown}
 use Rattle.cops_repl.specs.Stands.{CarrierStandsFor, IsStepFrom, IsStepOf, Kept, LeadTo, has_ended, is_over}
 use Rattle.cops_repl.proofs.NextSteps.{asks_acknowledge, asks_check, asks_commit, asks_pull}
 

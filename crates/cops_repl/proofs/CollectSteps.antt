@@ -1,5 +1,5 @@
 -- Collections in a row.
-use Rattle.std.proofs.Common.{◌≡◌, ℕ, zero, suc, ◌+◌, ◌<◌, ◌≤◌, Bool, List, [], ◌∷◌, ◌++◌, map, length, take, drop, refl, sym, ◌∙◌, ap, subst, arith, add-zero, append-nil, append_assoc, ◌⊎◌, inl, inr}
+use Rattle.std.proofs.Common.{◌≡◌, ℕ, zero, suc, ◌+◌, ◌<◌, ◌≤◌, List, [], ◌∷◌, ◌++◌, map, length, drop, refl, sym, ◌∙◌, ap, subst, arith, add-zero, append-nil, append_assoc, ◌⊎◌, inl, inr}
 use Rattle.std.specs.Prelude.{sum, Result, Ok, Err}
 use Rattle.std.specs.List.{flat_map, range_with_len}
 use Rattle.std.proofs.Math.Nat.{eq-or-lt_of_le}
@@ -13,7 +13,7 @@ use Rattle.cops_node.specs.declared.NodeCall.TheVariants.{Collect}
 use Rattle.cops_node.specs.declared.NodeId.{NodeId}
 use Rattle.cops_node.specs.declared.NodeReply.{NodeReply}
 use Rattle.cops_node.specs.declared.NodeReply.TheVariants.{Removed}
-use Rattle.cops_repl.specs.Collections.{Collected, CollectsAll, IsTotal, StopsAt, all_nodes, nodes_of}
+use Rattle.cops_repl.specs.Collections.{Collected, CollectsAll, StopsAt, all_nodes, nodes_of}
 
 sum-append : (xs ys : List ℕ) → sum (xs ++ ys) ≡ sum xs + sum ys
 sum-append xs ys = sum_by-append (λ n. n) xs ys

@@ -1,4 +1,4 @@
-use Rattle.std.proofs.Common.{ap, sym, rules, ◌∙◌, refl}
+use Rattle.std.proofs.Common.{ap, rules}
 use Rattle.cops_types.specs.declared.faults.Fault.TheVariants.{Torn}
 use Rattle.cops_repl.specs.declared.Delivery.TheVariants.{OutOfOrder, Refused}
 use Rattle.cops_repl.specs.Carrier.{end_of}

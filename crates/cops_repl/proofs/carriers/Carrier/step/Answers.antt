@@ -1,8 +1,6 @@
-use Rattle.std.proofs.Common.{◌≡◌, ◌∙◌, ℕ, ap, max, subst, sym}
+use Rattle.std.proofs.Common.{◌≡◌, ◌∙◌, ℕ, ap, max, subst}
 use Rattle.cops_repl.specs.declared.stages.After.{After}
-use Rattle.cops_repl.specs.declared.stages.After.TheVariants.{Goes, Ends}
 use Rattle.cops_repl.specs.declared.stages.Stage.{Stage}
-use Rattle.cops_repl.specs.declared.stages.Stage.TheVariants.{Over}
 use Rattle.cops_repl.specs.Stands.{IsStepFrom, Kept, stream_of}
 use Rattle.cops_repl.proofs.CarrierSteps.{step_goes, step_ends}
 use Rattle.cops_repl.proofs.carriers.Carrier.step.Goals as goal
