@@ -268,31 +268,33 @@ fn unasked_replies_and_foreign_entries(rt: HostRuntime) -> Result<(), Fail> {
     Ok(())
 }
 
-#[test]
-fn a_node_refuses(rt: HostRuntime) -> Result<(), Fail> {
-    let pulling = vec![in rt.alloc(); NodeReply::Refused(Fault::AuditFull)]?;
-    let checking = vec![in rt.alloc();
-        NodeReply::Pulled(y_entry(&rt, rt.alloc())),
-        NodeReply::Refused(Fault::AuditFull),
-    ]?;
-    let committing = vec![in rt.alloc();
-        NodeReply::Pulled(y_entry(&rt, rt.alloc())),
-        NodeReply::Checked(true),
-        NodeReply::Refused(Fault::AuditFull),
-    ]?;
-    let acknowledging = vec![in rt.alloc();
-        NodeReply::Pulled(y_entry(&rt, rt.alloc())),
+/// Answers that carry y on, and then a refusal of the call after `count` of them.
+fn refused_after(
+    rt: &impl Abort,
+    alloc: Global,
+    count: usize,
+    fault: Fault,
+) -> Result<Vec<NodeReply>, Fail> {
+    let mut replies = vec![in alloc;
+        NodeReply::Pulled(y_entry(rt, alloc)),
         NodeReply::Checked(true),
         NodeReply::Committed,
-        NodeReply::Refused(Fault::AuditFull),
     ]?;
-    for replies in [pulling, checking, committing, acknowledging] {
-        assert!(rt;
-            matches!(
-                ending(&rt, rt.alloc(), replies),
-                Delivery::Refused(Fault::AuditFull)
-            )
-        );
+    replies.truncate(count);
+    replies.push(NodeReply::Refused(fault))?;
+    Ok(replies)
+}
+
+#[test]
+fn a_node_refuses(rt: HostRuntime) -> Result<(), Fail> {
+    for fault in [Fault::AuditFull, Fault::OutOfMemory] {
+        for count in 0..4 {
+            let replies = refused_after(&rt, rt.alloc(), count, fault)?;
+            match ending(&rt, rt.alloc(), replies) {
+                Delivery::Refused(shown) => assert!(rt; shown == fault),
+                _ => panic!(rt; "the node's refusal ends it"),
+            }
+        }
     }
     Ok(())
 }
