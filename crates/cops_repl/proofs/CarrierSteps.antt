@@ -1,19 +1,19 @@
 -- A step of a carrier is the definition's, for each carrier that it stands for.
-use Rattle.std.proofs.Common.{◌≡◌, ℕ, ◌+◌, ◌<◌, ◌≤◌, Bool, true, false, List, [], ◌∷◌, ◌++◌, length, max, get_or, refl, sym, ◌∙◌, ap, subst, arith, ◌⊎◌, inl, inr}
+use Rattle.std.proofs.Common.{◌≡◌, ℕ, ◌<◌, false, List, [], ◌∷◌, ◌++◌, length, max, get_or, refl, sym, ◌∙◌, ap, subst, ◌⊎◌, inl, inr}
 use Rattle.std.proofs.Math.Nat.{eq-or-lt_of_le}
 use Rattle.std.proofs.lemmas.List.Elements.{filter_map-append}
 use Rattle.std.proofs.lemmas.Option.{slice_get-get_or}
 use Rattle.cops_types.specs.declared.pairs.Pair.{Pair}
 use Rattle.cops_types.specs.Version.{no_version}
 use Rattle.cops_node.specs.declared.NodeReply.{NodeReply}
-use Rattle.cops_node.specs.Log.{Directed, LogStep, Next, Call, Ended, Replied, reply_in}
+use Rattle.cops_node.specs.Log.{Directed, LogStep, Call, Replied, reply_in}
 use Rattle.cops_repl.specs.declared.Delivery.{Delivery}
 use Rattle.cops_repl.specs.declared.Progress.TheVariants.{Working, Done}
 use Rattle.cops_repl.specs.declared.stages.After.TheVariants.{Goes, Ends}
 use Rattle.cops_repl.specs.declared.stages.Stage.{Stage}
 use Rattle.cops_repl.specs.declared.stages.Stage.TheVariants.{Pulling, Carrying, Stored, Over}
-use Rattle.cops_repl.specs.Carrier.{Stream, Carrier, carrier_after, next_after, replies_of, shown}
-use Rattle.cops_repl.specs.Stands.{CarrierStandsFor, IsStepFrom, IsStepOf, Kept, LeadTo}
+use Rattle.cops_repl.specs.Carrier.{Stream, Carrier, next_after, replies_of, shown}
+use Rattle.cops_repl.specs.Stands.{CarrierStandsFor, IsStepFrom, IsStepOf, Kept, LeadTo, has_ended, is_over}
 use Rattle.cops_repl.proofs.NextSteps.{asks_acknowledge, asks_check, asks_commit, asks_pull}
 
 -- replies that lead to a stage are followed by a call
@@ -28,6 +28,16 @@ call_follows shards stream replies (Carrying entry checked) led = by (eq-or-lt_o
         (_, asks_check shards stream entry checked (get_or entry.near checked none) (slice_get-get_or entry.near checked none less) replies led)
 call_follows shards stream replies (Stored pair fresh) led = (_, asks_acknowledge shards stream pair fresh replies led)
 call_follows shards stream replies Over led = absurd led
+
+-- a carrier that stands for one has not ended
+pub stands_goes_on : (shards : ℕ) (carrier : Kept) (solo : Carrier) → CarrierStandsFor shards carrier solo → has_ended carrier ≡ false
+stands_goes_on shards carrier solo stands = by carrier.stage stands.led_here
+  where
+    by : (stage : Stage) → LeadTo shards solo.stream (replies_of solo.log) stage → is_over stage ≡ false
+    by Pulling led = refl
+    by (Carrying entry checked) led = refl
+    by (Stored pair fresh) led = refl
+    by Over led = absurd led
 
 replies-push : (log : List LogStep) (moment : ℕ) (reply : NodeReply) → replies_of (log ++ record { moment = moment; outcome = Replied reply } ∷ []) ≡ replies_of log ++ reply ∷ []
 replies-push log moment reply = filter_map-append (λ (s : LogStep). reply_in s.outcome) log (record { moment = moment; outcome = Replied reply } ∷ [])

@@ -1,3 +1,5 @@
+pub mod Bounds
 pub mod CarrierSteps
+pub mod CollectSteps
 pub mod Fitting
 pub mod NextSteps

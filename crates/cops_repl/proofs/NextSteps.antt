@@ -1,7 +1,7 @@
 -- What comes next after the replies of each stage.
-use Rattle.std.proofs.Common.{◌≡◌, ℕ, zero, suc, ◌+◌, ◌<◌, ◌≤◌, Bool, true, false, not, ◌||◌, List, [], ◌∷◌, ◌++◌, map, length, drop, refl, sym, ◌∙◌, ap, subst, arith, append-nil, append_assoc}
+use Rattle.std.proofs.Common.{◌≡◌, ℕ, zero, suc, ◌+◌, ◌<◌, ◌≤◌, Bool, true, false, List, [], ◌∷◌, ◌++◌, map, length, drop, refl, sym, ◌∙◌, ap, arith, append-nil, append_assoc}
 use Rattle.std.proofs.lemmas.List.{replicate-append-replicate}
-use Rattle.std.specs.Prelude.{Option, Some, None, slice_get, replicate, if◌then◌else◌}
+use Rattle.std.specs.Prelude.{Some, None, slice_get, replicate}
 use Rattle.std.specs.List.{list_any}
 use Rattle.std.specs.Option.{option_or}
 use Rattle.cops_types.specs.declared.pairs.Pair.{Pair}
@@ -45,7 +45,7 @@ module _ (shards : ℕ) (stream : Stream) where
   next-checked : (entry : Entry) (k : ℕ) (rest : List NodeReply) → is_foreign shards stream entry ≡ false → k ≤ length entry.near →
       next_after shards stream (Pulled entry ∷ (replicate k (Checked true) ++ rest))
       ≡ unless_end (first_end shards stream (left entry k) rest)
-          (call_or_end (slice_get (left entry k) (length rest)) (Carried (pair_of_entry entry) (list_any is_committed rest) (list_any is_acked rest)))
+      (call_or_end (slice_get (left entry k) (length rest)) (Carried (pair_of_entry entry) (list_any is_committed rest) (list_any is_acked rest)))
   next-checked entry k rest own within =
       let calls = commit stream entry ∷ acknowledge stream entry ∷ [] in
       rw own (λ i.
@@ -140,14 +140,13 @@ module _ (shards : ℕ) (stream : Stream) where
 
   pub goes_check : (entry : Entry) (k : ℕ) (p : Pair) (reply : NodeReply) → k < length entry.near → end_of shards stream (DepCheck p.key p.version) reply ≡ None →
       FollowsReply shards stream (Carrying entry k) reply (Goes (Carrying entry (k + 1)))
-  goes_check entry k p reply within none replies led =
-      (
-        led.0,
-        omega arith,
-        led-one entry k replies reply led.2
+  goes_check entry k p reply within none replies led = (
+    led.0,
+    omega arith,
+    led-one entry k replies reply led.2
         ∙ ap (λ r. Pulled entry ∷ (replicate k (Checked true) ++ r ∷ [])) (no_end_check p.key p.version reply none)
         ∙ ap (λ rs. Pulled entry ∷ rs) (replicate-append-replicate k 1 (Checked true)),
-      )
+  )
 
   -- the calls from the commit on, after a reply to it
   after-commit : (fresh : Bool) (entry : Entry) (reply : NodeReply) (ending : Delivery) → is_foreign shards stream entry ≡ false → end_of shards stream (Ack stream.to_dc entry.version) reply ≡ Some ending →
@@ -176,7 +175,7 @@ module _ (shards : ℕ) (stream : Stream) where
       from : (first reply : NodeReply) → replies ≡ Pulled led.0 ∷ (replicate (length led.0.near) (Checked true) ++ first ∷ []) →
           next_after shards stream (replies ++ reply ∷ [])
           ≡ unless_end (first_end shards stream (commit stream led.0 ∷ acknowledge stream led.0 ∷ []) (first ∷ reply ∷ []))
-              (call_or_end None (Carried (pair_of_entry led.0) (list_any is_committed (first ∷ reply ∷ [])) (list_any is_acked (first ∷ reply ∷ []))))
+          (call_or_end None (Carried (pair_of_entry led.0) (list_any is_committed (first ∷ reply ∷ [])) (list_any is_acked (first ∷ reply ∷ []))))
       from first reply is =
           next-from led.0 (length led.0.near) (commit stream led.0 ∷ acknowledge stream led.0 ∷ []) (first ∷ reply ∷ []) (replies ++ reply ∷ []) led.1 (omega arith) (left-all led.0)
           (led-two led.0 (length led.0.near) replies first reply is)

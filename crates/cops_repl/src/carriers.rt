@@ -37,7 +37,8 @@ impl Model for Carrier {
 impl Carrier {
     /// A carrier of the stream from a node to another data centre. Its steps need that both exist.
     pub fn new(config: &Config, origin: NodeId, to_dc: u64) -> Self
-        ensures { CarrierStandsFor config.now.shards result (new_carrier (record { origin = origin; to_dc = to_dc })) }
+        ensures stands { CarrierStandsFor config.now.shards result (new_carrier (record { origin = origin; to_dc = to_dc })) }
+        ensures goes_on { has_ended result ≡ false }
     {
         Carrier {
             route: Route {
@@ -68,7 +69,7 @@ impl Carrier {
         ensures called { (directed : Directed) × (reply : NodeReply)
             × N.Answers nodes.old directed.node slot (max self.old.moment moment) directed.call reply nodes.new
             × ((shards : ℕ) (solo : Solo) → CarrierStandsFor shards self.old solo →
-                IsStepOf shards solo directed (record { moment = max solo.moment moment; outcome = Replied reply }) result self.new) }
+            IsStepOf shards solo directed (record { moment = max solo.moment moment; outcome = Replied reply }) result self.new) }
         ensures stream { self.new.stream ≡ self.old.stream }
         ensures shards { self.new.shards ≡ self.old.shards }
         ensures moment { self.new.moment ≡ max self.old.moment moment }

@@ -1,4 +1,4 @@
-use Rattle.std.proofs.Common.{ap, sym, subst, rules, ◌∙◌, true, false, ◌≡◌}
+use Rattle.std.proofs.Common.{ap, sym, subst, rules, true, false}
 use Rattle.cops_types.specs.declared.faults.Fault.TheVariants.{Torn}
 use Rattle.cops_node.specs.declared.NodeCall.TheVariants.{Ack}
 use Rattle.cops_node.specs.declared.NodeReply.{NodeReply}

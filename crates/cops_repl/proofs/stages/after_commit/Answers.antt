@@ -1,4 +1,4 @@
-use Rattle.std.proofs.Common.{ap, sym, rules, ◌∙◌, refl}
+use Rattle.std.proofs.Common.{ap, rules}
 use Rattle.cops_types.specs.declared.faults.Fault.TheVariants.{Torn}
 use Rattle.cops_repl.specs.declared.Delivery.TheVariants.{OutOfOrder, Refused}
 use Rattle.cops_repl.specs.Carrier.{end_of}
@@ -11,7 +11,7 @@ returns-in-OutOfOrder-clause-follows c =
     λ shards stream entry is. ends_commit shards stream entry c.args.reply.now (OutOfOrder c.in-OutOfOrder.mark) (ap (end_of shards stream (Commit entry)) c.in-OutOfOrder.is)
 
 pub returns-in-Refused-clause-follows : goal.returns-in-Refused-clause-follows
-returns-in-Refused-clause-follows c = 
+returns-in-Refused-clause-follows c =
     λ shards stream entry is. ends_commit shards stream entry c.args.reply.now (Refused c.in-Refused.fault) (ap (end_of shards stream (Commit entry)) c.in-Refused.is)
 
 pub returns-in_default : goal.returns-in_default

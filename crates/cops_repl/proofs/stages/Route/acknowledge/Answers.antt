@@ -9,8 +9,7 @@ returns-clause-called g c =
     let route = c.args.self.now in
     let stream = stream_of route in
     let pair = c.args.pair in
-    let call : Directed = record { node = route.origin; call = Ack route.to_dc pair.version } in
-    (
+    let call : Directed = record { node = route.origin; call = Ack route.to_dc pair.version } in (
       call,
       c.step-reply.result,
       c.step-reply.ensures.answers,

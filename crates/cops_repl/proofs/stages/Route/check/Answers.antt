@@ -16,8 +16,7 @@ returns-in-Some-clause-called g c =
     let pair = c.pair-pair.result in
     let place : slice_get entry.near c.args.checked ≡ Some pair =
     slice_get_read entry.near (length entry.near) c.args.checked pair refl c.requires.left (c.pair-pair.ensures ∙ ap (λ (e : Entry). get_or e.near c.args.checked pair) c.parts.ensures) in
-    let ends = c.end_of_check.ensures shards stream in
-    (
+    let ends = c.end_of_check.ensures shards stream in (
       check shards stream pair,
       c.step-reply.result,
       rw c.shard.ensures at c.step-reply.ensures.answers,
@@ -25,7 +24,7 @@ returns-in-Some-clause-called g c =
     )
 
 pub returns-in-None-clause-called : goal.returns-in-None-clause-called
-returns-in-None-clause-called g c = 
+returns-in-None-clause-called g c =
     let route = c.args.self.now in
     let shards = route.shards in
     let stream = stream_of route in
@@ -33,8 +32,7 @@ returns-in-None-clause-called g c =
     let pair = c.pair-pair.result in
     let place : slice_get entry.near c.args.checked ≡ Some pair =
     slice_get_read entry.near (length entry.near) c.args.checked pair refl c.requires.left (c.pair-pair.ensures ∙ ap (λ (e : Entry). get_or e.near c.args.checked pair) c.parts.ensures) in
-    let ends = c.end_of_check.ensures shards stream in
-    (
+    let ends = c.end_of_check.ensures shards stream in (
       check shards stream pair,
       c.step-reply.result,
       rw c.shard.ensures at c.step-reply.ensures.answers,

@@ -19,8 +19,7 @@ pub returns-clause-called : goal.returns-clause-called
 returns-clause-called g c =
     let route = c.args.self.now in
     let stream = stream_of route in
-    let entry = c.args.entry in
-    (
+    let entry = c.args.entry in (
       commit stream entry,
       c.step-reply.result,
       c.step-reply.ensures.answers,

@@ -1,0 +1,5 @@
+use Rattle.cops_repl.proofs.Bounds.{few_replies}
+use Rattle.cops_repl.proofs.laws.carriers_end.Goals as goal
+
+pub returns : goal.returns
+returns c = few_replies

@@ -1,0 +1,64 @@
+ghost use Rattle.std.specs.Prelude.{◌≡◌, ℕ, ◌+◌, ◌<◌, MatchResult};
+ghost use Rattle.cops_node.specs.declared.NodeReply.TheVariants.{Removed};
+ghost use Rattle.cops_repl.specs.Collections.{CollectsAll, StopsAt, all_nodes, nodes_of};
+
+use cops_node::{NodeCall, NodeId, NodeReply, Nodes};
+use cops_types::{Config, Fault};
+
+/// The sum with what a collection removed.
+fn add_removed(total: u64, reply: &NodeReply) -> Result<u64, Fault>
+    ensures { MatchResult result
+        (λ sum. (count : ℕ) × (reply.now ≡ Removed count) × (sum ≡ total + count))
+        (λ fault. StopsAt total reply.now fault) }
+{
+    match reply {
+        NodeReply::Removed(count) => total.checked_add(*count).ok_or(Fault::Torn),
+        NodeReply::Refused(fault) => Err(*fault),
+        _ => Err(Fault::Torn),
+    }
+}
+
+/// Collects on each node of a data centre, and adds what they removed to a sum.
+fn collect_in<N: Nodes>(
+    nodes: &mut N,
+    dc: u64,
+    shards: u64,
+    slot: u64,
+    moment: u64,
+    start: u64,
+) -> Result<u64, Fault>
+    requires dc { dc < (N.shape nodes.old).data_centres }
+    requires shards { shards ≡ (N.shape nodes.old).shards }
+    requires slot { slot < (N.shape nodes.old).slots }
+    ensures collected { CollectsAll N.Answers slot moment start (nodes_of shards dc) nodes.old nodes.new result }
+    ensures shape { N.shape nodes.new ≡ N.shape nodes.old }
+{
+    let mut total = start;
+    for shard in 0..shards {
+        let reply = nodes.step(NodeId { dc, shard }, slot, moment, NodeCall::Collect);
+        total = add_removed(total, &reply)?;
+    }
+    Ok(total)
+}
+
+/// Collects for the tenant of a slot on every node, in number order, and answers how many records were
+/// removed. The first refusal ends it. A reply that was not asked for, and a sum past the largest
+/// number, end it with `Torn`. Collections that were made before stand.
+pub fn collect_all<N: Nodes>(
+    nodes: &mut N,
+    config: &Config,
+    slot: u64,
+    moment: u64,
+) -> Result<u64, Fault>
+    requires data_centres { config.now.data_centres ≡ (N.shape nodes.old).data_centres }
+    requires shards { config.now.shards ≡ (N.shape nodes.old).shards }
+    requires slot { slot < (N.shape nodes.old).slots }
+    ensures collected { CollectsAll N.Answers slot moment 0 (all_nodes config.now.data_centres config.now.shards) nodes.old nodes.new result }
+    ensures shape { N.shape nodes.new ≡ N.shape nodes.old }
+{
+    let mut total = 0;
+    for dc in 0..config.data_centres {
+        total = collect_in(nodes, dc, config.shards, slot, moment, total)?;
+    }
+    Ok(total)
+}
