@@ -1,8 +1,24 @@
 -- What a new node keeps.
-use Rattle.std.proofs.Common.{◌≡◌, ℕ, List, [], ◌∷◌, length, refl, ap, ◌⊎◌, inl, inr}
-use Rattle.std.specs.Prelude.{replicate}
-use Rattle.std.specs.List.{AllClonesOf}
-use Rattle.cops_types.specs.Version.{Timestamp}
+use Rattle.std.proofs.Common.{◌≡◌, ℕ, zero, suc, ◌*◌, ◌<◌, ◌≤◌, Bool, true, false, true≢false, List, [], ◌∷◌, length, map, refl, sym, ap, ◌∙◌, subst, arith, get_or, ◌⊎◌, inl, inr, IsTrue}
+use Rattle.std.specs.Prelude.{replicate, drop, nat_le, ◌&&◌}
+use Rattle.std.specs.List.{AllClonesOf, AllByRecursion, list_all}
+use Rattle.std.proofs.lemmas.Bool.Decides.{nat_tests}
+use Rattle.std.proofs.Math.Nat.{mul-le-mul_left, mul-le-mul_right}
+use Rattle.cops_types.specs.declared.configs.Config.{Config}
+use Rattle.cops_types.specs.declared.configs.Tenant.{Tenant}
+use Rattle.cops_types.specs.declared.records.EntryParts.{EntryParts as Entry}
+use Rattle.cops_types.specs.HeadLines.{are_sizes}
+use Rattle.cops_types.specs.Layout.{NODES}
+use Rattle.cops_types.specs.Records.{StandsFor}
+use Rattle.cops_types.specs.TenantConfig.{tenant_config}
+use Rattle.cops_types.specs.Version.{Timestamp, no_version, last_clock}
+use Rattle.cops_store.specs.Contents.{Contents, rows_of}
+use Rattle.cops_outbox.specs.Queues.{Queues, entries_of}
+use Rattle.cops_node.specs.declared.NodeId.{NodeId}
+use Rattle.cops_node.specs.declared.Place.{Place}
+use Rattle.cops_node.specs.declared.parts.Part.{Part}
+use Rattle.cops_node.specs.Parts.{IsFresh, IsPart, IsNode}
+use Rattle.cops_node.specs.Place.{place_of}
 
 -- a list of copies
 pub copies_are : (clones : Timestamp → Timestamp → Type 0) (x : Timestamp) (ys : List Timestamp) → ((y : Timestamp) → clones x y → y ≡ x) → AllClonesOf clones x ys → ys ≡ replicate (length ys) x
@@ -12,3 +28,108 @@ copies_are clones x (y ∷ ys) f h = let here : y ≡ x = one h.0 in let rest = 
     one : (y ≡ x) ⊎ clones x y → y ≡ x
     one (inl e) = e
     one (inr k) = f y k
+
+-- ---- a new node
+
+replicate_read : {A : Type 0} (n i : ℕ) (x : A) → get_or (replicate n x) i x ≡ x
+replicate_read zero i x = refl
+replicate_read (suc n) zero x = refl
+replicate_read (suc n) (suc i) x = replicate_read n i x
+
+length_replicate : {A : Type 0} (n : ℕ) (x : A) → length (replicate n x) ≡ n
+length_replicate zero x = refl
+length_replicate (suc n) x = ap suc (length_replicate n x)
+
+drop_nothing : (n : ℕ) → (let none : List Entry = [] in drop n none ≡ none)
+drop_nothing zero = refl
+drop_nothing (suc n) = refl
+
+fresh_at : (parts : List Part) (slot : ℕ) (part : Part) → AllByRecursion IsFresh parts → slot < length parts → part ≡ get_or parts slot part → IsFresh part
+fresh_at [] slot part h lt is = absurd (omega arith)
+fresh_at (p ∷ parts) zero part h lt is = subst IsFresh (sym is) h.0
+fresh_at (p ∷ parts) (suc slot) part h lt is = fresh_at parts slot part h.1 (omega arith) is
+
+-- the part's place is that of some tenant
+abbrev PlaceOfSome : Config → NodeId → Part → Type 0
+PlaceOfSome config id part = (tenant : Tenant) × (part.place ≡ place_of (tenant_config config tenant) id) × (tenant.first_clock ≤ last_clock)
+
+place_at : (config : Config) (id : NodeId) (parts : List Part) (tenants : List Tenant) (slot : ℕ) (part : Part) → map (λ (p : Part). p.place) parts ≡ map (λ (t : Tenant). place_of (tenant_config config t) id) tenants
+    → AllByRecursion (λ (t : Tenant). t.first_clock ≤ last_clock) tenants → slot < length parts → part ≡ get_or parts slot part → PlaceOfSome config id part
+place_at config id [] tenants slot part same clocks lt is = absurd (omega arith)
+place_at config id (p ∷ parts) [] slot part same clocks lt is = absurd (differ same)
+  where
+    differ : (let none : List Place = [] in p.place ∷ map (λ (p : Part). p.place) parts ≡ none) → ⊥
+    differ e = cc
+place_at config id (p ∷ parts) (t ∷ tenants) zero part same clocks lt is =
+    let first : p.place ≡ place_of (tenant_config config t) id = cc in
+    (t, ap (λ (x : Part). x.place) is ∙ first, clocks.0)
+place_at config id (p ∷ parts) (t ∷ tenants) (suc slot) part same clocks lt is =
+    let rest : map (λ (p : Part). p.place) parts ≡ map (λ (t : Tenant). place_of (tenant_config config t) id) tenants = cc in
+    place_at config id parts tenants slot part rest clocks.1 (omega arith) is
+
+pub IsNode-new : (config : Config) (id : NodeId) (parts : List Part) (store : Contents) (outbox : Queues) → id.dc < config.data_centres → id.shard < config.shards → config.data_centres * config.shards ≤ NODES
+    → AllByRecursion (λ (t : Tenant). t.first_clock ≤ last_clock) config.tenants → AllByRecursion IsFresh parts → map (λ (p : Part). p.place) parts ≡ map (λ (t : Tenant). place_of (tenant_config config t) id) config.tenants
+    → store.tenants ≡ length parts → outbox ≡ record { own = id.dc; tenants = length parts; queues = replicate config.data_centres [] }
+    → ((slot : ℕ) → StandsFor (rows_of slot store) []) → IsNode id config.data_centres config.shards parts store outbox []
+IsNode-new config id parts store outbox dc shard numbers clocks fresh places stored outbox_is empty = record {
+  shard_exists = shard;
+  each = λ slot part lt is. by slot part lt (fresh_at parts slot part fresh lt is) (place_at config id parts config.tenants slot part places clocks lt is);
+}
+  where
+    by : (slot : ℕ) (part : Part) → slot < length parts → IsFresh part → PlaceOfSome config id part → IsPart id config.data_centres config.shards slot part store outbox []
+    by slot part lt h some =
+        let is : part.place ≡ place_of (tenant_config config some.0) id = some.1 in
+        let back = sym is in
+        let clock : part.place.first_clock ≤ last_clock = subst (λ (q : Place). q.first_clock ≤ last_clock) back some.2 in
+        let sizes : part.place.data_centres ≡ config.data_centres = ap (λ (q : Place). q.data_centres) is in
+        record {
+          id_is = ap (λ (q : Place). q.id) is;
+          data_centres_are = sizes;
+          shards_are = ap (λ (q : Place). q.shards) is;
+          stands = record {
+            place_is = record {
+              dc_exists = subst (λ (q : Place). q.id.dc < q.data_centres) back dc;
+              shard_exists = subst (λ (q : Place). q.id.shard < q.shards) back shard;
+              numbers_fit = subst (λ (q : Place). q.data_centres * q.shards ≤ NODES) back numbers;
+              clock_fits = clock;
+            };
+            stored = subst (λ n. slot < n) (sym stored) lt;
+            queued = subst (λ (o : Queues). slot < o.tenants) (sym outbox_is) lt;
+            own_is = ap (λ (o : Queues). o.own) outbox_is ∙ subst (λ (q : Place). id.dc ≡ q.id.dc) back refl;
+            all_queues = ap (λ (o : Queues). length o.queues) outbox_is ∙ length_replicate config.data_centres [] ∙ sym sizes;
+            rows = empty slot;
+            queues = λ dc other. ap (λ (o : Queues). entries_of slot (get_or o.queues dc [])) outbox_is ∙ ap (entries_of slot) (replicate_read config.data_centres dc []) ∙ sym (drop_nothing (get_or (replicate part.place.data_centres 0) dc 0));
+            all_acked = length_replicate part.place.data_centres 0;
+            acked = λ dc. subst (λ n. n ≤ 0) (sym (replicate_read part.place.data_centres dc 0)) (omega arith);
+            clock_is = h.clock_is;
+            clock_fits = subst (λ n. n ≤ last_clock) (sym h.clock_is) clock;
+            marks = record {
+              all = ap length h.marks ∙ length_replicate NODES no_version;
+              each = λ node lt. ap (λ (ms : List Timestamp). get_or ms node no_version) h.marks ∙ replicate_read NODES node no_version;
+            };
+            late = tt;
+          };
+          moment = sym h.moment;
+          trail_is = refl;
+          places = h.trail;
+        }
+
+-- what the test on first clocks says
+pub clocks_of : (tenants : List Tenant) → list_all (λ (tenant : Tenant). nat_le tenant.first_clock last_clock) tenants ≡ true → AllByRecursion (λ (tenant : Tenant). tenant.first_clock ≤ last_clock) tenants
+clocks_of [] h = tt
+clocks_of (t ∷ tenants) h = (clock (nat_le t.first_clock last_clock) refl h, clocks_of tenants (rest (nat_le t.first_clock last_clock) h))
+  where
+    clock : (b : Bool) → nat_le t.first_clock last_clock ≡ b → (b && list_all (λ (tenant : Tenant). nat_le tenant.first_clock last_clock) tenants) ≡ true → t.first_clock ≤ last_clock
+    clock true is h = grind (arith, nat_tests)
+    clock false is h = absurd (true≢false (sym h))
+
+    rest : (b : Bool) → (b && list_all (λ (tenant : Tenant). nat_le tenant.first_clock last_clock) tenants) ≡ true → list_all (λ (tenant : Tenant). nat_le tenant.first_clock last_clock) tenants ≡ true
+    rest true h = h
+    rest false h = cc
+
+-- so few nodes that a version has their numbers
+pub numbers_fit : (config : Config) → IsTrue (are_sizes config) → config.data_centres * config.shards ≤ NODES
+numbers_fit config h =
+    let dcs : config.data_centres ≤ 8 = grind (arith, nat_tests) in
+    let shards : config.shards ≤ 16 = grind (arith, nat_tests) in
+    omega (arith, mul-le-mul_right config.shards dcs, mul-le-mul_left 8 shards)

@@ -1,5 +1,6 @@
 pub mod AuditLaws
 pub mod NewRecords
+pub mod Clusters
 pub mod Effects
 pub mod Slots
 pub mod Stored

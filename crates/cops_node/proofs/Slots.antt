@@ -1,6 +1,6 @@
 -- What one call of a slot does to what a node keeps of all slots.
 use Rattle.std.proofs.Common.{◌≡◌, ◌≢◌, ℕ, zero, suc, ◌+◌, ◌<◌, ◌≤◌, Bool, true, false, cond, not, List, [], ◌∷◌, ◌++◌, length, map, filter, refl, sym, ap, ◌∙◌, subst, arith, true≢false, nat_eq, nat_lt, max, get_or, set, length-append, append-nil, IsTrue, inl, inr, ◌⊎◌}
-use Rattle.std.specs.Prelude.{if◌then◌else◌, ◌==◌, ◌&&◌, ◌/◌, ◌%◌, Option, Some, None}
+use Rattle.std.specs.Prelude.{if◌then◌else◌, ◌==◌, ◌&&◌, ◌-◌, ◌/◌, ◌%◌, slice_get, Option, Some, None}
 use Rattle.std.proofs.lemmas.Bool.Decides.{Decides-eqb, nat_tests}
 use Rattle.std.proofs.lemmas.List.{get_or-set_same, get_or-set_other, get_or_default, map-append}
 use Rattle.std.proofs.Math.ListN.{length-set}
@@ -191,6 +191,7 @@ IsNode-set : (id : NodeId) (dcs shards : ℕ) (parts : List Part) (slot : ℕ) (
     → ((other : ℕ) → other ≢ slot → trail_of other audit' ≡ trail_of other audit) → ((other : ℕ) → other ≢ slot → places_from 0 other audit' ≡ places_from 0 other audit)
     → IsNode id dcs shards (set parts slot new) store' outbox' audit'
 IsNode-set id dcs shards parts slot new store store' outbox outbox' audit audit' h within own stay trails places = record {
+  shard_exists = h.shard_exists;
   each = λ s part lt read. by s part (subst (λ m. s < m) (length-set parts slot new) lt) read (nat_eq s slot) refl;
 }
   where
@@ -400,3 +401,48 @@ view_set id dcs shards slot parts p new audit audit' read same is =
 
 pub same_part : (parts : List Part) (slot : ℕ) (p q : Part) → slot < length parts → p ≡ get_or parts slot p → q ≡ get_or parts slot q → p ≡ q
 same_part parts slot p q within read again = read ∙ get_or_default parts slot p q within ∙ sym again
+
+-- ---- the audit by place
+
+-- the place in the audit of all slots that is found has the slot's call
+found_from : (at slot : ℕ) (audit : List Audited) (k n : ℕ) → slice_get (places_from at slot audit) k ≡ Some n → (at ≤ n) × (n < at + length audit) × ((d : Audited) → slice_get (trail_of slot audit) k ≡ Some (get_or audit (n - at) d).entry)
+found_from at slot [] k n h = absurd (none k h)
+  where
+    none : (k : ℕ) → (let empty : List ℕ = [] in slice_get empty k ≡ Some n) → ⊥
+    none zero h = cc
+    none (suc k) h = cc
+found_from at slot (x ∷ audit) k n h = by (nat_eq x.slot slot) k h (λ j. found_from (at + 1) slot audit j n)
+  where
+    later : (j : ℕ) → ((at + 1 ≤ n) × (n < at + 1 + length audit) × ((d : Audited) → slice_get (trail_of slot audit) j ≡ Some (get_or audit (n - (at + 1)) d).entry))
+        → (at ≤ n) × (n < at + suc (length audit)) × ((d : Audited) → slice_get (trail_of slot audit) j ≡ Some (get_or (x ∷ audit) (n - at) d).entry)
+    later j r =
+        let low : at + 1 ≤ n = r.0 in
+        let high : n < at + 1 + length audit = r.1 in
+        let step : suc (n - (at + 1)) ≡ n - at = omega arith in
+        (omega arith, omega arith, λ d. r.2 d ∙ ap (λ m. Some (get_or (x ∷ audit) m d).entry) step)
+
+    by : (b : Bool) (k : ℕ) → slice_get (if b then at ∷ places_from (at + 1) slot audit else places_from (at + 1) slot audit) k ≡ Some n
+        → ((j : ℕ) → slice_get (places_from (at + 1) slot audit) j ≡ Some n → (at + 1 ≤ n) × (n < at + 1 + length audit) × ((d : Audited) → slice_get (trail_of slot audit) j ≡ Some (get_or audit (n - (at + 1)) d).entry))
+        → (at ≤ n) × (n < at + suc (length audit)) × ((d : Audited) → slice_get (map (λ (a : Audited). a.entry) (cond b (x ∷ filter (λ a. nat_eq a.slot slot) audit) (filter (λ a. nat_eq a.slot slot) audit))) k ≡ Some (get_or (x ∷ audit) (n - at) d).entry)
+    by true zero h more = let same : at ≡ n = cc in let here : 0 ≡ n - at = omega arith in (omega arith, omega arith, λ d. ap (λ m. Some (get_or (x ∷ audit) m d).entry) here)
+    by true (suc k) h more = later k (more k h)
+    by false k h more = later k (more k h)
+
+pub audit_found : (slot : ℕ) (audit : List Audited) (k n : ℕ) → slice_get (places_from 0 slot audit) k ≡ Some n → (n < length audit) × ((d : Audited) → slice_get (trail_of slot audit) k ≡ Some (get_or audit n d).entry)
+audit_found slot audit k n h =
+    let r = found_from 0 slot audit k n h in
+    let high : n < 0 + length audit = r.1 in
+    let same : n - 0 ≡ n = omega arith in
+    (omega arith, λ d. r.2 d ∙ ap (λ m. Some (get_or audit m d).entry) same)
+
+pub audit_missing : (at slot : ℕ) (audit : List Audited) (k : ℕ) → slice_get (places_from at slot audit) k ≡ None → slice_get (trail_of slot audit) k ≡ None
+audit_missing at slot [] zero h = refl
+audit_missing at slot [] (suc k) h = refl
+audit_missing at slot (x ∷ audit) k h = by (nat_eq x.slot slot) k h (audit_missing (at + 1) slot audit)
+  where
+    by : (b : Bool) (k : ℕ) → slice_get (if b then at ∷ places_from (at + 1) slot audit else places_from (at + 1) slot audit) k ≡ None
+        → ((j : ℕ) → slice_get (places_from (at + 1) slot audit) j ≡ None → slice_get (trail_of slot audit) j ≡ None)
+        → slice_get (map (λ (a : Audited). a.entry) (cond b (x ∷ filter (λ a. nat_eq a.slot slot) audit) (filter (λ a. nat_eq a.slot slot) audit))) k ≡ None
+    by true zero h more = cc
+    by true (suc k) h more = more k h
+    by false k h more = more k h

@@ -1,4 +1,3 @@
-pub mod Clusters
 pub mod Log
 pub mod Place
 pub mod Run
@@ -14,3 +13,4 @@ pub use Rattle.cops_types.specs.Value
 pub use Rattle.cops_types.specs.Version
 pub use Rattle.cops_types.specs.TenantConfig
 pub mod Parts
+pub mod Clusters

@@ -1,5 +1,6 @@
 -- What a node holds of all tenants, and what it stands for.
-use Rattle.std.specs.Prelude.{◌≡◌, ◌≢◌, ℕ, ◌+◌, ◌*◌, ◌<◌, ◌≤◌, nat_eq, IsTrue, List, [], ◌∷◌, ◌++◌, length, map, filter, slice_index, slice_index_or, ◌⊎◌, replicate, if◌then◌else◌}
+use Rattle.std.specs.Prelude.{◌≡◌, ◌≢◌, ℕ, ◌+◌, ◌*◌, ◌<◌, ◌≤◌, nat_eq, nat_le, Bool, IsTrue, List, [], ◌∷◌, ◌++◌, length, map, filter, slice_index, slice_index_or, ◌⊎◌, replicate, if◌then◌else◌}
+use Rattle.std.specs.List.{list_all}
 use Rattle.cops_types.specs.declared.configs.Config.{Config}
 use Rattle.cops_types.specs.declared.configs.Tenant.{Tenant}
 use Rattle.cops_types.specs.declared.faults.Fault.TheVariants.{OutOfMemory, AuditFull}
@@ -26,7 +27,7 @@ use Rattle.cops_node.specs.Step.{node_step, effect}
 
 -- ---- a node as contracts see it
 
--- what never changes: which node it is, the sizes of the cluster, and the place of each slot
+-- what never changes of a node: which node it is, the sizes of the cluster, and the place of each slot
 pub record Home : Type 0 where
   pub id : NodeId
   pub shape : Shape
@@ -58,7 +59,11 @@ home_of config id =
       places = map (λ tenant. place_of (tenant_config config tenant) id) config.tenants;
     }
 
--- the nodes that a clock and a node number name
+-- each tenant's first clock is a number that a clock has
+abbrev pub are_clocks : Config → Bool
+are_clocks config = list_all (λ (tenant : Tenant). nat_le tenant.first_clock last_clock) config.tenants
+
+-- a node of a cluster whose numbers and first clocks fit a version
 pub record IsPlace (place : Place) : Type 0 where
   pub dc_exists : place.id.dc < place.data_centres
   pub shard_exists : place.id.shard < place.shards
@@ -144,6 +149,7 @@ pub record IsPart (id : NodeId) (data_centres shards slot : ℕ) (part : Part) (
   pub places : part.trail.items ≡ places_from 0 slot audit
 
 pub record IsNode (id : NodeId) (data_centres shards : ℕ) (parts : List Part) (store : Contents) (outbox : Queues) (audit : List Audited) : Type 0 where
+  pub shard_exists : id.shard < shards
   pub each : (slot : ℕ) (part : Part) → slot < length parts → part ≡ slice_index_or parts slot part → IsPart id data_centres shards slot part store outbox audit
 
 -- a part before any call

@@ -2,19 +2,25 @@
 #![tactic(auto)]
 
 mod calls;
+mod cluster;
 mod commits;
 mod copies;
 mod gets;
 mod laws;
+mod limits;
 mod node;
 mod nodes;
 mod parts;
 mod puts;
 mod queues;
 mod replies;
+#[cfg(test)]
+mod tests;
 
 use cops_types::{Deps, Entry, Fault, Key, Near, Quota, Value, Version};
+pub use cluster::Cluster0;
 pub use laws::{audit_tells_all, greatest_version_stays, marks_never_fall};
+pub use limits::has_clocks;
 pub use node::Node;
 pub use nodes::Nodes;
 pub use parts::{Audited, Counters, Part};

@@ -5,16 +5,16 @@ ghost use Rattle.std.specs.Option.{option_copied};
 ghost use Rattle.cops_types.specs.HeadLines.{are_sizes};
 ghost use Rattle.cops_types.specs.Version.{last_clock};
 ghost use Rattle.cops_node.specs.declared.Place.{Place};
-ghost use Rattle.cops_node.specs.Parts.{trail_of, home_of, IsTurn, IsAudited, IsFresh};
-ghost use Rattle.cops_node.specs.Place.{fits};
-ghost use Rattle.cops_node.specs.Shape.{Fits, place_in};
+ghost use Rattle.cops_node.specs.Parts.{trail_of, home_of, are_clocks, IsTurn, IsAudited};
+ghost use Rattle.cops_node.specs.Place.{is_home, is_other_dc, is_other_equivalent, fits};
+ghost use Rattle.cops_node.specs.Shape.{place_in};
 
 use crate::calls;
 use crate::parts::{self, Audited, Part};
 use crate::{AuditEntry, NodeCall, NodeId, NodeReply, Place};
 use cops_outbox::Outbox;
 use cops_store::Store;
-use cops_types::{Config, Fault, Tenants};
+use cops_types::{Config, Fault, Key};
 use std::alloc::{AllocError, Global};
 use std::marker::Model;
 
@@ -44,10 +44,107 @@ impl Model for Node {
 }
 
 impl Node {
+    /// A node of a configuration that no call has reached.
+    pub fn new(alloc: Global, config: &Config, id: NodeId) -> Result<Self, AllocError>
+        requires dc_exists { id.dc < config.now.data_centres }
+        requires shard_exists { id.shard < config.now.shards }
+        requires sizes { IsTrue (are_sizes config.now) }
+        requires clocks { IsTrue (are_clocks config.now) }
+        ensures { IfOk result (λ node. node ≡ record { home = home_of config.now id; audit = [] }) }
+    {
+        let parts = parts::fresh_parts(alloc, config, id)?;
+        let tenants = parts.len();
+        let store = match Store::new(alloc, tenants) {
+            Ok(store) => store,
+            Err(_) => return Err(AllocError),
+        };
+        let outbox = Outbox::new(alloc, config.data_centres as usize, id.dc, tenants)?;
+        Ok(Node {
+            alloc,
+            id,
+            data_centres: config.data_centres,
+            shards: config.shards,
+            parts,
+            store,
+            outbox,
+            audit: Vec::new(alloc),
+        })
+    }
+
+    /// How many tenants there are.
+    pub fn slots(&self) -> u64
+        ensures { result ≡ self.now.home.shape.slots }
+    {
+        self.parts.len() as u64
+    }
+
+    // Whether the key is placed on this shard.
+    fn is_home(&self, key: &Key) -> bool
+        ensures { result ≡ is_home (place_in self.now.home.shape self.now.home.id) key.now }
+    {
+        key.shard(self.shards) == self.id.shard
+    }
+
+    // Whether the data centre is another one of the cluster.
+    fn is_other_dc(&self, dc: u64) -> bool
+        ensures { result ≡ is_other_dc (place_in self.now.home.shape self.now.home.id) dc }
+    {
+        dc < self.data_centres && dc != self.id.dc
+    }
+
+    // Whether the node of this number has this shard in another data centre.
+    fn is_other_equivalent(&self, node: u64) -> bool
+        ensures { result ≡ is_other_equivalent (place_in self.now.home.shape self.now.home.id) node }
+    {
+        self.is_other_dc(node / self.shards) && node % self.shards == self.id.shard
+    }
+
+    /// Whether the call may come to this node.
+    pub fn fits(&self, call: &NodeCall) -> bool
+        ensures { result ≡ fits (place_in self.now.home.shape self.now.home.id) call.now }
+    {
+        match call {
+            NodeCall::Get(key, _) => self.is_home(key),
+            NodeCall::Put(key, _, _, _) => self.is_home(key),
+            NodeCall::DepCheck(key, _) => self.is_home(key),
+            NodeCall::Pull(dc) => self.is_other_dc(*dc),
+            NodeCall::Commit(entry) => {
+                self.is_home(&entry.key()) && self.is_other_equivalent(entry.version().node())
+            }
+            NodeCall::Ack(dc, _) => self.is_other_dc(*dc),
+            NodeCall::Collect => true,
+        }
+    }
+
+    /// How many calls are in the audit of a slot.
+    pub fn audit_len(&self, slot: u64) -> u64
+        requires { slot < self.now.home.shape.slots }
+        ensures { result ≡ length (trail_of slot self.now.audit) }
+    {
+        let part = &self.parts[slot as usize];
+        part.trail.len() as u64
+    }
+
+    /// The call at a place of the audit of a slot.
+    pub fn audit(&self, slot: u64, place: u64) -> Option<&AuditEntry>
+        requires { slot < self.now.home.shape.slots }
+        ensures { option_copied result ≡ slice_get (trail_of slot self.now.audit) place }
+    {
+        let part = &self.parts[slot as usize];
+        match part.trail.get(place as usize) {
+            Some(at) => {
+                let audited = &self.audit[*at];
+                Some(&audited.entry)
+            }
+            None => None,
+        }
+    }
+
     /// Makes a call for the tenant of a slot. Where the audit is full or memory is refused, that is
     /// the reply and nothing changes.
     pub fn step(&mut self, slot: u64, moment: u64, call: NodeCall) -> NodeReply
-        requires { Fits self.old.home.shape self.old.home.id slot call }
+        requires slot_exists { slot < self.old.home.shape.slots }
+        requires call_fits { IsTrue (fits (place_in self.old.home.shape self.old.home.id) call) }
         ensures turn { (place : Place) → place ≡ slice_index_or self.old.home.places slot place → IsTurn slot moment call result place self.old self.new }
         ensures audited { IsAudited slot moment call result self.old self.new }
         ensures others { (other : ℕ) → other ≢ slot → trail_of other self.new.audit ≡ trail_of other self.old.audit }

@@ -5,10 +5,11 @@ ghost use Rattle.cops_types.specs.Layout.{NODES};
 ghost use Rattle.cops_types.specs.Records.{Tracked, mark};
 ghost use Rattle.cops_types.specs.Version.{version_le, last_clock};
 ghost use Rattle.cops_node.specs.Parts.{AreMarks, IsFresh, IsPlace};
-ghost use Rattle.cops_node.specs.Place.{own_number as own_number_of};
+ghost use Rattle.cops_node.specs.Place.{place_of, own_number as own_number_of};
+ghost use Rattle.cops_types.specs.TenantConfig.{tenant_config};
 
-use crate::{AuditEntry, Place};
-use cops_types::Version;
+use crate::{AuditEntry, NodeId, Place};
+use cops_types::{Config, Tenant, Version};
 use std::alloc::{AllocError, Global};
 
 /// A call in the audit, with the slot that it was for.
@@ -48,6 +49,37 @@ fn fresh(alloc: Global, place: Place) -> Result<Part, AllocError>
         counters: Counters { clock, marks },
         trail: Vec::new(alloc),
     })
+}
+
+// The place of a tenant at a node.
+fn place_at(config: &Config, tenant: &Tenant, id: NodeId) -> Place
+    ensures { result ≡ place_of (tenant_config config.now tenant.now) id }
+{
+    Place {
+        id,
+        data_centres: config.data_centres,
+        shards: config.shards,
+        trans_time: config.trans_time,
+        first_clock: tenant.first_clock,
+        quota: tenant.quota,
+    }
+}
+
+// The parts of all tenants before any call.
+pub(crate) fn fresh_parts(
+    alloc: Global,
+    config: &Config,
+    id: NodeId,
+) -> Result<Vec<Part>, AllocError>
+    ensures fresh { IfOk result (λ parts. AllByRecursion IsFresh parts.items) }
+    ensures places { IfOk result (λ parts. map (λ p. p.place) parts.items ≡ map (λ t. place_of (tenant_config config.now t) id) config.now.tenants) }
+{
+    let mut parts = Vec::new(alloc);
+    let tenants = config.tenants.as_slice();
+    for tenant in tenants {
+        parts.push(fresh(alloc, place_at(config, tenant, id))?)?;
+    }
+    Ok(parts)
 }
 
 // Whether the audit of the part is full.

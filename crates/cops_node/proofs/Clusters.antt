@@ -1,0 +1,163 @@
+-- What a call at one node does to a cluster.
+use Rattle.std.proofs.Common.{◌≡◌, ◌≢◌, ℕ, zero, suc, ◌+◌, ◌*◌, ◌/◌, ◌%◌, ◌<◌, ◌≤◌, Bool, true, false, cond, List, [], ◌∷◌, length, map, refl, sym, ap, ◌∙◌, subst, arith, get_or, set, nat_lt, max, inl, inr, ◌⊎◌}
+use Rattle.std.specs.Prelude.{slice_get, Option, Some, None}
+use Rattle.std.specs.List.{AllByRecursion, range_with_len}
+use Rattle.std.proofs.lemmas.List.{map-set, get_or-map, set-get_or}
+use Rattle.std.proofs.lemmas.List.FromFn.{length-map-range_with_len, get_or-map-range_with_len}
+use Rattle.std.proofs.lemmas.Nat.{div-mul-add, mod-mul-add, mul-add-lt}
+use Rattle.std.proofs.lemmas.Option.{get_or_from_slice_get}
+use Rattle.std.proofs.Math.ListN.{length-set}
+use Rattle.std.proofs.Math.Seq.{map-set_same}
+use Rattle.cops_types.specs.declared.configs.Config.{Config}
+use Rattle.cops_types.specs.declared.faults.Fault.TheVariants.{OutOfMemory}
+use Rattle.cops_types.specs.Layout.{NODES}
+use Rattle.cops_types.specs.TenantConfig.{TenantConfig}
+use Rattle.cops_node.specs.declared.NodeCall.{NodeCall}
+use Rattle.cops_node.specs.declared.NodeId.{NodeId}
+use Rattle.cops_node.specs.declared.NodeReply.{NodeReply}
+use Rattle.cops_node.specs.declared.NodeReply.TheVariants.{Refused}
+use Rattle.cops_node.specs.declared.Place.{Place}
+use Rattle.cops_node.specs.Clusters.{Cluster, nodes_of, HasTenant, turn_at, IsTurnOf, IsCall, IsCluster, id_of, new_shared, shape_of}
+use Rattle.cops_node.specs.Parts.{Home, Shared, trail_of, solo_of, left_by, IsTurn}
+use Rattle.cops_node.specs.Place.{place_of, number_of}
+use Rattle.cops_node.specs.Shape.{Shape, place_in}
+use Rattle.cops_node.specs.SoloNode.{SoloNode, new_node}
+use Rattle.cops_node.specs.Step.{Turn, node_step}
+
+all_set : {A : Type 0} (P : A → Type 0) (xs : List A) (i : ℕ) (x y : A) → AllByRecursion P xs → (P x → P y) → x ≡ get_or xs i x → AllByRecursion P (set xs i y)
+all_set P [] i x y h keep is = tt
+all_set P (z ∷ xs) zero x y h keep is = (keep (subst P (sym is) h.0), h.1)
+all_set P (z ∷ xs) (suc i) x y h keep is = (h.0, all_set P xs i x y h.1 keep is)
+
+all_at : {A : Type 0} (P : A → Type 0) (xs : List A) (i : ℕ) (x : A) → AllByRecursion P xs → i < length xs → x ≡ get_or xs i x → P x
+all_at P [] i x h lt is = absurd (omega arith)
+all_at P (z ∷ xs) zero x h lt is = subst P (sym is) h.0
+all_at P (z ∷ xs) (suc i) x h lt is = all_at P xs i x h.1 (omega arith) is
+
+read_again : {A : Type 0} (xs : List A) (i : ℕ) (d : A) → get_or xs i d ≡ get_or xs i (get_or xs i d)
+read_again [] i d = refl
+read_again (x ∷ xs) zero d = refl
+read_again (x ∷ xs) (suc i) d = read_again xs i d
+
+-- ---- a call
+
+module _ (shape : Shape) (nodes : List Shared) (id : NodeId) (slot moment : ℕ) (call : NodeCall) (reply : NodeReply) (node next : Shared)
+    (within : number_of shape.shards id < length nodes) (read : node ≡ get_or nodes (number_of shape.shards id) node) (here : node.home.id ≡ id)
+    (turn : (place : Place) → place ≡ get_or node.home.places slot place → IsTurn slot moment call reply place node next)
+    (stay : (other : ℕ) → other ≢ slot → trail_of other next.audit ≡ trail_of other node.audit)
+    (home : next.home ≡ node.home) where
+  abbrev number : ℕ
+  number = number_of shape.shards id
+
+  abbrev old : Cluster
+  old = record { shape = shape; nodes = nodes }
+
+  abbrev new : Cluster
+  new = record { shape = shape; nodes = set nodes (number_of shape.shards id) next }
+
+  homes : map (λ (n : Shared). n.home) (set nodes number next) ≡ map (λ (n : Shared). n.home) nodes
+  homes = map-set_same (λ (n : Shared). n.home) nodes number next node (home ∙ ap (λ (n : Shared). n.home) read)
+
+  same_solo : (config : TenantConfig) (other : ℕ) → other ≢ slot → solo_of other (place_of config next.home.id) next ≡ solo_of other (place_of config node.home.id) node
+  same_solo config other differ = (λ i. left_by (place_of config (home i).id) (stay other differ i))
+
+  others : (config : TenantConfig) (other : ℕ) → other ≢ slot → nodes_of config other new ≡ nodes_of config other old
+  others config other differ = map-set_same (λ (n : Shared). solo_of other (place_of config n.home.id) n) nodes number next node (same_solo config other differ ∙ ap (λ (n : Shared). solo_of other (place_of config n.home.id) n) read)
+
+  tenants : (config : TenantConfig) (other : ℕ) → HasTenant config other old → HasTenant config other new
+  tenants config other h = all_set (λ (n : Shared). slice_get n.home.places other ≡ Some (place_of config n.home.id)) nodes number node next h
+      (λ k. ap (λ (h : Home). slice_get h.places other) home ∙ k ∙ ap (λ (h : Home). Some (place_of config h.id)) (sym home)) read
+
+  -- the slot's place at the node
+  abbrev place : Place
+  place = get_or node.home.places slot (place_in shape id)
+
+  by_tenant : (reply ≡ (node_step place moment call (solo_of slot place node)).reply) × (solo_of slot place next ≡ (node_step place moment call (solo_of slot place node)).after)
+      → (config : TenantConfig) → config.shards ≡ shape.shards → HasTenant config slot old → IsTurnOf config id slot moment call reply old new
+  by_tenant t config same_shards has = record {
+    reply_is = t.0 ∙ ap (λ (u : Turn). u.reply) turn_is;
+    after = map-set solos nodes number next ∙ (λ i. set (map solos nodes) (same_number i) (next_is i));
+  }
+    where
+      solos : Shared → SoloNode
+      solos n = solo_of slot (place_of config n.home.id) n
+
+      same_number : number ≡ number_of config.shards id
+      same_number = ap (λ n. id.dc * n + id.shard) (sym same_shards)
+
+      found : slice_get node.home.places slot ≡ Some (place_of config node.home.id)
+      found = all_at (λ (n : Shared). slice_get n.home.places slot ≡ Some (place_of config n.home.id)) nodes number node has within read
+
+      place_is : place ≡ place_of config id
+      place_is = get_or_from_slice_get node.home.places slot (place_of config node.home.id) (place_in shape id) found ∙ ap (place_of config) here
+
+      solo_is : solo_of slot place node ≡ get_or (nodes_of config slot old) (number_of config.shards id) (new_node config.data_centres)
+      solo_is =
+          ap (λ p. solo_of slot p node) (place_is ∙ ap (place_of config) (sym here))
+          ∙ ap (λ (n : Shared). solo_of slot (place_of config n.home.id) n) read
+          ∙ sym (get_or-map (λ (n : Shared). solo_of slot (place_of config n.home.id) n) nodes number node (new_node config.data_centres) within)
+          ∙ ap (λ n. get_or (nodes_of config slot old) n (new_node config.data_centres)) same_number
+
+      turn_is : node_step place moment call (solo_of slot place node) ≡ turn_at config id slot moment call old
+      turn_is = (λ i. node_step (place_is i) moment call (solo_is i))
+
+      next_is : solo_of slot (place_of config next.home.id) next ≡ (turn_at config id slot moment call old).after
+      next_is = ap (λ p. solo_of slot p next) (ap (place_of config) (ap (λ (h : Home). h.id) home ∙ here) ∙ sym place_is) ∙ t.1 ∙ ap (λ (u : Turn). u.after) turn_is
+
+  which : IsTurn slot moment call reply place node next → ((reply ≡ Refused OutOfMemory) × (new ≡ old)) ⊎ ((config : TenantConfig) → config.shards ≡ shape.shards → HasTenant config slot old → IsTurnOf config id slot moment call reply old new)
+  which (inl e) = inl (e.0, ap (λ ns. record { shape = shape; nodes = ns }) (ap (set nodes number) (e.1 ∙ read) ∙ set-get_or nodes number node))
+  which (inr t) = inr (by_tenant t)
+
+  pub call_is : IsCall old id slot moment call reply new
+  call_is = record {
+    turn = which (turn place (read_again node.home.places slot (place_in shape id)));
+    others = others;
+    tenants = tenants;
+    homes = homes;
+  }
+
+  -- the nodes are still those of the cluster
+  pub cluster_stays : IsCluster shape nodes → IsCluster shape (set nodes number next)
+  cluster_stays h = record {
+    numbers_fit = h.numbers_fit;
+    all = length-set nodes number next ∙ h.all;
+    each = λ n s lt is. home_at n s (subst (λ m. n < m) (length-set nodes number next) lt) is;
+  }
+    where
+      homes_at : (n : ℕ) (s : Shared) → n < length nodes → s ≡ get_or (set nodes number next) n s → s.home ≡ (get_or nodes n s).home
+      homes_at n s lt is =
+          ap (λ (x : Shared). x.home) is
+          ∙ sym (get_or-map (λ (x : Shared). x.home) (set nodes number next) n s s.home (subst (λ m. n < m) (sym (length-set nodes number next)) lt))
+          ∙ ap (λ hs. get_or hs n s.home) homes
+          ∙ get_or-map (λ (x : Shared). x.home) nodes n s s.home lt
+
+      home_at : (n : ℕ) (s : Shared) → n < length nodes → s ≡ get_or (set nodes number next) n s → (s.home.id ≡ id_of shape.shards n) × (s.home.shape ≡ shape)
+      home_at n s lt is =
+          let before = h.each n (get_or nodes n s) lt (read_again nodes n s) in
+          let same = homes_at n s lt is in
+          (ap (λ (x : Home). x.id) same ∙ before.0, ap (λ (x : Home). x.shape) same ∙ before.1)
+
+-- ---- the node of a number
+
+pub number_within : (shape : Shape) (id : NodeId) → id.dc < shape.data_centres → id.shard < shape.shards → number_of shape.shards id < shape.data_centres * shape.shards
+number_within shape id dc shard = omega (arith, mul-add-lt id.dc shape.shards id.shard shape.data_centres dc shard)
+
+pub id_is : (shards : ℕ) (id : NodeId) → id.shard < shards → id_of shards (number_of shards id) ≡ id
+id_is shards id lt =
+    let dc : (id.dc * shards + id.shard) / shards ≡ id.dc = div-mul-add id.dc shards id.shard lt in
+    let shard : (id.dc * shards + id.shard) % shards ≡ id.shard = mod-mul-add id.dc shards id.shard lt in
+    λ i. record { dc = dc i; shard = shard i }
+
+-- ---- a new cluster
+
+pub IsCluster-new : (config : Config) (nodes : List Shared) → config.data_centres * config.shards ≤ NODES → nodes ≡ map (new_shared config) (range_with_len 0 (config.data_centres * config.shards)) → IsCluster (shape_of config) nodes
+IsCluster-new config nodes fits is = record {
+  numbers_fit = fits;
+  all = ap length is ∙ length-map-range_with_len (new_shared config) 0 (config.data_centres * config.shards);
+  each = λ number node lt read. at number node (subst (λ n. number < n) (ap length is ∙ length-map-range_with_len (new_shared config) 0 (config.data_centres * config.shards)) lt) read;
+}
+  where
+    at : (number : ℕ) (node : Shared) → number < config.data_centres * config.shards → node ≡ get_or nodes number node → (node.home.id ≡ id_of config.shards number) × (node.home.shape ≡ shape_of config)
+    at number node lt read =
+        let same : node ≡ new_shared config number = read ∙ ap (λ ns. get_or ns number node) is ∙ get_or-map-range_with_len (new_shared config) 0 (config.data_centres * config.shards) number number node lt (omega arith) in
+        (ap (λ (n : Shared). n.home.id) same, ap (λ (n : Shared). n.home.shape) same)

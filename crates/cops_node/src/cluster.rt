@@ -1,0 +1,88 @@
+//! All nodes of a cluster in one process.
+ghost use Rattle.std.specs.Prelude.{◌≡◌, ◌*◌, ◌≤◌, IsTrue, IfOk};
+ghost use Rattle.cops_types.specs.HeadLines.{are_sizes};
+ghost use Rattle.cops_types.specs.Layout.{NODES};
+ghost use Rattle.cops_node.specs.declared.NodeCall.{NodeCall};
+ghost use Rattle.cops_node.specs.declared.NodeReply.{NodeReply};
+ghost use Rattle.cops_node.specs.Clusters.{IsCall, new_nodes};
+ghost use Rattle.cops_node.specs.Parts.{are_clocks};
+ghost use Rattle.cops_node.specs.Shape.{Fits};
+
+use crate::node::Node;
+use crate::nodes::Nodes;
+use crate::{NodeCall, NodeId, NodeReply};
+use cops_types::Config;
+use std::alloc::{AllocError, Global};
+use std::marker::Model;
+
+/// The nodes of a cluster by number: by data centre, and then by shard.
+#[derive(Drop)]
+pub struct Cluster0 {
+    data_centres: u64,
+    shards: u64,
+    tenants: u64,
+    nodes: Vec<Node>,
+}
+
+impl Model for Cluster0 {
+    ghost use Rattle.cops_node.specs.Clusters.{Cluster, IsCluster};
+
+    ghost Value = { Cluster };
+
+    ghost view = { λ c. record { shape = record { data_centres = c.data_centres; shards = c.shards; slots = c.tenants }; nodes = c.nodes.items } };
+
+    ghost invariant = { λ c. IsCluster (record { data_centres = c.data_centres; shards = c.shards; slots = c.tenants }) c.nodes.items };
+}
+
+// How many nodes there are.
+fn count_of(config: &Config) -> u64
+    requires { IsTrue (are_sizes config.now) }
+    ensures value { result ≡ config.now.data_centres * config.now.shards }
+    ensures fits { result ≤ NODES }
+{
+    config.data_centres * config.shards
+}
+
+impl Cluster0 {
+    /// The nodes of a configuration, before any call.
+    pub fn new(alloc: Global, config: &Config) -> Result<Self, AllocError>
+        requires sizes { IsTrue (are_sizes config.now) }
+        requires clocks { IsTrue (are_clocks config.now) }
+        ensures { IfOk result (λ cluster. cluster ≡ new_nodes config.now) }
+    {
+        let shards = config.shards;
+        let mut nodes = Vec::new(alloc);
+        for number in 0..count_of(config) {
+            let id = NodeId {
+                dc: number / shards,
+                shard: number % shards,
+            };
+            nodes.push(Node::new(alloc, config, id)?)?;
+        }
+        Ok(Cluster0 {
+            data_centres: config.data_centres,
+            shards,
+            tenants: config.tenants.len() as u64,
+            nodes,
+        })
+    }
+
+    /// The nodes, by number.
+    pub fn nodes(&self) -> &[Node]
+        ensures { result.now ≡ self.now.nodes }
+    {
+        self.nodes.as_slice()
+    }
+}
+
+impl Nodes for Cluster0 {
+    ghost shape = { λ cluster. cluster.shape };
+
+    ghost Answers = { IsCall };
+
+    fn step(&mut self, id: NodeId, slot: u64, moment: u64, call: NodeCall) -> NodeReply {
+        let number = (id.dc * self.shards + id.shard) as usize;
+        let node = &mut self.nodes[number];
+        node.step(slot, moment, call)
+    }
+}

@@ -1,0 +1,26 @@
+//! What a configuration keeps to, so that nodes can be made of it.
+ghost use Rattle.std.specs.Prelude.{◌≡◌, nat_le};
+ghost use Rattle.std.specs.List.{list_all};
+ghost use Rattle.cops_types.specs.Version.{last_clock};
+ghost use Rattle.cops_node.specs.Parts.{are_clocks};
+
+use cops_types::{Config, Tenant};
+
+/// The last number of a clock.
+const LAST_CLOCK: u64 = (1 << 56) - 1;
+
+// Whether each first clock is at most the last number of a clock.
+fn are_within(tenants: &[Tenant]) -> bool
+    ensures { result ≡ list_all (λ tenant. nat_le tenant.first_clock last_clock) tenants.now }
+{
+    tenants
+        .iter()
+        .all(|tenant| tenant.first_clock <= LAST_CLOCK)
+}
+
+/// Whether each tenant's first clock is at most the last number of a clock.
+pub fn has_clocks(config: &Config) -> bool
+    ensures { result ≡ are_clocks config.now }
+{
+    are_within(config.tenants.as_slice())
+}
