@@ -6,8 +6,7 @@ use uuid::Uuid;
 
 const CLUSTER: &[u8] = b"cluster 1 1 5000 1";
 
-const ACME: &[u8] =
-    b"tenant acme 00000000-0000-0000-0000-000000000001 0 100 10000 10 4 20 8 1000";
+const ACME: &[u8] = b"tenant acme 00000000-0000-0000-0000-000000000001 0 100 10000 10 4 20 8 1000";
 
 /// What a line says: 0 for more, 1 for a bad line, and 2 and the number of tenants at the end.
 fn said(rt: &impl Abort, reader: &mut ConfigReader, alloc: Global, line: &[u8]) -> usize {
@@ -41,11 +40,20 @@ fn heads_of_the_worked_examples(rt: HostRuntime) {
         b"tenant beta urn:uuid:00000000-0000-0000-0000-0000000000AB 0 100 10000 10 4 20 8 1000";
     let braced: &[u8] =
         b"tenant acmes {00000000-0000-0000-0000-0000000000ab} 0 100 10000 10 4 20 8 1000";
-    assert_eq!(rt; first_bad(&rt, alloc, &[CLUSTER, ACME, b"begin".as_slice()]), 0);
-    assert_eq!(rt; first_bad(&rt, alloc, &[b"cluster 1 17 5000 1".as_slice()]), 1);
+    assert_eq!(rt;
+        first_bad(&rt, alloc, &[CLUSTER, ACME, b"begin".as_slice()]),
+        0
+    );
+    assert_eq!(rt;
+        first_bad(&rt, alloc, &[b"cluster 1 17 5000 1".as_slice()]),
+        1
+    );
     assert_eq!(rt; first_bad(&rt, alloc, &[CLUSTER]), 2);
     assert_eq!(rt; first_bad(&rt, alloc, &[CLUSTER, ACME, again]), 3);
-    assert_eq!(rt; first_bad(&rt, alloc, &[CLUSTER, ACME, beta, b"begin".as_slice()]), 0);
+    assert_eq!(rt;
+        first_bad(&rt, alloc, &[CLUSTER, ACME, beta, b"begin".as_slice()]),
+        0
+    );
     assert_eq!(rt; first_bad(&rt, alloc, &[CLUSTER, ACME, beta, braced]), 4);
     assert_eq!(rt; first_bad(&rt, alloc, &[CLUSTER, ACME, ACME]), 3);
     assert_eq!(rt; first_bad(&rt, alloc, &[CLUSTER, b"begin".as_slice()]), 2);
@@ -92,7 +100,10 @@ fn limits_of_a_tenant(rt: HostRuntime) {
         ACME,
     ];
     for line in good {
-        assert_eq!(rt; first_bad(&rt, rt.alloc(), &[CLUSTER, line, b"begin".as_slice()]), 0);
+        assert_eq!(rt;
+            first_bad(&rt, rt.alloc(), &[CLUSTER, line, b"begin".as_slice()]),
+            0
+        );
     }
     let bad: [&[u8]; 14] = [
         b"tenant a 00000000-0000-0000-0000-000000000001 72057594037927936 0 0 0 0 0 0 0",

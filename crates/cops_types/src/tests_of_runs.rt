@@ -30,7 +30,12 @@ impl LineMachine for Lengths {
 
     ghost rules = { record { answers = λ old line text new. ⊤; refuses = λ old line refusal. ⊤; ends = λ old text new. ⊤; refuses_end = λ old refusal. ⊤ } };
 
-    fn line(&mut self, _alloc: Global, line: &[u8], out: &mut Vec<u8>) -> Result<(), Stop<Stopped>> {
+    fn line(
+        &mut self,
+        _alloc: Global,
+        line: &[u8],
+        out: &mut Vec<u8>,
+    ) -> Result<(), Stop<Stopped>> {
         if line == b"stop".as_slice() {
             return Err(Stop::Refused(Stopped));
         }
@@ -176,8 +181,15 @@ fn a_failing_reader_leaves_a_front(rt: HostRuntime) -> Result<(), Fail> {
             reads_to_failure: reads,
         });
         let mut sink = Sink::new(Vec::new(rt.alloc()));
-        assert_eq!(rt; run(rt.alloc(), 100, &mut source, &mut sink), 26, "after {reads} reads");
-        assert_eq!(rt; (source.failures(), source.reads()), (1, reads.saturating_add(1)));
+        assert_eq!(rt;
+            run(rt.alloc(), 100, &mut source, &mut sink),
+            26,
+            "after {reads} reads"
+        );
+        assert_eq!(rt;
+            (source.failures(), source.reads()),
+            (1, reads.saturating_add(1))
+        );
         assert!(rt; ANSWER.starts_with(sink.into_inner().as_slice()));
     }
     Ok(())
@@ -191,7 +203,11 @@ fn a_failing_writer_leaves_a_front(rt: HostRuntime) -> Result<(), Fail> {
             taken: Vec::new(rt.alloc()),
             writes_to_failure: writes,
         });
-        assert_eq!(rt; run(rt.alloc(), 100, &mut source, &mut sink), 27, "after {writes} writes");
+        assert_eq!(rt;
+            run(rt.alloc(), 100, &mut source, &mut sink),
+            27,
+            "after {writes} writes"
+        );
         assert_eq!(rt; sink.failures(), 1);
         let taken = sink.into_inner().taken;
         assert_eq!(rt; taken.len() as u64, writes);

@@ -63,7 +63,12 @@ fn texts_of_numbers_and_lists(rt: HostRuntime) -> Result<(), Fail> {
 #[test]
 fn words_of_a_line(rt: HostRuntime) {
     let mut words = Words::of(b"put  a 1");
-    for word in [b"put".as_slice(), b"".as_slice(), b"a".as_slice(), b"1".as_slice()] {
+    for word in [
+        b"put".as_slice(),
+        b"".as_slice(),
+        b"a".as_slice(),
+        b"1".as_slice(),
+    ] {
         assert!(rt; !words.is_empty());
         assert_eq!(rt; words.next_word(), Some(word));
     }
@@ -113,7 +118,10 @@ fn names_and_bytes(rt: HostRuntime) -> Result<(), Fail> {
     assert!(rt; name < Name::new(b"b").expect(&rt, "a name"));
     assert!(rt; name == Name::new(b"a_9").expect(&rt, "a name"));
     let bytes = Bytes::new(rt.alloc(), b"\x00\xff")?;
-    assert_eq!(rt; (bytes.as_slice(), bytes.len()), (b"\x00\xff".as_slice(), 2));
+    assert_eq!(rt;
+        (bytes.as_slice(), bytes.len()),
+        (b"\x00\xff".as_slice(), 2)
+    );
     let mut lists = ByteLists::new(rt.alloc());
     lists.push(rt.alloc(), b"x")?;
     lists.push(rt.alloc(), b"")?;
