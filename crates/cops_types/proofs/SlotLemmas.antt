@@ -10,7 +10,6 @@ use Rattle.std.proofs.lemmas.List.{length-map, map-append}
 use Rattle.indexmap.specs.IndexSet.{insert_key}
 use Rattle.cops_types.specs.declared.configs.Tenant.{Tenant}
 use Rattle.cops_types.specs.declared.faults.Fault.{Fault}
-use Rattle.cops_types.specs.declared.faults.Fault.TheVariants as Fault
 use Rattle.cops_types.specs.HeadLines.{is_distinct}
 use Rattle.cops_types.specs.Key.{IsName, is_name}
 use Rattle.cops_types.specs.Slots.{AreIndexed, AreNamed}

@@ -93,7 +93,9 @@ impl ConfigReader {
         }
         let (progress, said) = match mem::replace(&mut self.progress, Progress::Over) {
             Progress::Start => start(alloc, line),
-            Progress::Within(config) if line == b"begin".as_slice() => (Progress::Over, begin(config)),
+            Progress::Within(config) if line == b"begin".as_slice() => {
+                (Progress::Over, begin(config))
+            }
             _ => (Progress::Over, HeadLine::BadLine),
         };
         self.progress = progress;

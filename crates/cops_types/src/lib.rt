@@ -11,6 +11,7 @@ mod heads;
 mod keys;
 mod laws;
 mod line_runs;
+mod machines;
 mod names;
 pub mod pair_lists;
 mod pairs;
@@ -22,6 +23,12 @@ mod sources;
 mod tenants;
 #[cfg(test)]
 mod tests;
+#[cfg(test)]
+mod tests_of_heads;
+#[cfg(test)]
+mod tests_of_runs;
+#[cfg(test)]
+mod tests_of_texts;
 pub mod texts;
 mod values;
 mod versions;
@@ -34,8 +41,9 @@ pub use faults::Fault;
 pub use growing::{GrowingDeps, GrowingNear};
 pub use heads::{ConfigReader, HeadLine};
 pub use keys::Key;
-pub use laws::head_is_read;
+pub use laws::{fault_numbers_are_read_back, head_is_read};
 pub use line_runs::{LineMachine, RunFault, Stop, run_lines};
+pub use machines::Machine;
 pub use names::Name;
 pub use pairs::{Deps, Near, Pair};
 pub use quotas::Quota;

@@ -1,6 +1,6 @@
-use Rattle.std.proofs.Common.{◌≡◌, ◌∷◌, [], true, false, not, ◌&&◌, refl, sym, subst, ◌∙◌, ap}
-use Rattle.std.specs.Prelude.{IsTrue, codes, decimal, nat_le}
-use Rattle.cops_types.specs.HeadLines.{are_sizes, is_between}
+use Rattle.std.proofs.Common.{◌≡◌, ◌∷◌, [], ◌&&◌, sym, ◌∙◌}
+use Rattle.std.specs.Prelude.{codes, decimal, nat_le}
+use Rattle.cops_types.specs.HeadLines.{is_between}
 use Rattle.cops_types.specs.HeadWords.{cluster_words}
 use Rattle.cops_types.specs.Words.{parts_at, space}
 use Rattle.cops_types.proofs.HeadLemmas.{sizes_fit}

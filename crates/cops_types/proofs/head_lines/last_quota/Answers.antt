@@ -1,8 +1,8 @@
-use Rattle.std.proofs.Common.{◌≡◌, ◌∷◌, [], true, false, sym, subst, ◌∙◌, ap}
-use Rattle.std.specs.Prelude.{IsTrue, decimal}
+use Rattle.std.proofs.Common.{◌≡◌, ◌∷◌, [], ◌∙◌}
+use Rattle.std.specs.Prelude.{decimal}
 use Rattle.cops_types.specs.declared.quotas.Quota.{Quota}
 use Rattle.cops_types.specs.HeadLines.{is_quota}
-use Rattle.cops_types.proofs.HeadReading.{not_both, nothing_left, quota_fits, same_number, something_left}
+use Rattle.cops_types.proofs.HeadReading.{not_both, quota_fits, same_number, something_left}
 use Rattle.cops_types.proofs.head_lines.last_quota.Goals as goal
 
 pub returns-in_err-next_number-clause-none : goal.returns-in_err-next_number-clause-none

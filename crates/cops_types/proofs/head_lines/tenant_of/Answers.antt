@@ -1,7 +1,6 @@
-use Rattle.std.proofs.Common.{◌≡◌, ◌∷◌, ◌<◌, ◌≤◌, [], true, false, not, ◌&&◌, refl, sym, subst, ◌∙◌, ap, arith}
-use Rattle.std.specs.Prelude.{IsTrue, codes, decimal, nat_le, Some, Ok, Err}
+use Rattle.std.proofs.Common.{◌≡◌, ◌∷◌, [], true, refl, sym, ◌∙◌, ap, arith}
+use Rattle.std.specs.Prelude.{codes, decimal, Some}
 use Rattle.uuid.specs.Text.{parsed}
-use Rattle.cops_types.specs.HeadLines.{is_tenant}
 use Rattle.cops_types.specs.HeadWords.{quota_words, tenant_words}
 use Rattle.cops_types.specs.Key.{is_name}
 use Rattle.cops_types.specs.Words.{parts_at, space}

@@ -1,6 +1,4 @@
 use Rattle.std.proofs.Common.{refl}
-use Rattle.std.specs.Prelude.{IfNone}
-use Rattle.std.specs.Str.Parse.{AllDigits, digits_value}
 use Rattle.cops_types.proofs.NumberLemmas.{read_more, read_too_great}
 use Rattle.cops_types.proofs.words.value_of.Goals as goal
 

@@ -1,10 +1,8 @@
-use Rattle.std.proofs.Common.{◌≡◌, ◌∙◌, ap, false, refl, sym}
+use Rattle.std.proofs.Common.{◌≡◌, ◌∙◌, ap, sym}
 use Rattle.std.specs.Prelude.{Some}
-use Rattle.std.specs.Str.{bytes_eq}
 use Rattle.cops_types.specs.Head.{Within}
-use Rattle.cops_types.specs.HeadLines.{begin_line}
 use Rattle.cops_types.specs.HeadProgress.{front_of}
-use Rattle.cops_types.specs.HeadReader.{front_with, said_at, still_open}
+use Rattle.cops_types.specs.HeadReader.{said_at, still_open}
 use Rattle.cops_types.proofs.HeadReading.{front_joined, no_begin}
 use Rattle.cops_types.proofs.heads.ConfigReader.line.Goals as goal
 

@@ -1,4 +1,3 @@
-use Rattle.std.proofs.Common.{◌≡◌, ◌∙◌, ℕ, Bool, List, [], not, ap, sym}
 use Rattle.cops_types.proofs.WordLemmas.{none_left}
 use Rattle.cops_types.proofs.words.Words.is_empty.Goals as goal
 

@@ -1,0 +1,30 @@
+//! What a gate stands in front of.
+ghost use Rattle.std.specs.Prelude.{◌≡◌, ℕ, IfOk, IfErr};
+ghost use Rattle.cops_types.specs.declared.faults.Fault.TheVariants.{OutOfMemory};
+
+use crate::faults::Fault;
+
+/// A state that calls change one at a time.
+pub trait Machine {
+    type Call: Drop;
+
+    type Reply;
+
+    /// Where the machine stands, as contracts see it. No value of it need be made.
+    type Place;
+
+    ghost place: { Self → Self.Place };
+
+    /// Whether a place may be asked this, of the slot and the call.
+    ghost fits: { Self.Place → ℕ → Self.Call → Type 0 };
+
+    /// One turn: the state before, the slot, the moment, the call, the reply and the state after.
+    ghost turns: { Self → ℕ → ℕ → Self.Call → Self.Reply → Self → Type 0 };
+
+    /// Makes one turn. It is refused only for want of memory, and then nothing has changed.
+    fn turn(&mut self, slot: u64, moment: u64, call: Self::Call) -> Result<Self::Reply, Fault>
+        requires { fits (place self.old) slot call }
+        ensures reply { IfOk result (λ r. turns self.old slot moment call r self.new) }
+        ensures refused { IfErr result (λ f. (f ≡ OutOfMemory) × (self.new ≡ self.old)) }
+        ensures place { place self.new ≡ place self.old };
+}

@@ -1,0 +1,291 @@
+ghost use Rattle.std.specs.Prelude.{◌≡◌, ◌≤◌, ⊤};
+ghost use Rattle.cops_types.specs.Words.{StartsWith};
+
+use crate::texts::push_number;
+use crate::{LineMachine, RunFault, Sink, Source, Stop, run_lines};
+use std::alloc::{AllocError, Global};
+use std::io;
+use std::io::{ErrorKind, Read, Write};
+use std::test::Fail;
+
+/// Answers each line with its length. It stops at the line `stop`.
+#[derive(Drop)]
+struct Lengths;
+
+/// The line `stop` came.
+#[derive(Clone, Copy, Debug, PartialEq, Eq)]
+struct Stopped;
+
+/// Puts the length and a newline at the end.
+fn push_length(out: &mut Vec<u8>, len: usize) -> Result<(), AllocError>
+    ensures { StartsWith out.new.items out.old.items }
+{
+    push_number(out, len as u64)?;
+    out.push(b'\n')?;
+    Ok(())
+}
+
+impl LineMachine for Lengths {
+    type Refusal = Stopped;
+
+    ghost rules = { record { answers = λ old line text new. ⊤; refuses = λ old line refusal. ⊤; ends = λ old text new. ⊤; refuses_end = λ old refusal. ⊤ } };
+
+    fn line(
+        &mut self,
+        _alloc: Global,
+        line: &[u8],
+        out: &mut Vec<u8>,
+    ) -> Result<(), Stop<Stopped>> {
+        if line == b"stop".as_slice() {
+            return Err(Stop::Refused(Stopped));
+        }
+        if push_length(out, line.len()).is_err() {
+            return Err(Stop::OutOfMemory);
+        }
+        Ok(())
+    }
+
+    fn end(&mut self, _alloc: Global, _out: &mut Vec<u8>) -> Result<(), Stop<Stopped>> {
+        Ok(())
+    }
+}
+
+/// Gives its bytes in pieces of some length, and fails at one of its reads.
+#[derive(Drop)]
+struct Pieces<'a> {
+    bytes: &'a [u8],
+    len: usize,
+    reads_to_failure: u64,
+}
+
+impl Read for Pieces<'_> {
+    fn read(&mut self, buf: &mut [u8]) -> io::Result<usize> {
+        if self.reads_to_failure == 0 {
+            return Err(io::Error::from(ErrorKind::Other));
+        }
+        self.reads_to_failure -= 1;
+        let all = self.bytes;
+        let mut piece = &all[..self.len.min(all.len())];
+        let count = piece.read(buf)?;
+        self.bytes = &all[count..];
+        Ok(count)
+    }
+}
+
+/// Takes a byte at a time, and fails at one of its writes.
+#[derive(Drop)]
+struct Trickle {
+    taken: Vec<u8>,
+    writes_to_failure: u64,
+}
+
+impl Write for Trickle {
+    fn write(&mut self, buf: &[u8]) -> io::Result<usize> {
+        if self.writes_to_failure == 0 {
+            return Err(io::Error::from(ErrorKind::Other));
+        }
+        self.writes_to_failure -= 1;
+        match buf {
+            [] => Ok(0),
+            [first, ..] => {
+                self.taken.push(*first)?;
+                Ok(1)
+            }
+        }
+    }
+
+    fn flush(&mut self) -> io::Result<()> {
+        Ok(())
+    }
+}
+
+/// Gives one byte of a line that never ends, for ever.
+#[derive(Drop)]
+struct Endless;
+
+impl Read for Endless {
+    fn read(&mut self, buf: &mut [u8]) -> io::Result<usize> {
+        if buf.is_empty() {
+            return Ok(0);
+        }
+        buf[0] = b'x';
+        Ok(1)
+    }
+}
+
+const TEXT: &[u8] = b"a comment\n\nhello, world\nend";
+
+const ANSWER: &[u8] = b"9\n0\n12\n3\n";
+
+/// The longest line that the machine sees whole.
+const LIMIT: usize = 8192;
+
+fn run<R: Read, W: Write>(
+    alloc: Global,
+    turns: u64,
+    source: &mut Source<R>,
+    sink: &mut Sink<W>,
+) -> u64 {
+    match run_lines(&mut Lengths, alloc, turns, LIMIT, source, sink) {
+        Ok(()) => 0,
+        Err(RunFault::Refused(_)) => 1,
+        Err(RunFault::OutOfMemory) => 23,
+        Err(RunFault::ReadFault) => 26,
+        Err(RunFault::WriteFault) => 27,
+    }
+}
+
+#[test]
+fn answers_each_line(rt: HostRuntime) -> Result<(), Fail> {
+    let cases: [(&[u8], &[u8], u64); 5] = [
+        (TEXT, ANSWER, 0),
+        (b"", b"", 0),
+        (b"\n", b"0\n", 0),
+        (b"ab\nstop\nc\n", b"", 1),
+        (b"stop", b"", 1),
+    ];
+    for (text, answer, fault) in cases {
+        let mut source = Source::new(text);
+        let mut sink = Sink::new(Vec::new(rt.alloc()));
+        assert_eq!(rt; run(rt.alloc(), 100, &mut source, &mut sink), fault);
+        assert!(rt; sink.into_inner().as_slice() == answer);
+    }
+    Ok(())
+}
+
+#[test]
+fn answers_the_same_however_reads_cut_the_text(rt: HostRuntime) -> Result<(), Fail> {
+    for len in 1..32 {
+        let mut source = Source::new(Pieces {
+            bytes: TEXT,
+            len,
+            reads_to_failure: 100,
+        });
+        let mut sink = Sink::new(Trickle {
+            taken: Vec::new(rt.alloc()),
+            writes_to_failure: 100,
+        });
+        assert_eq!(rt; run(rt.alloc(), 100, &mut source, &mut sink), 0);
+        assert_eq!(rt; (source.failures(), sink.failures()), (0, 0));
+        assert!(rt; sink.into_inner().taken.as_slice() == ANSWER);
+    }
+    Ok(())
+}
+
+#[test]
+fn a_failing_reader_leaves_a_front(rt: HostRuntime) -> Result<(), Fail> {
+    for reads in 0..28 {
+        let mut source = Source::new(Pieces {
+            bytes: TEXT,
+            len: 1,
+            reads_to_failure: reads,
+        });
+        let mut sink = Sink::new(Vec::new(rt.alloc()));
+        assert_eq!(rt;
+            run(rt.alloc(), 100, &mut source, &mut sink),
+            26,
+            "after {reads} reads"
+        );
+        assert_eq!(rt;
+            (source.failures(), source.reads()),
+            (1, reads.saturating_add(1))
+        );
+        assert!(rt; ANSWER.starts_with(sink.into_inner().as_slice()));
+    }
+    Ok(())
+}
+
+#[test]
+fn a_failing_writer_leaves_a_front(rt: HostRuntime) -> Result<(), Fail> {
+    for writes in 0..9 {
+        let mut source = Source::new(TEXT);
+        let mut sink = Sink::new(Trickle {
+            taken: Vec::new(rt.alloc()),
+            writes_to_failure: writes,
+        });
+        assert_eq!(rt;
+            run(rt.alloc(), 100, &mut source, &mut sink),
+            27,
+            "after {writes} writes"
+        );
+        assert_eq!(rt; sink.failures(), 1);
+        let taken = sink.into_inner().taken;
+        assert_eq!(rt; taken.len() as u64, writes);
+        assert!(rt; ANSWER.starts_with(taken.as_slice()));
+    }
+    Ok(())
+}
+
+#[test]
+fn a_line_that_never_ends_meets_the_bound_on_turns(rt: HostRuntime) -> Result<(), Fail> {
+    let mut source = Source::new(Endless);
+    let mut sink = Sink::new(Vec::new(rt.alloc()));
+    assert_eq!(rt; run(rt.alloc(), 100, &mut source, &mut sink), 26);
+    assert_eq!(rt; (source.reads(), source.failures()), (100, 0));
+    assert!(rt; sink.into_inner().is_empty());
+    Ok(())
+}
+
+#[test]
+fn a_long_line_is_seen_with_one_byte_past_the_limit(rt: HostRuntime) -> Result<(), Fail> {
+    for (count, answer) in [
+        (8192, b"8192\n2\n".as_slice()),
+        (8193, b"8193\n2\n".as_slice()),
+        (20000, b"8193\n2\n".as_slice()),
+    ] {
+        let mut text = Vec::new(rt.alloc());
+        for _ in 0..count {
+            text.push(b'y')?;
+        }
+        text.extend_from_slice(b"\nab\n")?;
+        let mut source = Source::new(text.as_slice());
+        let mut sink = Sink::new(Vec::new(rt.alloc()));
+        assert_eq!(rt; run(rt.alloc(), 100, &mut source, &mut sink), 0);
+        assert!(rt; sink.into_inner().as_slice() == answer);
+    }
+    Ok(())
+}
+
+/// Keeps what it takes, and needs no memory.
+#[derive(Drop)]
+struct Slate {
+    bytes: [u8; 64],
+    len: usize,
+    ghost in_bounds: { len ≤ 64 },
+}
+
+impl Write for Slate {
+    fn write(&mut self, buf: &[u8]) -> io::Result<usize> {
+        let len = self.len;
+        let count = buf.len().min(64 - len);
+        self.bytes[len..len + count].copy_from_slice(&buf[..count]);
+        self.len = len + count;
+        Ok(count)
+    }
+
+    fn flush(&mut self) -> io::Result<()> {
+        Ok(())
+    }
+}
+
+// For runs in which one allocation fails.
+#[test]
+fn want_of_memory_leaves_a_front(rt: HostRuntime) -> Result<(), Fail> {
+    let mut source = Source::new(Pieces {
+        bytes: TEXT,
+        len: 3,
+        reads_to_failure: 100,
+    });
+    let mut sink = Sink::new(Slate {
+        bytes: [0; 64],
+        len: 0,
+    });
+    let fault = run(rt.alloc(), 100, &mut source, &mut sink);
+    let slate = sink.into_inner();
+    let len = slate.len;
+    let taken = &slate.bytes[..len];
+    assert!(rt; fault == 0 || fault == 23, "fault {fault}");
+    assert!(rt; ANSWER.starts_with(taken));
+    assert!(rt; fault == 23 || taken == ANSWER);
+    Ok(())
+}

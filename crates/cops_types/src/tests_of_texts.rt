@@ -1,0 +1,135 @@
+use crate::texts::{push_fault, push_list, push_number, push_pair, push_version};
+use crate::words::{Words, parse_number, split_word};
+use crate::{ByteLists, Bytes, Fault, Key, Name, Pair, Version};
+use std::test::Fail;
+
+#[test]
+fn faults_and_their_numbers(rt: HostRuntime) -> Result<(), Fail> {
+    for number in 1..28 {
+        match Fault::from_number(number) {
+            Some(fault) => assert_eq!(rt; fault.number(), number),
+            None => assert!(rt; false, "no fault {number}"),
+        }
+    }
+    assert!(rt; Fault::from_number(0).is_none());
+    assert!(rt; Fault::from_number(28).is_none());
+    assert!(rt; Fault::from_number(255).is_none());
+    let texts = [
+        (Fault::Syntax, "E01"),
+        (Fault::BadKey, "E10"),
+        (Fault::OutOfMemory, "E23"),
+        (Fault::WriteFault, "E27"),
+    ];
+    for (fault, text) in texts {
+        assert_eq!(rt; format!(in rt.alloc(); "{fault}")?.as_str(), text);
+        assert_eq!(rt; fault.text().as_slice(), text.as_bytes());
+        let mut out = Vec::new(rt.alloc());
+        push_fault(&mut out, fault)?;
+        assert_eq!(rt; out.as_slice(), text.as_bytes());
+    }
+    Ok(())
+}
+
+#[test]
+fn texts_of_numbers_and_lists(rt: HostRuntime) -> Result<(), Fail> {
+    let mut out = Vec::new(rt.alloc());
+    push_number(&mut out, 0)?;
+    push_number(&mut out, 18446744073709551615)?;
+    assert_eq!(rt; out.as_slice(), b"018446744073709551615".as_slice());
+    let version = Version::from_u64(513);
+    assert_eq!(rt; format!(in rt.alloc(); "{version}")?.as_str(), "2.1");
+    out.clear();
+    push_version(&mut out, version)?;
+    assert_eq!(rt; out.as_slice(), b"2.1".as_slice());
+    let x = Pair {
+        key: Key::new(b"x").expect(&rt, "a key"),
+        version,
+    };
+    out.clear();
+    push_pair(&mut out, &x)?;
+    assert_eq!(rt; out.as_slice(), b"x:2.1".as_slice());
+    for (pairs, text) in [
+        (&[] as &[Pair], b"-".as_slice()),
+        (&[x] as &[Pair], b"x:2.1".as_slice()),
+        (&[x, x, x] as &[Pair], b"x:2.1,x:2.1,x:2.1".as_slice()),
+    ] {
+        out.clear();
+        push_list(&mut out, pairs)?;
+        assert_eq!(rt; out.as_slice(), text);
+    }
+    Ok(())
+}
+
+#[test]
+fn words_of_a_line(rt: HostRuntime) {
+    let mut words = Words::of(b"put  a 1");
+    for word in [
+        b"put".as_slice(),
+        b"".as_slice(),
+        b"a".as_slice(),
+        b"1".as_slice(),
+    ] {
+        assert!(rt; !words.is_empty());
+        assert_eq!(rt; words.next_word(), Some(word));
+    }
+    assert!(rt; words.is_empty());
+    assert_eq!(rt; words.next_word(), None);
+    assert_eq!(rt; words.next_word(), None);
+    assert_eq!(rt; split_word(b"").0, b"".as_slice());
+    assert!(rt; split_word(b"ab").1.is_none());
+    assert_eq!(rt; split_word(b"ab c d").1, Some(b"c d".as_slice()));
+}
+
+#[test]
+fn numbers_of_words(rt: HostRuntime) {
+    let good: [(&[u8], u64); 4] = [
+        (b"0", 0),
+        (b"7", 7),
+        (b"1000", 1000),
+        (b"18446744073709551615", 18446744073709551615),
+    ];
+    for (word, number) in good {
+        assert_eq!(rt; parse_number(word), Some(number));
+    }
+    let bad: [&[u8]; 9] = [
+        b"",
+        b"00",
+        b"01",
+        b"+1",
+        b"-1",
+        b"1a",
+        b" 1",
+        b"18446744073709551616",
+        b"99999999999999999999999",
+    ];
+    for word in bad {
+        assert_eq!(rt; parse_number(word), None);
+    }
+}
+
+#[test]
+fn names_and_bytes(rt: HostRuntime) -> Result<(), Fail> {
+    let name = Name::new(b"a_9").expect(&rt, "a name");
+    assert_eq!(rt; (name.bytes(), name.len()), (b"a_9".as_slice(), 3));
+    assert!(rt; Name::new(&[97; 16]).is_ok());
+    assert!(rt; matches!(Name::new(&[97; 17]), Err(Fault::Syntax)));
+    assert!(rt; matches!(Name::new(b""), Err(Fault::Syntax)));
+    assert!(rt; matches!(Name::new(b"A"), Err(Fault::Syntax)));
+    assert!(rt; name < Name::new(b"b").expect(&rt, "a name"));
+    assert!(rt; name == Name::new(b"a_9").expect(&rt, "a name"));
+    let bytes = Bytes::new(rt.alloc(), b"\x00\xff")?;
+    assert_eq!(rt;
+        (bytes.as_slice(), bytes.len()),
+        (b"\x00\xff".as_slice(), 2)
+    );
+    let mut lists = ByteLists::new(rt.alloc());
+    lists.push(rt.alloc(), b"x")?;
+    lists.push(rt.alloc(), b"")?;
+    assert_eq!(rt; lists.len(), 2);
+    if lists.len() == 2 {
+        assert_eq!(rt; lists.bytes(0), b"x".as_slice());
+        assert_eq!(rt; lists.bytes(1), b"".as_slice());
+    }
+    assert_eq!(rt; lists.as_slice().len(), 2);
+    Ok(())
+}
