@@ -9,3 +9,5 @@ pub mod Fresh
 pub mod Greatest
 pub mod MarkLaws
 pub mod Turns
+pub mod Chains
+pub mod NodeTurns

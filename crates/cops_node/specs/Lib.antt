@@ -14,3 +14,4 @@ pub use Rattle.cops_types.specs.Version
 pub use Rattle.cops_types.specs.TenantConfig
 pub mod Parts
 pub mod Clusters
+pub mod Taken

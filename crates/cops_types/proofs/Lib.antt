@@ -21,3 +21,9 @@ pub mod SortedSet
 pub mod VersionOrder
 pub mod WordLemmas
 pub mod Writing
+pub mod Elements
+pub mod KeyTests
+pub mod Nearness
+pub mod PairSets
+pub mod Successive
+pub mod Zipped

@@ -16,10 +16,11 @@ use Rattle.cops_node.specs.Place.{place_of}
 use Rattle.cops_node.specs.SoloNode.{SoloNode, new_node, queue}
 use Rattle.cops_repl.specs.Carrier.{pair_of_entry}
 use Rattle.cops_world.specs.declared.acts.Act.{Act}
+use Rattle.cops_world.specs.declared.acts.Act.TheVariants.{Done}
 use Rattle.cops_world.specs.declared.replies.Reply.{Reply}
 use Rattle.cops_world.specs.declared.replies.Reply.TheVariants.{OutOfOrder, Refused}
 use Rattle.cops_world.specs.Causal.{Traced, put_by, operations, traced, past_of_put, deps_of, answers_consistently}
-use Rattle.cops_world.specs.Cluster.{SoloCluster, new_cluster}
+use Rattle.cops_world.specs.Cluster.{SoloCluster, new_cluster, cluster_step, goes_on}
 use Rattle.cops_world.specs.Events.{solo_replies, cluster_after}
 
 -- the cluster that the acts leave, and its node of a data centre and shard
@@ -71,10 +72,11 @@ HasCommittedPasts config acts = AtEachNode config (HasCommittedPastsAt config ac
 abbrev pub IsConsistent : TenantConfig → List Act → Type 0
 IsConsistent config acts = IsTrue (list_all (λ t. answers_consistently t t.operation.effect) (history_of config acts))
 
--- no node says that a version has not come, or that an entry is out of order; no request is torn
+-- no node says that a version has not come, that an entry is out of order, or that a request is torn; and no request or carrier does
 abbrev pub is_expected_of_node : NodeReply → Bool
 is_expected_of_node node_reply.NotYet = false
 is_expected_of_node (node_reply.OutOfOrder mark) = false
+is_expected_of_node (node_reply.Refused Torn) = false
 is_expected_of_node reply = true
 
 abbrev pub is_expected : Reply → Bool
@@ -111,3 +113,7 @@ abbrev pub IsSettled : TenantConfig → List Act → Type 0
 IsSettled config acts =
     HasEmptyQueues config acts → (one other shard : ℕ) → one < config.data_centres → other < config.data_centres → shard < config.shards → (key : List ℕ) →
     latest_entry key (node_at config acts one shard) ≡ latest_entry key (node_at config acts other shard)
+
+-- `done` ends: its reply is neither that the actor works nor that it restarted
+abbrev pub HasEndingSteps : TenantConfig → List Act → Type 0
+HasEndingSteps config acts = (name : List ℕ) (moment : ℕ) → goes_on (cluster_step config (Done name moment) (cluster_of config acts)).reply ≡ false

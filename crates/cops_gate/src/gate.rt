@@ -1,0 +1,191 @@
+//! The gate and its seats.
+ghost use Rattle.std.specs.Prelude.{◌≡◌, ◌≢◌, ◌+◌, ◌^◌, length, ◌≤◌, ◌⊎◌, [], true, ◌∷◌, Some, None, Err, IfOk, IfErr, IfSome};
+ghost use Rattle.cops_types.specs.declared.faults.Fault.TheVariants.{GateSpent, OutOfMemory};
+ghost use Rattle.cops_gate.specs.declared.board.Stage.TheVariants.{Idle};
+ghost use Rattle.cops_gate.specs.History.{entry, turns_of, StartsWith, IsLegal};
+ghost use Rattle.cops_gate.specs.Seats.{Origin, Known, Extends, Ends, first_seat, home_of};
+
+use crate::board::{Beginning, Board, Place};
+use crate::meetings::{hear, learn, note};
+use crate::turns::{Request, draw, serve};
+use crate::waiting::Sleepers;
+use atomic_table::{Refused, Table};
+use cops_types::{Fault, Machine};
+use std::alloc::Global;
+use std::marker::Model;
+use std::snapshot::Snapshot;
+use std::sync::Wait;
+
+/// A machine behind a gate. Contracts see which gate it is, and the state that it opened with.
+#[derive(Drop)]
+pub struct Gate<M: Machine> {
+    board: Board<M>,
+    sleepers: Sleepers,
+}
+
+impl<M: Machine> Model for Gate<M> {
+    ghost Value = { Origin M };
+
+    ghost view = { λ g. record { table = g.board.shared.table_id; opening = g.board.shared.key.value.state; ticket = g.board.shared.key.value.ticket } };
+
+    ghost invariant = { λ g. (g.board.shared.table_id.words ≡ 2) × (g.board.shared.table_id.slots ≡ 1) };
+}
+
+/// The right to make turns at a gate. Contracts see its number, the history that it has seen, and whether it has met the last ticket.
+pub struct GateSeat<M: Machine> {
+    place: Place<M>,
+}
+
+impl<M: Machine> Model for GateSeat<M> {
+    ghost Value = { Known M M.Call M.Reply };
+
+    ghost view = { λ s. record { gate = record { table = s.place.table_id; opening = s.place.me.0.opening }; number = s.place.me.0.number; history = s.place.me.0.seen; spent = s.place.me.0.spent } };
+
+    ghost invariant = { λ s. (s.place.me.1 ≡ []) × (s.place.me.0.stage ≡ Idle) × (s.place.me.0.numbered ≡ true) };
+}
+
+impl<M: Machine> Gate<M> {
+    /// A gate that opens with this state, and its first seat. Without memory the state comes back.
+    pub fn first(alloc: Global, state: M) -> Result<(Gate<M>, GateSeat<M>), (Fault, M)>
+        ensures ok { IfOk result (λ r. (r.0.opening ≡ state) × (r.0.ticket ≡ 0) × (r.1 ≡ first_seat r.0)) }
+        ensures refused { IfErr result (λ r. (r.0 ≡ OutOfMemory) × (r.1 ≡ state)) }
+    {
+        Gate::first_at(alloc, state, 0)
+    }
+
+    /// The same, where the first ticket has this number.
+    pub fn first_at(
+        alloc: Global,
+        state: M,
+        ticket: u64,
+    ) -> Result<(Gate<M>, GateSeat<M>), (Fault, M)>
+        requires { ticket ≤ 2 ^ 62 }
+        ensures ok { IfOk result (λ r. (r.0.opening ≡ state) × (r.0.ticket ≡ ticket) × (r.1 ≡ first_seat r.0)) }
+        ensures refused { IfErr result (λ r. (r.0 ≡ OutOfMemory) × (r.1 ≡ state)) }
+    {
+        let beginning = Beginning { state, ticket };
+        let opening = Snapshot::of(&beginning);
+        let Beginning { state, ticket } = beginning;
+        let Ok(mut slots) = Vec::with_capacity(alloc, 1) else {
+            return Err((Fault::OutOfMemory, state));
+        };
+        slots.push_reserved(Some(state));
+        match Table::new(alloc, &[ticket, ticket], slots, &opening) {
+            Ok((board, place)) => Ok((
+                Gate {
+                    board,
+                    sleepers: Sleepers::none(),
+                },
+                GateSeat { place },
+            )),
+            Err(Refused { slots }) => Err((Fault::OutOfMemory, only_machine(slots))),
+        }
+    }
+
+    /// Makes one turn, and waits for the turns of earlier tickets.
+    pub fn step<R: Wait>(
+        &self,
+        rt: &R,
+        seat: &mut GateSeat<M>,
+        slot: u64,
+        moment: u64,
+        call: M::Call,
+    ) -> Result<M::Reply, Fault>
+        requires seat { seat.old.gate ≡ home_of self.now }
+        requires fits { M.fits (M.place self.now.opening) slot call }
+        ensures same { (seat.new.gate ≡ seat.old.gate) × (seat.new.number ≡ seat.old.number) }
+        ensures reply { IfOk result (λ r. Extends M.turns self.now.opening seat.old (Some (entry slot moment call r)) seat.new) }
+        ensures refused { IfErr result (λ f. (f ≡ OutOfMemory) ⊎ (f ≡ GateSpent)) }
+        ensures blank { result ≡ Err OutOfMemory → Extends M.turns self.now.opening seat.old None seat.new }
+        ensures spent { result ≡ Err GateSpent → (seat.new.history ≡ seat.old.history) × (seat.new.spent ≡ true) }
+        ensures unspent { result ≢ Err GateSpent → seat.new.spent ≡ seat.old.spent }
+        ensures room { self.now.ticket + length seat.new.history ≤ 2 ^ 62 }
+        ensures again { seat.old.spent ≡ true → result ≡ Err GateSpent }
+    {
+        let Some(ticket) = draw(rt, &self.board, &self.sleepers, &mut seat.place) else {
+            return Err(Fault::GateSpent);
+        };
+        let request = Request { slot, moment, call };
+        let reply = serve(
+            rt,
+            &self.board,
+            &self.sleepers,
+            &mut seat.place,
+            ticket,
+            request,
+        );
+        self.sleepers.wake(&self.board, ticket + 1);
+        reply
+    }
+
+    /// A new seat, which has seen the same and has made no turn.
+    pub fn split(&self, seat: &mut GateSeat<M>) -> GateSeat<M>
+        requires { seat.old.gate ≡ home_of self.now }
+        ensures same { seat.new ≡ seat.old }
+        ensures new { (result.gate ≡ seat.old.gate) × (result.history ≡ seat.old.history) × (result.spent ≡ seat.old.spent) }
+        ensures no_turn { turns_of result.number result.history ≡ [] }
+    {
+        let mut place = note(&self.board, &mut seat.place);
+        learn(&self.board, &mut place);
+        GateSeat { place }
+    }
+
+    /// The second seat sees all that the first has seen.
+    pub fn meet(&self, from: &mut GateSeat<M>, to: &mut GateSeat<M>)
+        requires from { from.old.gate ≡ home_of self.now }
+        requires to { to.old.gate ≡ home_of self.now }
+        ensures from { from.new ≡ from.old }
+        ensures same { (to.new.gate ≡ to.old.gate) × (to.new.number ≡ to.old.number) × (to.new.spent ≡ to.old.spent) }
+        ensures seen { StartsWith to.new.history from.old.history × StartsWith to.new.history to.old.history }
+        ensures legal { IsLegal M.turns self.now.opening to.new.history }
+        ensures room { self.now.ticket + length to.new.history ≤ 2 ^ 62 }
+        ensures no_turn { turns_of to.new.number to.new.history ≡ turns_of to.old.number to.old.history }
+    {
+        let told = note(&self.board, &mut from.place);
+        hear(&self.board, &mut to.place, told);
+    }
+}
+
+impl<M: Machine + Drop> Gate<M> {
+    /// The machine, if each ticket that was drawn has been served.
+    pub fn close(self, seat: GateSeat<M>) -> Option<M>
+        requires { seat.gate ≡ home_of self }
+        ensures history { IfSome result (λ m. Ends M.turns self seat m) }
+        ensures place { IfSome result (λ m. M.place m ≡ M.place self.opening) }
+    {
+        let Gate { board, sleepers: _ } = self;
+        let mut closed = board.close_with(seat.into_place());
+        let (drawn, served) = (closed.word(0), closed.word(1));
+        let machine = closed.take(0);
+        closed.free();
+        if drawn == served { machine } else { None }
+    }
+}
+
+impl<M: Machine> GateSeat<M> {
+    fn into_place(self) -> Place<M>
+        ensures home { (result.table_id ≡ self.gate.table) × (result.me.0.opening ≡ self.gate.opening) × (result.me.0.numbered ≡ true) }
+        ensures sight { (result.me.0.seen ≡ self.history) × (result.me.0.number ≡ self.number) × (result.me.0.spent ≡ self.spent) }
+    {
+        let GateSeat { place } = self;
+        place
+    }
+}
+
+impl<M: Machine> Drop for GateSeat<M> {
+    fn drop(self) {
+        let GateSeat { place: _ } = self;
+    }
+}
+
+// The machine of a table that was not made.
+fn only_machine<M>(mut slots: Vec<Option<M>>) -> M
+    requires { (m : _) × (slots.items ≡ Some m ∷ []) }
+    ensures { slots.items ≡ Some result ∷ [] }
+{
+    let Some(Some(machine)) = slots.pop() else {
+        unreachable!()
+    };
+    slots.destroy_empty();
+    machine
+}

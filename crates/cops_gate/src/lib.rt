@@ -1,0 +1,17 @@
+//! A ticket gate: threads that share a machine take turns at it, in the order of the tickets that they drew.
+//! What each thread has seen is a beginning of one history of turns, which is legal from the state that the gate opened with.
+#![tactic(auto)]
+
+mod board;
+mod gate;
+mod history;
+mod meetings;
+mod note;
+mod plays;
+#[cfg(test)]
+mod tests;
+mod turns;
+mod waiting;
+
+pub use gate::{Gate, GateSeat};
+pub use history::{Entry, Turn};

@@ -1,0 +1,42 @@
+//! How seats are cut from others, and how one learns what another has seen.
+ghost use Rattle.std.specs.Prelude.{◌≡◌, true, false, [], Some};
+ghost use Rattle.cops_gate.specs.declared.board.Stage.TheVariants.{Idle};
+ghost use Rattle.cops_gate.specs.History.{turns_of, IsLegal};
+ghost use Rattle.cops_gate.specs.Plays.{fresh_view, numbered_view, told_view, HasRoom, SeesOn, IsSeatOf};
+
+use crate::board::{Board, Place};
+use crate::plays::{Glance, Learn, Share, Tell};
+use cops_types::Machine;
+
+// A seat that has seen the same, and does not know its number.
+pub(crate) fn note<M: Machine>(board: &Board<M>, place: &mut Place<M>) -> Place<M>
+    requires { IsSeatOf board.now.shared.table_id place.old }
+    ensures same { (place.new.table_id ≡ place.old.table_id) × (place.new.id ≡ place.old.id) × (place.new.me ≡ place.old.me) }
+    ensures new { (result.table_id ≡ place.old.table_id) × (result.me ≡ (fresh_view place.old.me.0, [])) }
+{
+    board.shared.split_seat::<Share>(place)
+}
+
+// Tells a new seat its number.
+pub(crate) fn learn<M: Machine>(board: &Board<M>, place: &mut Place<M>)
+    requires board { IsSeatOf board.now.shared.table_id place.old }
+    requires new { place.old.me.0.numbered ≡ false }
+    ensures same { (place.new.table_id ≡ place.old.table_id) × (place.new.id ≡ place.old.id) × (place.new.me.1 ≡ place.old.me.1) }
+    ensures numbered { (n : _) × (place.new.me.0 ≡ numbered_view n place.old.me.0) × (turns_of n place.old.me.0.seen ≡ []) }
+{
+    board.shared.load::<Learn>(place, 0);
+}
+
+// Takes in what a note has seen, and all turns so far.
+pub(crate) fn hear<M: Machine>(board: &Board<M>, place: &mut Place<M>, told: Place<M>)
+    requires board { IsSeatOf board.now.shared.table_id place.old }
+    requires idle { (place.old.me.0.stage ≡ Idle) × (place.old.me.0.numbered ≡ true) }
+    requires told { (told.table_id ≡ place.old.table_id) × (told.me.1 ≡ []) × (told.me.0.stage ≡ Idle) × (told.me.0.numbered ≡ false) }
+    ensures same { (place.new.table_id ≡ place.old.table_id) × (place.new.id ≡ place.old.id) × (place.new.me.1 ≡ place.old.me.1) × (place.new.me.0.stage ≡ Idle) }
+    ensures sees { SeesOn (told_view place.old.me.0 told.me.0) place.new.me.0 }
+    ensures legal { place.old.me.0.opening ≡ Some board.now.shared.key.value → IsLegal M.turns board.now.shared.key.value.state place.new.me.0.seen }
+    ensures room { HasRoom place.old.me.0.opening place.new.me.0.seen }
+{
+    board.shared.join_seat::<Tell>(place, told);
+    board.shared.load::<Glance>(place, 0);
+}

@@ -1,0 +1,167 @@
+//! The parts of one turn: a ticket is drawn, waited for, and published.
+ghost use Rattle.std.specs.Prelude.{◌≡◌, ◌+◌, ◌^◌, ◌<◌, true, [], ◌∷◌, ◌++◌, ◌≤◌, length, Some, None, IfSome, IfNone, IfOk, IfErr};
+ghost use Rattle.cops_types.specs.declared.faults.Fault.TheVariants.{OutOfMemory};
+ghost use Rattle.cops_gate.specs.declared.board.Stage.TheVariants.{Idle, Waits, Holds};
+ghost use Rattle.cops_gate.specs.History.{entry, turn, Leads, Grows};
+ghost use Rattle.cops_gate.specs.Notes.{entry_of};
+ghost use Rattle.cops_gate.specs.Plays.{at_stage, spent_view, published_view, HasRoom, Serves, Gets, IsIdle, IsSeatOf};
+
+use crate::board::{Board, LAST, Place, SERVING, TICKET};
+use crate::note::Note;
+use crate::plays::{Draw, Look, Publish, Said};
+use crate::waiting::{Sleepers, hold_back};
+use cops_types::{Fault, Machine};
+use std::marker::Brand;
+use std::snapshot::Snapshot;
+use std::sync::Wait;
+
+// What a turn is asked.
+pub(crate) struct Request<C> {
+    pub slot: u64,
+    pub moment: u64,
+    pub call: C,
+}
+
+// Draws the next ticket, if one is left.
+pub(crate) fn draw<M: Machine, R: Wait>(
+    rt: &R,
+    board: &Board<M>,
+    sleepers: &Sleepers,
+    place: &mut Place<M>,
+) -> Option<u64>
+    requires board { IsSeatOf board.now.shared.table_id place.old }
+    requires idle { place.old.me.0.stage ≡ Idle }
+    ensures same { (place.new.table_id ≡ place.old.table_id) × (place.new.id ≡ place.old.id) × (place.new.me.1 ≡ place.old.me.1) }
+    ensures some { IfSome result (λ t. (t < 2 ^ 62) × (place.new.me.0 ≡ at_stage (Waits t) place.old.me.0)) }
+    ensures none { IfNone result (place.new.me.0 ≡ spent_view place.old.me.0) }
+    ensures again { place.old.me.0.spent ≡ true → result ≡ None }
+    ensures room { HasRoom place.old.me.0.opening place.old.me.0.seen }
+{
+    let mut next = hold_back(rt, board, sleepers);
+    for _ in rt.forever() {
+        let found = board
+            .shared
+            .compare_exchange::<Draw>(place, TICKET, next, next + 1);
+        if found == next {
+            return Some(found);
+        }
+        if found == LAST {
+            return None;
+        }
+        next = found;
+    }
+    unreachable!()
+}
+
+// Waits until the ticket is served. The slot then goes to the seat.
+fn wait<M: Machine, R: Wait>(
+    rt: &R,
+    board: &Board<M>,
+    sleepers: &Sleepers,
+    place: &mut Place<M>,
+    ticket: u64,
+)
+    requires board { IsSeatOf board.now.shared.table_id place.old }
+    requires waits { (place.old.me.0.stage ≡ Waits ticket) × (place.old.me.0.numbered ≡ true) }
+    requires opened { place.old.me.0.opening ≡ Some board.now.shared.key.value }
+    ensures same { (place.new.table_id ≡ place.old.table_id) × (place.new.id ≡ place.old.id) }
+    ensures slot { Gets M.turns M.place board.now.shared.key.value.state ticket place.old.me place.new.me }
+{
+    let mut tries = 0u32;
+    for _ in rt.forever() {
+        let serving = board.shared.load::<Look>(place, SERVING);
+        if serving == ticket {
+            return;
+        }
+        sleepers.pause(rt, board, tries, serving);
+        tries = tries.saturating_add(1);
+    }
+    unreachable!()
+}
+
+// Waits until the ticket is served, and takes the machine out of its slot.
+pub(crate) fn take<M: Machine, R: Wait>(
+    rt: &R,
+    board: &Board<M>,
+    sleepers: &Sleepers,
+    place: &mut Place<M>,
+    ticket: u64,
+) -> M
+    requires board { IsSeatOf board.now.shared.table_id place.old }
+    requires waits { (place.old.me.0.stage ≡ Waits ticket) × (place.old.me.0.numbered ≡ true) × (place.old.me.1 ≡ []) }
+    requires opened { place.old.me.0.opening ≡ Some board.now.shared.key.value }
+    ensures same { (place.new.table_id ≡ place.old.table_id) × (place.new.id ≡ place.old.id) }
+    ensures slot { place.new.me.1 ≡ (0, None) ∷ [] }
+    ensures serves { Serves M.turns M.place board.now.shared.key.value.state place.old.me.0 ticket place.new.me.0 result }
+{
+    wait(rt, board, sleepers, place, ticket);
+    let Some(machine) = board.shared.exchange(place, 0, None) else {
+        unreachable!()
+    };
+    machine
+}
+
+// Puts the machine back, and serves the next ticket.
+fn publish<M: Machine, T: Said<M::Call, M::Reply>>(
+    board: &Board<M>,
+    place: &mut Place<M>,
+    ticket: u64,
+    machine: M,
+    note: Option<Note<M::Call, M::Reply>>,
+)
+    requires board { IsSeatOf board.now.shared.table_id place.old }
+    requires ticket { ticket < 2 ^ 62 }
+    requires note { T.entry ≡ entry_of note }
+    requires opened { place.old.me.0.opening ≡ Some board.now.shared.key.value }
+    requires slot { (place.old.me.0.stage ≡ Holds ticket) × (place.old.me.0.numbered ≡ true) × (place.old.me.1 ≡ (0, None) ∷ []) }
+    requires turn { Leads M.turns board.now.shared.key.value.state (place.old.me.0.seen ++ turn place.old.me.0.number T.entry ∷ []) machine }
+    requires place { M.place machine ≡ M.place board.now.shared.key.value.state }
+    ensures same { (place.new.table_id ≡ place.old.table_id) × (place.new.id ≡ place.old.id) }
+    ensures me { place.new.me ≡ (published_view T.entry place.old.me.0, []) }
+    ensures room { board.now.shared.key.value.ticket + length place.new.me.0.seen ≤ 2 ^ 62 }
+{
+    drop(note);
+    let left = board.shared.exchange(place, 0, Some(machine));
+    let None = left else { unreachable!() };
+    board.shared.store::<Publish<T>>(place, SERVING, ticket + 1);
+}
+
+// Makes the turn of the ticket. Without memory it is a blank one.
+pub(crate) fn serve<M: Machine, R: Wait>(
+    rt: &R,
+    board: &Board<M>,
+    sleepers: &Sleepers,
+    place: &mut Place<M>,
+    ticket: u64,
+    request: Request<M::Call>,
+) -> Result<M::Reply, Fault>
+    requires board { IsSeatOf board.now.shared.table_id place.old }
+    requires waits { (ticket < 2 ^ 62) × (place.old.me.0.stage ≡ Waits ticket) × (place.old.me.0.numbered ≡ true) × (place.old.me.1 ≡ []) }
+    requires opened { place.old.me.0.opening ≡ Some board.now.shared.key.value }
+    requires fits { M.fits (M.place board.now.shared.key.value.state) request.slot request.call }
+    ensures same { (place.new.table_id ≡ place.old.table_id) × (place.new.id ≡ place.old.id) }
+    ensures idle { IsIdle place.old.me.0 place.new.me }
+    ensures room { board.now.shared.key.value.ticket + length place.new.me.0.seen ≤ 2 ^ 62 }
+    ensures reply { IfOk result (λ r. Grows M.turns board.now.shared.key.value.state place.old.me.0.number place.old.me.0.seen (Some (entry request.slot request.moment request.call r)) place.new.me.0.seen) }
+    ensures refused { IfErr result (λ f. (f ≡ OutOfMemory) × Grows M.turns board.now.shared.key.value.state place.old.me.0.number place.old.me.0.seen None place.new.me.0.seen) }
+{
+    let mut machine = take(rt, board, sleepers, place, ticket);
+    let Request { slot, moment, call } = request;
+    let asked = Snapshot::of(&call);
+    match machine.turn(slot, moment, call) {
+        Ok(reply) => {
+            let note = Note {
+                slot,
+                moment,
+                call: asked,
+                reply: Snapshot::of(&reply),
+            };
+            publish::<M, Brand>(board, place, ticket, machine, Some(note));
+            Ok(reply)
+        }
+        Err(fault) => {
+            publish::<M, Brand>(board, place, ticket, machine, None);
+            Err(fault)
+        }
+    }
+}

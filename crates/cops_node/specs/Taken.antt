@@ -1,0 +1,8 @@
+-- What came of a step, beside what was to come next.
+use Rattle.cops_node.specs.Log.{Outcome, Late, Replied, Next, Call, Restart}
+
+-- a call was answered by some reply, and a restart made no call
+abbrev pub IsTaken : {A : Type 0} → Next A → Outcome → Type 0
+IsTaken (Call directed) (Replied reply) = Unit {0}
+IsTaken Restart Late = Unit {0}
+IsTaken next outcome = ⊥

@@ -1,0 +1,42 @@
+//! A counter behind a gate. The replies that one seat gets rise, whoever else makes turns between.
+#![tactic(auto)]
+
+ghost use Rattle.std.specs.Prelude.{◌≡◌, ◌<◌, ◌≤◌, IfOk, IfSome};
+ghost use Rattle.cops_gate.specs.Seats.{home_of};
+
+mod counter;
+
+use cops_gate::{Gate, GateSeat};
+use cops_types::Fault;
+pub use counter::{Ask, Counter};
+use std::sync::Wait;
+
+/// Two turns of one seat: the second reply is greater.
+pub fn two_turns<R: Wait>(
+    rt: &R,
+    gate: &Gate<Counter>,
+    seat: &mut GateSeat<Counter>,
+) -> Result<(u64, u64), Fault>
+    requires { seat.old.gate ≡ home_of gate.now }
+    ensures { IfOk result (λ r. r.0 < r.1) }
+{
+    let first = gate.step(rt, seat, 0, 0, Ask::Go)?;
+    let second = gate.step(rt, seat, 0, 0, Ask::Go)?;
+    Ok((first, second))
+}
+
+/// One turn, and then the gate closes: the counter that is left has not lost the turn.
+pub fn last_turn<R: Wait>(
+    rt: &R,
+    gate: Gate<Counter>,
+    mut seat: GateSeat<Counter>,
+) -> Option<(u64, Counter)>
+    requires { seat.gate ≡ home_of gate }
+    ensures { IfSome result (λ r. r.0 ≤ r.1.count) }
+{
+    let Ok(reply) = gate.step(rt, &mut seat, 0, 0, Ask::Go) else {
+        return None;
+    };
+    let left = gate.close(seat)?;
+    Some((reply, left))
+}
