@@ -44,24 +44,34 @@ fn lines_are_acts(rt: HostRuntime) -> Result<(), Fail> {
     Ok(())
 }
 
+/// Whether the act puts this value under this key, in context 1 of the session `a`.
+fn is_put(act: &Option<Act>, put_key: &[u8], put_value: &[u8]) -> bool {
+    match act {
+        Some(Act::Put(name, 1, key, value)) => {
+            name.bytes() == b"a".as_slice()
+                && key.as_slice() == put_key
+                && value.as_slice() == put_value
+        }
+        _ => false,
+    }
+}
+
+/// Whether the act gets these two keys, in context 1.
+fn is_get(act: &Option<Act>, first: &[u8], second: &[u8]) -> bool {
+    match act {
+        Some(Act::Get(_, 1, keys)) => {
+            keys.len() == 2 && keys.bytes(0) == first && keys.bytes(1) == second
+        }
+        _ => false,
+    }
+}
+
 #[test]
 fn puts_and_gets_keep_their_words(rt: HostRuntime) -> Result<(), Fail> {
-    match parse_act(rt.alloc(), b"acme put a 1 x 10")? {
-        Some(Act::Put(name, context, key, value)) => {
-            assert_eq!(rt; name.bytes(), b"a".as_slice());
-            assert_eq!(rt; context, 1);
-            assert_eq!(rt; key.as_slice(), b"x".as_slice());
-            assert_eq!(rt; value.as_slice(), b"10".as_slice());
-        }
-        _ => assert!(rt; false),
-    }
-    match parse_act(rt.alloc(), b"acme get a 1 x Y")? {
-        Some(Act::Get(_, 1, keys)) => {
-            assert_eq!(rt; keys.len(), 2);
-            assert!(rt; keys.len() == 2 && keys.bytes(1) == b"Y".as_slice());
-        }
-        _ => assert!(rt; false),
-    }
+    let put = parse_act(rt.alloc(), b"acme put a 1 x 10")?;
+    assert!(rt; is_put(&put, b"x", b"10"));
+    let get = parse_act(rt.alloc(), b"acme get a 1 x Y")?;
+    assert!(rt; is_get(&get, b"x", b"Y"));
     Ok(())
 }
 
