@@ -95,9 +95,7 @@ fn get(
 {
     match session.begin_get_trans(context, keys) {
         Ok(handle) => handle,
-        Err(Fault::OutOfMemory) => session
-            .begin_get_trans(context, keys)
-            .expect(rt, "a get"),
+        Err(Fault::OutOfMemory) => session.begin_get_trans(context, keys).expect(rt, "a get"),
         Err(_) => panic!(rt; "no other refusal"),
     }
 }
@@ -166,12 +164,26 @@ fn refused_memory_changes_nothing(rt: HostRuntime) {
         assert_all(&rt, &session, handle, &[]);
         assert!(rt; reads_both(&rt, rt.alloc(), &mut session, handle));
     }
-    let x = Pair { key: key(&rt, b"x"), version: Version::of(1, 0) };
-    let y = Pair { key: key(&rt, b"y"), version: Version::of(1, 1) };
+    let x = Pair {
+        key: key(&rt, b"x"),
+        version: Version::of(1, 0),
+    };
+    let y = Pair {
+        key: key(&rt, b"y"),
+        version: Version::of(1, 1),
+    };
     assert_all(&rt, &session, handle, &[x, y]);
     let request = put(&rt, rt.alloc(), &mut session, handle, b"z");
-    let stored = step(&rt, &mut session, request, NodeReply::Stored(Version::of(2, 0)));
+    let stored = step(
+        &rt,
+        &mut session,
+        request,
+        NodeReply::Stored(Version::of(2, 0)),
+    );
     assert!(rt; matches!(stored, Progress::Done(Answer::Stored(_))));
-    let z = Pair { key: key(&rt, b"z"), version: Version::of(2, 0) };
+    let z = Pair {
+        key: key(&rt, b"z"),
+        version: Version::of(2, 0),
+    };
     assert_all(&rt, &session, handle, &[x, y, z]);
 }

@@ -270,8 +270,8 @@ impl Session {
         requires slot { self.old.setting.slot < (N.shape nodes.old).slots }
         ensures stepped { (config : TenantConfig) (session : SoloSession) → SessionStandsFor config self.old session → MatchResult result
             (λ shown. (running : SoloRunning) × (session.running ≡ Some running) × (running.number ≡ handle)
-                × DoesNext (λ id call reply. N.Answers nodes.old id self.old.setting.slot (moment_at moment session) call reply nodes.new) (nodes.new ≡ nodes.old)
-                    config session running (moment_at moment session) shown self.new (next config (request_of session running) running.log (moment_at moment session)))
+            × DoesNext (λ id call reply. N.Answers nodes.old id self.old.setting.slot (moment_at moment session) call reply nodes.new) (nodes.new ≡ nodes.old)
+            config session running (moment_at moment session) shown self.new (next config (request_of session running) running.log (moment_at moment session)))
             (λ fault. (fault ≡ Fault.Idle) × (runs handle session ≡ false)) }
         ensures once { (nodes.new ≡ nodes.old)
             ⊎ ((id : NodeId) × (at : ℕ) × (call : NodeCall) × (reply : NodeReply) × N.Answers nodes.old id self.old.setting.slot at call reply nodes.new) }
@@ -325,7 +325,7 @@ impl Session {
         ensures stepped { (config : TenantConfig) (session : SoloSession) (running : SoloRunning) (number : ℕ) →
             SessionStandsFor config (record self.old { running = Some (record { number = number; context = context; work = work.Put writing }) }) session → session.running ≡ Some running →
             DoesNext (λ id call reply. N.Answers nodes.old id self.old.setting.slot (moment_at moment session) call reply nodes.new) (nodes.new ≡ nodes.old)
-                config session running (moment_at moment session) result self.new (next config (request_of session running) running.log (moment_at moment session)) }
+            config session running (moment_at moment session) result self.new (next config (request_of session running) running.log (moment_at moment session)) }
         ensures once { (id : NodeId) × (at : ℕ) × (call : NodeCall) × (reply : NodeReply) × N.Answers nodes.old id self.old.setting.slot at call reply nodes.new }
         ensures shape { N.shape nodes.new ≡ N.shape nodes.old }
         ensures setting { self.new.setting ≡ self.old.setting }
@@ -358,7 +358,7 @@ impl Session {
         ensures stepped { (config : TenantConfig) (session : SoloSession) (running : SoloRunning) →
             SessionStandsFor config (record self.old { running = Some (record { number = number; context = context; work = work.Get reading }) }) session → session.running ≡ Some running →
             DoesNext (λ id call reply. N.Answers nodes.old id self.old.setting.slot (moment_at moment session) call reply nodes.new) (nodes.new ≡ nodes.old)
-                config session running (moment_at moment session) result self.new (next config (request_of session running) running.log (moment_at moment session)) }
+            config session running (moment_at moment session) result self.new (next config (request_of session running) running.log (moment_at moment session)) }
         ensures once { (nodes.new ≡ nodes.old)
             ⊎ ((id : NodeId) × (at : ℕ) × (call : NodeCall) × (reply : NodeReply) × N.Answers nodes.old id self.old.setting.slot at call reply nodes.new) }
         ensures shape { N.shape nodes.new ≡ N.shape nodes.old }
