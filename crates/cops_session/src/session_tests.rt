@@ -230,7 +230,8 @@ fn both_rounds(rt: HostRuntime) {
     assert!(rt; has_read(&read, 2));
     let x = pair(&rt, b"x", Version::of(1, 0));
     let y = pair(&rt, b"y", Version::of(2, 1));
-    assert_lists(&rt, &session, handle, &[x, y], &[y]);
+    let nearest = pair(&rt, b"y", Version::of(2, 1));
+    assert_lists(&rt, &session, handle, &[x, y], &[nearest]);
 }
 
 #[test]
