@@ -13,6 +13,9 @@ impl Kind for Contexts {
 }
 
 /// The requests that a session runs. They are rows of no table, since one runs at a time.
+///
+/// A handle of a context is of another type, so it is refused by the compiler where a request's
+/// is wanted, and read from bytes it is refused by its tag.
 pub struct Running;
 
 impl Kind for Running {

@@ -85,7 +85,7 @@ fn read_first<N: Nodes>(
     ensures turned { (config : TenantConfig) (obs : List Observation) (keys : List (List ℕ)) (log : List LogStep) → IsSettingOf config setting →
         IsReading config (record { dc = setting.dc; obs = obs; action = Fetch keys }) keys log (record { restarts = restarts; start = start; round = First round }) →
         TurnsNext (λ id call reply. N.Answers nodes.old id setting.slot moment call reply nodes.new) (nodes.new ≡ nodes.old)
-            config (record { dc = setting.dc; obs = obs; action = Fetch keys }) keys log moment result (next config (record { dc = setting.dc; obs = obs; action = Fetch keys }) log moment) }
+        config (record { dc = setting.dc; obs = obs; action = Fetch keys }) keys log moment result (next config (record { dc = setting.dc; obs = obs; action = Fetch keys }) log moment) }
     ensures once { (id : NodeId) × (call : NodeCall) × (reply : NodeReply) × N.Answers nodes.old id setting.slot moment call reply nodes.new }
     ensures shape { N.shape nodes.new ≡ N.shape nodes.old }
 {
@@ -135,7 +135,7 @@ fn read_second<N: Nodes>(
     ensures turned { (config : TenantConfig) (obs : List Observation) (keys : List (List ℕ)) (log : List LogStep) → IsSettingOf config setting →
         IsReading config (record { dc = setting.dc; obs = obs; action = Fetch keys }) keys log (record { restarts = restarts; start = start; round = Second round }) →
         TurnsNext (λ id call reply. N.Answers nodes.old id setting.slot moment call reply nodes.new) (nodes.new ≡ nodes.old)
-            config (record { dc = setting.dc; obs = obs; action = Fetch keys }) keys log moment result (next config (record { dc = setting.dc; obs = obs; action = Fetch keys }) log moment) }
+        config (record { dc = setting.dc; obs = obs; action = Fetch keys }) keys log moment result (next config (record { dc = setting.dc; obs = obs; action = Fetch keys }) log moment) }
     ensures once { (id : NodeId) × (call : NodeCall) × (reply : NodeReply) × N.Answers nodes.old id setting.slot moment call reply nodes.new }
     ensures shape { N.shape nodes.new ≡ N.shape nodes.old }
 {
@@ -191,7 +191,7 @@ pub(crate) fn read_step<N: Nodes>(
     ensures turned { (config : TenantConfig) (obs : List Observation) (keys : List (List ℕ)) (log : List LogStep) → IsSettingOf config setting →
         IsReading config (record { dc = setting.dc; obs = obs; action = Fetch keys }) keys log reading →
         TurnsNext (λ id call reply. N.Answers nodes.old id setting.slot moment call reply nodes.new) (nodes.new ≡ nodes.old)
-            config (record { dc = setting.dc; obs = obs; action = Fetch keys }) keys log moment result (next config (record { dc = setting.dc; obs = obs; action = Fetch keys }) log moment) }
+        config (record { dc = setting.dc; obs = obs; action = Fetch keys }) keys log moment result (next config (record { dc = setting.dc; obs = obs; action = Fetch keys }) log moment) }
     ensures once { (nodes.new ≡ nodes.old) ⊎ ((id : NodeId) × (call : NodeCall) × (reply : NodeReply) × N.Answers nodes.old id setting.slot moment call reply nodes.new) }
     ensures shape { N.shape nodes.new ≡ N.shape nodes.old }
 {

@@ -1,4 +1,4 @@
-ghost use Rattle.std.specs.Prelude.{◌≡◌, ◌⊎◌, ◌<◌, ◌+◌, ◌-◌, ◌^◌, ℕ, List, false, length, Some, None, IfOk, OnOk, OnErr, MatchResult, slice_get};
+ghost use Rattle.std.specs.Prelude.{◌≡◌, ◌⊎◌, ◌<◌, ◌+◌, ◌-◌, ◌^◌, ℕ, List, [], false, length, Some, None, IfOk, OnOk, OnErr, MatchResult, slice_get};
 ghost use Rattle.std.specs.Option.{option_map};
 ghost use Rattle.cops_types.specs.Refusal.{IsAnswer};
 ghost use Rattle.cops_types.specs.TenantConfig.{TenantConfig, tenant_config};
@@ -50,7 +50,7 @@ impl Model for Session {
 }
 
 impl Session {
-    ghost use Rattle.cops_session.specs.Kept.{Kept, HasRoomFor, IsOpen, IsReadyFor, is_running};
+    ghost use Rattle.cops_session.specs.Kept.{Kept, IsPlaced, HasRoomFor, IsOpen, IsReadyFor, is_running};
     ghost use Rattle.cops_session.specs.Request.{Write, Fetch, next, values_or_full};
     ghost use Rattle.cops_session.specs.Session.{Session as SoloSession, Running as SoloRunning, new_session, create_refusal, context_refusal, put_refusal, get_refusal, context_created, context_deleted, request_begun, request_of, obs_of, moment_at, OpenContext, context_extended, is_spent, seen_in};
     ghost use Rattle.cops_session.specs.SessionStands.{SessionStandsFor, ContextsStandFor, obs_in};
@@ -78,19 +78,28 @@ impl Session {
         ensures slot { result.setting.slot ≡ slot }
     {
         let quota = config.tenants.tenant(slot).quota;
+        let setting = Setting {
+            slot,
+            dc,
+            data_centres: config.data_centres,
+            shards: config.shards,
+            trans_time: config.trans_time,
+            restarts: config.restarts,
+            deps: quota.deps,
+        };
+        Session::of_setting(alloc, setting, quota.contexts, first)
+    }
+
+    /// A session with at most `contexts` open contexts, whose numbers begin with `first`.
+    pub(crate) fn of_setting(alloc: Global, setting: Setting, contexts: u64, first: u64) -> Self
+        requires { IsPlaced setting }
+        ensures { result ≡ record { setting = setting; moment = 0; contexts = record { rows = []; next = first; limit = contexts }; next_request = first; running = None } }
+    {
         Session {
             alloc,
-            setting: Setting {
-                slot,
-                dc,
-                data_centres: config.data_centres,
-                shards: config.shards,
-                trans_time: config.trans_time,
-                restarts: config.restarts,
-                deps: quota.deps,
-            },
+            setting,
             moment: 0,
-            contexts: Table::starting_at(alloc, first, quota.contexts),
+            contexts: Table::starting_at(alloc, first, contexts),
             next_request: first,
             running: None,
         }
@@ -261,8 +270,8 @@ impl Session {
         requires slot { self.old.setting.slot < (N.shape nodes.old).slots }
         ensures stepped { (config : TenantConfig) (session : SoloSession) → SessionStandsFor config self.old session → MatchResult result
             (λ shown. (running : SoloRunning) × (session.running ≡ Some running) × (running.number ≡ handle)
-                × DoesNext (λ id call reply. N.Answers nodes.old id self.old.setting.slot (moment_at moment session) call reply nodes.new) (nodes.new ≡ nodes.old)
-                    config session running (moment_at moment session) shown self.new (next config (request_of session running) running.log (moment_at moment session)))
+            × DoesNext (λ id call reply. N.Answers nodes.old id self.old.setting.slot (moment_at moment session) call reply nodes.new) (nodes.new ≡ nodes.old)
+            config session running (moment_at moment session) shown self.new (next config (request_of session running) running.log (moment_at moment session)))
             (λ fault. (fault ≡ Fault.Idle) × (runs handle session ≡ false)) }
         ensures once { (nodes.new ≡ nodes.old)
             ⊎ ((id : NodeId) × (at : ℕ) × (call : NodeCall) × (reply : NodeReply) × N.Answers nodes.old id self.old.setting.slot at call reply nodes.new) }
@@ -316,7 +325,7 @@ impl Session {
         ensures stepped { (config : TenantConfig) (session : SoloSession) (running : SoloRunning) (number : ℕ) →
             SessionStandsFor config (record self.old { running = Some (record { number = number; context = context; work = work.Put writing }) }) session → session.running ≡ Some running →
             DoesNext (λ id call reply. N.Answers nodes.old id self.old.setting.slot (moment_at moment session) call reply nodes.new) (nodes.new ≡ nodes.old)
-                config session running (moment_at moment session) result self.new (next config (request_of session running) running.log (moment_at moment session)) }
+            config session running (moment_at moment session) result self.new (next config (request_of session running) running.log (moment_at moment session)) }
         ensures once { (id : NodeId) × (at : ℕ) × (call : NodeCall) × (reply : NodeReply) × N.Answers nodes.old id self.old.setting.slot at call reply nodes.new }
         ensures shape { N.shape nodes.new ≡ N.shape nodes.old }
         ensures setting { self.new.setting ≡ self.old.setting }
@@ -349,7 +358,7 @@ impl Session {
         ensures stepped { (config : TenantConfig) (session : SoloSession) (running : SoloRunning) →
             SessionStandsFor config (record self.old { running = Some (record { number = number; context = context; work = work.Get reading }) }) session → session.running ≡ Some running →
             DoesNext (λ id call reply. N.Answers nodes.old id self.old.setting.slot (moment_at moment session) call reply nodes.new) (nodes.new ≡ nodes.old)
-                config session running (moment_at moment session) result self.new (next config (request_of session running) running.log (moment_at moment session)) }
+            config session running (moment_at moment session) result self.new (next config (request_of session running) running.log (moment_at moment session)) }
         ensures once { (nodes.new ≡ nodes.old)
             ⊎ ((id : NodeId) × (at : ℕ) × (call : NodeCall) × (reply : NodeReply) × N.Answers nodes.old id self.old.setting.slot at call reply nodes.new) }
         ensures shape { N.shape nodes.new ≡ N.shape nodes.old }

@@ -47,9 +47,9 @@ begin-requires-2-clause-ready c = (c.in_ok-get.field-0.now, ap (λ (k : Kept). r
 
 pub returns-clause-begun : goal.returns-clause-begun
 returns-clause-begun c = λ config session stand. (
-      c.begin-2.ensures.number ∙ stand.next_request_is,
-      SessionStandsFor-get_begun config _ session stand c.args.handle _ c.args.keys.now c.in_ok-begin.field-0 (AreDistinct-no_repeats c.args.keys.now (sym c.has_repeats.ensures ∙ c.if-has_repeats.false)) c.in_ok-begin.ensures c.begin-2.ensures.begun,
-    )
+  c.begin-2.ensures.number ∙ stand.next_request_is,
+  SessionStandsFor-get_begun config _ session stand c.args.handle _ c.args.keys.now c.in_ok-begin.field-0 (AreDistinct-no_repeats c.args.keys.now (sym c.has_repeats.ensures ∙ c.if-has_repeats.false)) c.in_ok-begin.ensures c.begin-2.ensures.begun,
+)
 
 pub returns-clause-refused : goal.returns-clause-refused
 returns-clause-refused c = λ config session stand.
