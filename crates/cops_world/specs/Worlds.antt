@@ -1,5 +1,6 @@
 -- A world as contracts see it, and the cluster that a tenant's part of it stands for.
 use Rattle.std.specs.Prelude.{◌≡◌, ◌≢◌, ℕ, true, ◌<◌, IsFalse, IsTrue, List, length, slice_index, Option, Some}
+use Rattle.std.specs.Map.{lookup}
 use Rattle.cops_types.specs.declared.configs.Config.{Config}
 use Rattle.cops_types.specs.TenantConfig.{TenantConfig}
 use Rattle.cops_node.specs.Clusters.{Cluster, HasTenant, nodes_of, shape_of}
@@ -7,6 +8,7 @@ use Rattle.cops_world.specs.declared.actors.Actor.{Actor as Kept}
 use Rattle.cops_world.specs.declared.actors.ActorId.{ActorId}
 use Rattle.cops_world.specs.declared.replies.Reply.{Reply}
 use Rattle.cops_world.specs.Actors.{ActorsStandFor}
+use Rattle.cops_world.specs.ActorTables.{same_actor}
 use Rattle.cops_world.specs.ActorsStand.{ActorStandsFor, RunsAt}
 use Rattle.cops_world.specs.Cluster.{SoloCluster, Turn, Actor, actor_refusal, reply_with, unless_refused, with_new_actor}
 use Rattle.cops_world.specs.Events.{config_at, is_out_of_memory}
@@ -18,6 +20,16 @@ pub record World : Type 0 where
   pub nodes : Cluster
   pub actors : ActorId → Option Kept
   pub counts : List ℕ
+
+-- a world as it is kept: the actors as entries of their table
+pub record KeptWorld : Type 0 where
+  pub setup : Config
+  pub nodes : Cluster
+  pub entries : List (ActorId × Kept)
+  pub counts : List ℕ
+
+abbrev pub world_of : KeptWorld → World
+world_of kept = record { setup = kept.setup; nodes = kept.nodes; actors = λ id. lookup (same_actor id) kept.entries; counts = kept.counts }
 
 pub record IsWorld (world : World) : Type 0 where
   pub shape_is : world.nodes.shape ≡ shape_of world.setup
