@@ -63,4 +63,4 @@ module _ {W : Type 0} (setup : W → Config) (StandsFor : W → ℕ → SoloClus
       Answers (line_answers setup StandsFor state line) (Running world) out out
   begins_running state head line config world out is found fresh =
       subst (λ s. Answers (line_answers setup StandsFor s line) (Running world) out out) (sym is)
-      (record { text = []; answered = (Begun config, found, refl, world, fresh, refl); appended = sym (append-nil out) })
+      (record { text = []; answered = (Begun config, found, refl, (world, fresh, refl)); appended = sym (append-nil out) })

@@ -50,7 +50,7 @@ pub(crate) fn run_script_in<W: Tenancy + Drop, R: Read, O: Write>(
     ensures bad_head { IfErr result (λ fault. IfRunRefused fault (λ bad.
         IfSome (R.remaining (source_reader source.old)) (λ bytes. head_of (lines_of bytes) ≡ BadAt bad.line))) }
     ensures unwritten { IfErr result (λ fault. IfRunRefused fault (λ bad.
-        IfSome (R.remaining (source_reader source.old)) (λ bytes. Keeps (O.contents (sink_writer sink.old)) (O.contents (sink_writer sink.new))))) }
+        Keeps (O.contents (sink_writer sink.old)) (O.contents (sink_writer sink.new)))) }
 
     // The reader or the writer failed in this call, or the bound on turns was met.
     ensures read_fault { IsErrOf result RunFault.ReadFault →

@@ -22,7 +22,7 @@ fn reply_to<W: Tenancy>(
     line: &[u8],
 ) -> Result<Reply, AllocError>
     requires { slot < length (W.setup world.old).tenants }
-    ensures told { IfOk result (λ reply. IsAnswered W.setup W.StandsFor world.old (said_by slot (act_in (first_word line.now) line.now))
+    ensures { IfOk result (λ reply. IsAnswered W.setup W.StandsFor world.old (said_by slot (act_in (first_word line.now) line.now))
         (answer_line (W.setup world.old).tenants (Some (slot, reply))) world.new) }
 {
     let Some(act) = parse_act(alloc, line)? else {

@@ -1,5 +1,6 @@
 use Rattle.std.proofs.lemmas.Result.{MatchResult-weaker, on_ok_weaker}
-use Rattle.cops_world.proofs.ScriptLemmas.{all_written, bad_head, front_written, unwritten}
+use Rattle.cops_world.proofs.ScriptLemmas.{all_written, bad_head, front_written}
+use Rattle.cops_world.proofs.SilentHeads.{unwritten}
 use Rattle.cops_world.proofs.run_script.run_script_in.Goals as goal
 
 pub returns-clause-ok : goal.returns-clause-ok
@@ -15,4 +16,4 @@ returns-clause-bad_head g c =
 
 pub returns-clause-unwritten : goal.returns-clause-unwritten
 returns-clause-unwritten g c =
-    MatchResult-weaker c.run_lines.result c.run_lines.ensures.err (λ x h. tt) (λ fault. unwritten g.W.Tenancy.setup g.W.Tenancy.StandsFor _ _ _ _ c.new_script-script.ensures _ fault)
+    MatchResult-weaker c.run_lines.result c.run_lines.ensures.err (λ x h. tt) (λ fault. unwritten g.W.Tenancy.setup g.W.Tenancy.StandsFor _ _ _ _ _ fault)
