@@ -10,8 +10,8 @@ ghost use Rattle.cops_types.specs.Source.{source_failures, source_reader, source
 ghost use Rattle.cops_world.specs.ScriptRules.{IsHeadAt};
 ghost use Rattle.cops_world.specs.ScriptRuns.{WritesFront, WritesScript};
 
-use crate::scripts::{BadConfig, HeadSoFar, Script};
 use crate::Tenancy;
+use crate::scripts::{BadConfig, HeadSoFar, Script};
 use cops_types::{ConfigReader, RunFault, Sink, Source, run_lines};
 use std::alloc::Global;
 use std::io::{Read, Write};
