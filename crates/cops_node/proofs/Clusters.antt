@@ -1,23 +1,25 @@
 -- What a call at one node does to a cluster.
 use Rattle.std.proofs.Common.{◌≡◌, ◌≢◌, ℕ, zero, suc, ◌+◌, ◌*◌, ◌/◌, ◌%◌, ◌<◌, ◌≤◌, Bool, true, false, cond, List, [], ◌∷◌, length, map, refl, sym, ap, ◌∙◌, subst, arith, get_or, set, nat_lt, max, inl, inr, ◌⊎◌}
-use Rattle.std.specs.Prelude.{slice_get, Option, Some, None}
+use Rattle.std.specs.Prelude.{slice_get, replicate, Option, Some, None}
+use Rattle.std.specs.Option.{option_map}
 use Rattle.std.specs.List.{AllByRecursion, range_with_len}
 use Rattle.std.proofs.lemmas.List.{map-set, get_or-map, set-get_or}
 use Rattle.std.proofs.lemmas.List.FromFn.{length-map-range_with_len, get_or-map-range_with_len}
 use Rattle.std.proofs.lemmas.Nat.{div-mul-add, mod-mul-add, mul-add-lt}
-use Rattle.std.proofs.lemmas.Option.{get_or_from_slice_get}
+use Rattle.std.proofs.lemmas.Option.{get_or_from_slice_get, slice_get-map}
 use Rattle.std.proofs.Math.ListN.{length-set}
 use Rattle.std.proofs.Math.Seq.{map-set_same}
 use Rattle.cops_types.specs.declared.configs.Config.{Config}
 use Rattle.cops_types.specs.declared.faults.Fault.TheVariants.{OutOfMemory}
 use Rattle.cops_types.specs.Layout.{NODES}
-use Rattle.cops_types.specs.TenantConfig.{TenantConfig}
+use Rattle.cops_types.specs.declared.configs.Tenant.{Tenant}
+use Rattle.cops_types.specs.TenantConfig.{TenantConfig, tenant_config}
 use Rattle.cops_node.specs.declared.NodeCall.{NodeCall}
 use Rattle.cops_node.specs.declared.NodeId.{NodeId}
 use Rattle.cops_node.specs.declared.NodeReply.{NodeReply}
 use Rattle.cops_node.specs.declared.NodeReply.TheVariants.{Refused}
 use Rattle.cops_node.specs.declared.Place.{Place}
-use Rattle.cops_node.specs.Clusters.{Cluster, nodes_of, HasTenant, turn_at, IsTurnOf, IsCall, IsCluster, id_of, new_shared, shape_of}
+use Rattle.cops_node.specs.Clusters.{Cluster, nodes_of, HasTenant, turn_at, IsTurnOf, IsCall, IsCluster, id_of, new_shared, new_nodes, shape_of}
 use Rattle.cops_node.specs.Parts.{Home, Shared, trail_of, solo_of, left_by, IsTurn}
 use Rattle.cops_node.specs.Place.{place_of, number_of}
 use Rattle.cops_node.specs.Shape.{Shape, place_in}
@@ -161,3 +163,20 @@ IsCluster-new config nodes fits is = record {
     at number node lt read =
         let same : node ≡ new_shared config number = read ∙ ap (λ ns. get_or ns number node) is ∙ get_or-map-range_with_len (new_shared config) 0 (config.data_centres * config.shards) number number node lt (omega arith) in
         (ap (λ (n : Shared). n.home.id) same, ap (λ (n : Shared). n.home.shape) same)
+
+-- each tenant of the configuration has his slot
+pub tenant_new : (config : Config) (slot : ℕ) (tenant : Tenant) → slice_get config.tenants slot ≡ Some tenant → HasTenant (tenant_config config tenant) slot (new_nodes config)
+tenant_new config slot tenant found = each (range_with_len 0 (config.data_centres * config.shards))
+  where
+    each : (numbers : List ℕ) → AllByRecursion (λ (n : Shared). slice_get n.home.places slot ≡ Some (place_of (tenant_config config tenant) n.home.id)) (map (new_shared config) numbers)
+    each [] = tt
+    each (number ∷ numbers) =
+        (slice_get-map (λ (t : Tenant). place_of (tenant_config config t) (id_of config.shards number)) config.tenants slot ∙ ap (option_map (λ (t : Tenant). place_of (tenant_config config t) (id_of config.shards number))) found, each numbers)
+
+-- and his solo nodes are new
+pub solos_new : (config : Config) (slot : ℕ) (tenant : Tenant) → nodes_of (tenant_config config tenant) slot (new_nodes config) ≡ replicate (config.data_centres * config.shards) (new_node config.data_centres)
+solos_new config slot tenant = each 0 (config.data_centres * config.shards)
+  where
+    each : (at n : ℕ) → map (λ (s : Shared). solo_of slot (place_of (tenant_config config tenant) s.home.id) s) (map (new_shared config) (range_with_len at n)) ≡ replicate n (new_node config.data_centres)
+    each at zero = refl
+    each at (suc n) = ap (λ ns. new_node config.data_centres ∷ ns) (each (at + 1) n)

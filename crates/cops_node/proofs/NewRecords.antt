@@ -28,9 +28,10 @@ not_there (r ∷ recs) v h = by (r.entry.version.node == v.node) refl (not_there
   where
     by : (b : Bool) → (r.entry.version.node == v.node) ≡ b → (version_le v (mark_among v.node recs) ≡ false → AllByRecursion (λ s. s.entry.version ≢ v) recs) → AllByRecursion (λ s. s.entry.version ≢ v) (r ∷ recs)
     by true is more =
-        let here : version_le v (version_max r.entry.version (mark_among v.node recs)) ≡ false = sym (ap (λ b. version_le v (greatest (cond b (r.entry.version ∷ filter (λ w. w.node == v.node) (map (λ (s : Record). s.entry.version) recs)) (filter (λ w. w.node == v.node) (map (λ (s : Record). s.entry.version) recs))))) is) ∙ h in
-        (λ same. true≢false (sym (ap (λ w. version_le w (version_max r.entry.version (mark_among v.node recs))) (sym same) ∙ version_max-left r.entry.version (mark_among v.node recs)) ∙ here),
-        more (below (version_le v (mark_among v.node recs)) refl here))
+        let here : version_le v (version_max r.entry.version (mark_among v.node recs)) ≡ false = sym (ap (λ b. version_le v (greatest (cond b (r.entry.version ∷ filter (λ w. w.node == v.node) (map (λ (s : Record). s.entry.version) recs)) (filter (λ w. w.node == v.node) (map (λ (s : Record). s.entry.version) recs))))) is) ∙ h in (
+          λ same. true≢false (sym (ap (λ w. version_le w (version_max r.entry.version (mark_among v.node recs))) (sym same) ∙ version_max-left r.entry.version (mark_among v.node recs)) ∙ here),
+          more (below (version_le v (mark_among v.node recs)) refl here),
+        )
       where
         below : (t : Bool) → version_le v (mark_among v.node recs) ≡ t → version_le v (version_max r.entry.version (mark_among v.node recs)) ≡ false → t ≡ false
         below true e here = absurd (true≢false (sym (version_le-trans v (mark_among v.node recs) (version_max r.entry.version (mark_among v.node recs)) e (version_max-right r.entry.version (mark_among v.node recs))) ∙ here))

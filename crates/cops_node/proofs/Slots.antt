@@ -3,6 +3,7 @@ use Rattle.std.proofs.Common.{◌≡◌, ◌≢◌, ℕ, zero, suc, ◌+◌, ◌
 use Rattle.std.specs.Prelude.{if◌then◌else◌, ◌==◌, ◌&&◌, ◌-◌, ◌/◌, ◌%◌, slice_get, Option, Some, None}
 use Rattle.std.proofs.lemmas.Bool.Decides.{Decides-eqb, nat_tests}
 use Rattle.std.proofs.lemmas.List.{get_or-set_same, get_or-set_other, get_or_default, map-append}
+use Rattle.std.proofs.lemmas.Option.{get_or_from_slice_get}
 use Rattle.std.proofs.Math.ListN.{length-set}
 use Rattle.cops_types.specs.declared.faults.Fault.{Fault}
 use Rattle.cops_types.specs.declared.faults.Fault.TheVariants.{AuditFull}
@@ -366,9 +367,10 @@ module _ (slot moment now : ℕ) (call : NodeCall) (id : NodeId) (dcs shards : �
   pub turn_done : (place : Place) (before : List Audited) → place ≡ p.place → audit ≡ before
       → (told ≡ (node_step place moment call (left_by place (trail_of slot before))).reply) × (left_by place (trail_of slot audit') ≡ (node_step place moment call (left_by place (trail_of slot before))).after)
   turn_done place before place_is shown =
-      let back : p.place ≡ place = sym place_is in
-      (turn_reply ∙ (λ i. (node_step (back i) moment call (left_by (back i) (trail_of slot (shown i)))).reply),
-      ap (λ (q : Place). left_by q (trail_of slot audit')) place_is ∙ turn_after ∙ (λ i. (node_step (back i) moment call (left_by (back i) (trail_of slot (shown i)))).after))
+      let back : p.place ≡ place = sym place_is in (
+        turn_reply ∙ (λ i. (node_step (back i) moment call (left_by (back i) (trail_of slot (shown i)))).reply),
+        ap (λ (q : Place). left_by q (trail_of slot audit')) place_is ∙ turn_after ∙ (λ i. (node_step (back i) moment call (left_by (back i) (trail_of slot (shown i)))).after),
+      )
 
   pub turn_node : IsNode id dcs shards (set parts slot new) store' outbox' audit'
   turn_node =
@@ -446,3 +448,11 @@ audit_missing at slot (x ∷ audit) k h = by (nat_eq x.slot slot) k h (audit_mis
     by true zero h more = cc
     by true (suc k) h more = more k h
     by false k h more = more k h
+
+-- the solo node's audit is the slot's
+pub solo_trail : (id : NodeId) (dcs shards slot : ℕ) (parts : List Part) (store : Contents) (outbox : Queues) (audit before : List Audited) (places : List Place) (place : Place) (part : Part) → IsNode id dcs shards parts store outbox audit → slot < length parts → part ≡ get_or parts slot part
+    → map (λ (p : Part). p.place) parts ≡ places → audit ≡ before → slice_get places slot ≡ Some place → trail_of slot before ≡ (left_by place (trail_of slot before)).trail
+solo_trail id dcs shards slot parts store outbox audit before places place part node within read shown same found =
+    let is : place ≡ part.place = place_read parts slot place part within (sym (ap (λ (ps : List Place). get_or ps slot place) shown ∙ get_or_from_slice_get places slot place place found)) read in
+    subst (λ (a : List Audited). trail_of slot a ≡ (left_by place (trail_of slot a)).trail) same
+    (subst (λ (p : Place). trail_of slot audit ≡ (left_by p (trail_of slot audit)).trail) (sym is) (sym (node.each slot part within read).trail_is))

@@ -202,9 +202,10 @@ pub ack_done : (slot dc : ℕ) (version : Timestamp) (b : Bool) (place : Place) 
     (replies.told ≡ (effect place (Ack dc version) solo).reply) × StandsAt slot place counters store outbox' (effect place (Ack dc version) solo).after
 ack_done slot dc version b place counters store outbox outbox' solo replies h other found entry elsewhere own queued dcs is =
     let test : b ≡ is_front version (front (queue place dc solo)) = found ∙ ap (λ es. is_front version (outbox_queues.front es)) (h.queues dc other) ∙ ap (is_front version) (sym (same_front (queue place dc solo))) in
-    let turn : ack_turn b dc solo ≡ effect place (Ack dc version) solo = ap (λ t. ack_turn t dc solo) test ∙ sym (acknowledge_is dc version solo (front (queue place dc solo))) in
-    (ap (λ (r : Replies). r.told) is ∙ reply b ∙ ap (λ (t : Turn). t.reply) turn,
-    subst (λ (t : Turn). StandsAt slot place counters store outbox' t.after) turn (StandsAt-acked slot dc version b place counters store outbox outbox' solo h other found entry elsewhere own queued dcs (other_dc place dc other).0))
+    let turn : ack_turn b dc solo ≡ effect place (Ack dc version) solo = ap (λ t. ack_turn t dc solo) test ∙ sym (acknowledge_is dc version solo (front (queue place dc solo))) in (
+      ap (λ (r : Replies). r.told) is ∙ reply b ∙ ap (λ (t : Turn). t.reply) turn,
+      subst (λ (t : Turn). StandsAt slot place counters store outbox' t.after) turn (StandsAt-acked slot dc version b place counters store outbox outbox' solo h other found entry elsewhere own queued dcs (other_dc place dc other).0),
+    )
   where
     reply : (t : Bool) → (let both : Replies = (if t then record { told = Acked; kept = Acked } else record { told = NotFront; kept = NotFront }) in both.told) ≡ (ack_turn t dc solo).reply
     reply true = refl

@@ -5,8 +5,7 @@ ghost use Rattle.cops_node.specs.Place.{fits};
 
 use crate::parts::{self, Counters};
 use crate::replies::Replies;
-use crate::{NodeCall, Place};
-use crate::{commits, gets, puts, queues};
+use crate::{NodeCall, Place, commits, gets, puts, queues};
 use cops_outbox::Outbox;
 use cops_store::Store;
 use std::alloc::{AllocError, Global};

@@ -1,12 +1,15 @@
 //! All nodes of a cluster in one process.
-ghost use Rattle.std.specs.Prelude.{◌≡◌, ◌*◌, ◌≤◌, IsTrue, IfOk};
+ghost use Rattle.std.specs.Prelude.{◌≡◌, ℕ, ◌*◌, ◌≤◌, slice_get, replicate, Some, IsTrue, IfOk};
+ghost use Rattle.cops_types.specs.declared.configs.Tenant.{Tenant};
 ghost use Rattle.cops_types.specs.HeadLines.{are_sizes};
 ghost use Rattle.cops_types.specs.Layout.{NODES};
+ghost use Rattle.cops_types.specs.TenantConfig.{tenant_config};
 ghost use Rattle.cops_node.specs.declared.NodeCall.{NodeCall};
 ghost use Rattle.cops_node.specs.declared.NodeReply.{NodeReply};
-ghost use Rattle.cops_node.specs.Clusters.{IsCall, new_nodes};
+ghost use Rattle.cops_node.specs.Clusters.{IsCall, IsCluster, HasTenant, nodes_of, new_nodes};
 ghost use Rattle.cops_node.specs.Parts.{are_clocks};
 ghost use Rattle.cops_node.specs.Shape.{Fits};
+ghost use Rattle.cops_node.specs.SoloNode.{new_node};
 
 use crate::node::Node;
 use crate::nodes::Nodes;
@@ -48,7 +51,9 @@ impl Cluster0 {
     pub fn new(alloc: Global, config: &Config) -> Result<Self, AllocError>
         requires sizes { IsTrue (are_sizes config.now) }
         requires clocks { IsTrue (are_clocks config.now) }
-        ensures { IfOk result (λ cluster. cluster ≡ new_nodes config.now) }
+        ensures nodes { IfOk result (λ cluster. cluster ≡ new_nodes config.now) }
+        ensures tenants { IfOk result (λ cluster. (slot : ℕ) (tenant : Tenant) → slice_get config.now.tenants slot ≡ Some tenant → HasTenant (tenant_config config.now tenant) slot cluster) }
+        ensures fresh { IfOk result (λ cluster. (slot : ℕ) (tenant : Tenant) → slice_get config.now.tenants slot ≡ Some tenant → nodes_of (tenant_config config.now tenant) slot cluster ≡ replicate (config.now.data_centres * config.now.shards) (new_node config.now.data_centres)) }
     {
         let shards = config.shards;
         let mut nodes = Vec::new(alloc);
@@ -69,7 +74,8 @@ impl Cluster0 {
 
     /// The nodes, by number.
     pub fn nodes(&self) -> &[Node]
-        ensures { result.now ≡ self.now.nodes }
+        ensures value { result.now ≡ self.now.nodes }
+        ensures in_order { IsCluster self.now.shape self.now.nodes }
     {
         self.nodes.as_slice()
     }

@@ -17,8 +17,8 @@ mod replies;
 #[cfg(test)]
 mod tests;
 
-use cops_types::{Deps, Entry, Fault, Key, Near, Quota, Value, Version};
 pub use cluster::Cluster0;
+use cops_types::{Deps, Entry, Fault, Key, Near, Quota, Value, Version};
 pub use laws::{audit_tells_all, greatest_version_stays, marks_never_fall};
 pub use limits::has_clocks;
 pub use node::Node;

@@ -5,13 +5,12 @@ ghost use Rattle.std.specs.Option.{option_copied};
 ghost use Rattle.cops_types.specs.HeadLines.{are_sizes};
 ghost use Rattle.cops_types.specs.Version.{last_clock};
 ghost use Rattle.cops_node.specs.declared.Place.{Place};
-ghost use Rattle.cops_node.specs.Parts.{trail_of, home_of, are_clocks, IsTurn, IsAudited};
+ghost use Rattle.cops_node.specs.Parts.{trail_of, solo_of, home_of, are_clocks, IsTurn, IsAudited};
 ghost use Rattle.cops_node.specs.Place.{is_home, is_other_dc, is_other_equivalent, fits};
 ghost use Rattle.cops_node.specs.Shape.{place_in};
 
-use crate::calls;
 use crate::parts::{self, Audited, Part};
-use crate::{AuditEntry, NodeCall, NodeId, NodeReply, Place};
+use crate::{AuditEntry, NodeCall, NodeId, NodeReply, Place, calls};
 use cops_outbox::Outbox;
 use cops_store::Store;
 use cops_types::{Config, Fault, Key};
@@ -119,7 +118,8 @@ impl Node {
     /// How many calls are in the audit of a slot.
     pub fn audit_len(&self, slot: u64) -> u64
         requires { slot < self.now.home.shape.slots }
-        ensures { result ≡ length (trail_of slot self.now.audit) }
+        ensures calls { result ≡ length (trail_of slot self.now.audit) }
+        ensures solo { (place : Place) → slice_get self.now.home.places slot ≡ Some place → result ≡ length (solo_of slot place self.now).trail }
     {
         let part = &self.parts[slot as usize];
         part.trail.len() as u64
@@ -128,7 +128,8 @@ impl Node {
     /// The call at a place of the audit of a slot.
     pub fn audit(&self, slot: u64, place: u64) -> Option<&AuditEntry>
         requires { slot < self.now.home.shape.slots }
-        ensures { option_copied result ≡ slice_get (trail_of slot self.now.audit) place }
+        ensures call { option_copied result ≡ slice_get (trail_of slot self.now.audit) place }
+        ensures solo { (own : Place) → slice_get self.now.home.places slot ≡ Some own → option_copied result ≡ slice_get (solo_of slot own self.now).trail place }
     {
         let part = &self.parts[slot as usize];
         match part.trail.get(place as usize) {

@@ -14,10 +14,9 @@ ghost use Rattle.cops_node.specs.Place.{own_number as own_number_of, fits};
 ghost use Rattle.cops_node.specs.SoloNode.{SoloNode};
 ghost use Rattle.cops_node.specs.Step.{version_of_put, put_refusal, put as put_turn, unchanged};
 
-use crate::commits;
 use crate::parts::{self, Counters};
 use crate::replies::Replies;
-use crate::Place;
+use crate::{Place, commits};
 use cops_outbox::Outbox;
 use cops_store::Store;
 use cops_types::{Deps, Entry, EntryParts, Fault, Key, Near, Pair, Quota, Value, Version};

@@ -1,7 +1,6 @@
 use crate::{Cluster0, Node, NodeCall, NodeId, NodeReply, Nodes, Wanted, has_clocks};
 use cops_types::{
-    Config, Deps, Entry, EntryParts, Fault, Key, Name, Near, Quota, Tenant, Tenants, Value,
-    Version,
+    Config, Deps, Entry, EntryParts, Fault, Key, Name, Near, Quota, Tenant, Tenants, Value, Version,
 };
 use std::alloc::Global;
 use std::process::Abort;
@@ -38,7 +37,13 @@ fn join(rt: &impl Abort, tenants: &mut Tenants, tenant: Tenant) {
 }
 
 /// Two tenants, in clusters of one shard.
-fn config(rt: &impl Abort, alloc: Global, data_centres: u64, first_clock: u64, quota: Quota) -> Config {
+fn config(
+    rt: &impl Abort,
+    alloc: Global,
+    data_centres: u64,
+    first_clock: u64,
+    quota: Quota,
+) -> Config {
     let mut tenants = Tenants::new(alloc);
     join(rt, &mut tenants, tenant(rt, b"acme", 1, first_clock, quota));
     join(rt, &mut tenants, tenant(rt, b"beta", 2, 0, quota));
@@ -129,10 +134,26 @@ fn is_refused(reply: &NodeReply, fault: Fault) -> bool {
 fn versions_of_a_new_node(rt: HostRuntime) {
     let alloc = rt.alloc();
     let mut node = one_of_two(&rt, alloc, 0, 0, QUOTA);
-    assert_eq!(rt; number(ask(&rt, &mut node, 0, 7, put(&rt, alloc, b"x"))), 256);
-    assert_eq!(rt; number(ask(&rt, &mut node, 0, 7, get(&rt, b"x", 1, 0))), 256);
-    assert!(rt; matches!(ask(&rt, &mut node, 0, 7, get(&rt, b"x", 2, 0)), NodeReply::NotYet));
-    assert!(rt; matches!(ask(&rt, &mut node, 0, 7, get(&rt, b"y", 1, 0)), NodeReply::Gone(7)));
+    assert_eq!(rt;
+        number(ask(&rt, &mut node, 0, 7, put(&rt, alloc, b"x"))),
+        256
+    );
+    assert_eq!(rt;
+        number(ask(&rt, &mut node, 0, 7, get(&rt, b"x", 1, 0))),
+        256
+    );
+    assert!(rt;
+        matches!(
+            ask(&rt, &mut node, 0, 7, get(&rt, b"x", 2, 0)),
+            NodeReply::NotYet
+        )
+    );
+    assert!(rt;
+        matches!(
+            ask(&rt, &mut node, 0, 7, get(&rt, b"y", 1, 0)),
+            NodeReply::Gone(7)
+        )
+    );
     let latest = NodeCall::Get(key(&rt, b"x"), Wanted::Latest);
     assert_eq!(rt; number(ask(&rt, &mut node, 0, 7, latest)), 256);
     let other = NodeCall::Get(key(&rt, b"x"), Wanted::Latest);
@@ -143,16 +164,44 @@ fn versions_of_a_new_node(rt: HostRuntime) {
 fn commits_in_order(rt: HostRuntime) {
     let alloc = rt.alloc();
     let mut node = one_of_two(&rt, alloc, 1, 0, QUOTA);
-    assert!(rt; matches!(ask(&rt, &mut node, 0, 0, commit(&rt, alloc, 2, 1)), NodeReply::OutOfOrder(_)));
-    assert_eq!(rt; number(ask(&rt, &mut node, 0, 0, commit(&rt, alloc, 2, 1))), 0);
-    assert!(rt; matches!(ask(&rt, &mut node, 0, 0, commit(&rt, alloc, 1, 0)), NodeReply::Committed));
-    assert!(rt; matches!(ask(&rt, &mut node, 0, 0, commit(&rt, alloc, 2, 1)), NodeReply::Committed));
-    assert!(rt; matches!(ask(&rt, &mut node, 0, 0, commit(&rt, alloc, 1, 0)), NodeReply::Already));
+    assert!(rt;
+        matches!(
+            ask(&rt, &mut node, 0, 0, commit(&rt, alloc, 2, 1)),
+            NodeReply::OutOfOrder(_)
+        )
+    );
+    assert_eq!(rt;
+        number(ask(&rt, &mut node, 0, 0, commit(&rt, alloc, 2, 1))),
+        0
+    );
+    assert!(rt;
+        matches!(
+            ask(&rt, &mut node, 0, 0, commit(&rt, alloc, 1, 0)),
+            NodeReply::Committed
+        )
+    );
+    assert!(rt;
+        matches!(
+            ask(&rt, &mut node, 0, 0, commit(&rt, alloc, 2, 1)),
+            NodeReply::Committed
+        )
+    );
+    assert!(rt;
+        matches!(
+            ask(&rt, &mut node, 0, 0, commit(&rt, alloc, 1, 0)),
+            NodeReply::Already
+        )
+    );
     let second = NodeCall::DepCheck(key(&rt, b"x"), version(&rt, 2, 0));
     assert!(rt; matches!(ask(&rt, &mut node, 0, 0, second), NodeReply::Checked(true)));
     let third = NodeCall::DepCheck(key(&rt, b"x"), version(&rt, 3, 0));
     assert!(rt; matches!(ask(&rt, &mut node, 0, 0, third), NodeReply::Checked(false)));
-    assert!(rt; matches!(ask(&rt, &mut node, 0, 0, get(&rt, b"x", 3, 0)), NodeReply::NotYet));
+    assert!(rt;
+        matches!(
+            ask(&rt, &mut node, 0, 0, get(&rt, b"x", 3, 0)),
+            NodeReply::NotYet
+        )
+    );
     let other = NodeCall::DepCheck(key(&rt, b"x"), version(&rt, 2, 0));
     assert!(rt; matches!(ask(&rt, &mut node, 1, 0, other), NodeReply::Checked(false)));
     assert_eq!(rt; node.audit_len(0), 8);
@@ -167,9 +216,15 @@ fn the_last_clock(rt: HostRuntime) {
     assert!(rt; matches!(ask(&rt, &mut node, 0, 0, last), NodeReply::Committed));
     let refused = ask(&rt, &mut node, 0, 0, put(&rt, alloc, b"x"));
     assert!(rt; is_refused(&refused, Fault::ClockFull));
-    assert_eq!(rt; number(ask(&rt, &mut node, 1, 0, put(&rt, alloc, b"x"))), 257);
+    assert_eq!(rt;
+        number(ask(&rt, &mut node, 1, 0, put(&rt, alloc, b"x"))),
+        257
+    );
     let mut near = one_of_two(&rt, alloc, 0, 72057594037927934, QUOTA);
-    assert_eq!(rt; number(ask(&rt, &mut near, 0, 0, put(&rt, alloc, b"x"))), 72057594037927935 * 256);
+    assert_eq!(rt;
+        number(ask(&rt, &mut near, 0, 0, put(&rt, alloc, b"x"))),
+        72057594037927935 * 256
+    );
     let over = ask(&rt, &mut near, 0, 0, put(&rt, alloc, b"x"));
     assert!(rt; is_refused(&over, Fault::ClockFull));
 }
@@ -183,10 +238,16 @@ fn quotas_are_each_tenants_own(rt: HostRuntime) {
         ..QUOTA
     };
     let mut node = one_of_two(&rt, alloc, 0, 0, versions);
-    assert_eq!(rt; number(ask(&rt, &mut node, 0, 0, put(&rt, alloc, b"x"))), 256);
+    assert_eq!(rt;
+        number(ask(&rt, &mut node, 0, 0, put(&rt, alloc, b"x"))),
+        256
+    );
     let second = ask(&rt, &mut node, 0, 0, put(&rt, alloc, b"y"));
     assert!(rt; is_refused(&second, Fault::VersionQuota));
-    assert_eq!(rt; number(ask(&rt, &mut node, 1, 0, put(&rt, alloc, b"x"))), 256);
+    assert_eq!(rt;
+        number(ask(&rt, &mut node, 1, 0, put(&rt, alloc, b"x"))),
+        256
+    );
     let third = ask(&rt, &mut node, 0, 0, NodeCall::Collect);
     assert_eq!(rt; number(third), 0);
     let fourth = ask(&rt, &mut node, 0, 0, NodeCall::Collect);
@@ -199,7 +260,10 @@ fn quotas_are_each_tenants_own(rt: HostRuntime) {
     assert!(rt; is_refused(&large, Fault::ByteQuota));
     let outbox = Quota { outbox: 1, ..QUOTA };
     let mut narrow = one_of_two(&rt, alloc, 0, 0, outbox);
-    assert_eq!(rt; number(ask(&rt, &mut narrow, 0, 0, put(&rt, alloc, b"x"))), 256);
+    assert_eq!(rt;
+        number(ask(&rt, &mut narrow, 0, 0, put(&rt, alloc, b"x"))),
+        256
+    );
     let queued = ask(&rt, &mut narrow, 0, 0, put(&rt, alloc, b"x"));
     assert!(rt; is_refused(&queued, Fault::OutboxFull));
 }
@@ -208,14 +272,26 @@ fn quotas_are_each_tenants_own(rt: HostRuntime) {
 fn stale_records_are_collected(rt: HostRuntime) {
     let alloc = rt.alloc();
     let mut node = one_of_two(&rt, alloc, 0, 0, QUOTA);
-    assert_eq!(rt; number(ask(&rt, &mut node, 0, 0, put(&rt, alloc, b"x"))), 256);
-    assert_eq!(rt; number(ask(&rt, &mut node, 0, 100, put(&rt, alloc, b"x"))), 512);
+    assert_eq!(rt;
+        number(ask(&rt, &mut node, 0, 0, put(&rt, alloc, b"x"))),
+        256
+    );
+    assert_eq!(rt;
+        number(ask(&rt, &mut node, 0, 100, put(&rt, alloc, b"x"))),
+        512
+    );
     assert_eq!(rt; number(ask(&rt, &mut node, 1, 9000, NodeCall::Collect)), 0);
     assert_eq!(rt; number(ask(&rt, &mut node, 0, 5100, NodeCall::Collect)), 0);
     assert_eq!(rt; number(ask(&rt, &mut node, 0, 5101, NodeCall::Collect)), 1);
     assert_eq!(rt; number(ask(&rt, &mut node, 0, 0, NodeCall::Collect)), 0);
-    assert_eq!(rt; number(ask(&rt, &mut node, 0, 0, get(&rt, b"x", 1, 0))), 5101);
-    assert_eq!(rt; number(ask(&rt, &mut node, 0, 0, get(&rt, b"x", 2, 0))), 512);
+    assert_eq!(rt;
+        number(ask(&rt, &mut node, 0, 0, get(&rt, b"x", 1, 0))),
+        5101
+    );
+    assert_eq!(rt;
+        number(ask(&rt, &mut node, 0, 0, get(&rt, b"x", 2, 0))),
+        512
+    );
 }
 
 #[test]
@@ -223,9 +299,20 @@ fn queues_between_two_nodes(rt: HostRuntime) {
     let alloc = rt.alloc();
     let mut here = one_of_two(&rt, alloc, 0, 0, QUOTA);
     let mut there = one_of_two(&rt, alloc, 1, 0, QUOTA);
-    assert_eq!(rt; number(ask(&rt, &mut here, 1, 0, put(&rt, alloc, b"z"))), 256);
-    assert!(rt; matches!(ask(&rt, &mut here, 0, 0, NodeCall::Pull(1)), NodeReply::Nothing));
-    assert_eq!(rt; number(ask(&rt, &mut here, 0, 0, put(&rt, alloc, b"x"))), 256);
+    assert_eq!(rt;
+        number(ask(&rt, &mut here, 1, 0, put(&rt, alloc, b"z"))),
+        256
+    );
+    assert!(rt;
+        matches!(
+            ask(&rt, &mut here, 0, 0, NodeCall::Pull(1)),
+            NodeReply::Nothing
+        )
+    );
+    assert_eq!(rt;
+        number(ask(&rt, &mut here, 0, 0, put(&rt, alloc, b"x"))),
+        256
+    );
     let first = version(&rt, 1, 0);
     let early = ask(&rt, &mut here, 0, 0, NodeCall::Ack(1, version(&rt, 2, 0)));
     assert!(rt; matches!(early, NodeReply::NotFront));
@@ -234,12 +321,40 @@ fn queues_between_two_nodes(rt: HostRuntime) {
         _ => None,
     };
     let entry = pulled.expect(&rt, "an entry");
-    assert!(rt; matches!(ask(&rt, &mut there, 0, 0, NodeCall::Commit(entry)), NodeReply::Committed));
-    assert!(rt; matches!(ask(&rt, &mut here, 0, 0, NodeCall::Ack(1, first)), NodeReply::Acked));
-    assert!(rt; matches!(ask(&rt, &mut here, 0, 0, NodeCall::Ack(1, first)), NodeReply::NotFront));
-    assert!(rt; matches!(ask(&rt, &mut here, 0, 0, NodeCall::Pull(1)), NodeReply::Nothing));
-    assert!(rt; matches!(ask(&rt, &mut here, 1, 0, NodeCall::Pull(1)), NodeReply::Pulled(_)));
-    assert_eq!(rt; number(ask(&rt, &mut there, 0, 0, get(&rt, b"x", 1, 0))), 256);
+    assert!(rt;
+        matches!(
+            ask(&rt, &mut there, 0, 0, NodeCall::Commit(entry)),
+            NodeReply::Committed
+        )
+    );
+    assert!(rt;
+        matches!(
+            ask(&rt, &mut here, 0, 0, NodeCall::Ack(1, first)),
+            NodeReply::Acked
+        )
+    );
+    assert!(rt;
+        matches!(
+            ask(&rt, &mut here, 0, 0, NodeCall::Ack(1, first)),
+            NodeReply::NotFront
+        )
+    );
+    assert!(rt;
+        matches!(
+            ask(&rt, &mut here, 0, 0, NodeCall::Pull(1)),
+            NodeReply::Nothing
+        )
+    );
+    assert!(rt;
+        matches!(
+            ask(&rt, &mut here, 1, 0, NodeCall::Pull(1)),
+            NodeReply::Pulled(_)
+        )
+    );
+    assert_eq!(rt;
+        number(ask(&rt, &mut there, 0, 0, get(&rt, b"x", 1, 0))),
+        256
+    );
 }
 
 #[test]
@@ -295,7 +410,13 @@ fn a_cluster_of_two(rt: HostRuntime) -> Result<(), Fail> {
 }
 
 /// Makes the call, again where memory was refused, which leaves the node as it was.
-fn insist(rt: &impl Abort, node: &mut Node, moment: u64, call: &NodeCall, alloc: Global) -> Result<NodeReply, Fail> {
+fn insist(
+    rt: &impl Abort,
+    node: &mut Node,
+    moment: u64,
+    call: &NodeCall,
+    alloc: Global,
+) -> Result<NodeReply, Fail> {
     assert!(rt; 0 < node.slots());
     let before = node.audit_len(0);
     let reply = ask(rt, node, 0, moment, call.copy(alloc)?);
@@ -320,14 +441,42 @@ fn calls_under_want_of_memory(rt: HostRuntime) -> Result<(), Fail> {
     assert_eq!(rt; number(insist(&rt, &mut node, 1, &first, alloc)?), 256);
     assert_eq!(rt; number(insist(&rt, &mut node, 1, &latest, alloc)?), 256);
     assert_eq!(rt; number(insist(&rt, &mut node, 1, &there, alloc)?), 256);
-    assert!(rt; matches!(insist(&rt, &mut node, 1, &check, alloc)?, NodeReply::Checked(true)));
-    assert!(rt; matches!(insist(&rt, &mut node, 1, &NodeCall::Pull(1), alloc)?, NodeReply::Pulled(_)));
+    assert!(rt;
+        matches!(
+            insist(&rt, &mut node, 1, &check, alloc)?,
+            NodeReply::Checked(true)
+        )
+    );
+    assert!(rt;
+        matches!(
+            insist(&rt, &mut node, 1, &NodeCall::Pull(1), alloc)?,
+            NodeReply::Pulled(_)
+        )
+    );
     assert_eq!(rt; number(insist(&rt, &mut node, 1, &first, alloc)?), 512);
-    assert!(rt; matches!(insist(&rt, &mut node, 1, &acknowledged, alloc)?, NodeReply::Acked));
-    assert_eq!(rt; number(insist(&rt, &mut node, 6000, &NodeCall::Collect, alloc)?), 1);
+    assert!(rt;
+        matches!(
+            insist(&rt, &mut node, 1, &acknowledged, alloc)?,
+            NodeReply::Acked
+        )
+    );
+    assert_eq!(rt;
+        number(insist(&rt, &mut node, 6000, &NodeCall::Collect, alloc)?),
+        1
+    );
     let mut other = one_of_two(&rt, alloc, 1, 0, QUOTA);
     let sent = commit(&rt, alloc, 1, 0);
-    assert!(rt; matches!(insist(&rt, &mut other, 1, &sent, alloc)?, NodeReply::Committed));
-    assert!(rt; matches!(insist(&rt, &mut other, 1, &sent, alloc)?, NodeReply::Already));
+    assert!(rt;
+        matches!(
+            insist(&rt, &mut other, 1, &sent, alloc)?,
+            NodeReply::Committed
+        )
+    );
+    assert!(rt;
+        matches!(
+            insist(&rt, &mut other, 1, &sent, alloc)?,
+            NodeReply::Already
+        )
+    );
     Ok(())
 }

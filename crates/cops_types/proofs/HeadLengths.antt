@@ -90,7 +90,7 @@ tenant-short line tenant is =
     let actors = decimal-short q.actors fits.actors in
     let audit = decimal-short q.audit fits.audit in
     let whole = spaced-length (codes "tenant" ∷ tenant.name ∷ is.token ∷ decimal tenant.first_clock ∷ decimal q.versions ∷ decimal q.bytes ∷ decimal q.outbox
-        ∷ decimal q.contexts ∷ decimal q.deps ∷ decimal q.actors ∷ decimal q.audit ∷ []) in
+    ∷ decimal q.contexts ∷ decimal q.deps ∷ decimal q.actors ∷ decimal q.audit ∷ []) in
     subst (λ l. length l ≤ longest_line) (sym is.spelled) (omega (arith, name, token, clock, versions, bytes, outbox, contexts, deps, actors, audit, whole))
 
 follows-short : (front : Front) (line : List ℕ) (next : Front) → Follows front line next → length line ≤ longest_line

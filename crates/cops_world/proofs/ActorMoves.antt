@@ -121,9 +121,10 @@ distinct-joined name actor [] absent h = (refl, tt)
 distinct-joined name actor (a ∷ actors) absent h = by_test (key_eq a.name name)
     (λ is. let clash : true ≡ false = sym (rw is refl) ∙ absent in cc)
     (λ is.
-    let apart : key_eq name a.name ≡ false = key_eq-turned a.name name is in
-    (list_any-append (λ (b : NamedActor). key_eq b.name a.name) actors (record { name = name; actor = actor } ∷ []) ∙ rw (h.0, apart) refl,
-      distinct-joined name actor actors (sym (rw is refl) ∙ absent) h.1))
+    let apart : key_eq name a.name ≡ false = key_eq-turned a.name name is in (
+      list_any-append (λ (b : NamedActor). key_eq b.name a.name) actors (record { name = name; actor = actor } ∷ []) ∙ rw (h.0, apart) refl,
+      distinct-joined name actor actors (sym (rw is refl) ∙ absent) h.1,
+    ))
 
 distinct-without : (name : List ℕ) (actors : List NamedActor) → AreDistinct actors → AreDistinct (filter (λ a. not (key_eq a.name name)) actors)
 distinct-without name [] h = tt

@@ -65,9 +65,11 @@ module _ (config : TenantConfig) (name : List ℕ) (before : SoloCluster) (nodes
         by_shown (inl is) = record {
           reply_is = reply_is ∙ ap reply_of_progress is;
           nodes_are = same_nodes;
-          actors_are = (OfSession (session_after s running step (session.progress config (request_of s running) running.log step)),
+          actors_are = (
+            OfSession (session_after s running step (session.progress config (request_of s running) running.log step)),
             ap (λ actors. (with_actor name (OfSession (session_after s running step (session.progress config (request_of s running) running.log step))) (record before { actors = actors })).actors) same_actors,
-            subst (λ p. SessionStandsFor config kept_after (session_after s running step p)) is stepped.stands);
+            subst (λ p. SessionStandsFor config kept_after (session_after s running step p)) is stepped.stands,
+          );
         }
 
     session_does_next : (at : ℕ) (shown : Progress) (reply : Reply) (n : Next Answer) → next config (request_of s running) running.log at ≡ n → IsFalse (is_out_of_memory reply) → reply ≡ reply_of_progress shown →

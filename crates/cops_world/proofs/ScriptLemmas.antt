@@ -91,7 +91,7 @@ module _ {W : Type 0} (setup : W → Config) (StandsFor : W → ℕ → SoloClus
     right : AreSpared told → (clusters : ℕ → SoloCluster) → AllStand old clusters →
         (later : ℕ → SoloCluster) × AllStand new later
         × ((others : List (List ℕ)) → answers_from (config_at config) (map (said_in config.tenants) (lines ++ others)) clusters
-            ≡ told ++ answers_from (config_at config) (map (said_in config.tenants) others) later)
+        ≡ told ++ answers_from (config_at config) (map (said_in config.tenants) others) later)
 
   first_spared : (a b : Bool) → (a || b) ≡ false → a ≡ false
   first_spared true b e = e
@@ -112,10 +112,13 @@ module _ {W : Type 0} (setup : W → Config) (StandsFor : W → ℕ → SoloClus
       whole = whole ∙ (λ i. is i ++ p.whole i);
       same = p.same;
       right = λ spared clusters stand.
-          let rest = p.right (later_spared (is_lack answer) (list_any is_lack p.told) spared) clusters (subst (λ w. AllStand w clusters) (sym stays) stand) in
-          (rest.0, rest.1, λ others.
-          ap (λ s. answers_from (config_at config) (s ∷ map (said_in config.tenants) (lines ++ others)) clusters) says
-          ∙ step (map (said_in config.tenants) (lines ++ others)) clusters ∙ ap (λ told. answer ∷ told) (rest.2 others));
+          let rest = p.right (later_spared (is_lack answer) (list_any is_lack p.told) spared) clusters (subst (λ w. AllStand w clusters) (sym stays) stand) in (
+            rest.0,
+            rest.1,
+            λ others.
+                ap (λ s. answers_from (config_at config) (s ∷ map (said_in config.tenants) (lines ++ others)) clusters) says
+                ∙ step (map (said_in config.tenants) (lines ++ others)) clusters ∙ ap (λ told. answer ∷ told) (rest.2 others),
+          );
     }
 
     -- a line that acts
@@ -133,15 +136,18 @@ module _ {W : Type 0} (setup : W → Config) (StandsFor : W → ℕ → SoloClus
           (stand event.slot (subst (λ c. event.slot < length c.tenants) (sym is_of) there)) in
           let own = subst (λ (c : Config). let t = cluster_step (config_at c event.slot) event.act (clusters event.slot) in (reply ≡ t.reply) × StandsFor mid event.slot t.after) is_of mine in
           let stand_mid : AllStand mid (with_cluster event.slot turn.after clusters) = λ slot below. by_test (event.slot == slot)
-              (λ same_slot.
-              let same = (Decides-eqb event.slot slot).0 same_slot in
-              rw same_slot (subst (λ s. StandsFor mid s turn.after) same own.1))
-              (λ apart. rw apart (acted.others slot (λ same. true≢false (sym ((Decides-eqb event.slot slot).1 same) ∙ apart)) (clusters slot) (stand slot (subst (λ c. slot < length c.tenants) acted.same below)))) in
-          let rest = p.right (later_spared (is_out_of_memory reply) (list_any is_lack p.told) spared) (with_cluster event.slot turn.after clusters) stand_mid in
-          (rest.0, rest.1, λ others.
-          ap (λ s. answers_from (config_at config) (s ∷ map (said_in config.tenants) (lines ++ others)) clusters) says
-          ∙ ap (λ r. Some (event.slot, r) ∷ answers_from (config_at config) (map (said_in config.tenants) (lines ++ others)) (with_cluster event.slot turn.after clusters)) (sym own.0)
-          ∙ ap (λ told. Some (event.slot, reply) ∷ told) (rest.2 others));
+          (λ same_slot.
+          let same = (Decides-eqb event.slot slot).0 same_slot in
+          rw same_slot (subst (λ s. StandsFor mid s turn.after) same own.1))
+          (λ apart. rw apart (acted.others slot (λ same. true≢false (sym ((Decides-eqb event.slot slot).1 same) ∙ apart)) (clusters slot) (stand slot (subst (λ c. slot < length c.tenants) acted.same below)))) in
+          let rest = p.right (later_spared (is_out_of_memory reply) (list_any is_lack p.told) spared) (with_cluster event.slot turn.after clusters) stand_mid in (
+            rest.0,
+            rest.1,
+            λ others.
+                ap (λ s. answers_from (config_at config) (s ∷ map (said_in config.tenants) (lines ++ others)) clusters) says
+                ∙ ap (λ r. Some (event.slot, r) ∷ answers_from (config_at config) (map (said_in config.tenants) (lines ++ others)) (with_cluster event.slot turn.after clusters)) (sym own.0)
+                ∙ ap (λ told. Some (event.slot, reply) ∷ told) (rest.2 others),
+          );
     }
 
   -- what a line says stays the configuration

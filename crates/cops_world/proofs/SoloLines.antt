@@ -190,14 +190,14 @@ pub solo_text-is : (config : Config) (name : List ℕ) (slot : ℕ) (tenant : Te
 solo_text-is config name slot tenant lines here at only own_name =
     ap (λ tenants. script_text (record config { tenants = tenants }) (alone_lines name lines)) only
     ∙ ap (flat_map (answer_line (tenant ∷ []))) (
-      answers_to-from single (alone_lines name lines)
-      ∙ alone_answers (config_at single) (map (said_in (tenant ∷ [])) (alone_lines name lines)) (new_at single) (alone_named tenant name own_name lines)
-      ∙ ap (map (to_slot 0)) (same_told config.tenants tenant name slot here own_name mine lines (new_cluster mine)))
+    answers_to-from single (alone_lines name lines)
+    ∙ alone_answers (config_at single) (map (said_in (tenant ∷ [])) (alone_lines name lines)) (new_at single) (alone_named tenant name own_name lines)
+    ∙ ap (map (to_slot 0)) (same_told config.tenants tenant name slot here own_name mine lines (new_cluster mine)))
     ∙ text_of_told (tenant ∷ []) 0 config.tenants slot (told_alone mine slot said (new_cluster mine)) (own_name ∙ sym (name_there config.tenants name slot here))
     ∙ sym (ap (flat_map (answer_line config.tenants)) (
-      ap (filter (is_to slot)) (answers_to-from config lines)
-      ∙ answers_to_one (config_at config) slot said (new_at config)
-      ∙ ap (λ c. map (to_slot slot) (told_alone c slot said (new_cluster c))) found))
+    ap (filter (is_to slot)) (answers_to-from config lines)
+    ∙ answers_to_one (config_at config) slot said (new_at config)
+    ∙ ap (λ c. map (to_slot slot) (told_alone c slot said (new_cluster c))) found))
   where
     single : Config
     single = record config { tenants = tenant ∷ [] }

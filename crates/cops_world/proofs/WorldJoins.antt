@@ -101,13 +101,15 @@ module _ (old : World) (slot : ℕ) (name : List ℕ) (solo : Actor) (reply : Re
         let is = room_joins none room cluster h in
         let here : actors (id_of slot name) ≡ Some kept = updates (id_of slot name) ∙ rw (same_actor-refl (id_of slot name)) refl in
         let joined = joins (ActorStandsFor (config_at old.setup slot)) name (λ n. old.actors (id_of slot n)) (λ n. actors (id_of slot n)) cluster h.actors_are kept solo none here
-            (λ other apart. updates (id_of slot other) ∙ rw (other_name slot name other apart) refl) stands in
-        (ap (λ (t : Turn). t.reply) (sym is), subst (λ (t : Turn). StandsAt (record old { actors = actors; counts = slice_set old.counts slot (slice_index old.counts slot + 1) }) slot t.after) (sym is) (record {
-          has = h.has;
-          nodes_are = h.nodes_are;
-          actors_are = joined;
-          count_is = get_or-set_same old.counts slot (slice_index old.counts slot + 1) 0 within ∙ ap (λ n. n + 1) h.count_is ∙ sym (count-joined name solo cluster);
-        }));
+        (λ other apart. updates (id_of slot other) ∙ rw (other_name slot name other apart) refl) stands in (
+          ap (λ (t : Turn). t.reply) (sym is),
+          subst (λ (t : Turn). StandsAt (record old { actors = actors; counts = slice_set old.counts slot (slice_index old.counts slot + 1) }) slot t.after) (sym is) (record {
+            has = h.has;
+            nodes_are = h.nodes_are;
+            actors_are = joined;
+            count_is = get_or-set_same old.counts slot (slice_index old.counts slot + 1) 0 within ∙ ap (λ n. n + 1) h.count_is ∙ sym (count-joined name solo cluster);
+          }),
+        );
     others = λ other differ. others_stay old old.nodes actors (slice_set old.counts slot (slice_index old.counts slot + 1)) slot other differ (λ config. refl) (λ config has. has)
         (λ q apart. updates q ∙ rw (other_slot (id_of slot name) q apart) refl)
         (get_or-set_other old.counts slot other (slice_index old.counts slot + 1) 0 (λ same. differ (sym same)));

@@ -122,12 +122,15 @@ module _ (old : World) (slot : ℕ) (name : List ℕ) (actors : ActorId → Opti
       by_actor None none =
           let gone = absent_too (ActorStandsFor config) name (λ n. old.actors (id_of slot n)) (λ n. actors (id_of slot n)) cluster h.actors_are none in
           let same = done.absent none in
-          subst Own (sym (deed_absent config name deed cluster gone)) (same.0, record {
-            has = h.has;
-            nodes_are = h.nodes_are;
-            actors_are = kept_alike (ActorStandsFor config) (λ n. old.actors (id_of slot n)) (λ n. actors (id_of slot n)) cluster (λ n. ap (λ f. f (id_of slot n)) same.1) h.actors_are;
-            count_is = h.count_is;
-          })
+          subst Own (sym (deed_absent config name deed cluster gone)) (
+            same.0,
+            record {
+              has = h.has;
+              nodes_are = h.nodes_are;
+              actors_are = kept_alike (ActorStandsFor config) (λ n. old.actors (id_of slot n)) (λ n. actors (id_of slot n)) cluster (λ n. ap (λ f. f (id_of slot n)) same.1) h.actors_are;
+              count_is = h.count_is;
+            },
+          )
       by_actor (Some before) there =
           let solo = found_too (ActorStandsFor config) name (λ n. old.actors (id_of slot n)) (λ n. actors (id_of slot n)) cluster h.actors_are before there in
           let did = done.found before there in
@@ -135,13 +138,15 @@ module _ (old : World) (slot : ℕ) (name : List ℕ) (actors : ActorId → Opti
           let own = did.1.1 config solo.0 solo.2 spared in
           let here : actors (id_of slot name) ≡ Some did.0 = did.1.0 (id_of slot name) ∙ rw (same_actor-refl (id_of slot name)) refl in
           let placed = put_in_place (ActorStandsFor config) name (λ n. old.actors (id_of slot n)) (λ n. actors (id_of slot n)) cluster h.actors_are did.0 (actor_does config deed solo.0).after solo.0 solo.1 here
-              (λ other apart. did.1.0 (id_of slot other) ∙ rw (other_name slot name other apart) refl) own.1 in
-          (own.0 ∙ sym turn.reply_is, record {
-            has = h.has;
-            nodes_are = h.nodes_are ∙ sym turn.nodes_stay;
-            actors_are = actors_alone (ActorStandsFor config) (λ n. actors (id_of slot n)) (with_actor name (actor_does config deed solo.0).after cluster) (deed_step config name deed cluster).after (sym turn.actors_are) placed;
-            count_is = h.count_is ∙ sym (count-with_actor name (actor_does config deed solo.0).after cluster) ∙ ap length (sym turn.actors_are);
-          })
+          (λ other apart. did.1.0 (id_of slot other) ∙ rw (other_name slot name other apart) refl) own.1 in (
+            own.0 ∙ sym turn.reply_is,
+            record {
+              has = h.has;
+              nodes_are = h.nodes_are ∙ sym turn.nodes_stay;
+              actors_are = actors_alone (ActorStandsFor config) (λ n. actors (id_of slot n)) (with_actor name (actor_does config deed solo.0).after cluster) (deed_step config name deed cluster).after (sym turn.actors_are) placed;
+              count_is = h.count_is ∙ sym (count-with_actor name (actor_does config deed solo.0).after cluster) ∙ ap length (sym turn.actors_are);
+            },
+          )
 
   deed_actors : (q : ActorId) → slot ≢ q.slot → actors q ≡ old.actors q
   deed_actors q differ = by_actor (old.actors (id_of slot name)) refl

@@ -177,10 +177,10 @@ module _ (old : World) (whole : IsWorld old) (slot : ℕ) (name : List ℕ) (mom
     own = λ spared cluster stood.
         let solo = found_too (ActorStandsFor config_of_slot) name (λ n. old.actors (id_of slot n)) (λ n. actors (id_of slot n)) cluster stood.actors_are before h.there in
         let weaker = steps_weaker (λ at node call reply. IsCall old.nodes node slot at call reply nodes) (NodesTurn config_of_slot cluster.nodes (nodes_of config_of_slot slot nodes))
-            (nodes ≡ old.nodes) (nodes_of config_of_slot slot nodes ≡ cluster.nodes)
-            (λ at node call reply made. subst (λ ns. NodesTurn config_of_slot ns (nodes_of config_of_slot slot nodes) at node call reply) stood.nodes_are (call_turns config_of_slot old.nodes nodes slot at node call reply shards stood.has made))
-            (λ stays. ap (nodes_of config_of_slot slot) stays ∙ stood.nodes_are)
-            config_of_slot moment stepped solo.0 after (h.steps config_of_slot solo.0 solo.2) in
+        (nodes ≡ old.nodes) (nodes_of config_of_slot slot nodes ≡ cluster.nodes)
+        (λ at node call reply made. subst (λ ns. NodesTurn config_of_slot ns (nodes_of config_of_slot slot nodes) at node call reply) stood.nodes_are (call_turns config_of_slot old.nodes nodes slot at node call reply shards stood.has made))
+        (λ stays. ap (nodes_of config_of_slot slot) stays ∙ stood.nodes_are)
+        config_of_slot moment stepped solo.0 after (h.steps config_of_slot solo.0 solo.2) in
         let took = actor_turn config_of_slot name cluster (nodes_of config_of_slot slot nodes) moment solo.0 after stepped stood.actors_are.distinct solo.1 spared weaker in
         (took.reply_is, stands_after cluster solo.0 (actor_step config_of_slot name moment cluster) stood within solo.1 took);
     others = λ other differ. others_stay old nodes actors (counts_after stepped.is_over old.counts slot) slot other differ
@@ -253,10 +253,12 @@ collect_moves old slot id moment answered nodes reply shards made is = record {
     by_turn : IsFalse (is_out_of_memory reply) → (cluster : SoloCluster) → StandsAt old slot cluster → NodesTurn (config_at old.setup slot) cluster.nodes (nodes_of (config_at old.setup slot) slot nodes) moment id node_call.Collect answered →
         (reply ≡ (collect_at (config_at old.setup slot) id moment cluster).reply) × StandsAt (record old { nodes = nodes }) slot (collect_at (config_at old.setup slot) id moment cluster).after
     by_turn spared cluster stood (inl (lack, stays)) = absurd (true≢false (ap is_out_of_memory (sym (is ∙ ap reply_of_collect lack)) ∙ spared))
-    by_turn spared cluster stood (inr (reply_is, moved)) =
-        (is ∙ ap reply_of_collect reply_is, record {
-          has = made.tenants (config_at old.setup slot) slot stood.has;
-          nodes_are = moved;
-          actors_are = actors_alone (ActorStandsFor (config_at old.setup slot)) (λ n. old.actors (id_of slot n)) cluster (collect_at (config_at old.setup slot) id moment cluster).after refl stood.actors_are;
-          count_is = stood.count_is;
-        })
+    by_turn spared cluster stood (inr (reply_is, moved)) = (
+      is ∙ ap reply_of_collect reply_is,
+      record {
+        has = made.tenants (config_at old.setup slot) slot stood.has;
+        nodes_are = moved;
+        actors_are = actors_alone (ActorStandsFor (config_at old.setup slot)) (λ n. old.actors (id_of slot n)) cluster (collect_at (config_at old.setup slot) id moment cluster).after refl stood.actors_are;
+        count_is = stood.count_is;
+      },
+    )

@@ -83,8 +83,8 @@ abbrev pub NodesTurn : TenantConfig → List SoloNode → List SoloNode → ℕ 
 NodesTurn config before after at id call reply =
     ((reply ≡ node_reply.Refused OutOfMemory) × (after ≡ before))
     ⊎ (let number = number_of config.shards id in
-       let turn = node_step (place_of config id) at call (slice_index_or before number (new_node config.data_centres)) in
-       (reply ≡ turn.reply) × (after ≡ slice_set before number turn.after))
+    let turn = node_step (place_of config id) at call (slice_index_or before number (new_node config.data_centres)) in
+    (reply ≡ turn.reply) × (after ≡ slice_set before number turn.after))
 
 -- the actor after the step, or none
 abbrev pub IsAfter : TenantConfig → List ℕ → SoloCluster → SoloCluster → Kept → Bool → Type 0

@@ -60,7 +60,7 @@ pub(crate) fn step_at<N: Nodes>(
     requires slot { id.slot < (N.shape nodes.old).slots }
     ensures stepped { (before : Kept) → actor_at actors.old id ≡ Some before → (after : Kept) × PutsBack actors.old id after actors.new
         × ((config : TenantConfig) (solo : Solo) → ActorStandsFor config before solo →
-            ActorSteps (λ at node call reply. N.Answers nodes.old node id.slot at call reply nodes.new) (nodes.new ≡ nodes.old) config moment result solo after)
+        ActorSteps (λ at node call reply. N.Answers nodes.old node id.slot at call reply nodes.new) (nodes.new ≡ nodes.old) config moment result solo after)
         × ((shape : Shape) → RunsAt shape id.slot before → RunsAt shape id.slot after) }
     ensures there { (before : Kept) × (actor_at actors.old id ≡ Some before) }
     ensures once { (nodes.new ≡ nodes.old)

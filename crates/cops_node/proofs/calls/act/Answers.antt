@@ -19,7 +19,8 @@ returns-in-Ack-clause-done c = λ solo moment h.
 
 pub returns-in-Collect-clause-done : goal.returns-in-Collect-clause-done
 returns-in-Collect-clause-done c = λ solo moment h.
-    subst (λ (k : NodeCall). (c.removed.result.told ≡ (effect c.args.place.now k solo).reply) × StandsAt c.args.slot c.args.place.now c.args.counters.now c.collect.new.self c.args.outbox.now (effect c.args.place.now k solo).after) (sym c.in-Collect.is)
-    (ap (λ (r : Replies). r.told) c.removed.ensures ∙ ap Removed (c.collect.ensures.removed solo.recs h.rows ∙ ap (λ n. collectable c.args.place.now.trans_time n solo.recs) (sym moment)),
-    StandsAt-collected c.args.slot c.args.place.now c.args.counters.now c.args.store.now c.collect.new.self c.args.outbox.now solo h
-    (subst (λ n. StandsFor (rows_of c.args.slot c.collect.new.self) (collected c.args.place.now.trans_time n solo.recs)) (sym moment) (c.collect.ensures.stands_for solo.recs h.rows)) c.collect.ensures.tenants)
+    subst (λ (k : NodeCall). (c.removed.result.told ≡ (effect c.args.place.now k solo).reply) × StandsAt c.args.slot c.args.place.now c.args.counters.now c.collect.new.self c.args.outbox.now (effect c.args.place.now k solo).after) (sym c.in-Collect.is) (
+      ap (λ (r : Replies). r.told) c.removed.ensures ∙ ap Removed (c.collect.ensures.removed solo.recs h.rows ∙ ap (λ n. collectable c.args.place.now.trans_time n solo.recs) (sym moment)),
+      StandsAt-collected c.args.slot c.args.place.now c.args.counters.now c.args.store.now c.collect.new.self c.args.outbox.now solo h
+          (subst (λ n. StandsFor (rows_of c.args.slot c.collect.new.self) (collected c.args.place.now.trans_time n solo.recs)) (sym moment) (c.collect.ensures.stands_for solo.recs h.rows)) c.collect.ensures.tenants,
+    )

@@ -8,8 +8,7 @@ use Rattle.cops_world.proofs.actor_table.act_at.Goals as goal
 pub returns-in-Some-clause-found : goal.returns-in-Some-clause-found
 returns-in-Some-clause-found c = λ before e.
     let same : before ≡ c.index_mut-actor.result.now =
-    sym (same_value c.index_mut-actor.result.now before (sym c.index_mut-actor.ensures.value ∙ c.in-Some.ensures.value ∙ e)) in
-    (
+    sym (same_value c.index_mut-actor.result.now before (sym c.index_mut-actor.ensures.value ∙ c.in-Some.ensures.value ∙ e)) in (
       c.act.new.self,
       puts actor_laws c.args.id c.args.actors.now c.requires c.in-Some.place c.in-Some.ensures.index c.act.new.self,
       λ config solo stands. c.act.ensures.own config solo (subst (λ (a : Actor). ActorStandsFor config a solo) same stands),

@@ -10,8 +10,7 @@ step-requires-clause-runs g c = c.requires.runs c.args.id c.index_mut-actor.resu
 
 pub returns-clause-stepped : goal.returns-clause-stepped
 returns-clause-stepped g c = λ before e.
-    let same : before ≡ c.index_mut-actor.result.now = sym (same_value c.index_mut-actor.result.now before (sym c.index_mut-actor.ensures.value ∙ c.requires.value ∙ e)) in
-    (
+    let same : before ≡ c.index_mut-actor.result.now = sym (same_value c.index_mut-actor.result.now before (sym c.index_mut-actor.ensures.value ∙ c.requires.value ∙ e)) in (
       c.step.new.self,
       puts actor_laws c.args.id c.args.actors.now c.requires.unique c.args.place c.requires.place c.step.new.self,
       λ config solo stands. c.step.ensures.steps config solo (subst (λ (a : Actor). ActorStandsFor config a solo) same stands),

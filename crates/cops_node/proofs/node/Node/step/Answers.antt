@@ -11,7 +11,7 @@ returns-then-is_audit_full-clause-turn c = λ place is.
     let within : c.args.slot < length c.self.inside.parts.items = subst (λ (v : Shared). c.args.slot < v.home.shape.slots) (sym c.self.view_is) c.requires.slot_exists in
     let place_is = place_read c.self.inside.parts.items c.args.slot place c.index-part.result.now within (subst (λ (v : Shared). place ≡ get_or v.home.places c.args.slot place) (sym c.self.view_is) is) c.index-part.ensures in
     let done = full_done c.self.inside.id c.self.inside.data_centres c.self.inside.shards c.args.slot c.args.moment c.args.call c.self.inside.parts.items c.index-part.result.now c.self.inside.store c.self.inside.outbox c.self.inside.audit.items
-        c.is_audit_full.result c.self.invariant within c.index-part.ensures c.is_audit_full.ensures c.if-is_audit_full.true place c.args.self.now.audit place_is (ap (λ (v : Shared). v.audit) c.self.view_is) in
+    c.is_audit_full.result c.self.invariant within c.index-part.ensures c.is_audit_full.ensures c.if-is_audit_full.true place c.args.self.now.audit place_is (ap (λ (v : Shared). v.audit) c.self.view_is) in
     inr (done.0, done.1)
 
 pub invariant_of-self-then-is_err-2 : goal.invariant_of-self-then-is_err-2
@@ -24,13 +24,19 @@ invariant_of-self-then-is_err-2 c =
 
 pub returns-then-is_err-2-clause-turn : goal.returns-then-is_err-2-clause-turn
 returns-then-is_err-2-clause-turn c = λ place is.
-    inl (refl, view_set c.self.inside.id c.self.inside.data_centres c.self.inside.shards c.args.slot c.self.inside.parts.items c.index_mut-part.result.now (record c.index_mut-part.result.now { trail = c.reserve-2.new.self }) c.self.inside.audit.items c.reserve.new.self.items
-    c.index_mut-part.ensures.value refl c.reserve.ensures.items ∙ c.self.view_is)
+    inl (
+      refl,
+      view_set c.self.inside.id c.self.inside.data_centres c.self.inside.shards c.args.slot c.self.inside.parts.items c.index_mut-part.result.now (record c.index_mut-part.result.now { trail = c.reserve-2.new.self }) c.self.inside.audit.items c.reserve.new.self.items
+          c.index_mut-part.ensures.value refl c.reserve.ensures.items ∙ c.self.view_is,
+    )
 
 pub returns-then-is_err-2-clause-audited : goal.returns-then-is_err-2-clause-audited
 returns-then-is_err-2-clause-audited c =
-    inl (inl refl, view_set c.self.inside.id c.self.inside.data_centres c.self.inside.shards c.args.slot c.self.inside.parts.items c.index_mut-part.result.now (record c.index_mut-part.result.now { trail = c.reserve-2.new.self }) c.self.inside.audit.items c.reserve.new.self.items
-    c.index_mut-part.ensures.value refl c.reserve.ensures.items ∙ c.self.view_is)
+    inl (
+      inl refl,
+      view_set c.self.inside.id c.self.inside.data_centres c.self.inside.shards c.args.slot c.self.inside.parts.items c.index_mut-part.result.now (record c.index_mut-part.result.now { trail = c.reserve-2.new.self }) c.self.inside.audit.items c.reserve.new.self.items
+          c.index_mut-part.ensures.value refl c.reserve.ensures.items ∙ c.self.view_is,
+    )
 
 pub returns-then-is_err-2-clause-home : goal.returns-then-is_err-2-clause-home
 returns-then-is_err-2-clause-home c =
@@ -54,13 +60,19 @@ invariant_of-self-in_default c =
 
 pub returns-in_default-clause-turn : goal.returns-in_default-clause-turn
 returns-in_default-clause-turn c = λ place is.
-    inl (refl, view_set c.self.inside.id c.self.inside.data_centres c.self.inside.shards c.args.slot c.self.inside.parts.items c.index_mut-part.result.now (record c.index_mut-part.result.now { counters = c.act.new.counters; trail = c.reserve-2.new.self }) c.self.inside.audit.items c.reserve.new.self.items
-    c.index_mut-part.ensures.value refl c.reserve.ensures.items ∙ c.self.view_is)
+    inl (
+      refl,
+      view_set c.self.inside.id c.self.inside.data_centres c.self.inside.shards c.args.slot c.self.inside.parts.items c.index_mut-part.result.now (record c.index_mut-part.result.now { counters = c.act.new.counters; trail = c.reserve-2.new.self }) c.self.inside.audit.items c.reserve.new.self.items
+          c.index_mut-part.ensures.value refl c.reserve.ensures.items ∙ c.self.view_is,
+    )
 
 pub returns-in_default-clause-audited : goal.returns-in_default-clause-audited
 returns-in_default-clause-audited c =
-    inl (inl refl, view_set c.self.inside.id c.self.inside.data_centres c.self.inside.shards c.args.slot c.self.inside.parts.items c.index_mut-part.result.now (record c.index_mut-part.result.now { counters = c.act.new.counters; trail = c.reserve-2.new.self }) c.self.inside.audit.items c.reserve.new.self.items
-    c.index_mut-part.ensures.value refl c.reserve.ensures.items ∙ c.self.view_is)
+    inl (
+      inl refl,
+      view_set c.self.inside.id c.self.inside.data_centres c.self.inside.shards c.args.slot c.self.inside.parts.items c.index_mut-part.result.now (record c.index_mut-part.result.now { counters = c.act.new.counters; trail = c.reserve-2.new.self }) c.self.inside.audit.items c.reserve.new.self.items
+          c.index_mut-part.ensures.value refl c.reserve.ensures.items ∙ c.self.view_is,
+    )
 
 pub returns-in_default-clause-home : goal.returns-in_default-clause-home
 returns-in_default-clause-home c =
@@ -100,9 +112,9 @@ returns-clause-turn c = λ place is.
     let within : c.args.slot < length c.self.inside.parts.items = subst (λ (v : Shared). c.args.slot < v.home.shape.slots) (sym c.self.view_is) c.requires.slot_exists in
     let place_is = place_read c.self.inside.parts.items c.args.slot place c.index_mut-part.result.now within (subst (λ (v : Shared). place ≡ get_or v.home.places c.args.slot place) (sym c.self.view_is) is) c.index_mut-part.ensures.value in
     let done = turn_done c.args.slot c.args.moment c.max-now.result c.args.call c.self.inside.id c.self.inside.data_centres c.self.inside.shards c.self.inside.parts.items c.index_mut-part.result.now (next c)
-        c.self.inside.store c.act.new.store c.self.inside.outbox c.act.new.outbox c.self.inside.audit.items c.push-2.new.self.items c.in-Ok.replies.told c.in-Ok.replies.kept c.is_audit_full.result
-        c.self.invariant within c.index_mut-part.ensures.value (room c) c.if-is_audit_full.false c.max-now.ensures refl refl (noted c) c.in-Ok.ensures.done c.in-Ok.ensures.kept c.in-Ok.ensures.others (pushed c)
-        place c.args.self.now.audit place_is (ap (λ (v : Shared). v.audit) c.self.view_is) in
+    c.self.inside.store c.act.new.store c.self.inside.outbox c.act.new.outbox c.self.inside.audit.items c.push-2.new.self.items c.in-Ok.replies.told c.in-Ok.replies.kept c.is_audit_full.result
+    c.self.invariant within c.index_mut-part.ensures.value (room c) c.if-is_audit_full.false c.max-now.ensures refl refl (noted c) c.in-Ok.ensures.done c.in-Ok.ensures.kept c.in-Ok.ensures.others (pushed c)
+    place c.args.self.now.audit place_is (ap (λ (v : Shared). v.audit) c.self.view_is) in
     inr (done.0, done.1)
 
 pub returns-clause-home : goal.returns-clause-home
