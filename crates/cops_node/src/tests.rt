@@ -161,54 +161,6 @@ fn versions_of_a_new_node(rt: HostRuntime) {
 }
 
 #[test]
-fn commits_in_order(rt: HostRuntime) {
-    let alloc = rt.alloc();
-    let mut node = one_of_two(&rt, alloc, 1, 0, QUOTA);
-    assert!(rt;
-        matches!(
-            ask(&rt, &mut node, 0, 0, commit(&rt, alloc, 2, 1)),
-            NodeReply::OutOfOrder(_)
-        )
-    );
-    assert_eq!(rt;
-        number(ask(&rt, &mut node, 0, 0, commit(&rt, alloc, 2, 1))),
-        0
-    );
-    assert!(rt;
-        matches!(
-            ask(&rt, &mut node, 0, 0, commit(&rt, alloc, 1, 0)),
-            NodeReply::Committed
-        )
-    );
-    assert!(rt;
-        matches!(
-            ask(&rt, &mut node, 0, 0, commit(&rt, alloc, 2, 1)),
-            NodeReply::Committed
-        )
-    );
-    assert!(rt;
-        matches!(
-            ask(&rt, &mut node, 0, 0, commit(&rt, alloc, 1, 0)),
-            NodeReply::Already
-        )
-    );
-    let second = NodeCall::DepCheck(key(&rt, b"x"), version(&rt, 2, 0));
-    assert!(rt; matches!(ask(&rt, &mut node, 0, 0, second), NodeReply::Checked(true)));
-    let third = NodeCall::DepCheck(key(&rt, b"x"), version(&rt, 3, 0));
-    assert!(rt; matches!(ask(&rt, &mut node, 0, 0, third), NodeReply::Checked(false)));
-    assert!(rt;
-        matches!(
-            ask(&rt, &mut node, 0, 0, get(&rt, b"x", 3, 0)),
-            NodeReply::NotYet
-        )
-    );
-    let other = NodeCall::DepCheck(key(&rt, b"x"), version(&rt, 2, 0));
-    assert!(rt; matches!(ask(&rt, &mut node, 1, 0, other), NodeReply::Checked(false)));
-    assert_eq!(rt; node.audit_len(0), 8);
-    assert_eq!(rt; node.audit_len(1), 1);
-}
-
-#[test]
 fn the_last_clock(rt: HostRuntime) {
     let alloc = rt.alloc();
     let mut node = one_of_two(&rt, alloc, 1, 0, QUOTA);
@@ -227,45 +179,6 @@ fn the_last_clock(rt: HostRuntime) {
     );
     let over = ask(&rt, &mut near, 0, 0, put(&rt, alloc, b"x"));
     assert!(rt; is_refused(&over, Fault::ClockFull));
-}
-
-#[test]
-fn quotas_are_each_tenants_own(rt: HostRuntime) {
-    let alloc = rt.alloc();
-    let versions = Quota {
-        versions: 1,
-        audit: 3,
-        ..QUOTA
-    };
-    let mut node = one_of_two(&rt, alloc, 0, 0, versions);
-    assert_eq!(rt;
-        number(ask(&rt, &mut node, 0, 0, put(&rt, alloc, b"x"))),
-        256
-    );
-    let second = ask(&rt, &mut node, 0, 0, put(&rt, alloc, b"y"));
-    assert!(rt; is_refused(&second, Fault::VersionQuota));
-    assert_eq!(rt;
-        number(ask(&rt, &mut node, 1, 0, put(&rt, alloc, b"x"))),
-        256
-    );
-    let third = ask(&rt, &mut node, 0, 0, NodeCall::Collect);
-    assert_eq!(rt; number(third), 0);
-    let fourth = ask(&rt, &mut node, 0, 0, NodeCall::Collect);
-    assert!(rt; is_refused(&fourth, Fault::AuditFull));
-    assert_eq!(rt; node.audit_len(0), 3);
-    assert_eq!(rt; number(ask(&rt, &mut node, 1, 0, NodeCall::Collect)), 0);
-    let bytes = Quota { bytes: 2, ..QUOTA };
-    let mut small = one_of_two(&rt, alloc, 0, 0, bytes);
-    let large = ask(&rt, &mut small, 0, 0, put(&rt, alloc, b"x"));
-    assert!(rt; is_refused(&large, Fault::ByteQuota));
-    let outbox = Quota { outbox: 1, ..QUOTA };
-    let mut narrow = one_of_two(&rt, alloc, 0, 0, outbox);
-    assert_eq!(rt;
-        number(ask(&rt, &mut narrow, 0, 0, put(&rt, alloc, b"x"))),
-        256
-    );
-    let queued = ask(&rt, &mut narrow, 0, 0, put(&rt, alloc, b"x"));
-    assert!(rt; is_refused(&queued, Fault::OutboxFull));
 }
 
 #[test]
@@ -368,25 +281,6 @@ fn calls_that_fit(rt: HostRuntime) {
     assert!(rt; node.fits(&commit(&rt, alloc, 1, 0)));
     let own = one_of_two(&rt, alloc, 0, 0, QUOTA);
     assert!(rt; !own.fits(&commit(&rt, alloc, 1, 0)));
-}
-
-#[test]
-fn the_audit_has_refusals(rt: HostRuntime) {
-    let alloc = rt.alloc();
-    let none = Quota {
-        versions: 0,
-        ..QUOTA
-    };
-    let mut node = one_of_two(&rt, alloc, 0, 0, none);
-    assert_eq!(rt; number(ask(&rt, &mut node, 1, 3, NodeCall::Collect)), 0);
-    let refused = ask(&rt, &mut node, 0, 5, put(&rt, alloc, b"x"));
-    assert!(rt; is_refused(&refused, Fault::VersionQuota));
-    assert_eq!(rt; node.audit_len(0), 1);
-    let entry = node.audit(0, 0).expect(&rt, "an entry");
-    assert_eq!(rt; entry.moment, 5);
-    assert!(rt; is_refused(&entry.reply, Fault::VersionQuota));
-    assert!(rt; matches!(entry.call, NodeCall::Put(_, _, _, _)));
-    assert!(rt; node.audit(0, 1).is_none());
 }
 
 #[test]
