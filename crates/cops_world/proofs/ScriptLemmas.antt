@@ -1,5 +1,5 @@
 -- What the rules of a script come to over a whole text.
-use Rattle.std.proofs.Common.{◌≡◌, ◌≢◌, ℕ, zero, suc, ◌+◌, ◌<◌, ◌≤◌, ◌^◌, ◌-◌, Bool, true, false, cond, ◌||◌, ◌==◌, min, List, [], ◌∷◌, ◌++◌, length, map, take, inl, inr, ◌⊎◌, refl, sym, subst, ap, ◌∙◌, append_assoc, append-nil, length-append, length-take, true≢false, arith}
+use Rattle.std.proofs.Common.{◌≡◌, ℕ, zero, suc, ◌+◌, ◌<◌, ◌≤◌, ◌^◌, ◌-◌, Bool, true, false, ◌||◌, ◌==◌, min, List, [], ◌∷◌, ◌++◌, length, map, take, inl, inr, refl, sym, subst, ap, ◌∙◌, append_assoc, append-nil, length-append, length-take, true≢false, arith}
 use Rattle.std.specs.Prelude.{Option, Some, None, IfSome, flat_map, IsTrue, nat_lt}
 use Rattle.std.specs.List.{list_any, AllByRecursion}
 use Rattle.std.specs.Io.KnownBytes.{Appends, Keeps}
@@ -12,7 +12,7 @@ use Rattle.cops_types.specs.declared.line_runs.fault.RunFault.{RunFault}
 use Rattle.cops_types.specs.declared.line_runs.fault.RunFault.TheVariants as fault
 use Rattle.cops_types.specs.Counts.{counted}
 use Rattle.cops_types.specs.declared.configs.Tenant.{Tenant}
-use Rattle.cops_types.specs.Head.{Front, AtStart, Within, Begun, is_begun, Follows, front_after, HeadReading, Whole, BadAt, reading_from, head_of}
+use Rattle.cops_types.specs.Head.{Front, AtStart, Within, Begun, is_begun, Follows, front_after, Whole, BadAt, reading_from, head_of}
 use Rattle.cops_types.specs.HeadLines.{is_tenant, is_distinct}
 use Rattle.cops_types.specs.HeadReader.{front_with}
 use Rattle.cops_types.specs.LineRules.{Run}
@@ -28,7 +28,7 @@ use Rattle.cops_world.specs.declared.replies.Reply.TheVariants.{Refused}
 use Rattle.cops_world.specs.declared.scripts.BadConfig.{BadConfig}
 use Rattle.cops_world.specs.declared.scripts.Script.{Script}
 use Rattle.cops_world.specs.declared.scripts.Script.TheVariants.{Head, Running}
-use Rattle.cops_world.specs.Cluster.{SoloCluster, cluster_step, new_cluster}
+use Rattle.cops_world.specs.Cluster.{SoloCluster, cluster_step}
 use Rattle.cops_world.specs.Events.{config_at, is_out_of_memory, with_cluster}
 use Rattle.cops_world.specs.Script.{Said, OfNobody, Unformed, Acts, AreNamed, said_in, answer_line, answers_to, script_after, script_out}
 use Rattle.cops_world.specs.Acting.{IsNew, HasActed}

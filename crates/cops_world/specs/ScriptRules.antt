@@ -1,12 +1,11 @@
 -- What is answered to each line of a script, and what is left after it.
-use Rattle.std.specs.Prelude.{◌≡◌, ℕ, List, [], Option, Some, None}
+use Rattle.std.specs.Prelude.{◌≡◌, ℕ, List, [], Some, None}
 use Rattle.cops_types.specs.declared.configs.Config.{Config}
 use Rattle.cops_types.specs.declared.faults.Fault.TheVariants.{Syntax}
 use Rattle.cops_types.specs.Counts.{counted}
-use Rattle.cops_types.specs.Head.{Front, AtStart, Within, Begun, front_after}
+use Rattle.cops_types.specs.Head.{Front, AtStart, Within, Begun}
 use Rattle.cops_types.specs.HeadReader.{front_with}
 use Rattle.cops_types.specs.LineRules.{Rules}
-use Rattle.cops_world.specs.declared.acts.Event.{Event}
 use Rattle.cops_world.specs.declared.replies.Reply.{Reply}
 use Rattle.cops_world.specs.declared.replies.Reply.TheVariants.{Refused}
 use Rattle.cops_world.specs.declared.scripts.BadConfig.{BadConfig}
