@@ -1,6 +1,6 @@
 -- Calls at the nodes of a world, and the acts that name a node which isn't there.
 use Rattle.std.proofs.Common.{◌≡◌, ℕ, ◌<◌, Bool, true, false, not, ◌&&◌, List, [], ◌∷◌, length, refl, sym, subst, ap, ◌∙◌, true≢false}
-use Rattle.std.specs.Prelude.{IsFalse, Option, Some, None, is_some, nat_lt, ◌==◌}
+use Rattle.std.specs.Prelude.{Option, Some, None, is_some, nat_lt, ◌==◌}
 use Rattle.std.proofs.lemmas.Bool.{ltb-true}
 use Rattle.std.proofs.lemmas.Bool.Decides.{Decides-eqb}
 use Rattle.cops_types.specs.declared.faults.Fault.TheVariants.{NoSuchPlace, NameTaken}
@@ -14,16 +14,14 @@ use Rattle.cops_repl.specs.Stands.{RunsIn}
 use Rattle.cops_types.specs.declared.configs.Config.{Config}
 use Rattle.cops_world.specs.declared.acts.Act.{Act}
 use Rattle.cops_world.specs.declared.acts.Act.TheVariants as acts
-use Rattle.cops_world.specs.declared.acts.Event.{Event}
 use Rattle.cops_world.specs.declared.actors.Actor.{Actor as Kept}
 use Rattle.cops_world.specs.declared.actors.ActorId.{ActorId}
 use Rattle.cops_world.specs.declared.actors.Stepped.{Stepped}
 use Rattle.cops_world.specs.declared.replies.Reply.{Reply}
 use Rattle.cops_world.specs.declared.replies.Reply.TheVariants.{Refused}
 use Rattle.cops_world.specs.Cluster.{SoloCluster, Turn, Actor, actor_refusal, actor_step, cluster_step, collect_at, has_node, has_stream, reply_with, unless_refused, with_new_actor}
-use Rattle.cops_world.specs.Events.{config_at, is_out_of_memory}
-use Rattle.cops_world.specs.Worlds.{World, KeptWorld, IsWorld, HasCluster, HasSizes, Moves, StandsAt, join_step, setup_of, world_of}
-use Rattle.cops_world.specs.Acting.{HasActed}
+use Rattle.cops_world.specs.Events.{config_at}
+use Rattle.cops_world.specs.Worlds.{World, IsWorld, HasSizes, Moves, join_step}
 use Rattle.cops_world.proofs.WorldJoins.{refused_moves, same_moves, taken_moves}
 use Rattle.cops_world.proofs.WorldKeeps.{sizes_at}
 use Rattle.cops_world.proofs.WorldSteps.{HasSteppedAt, counts_after, step_moves, table_after}
@@ -114,14 +112,8 @@ steps_world old whole slot name moment stepped nodes before after h new actors s
     subst (Moves (λ config. actor_step config name moment) old slot stepped.reply) (λ i. record { setup = sym setup_is i; nodes = sym nodes_are i; actors = new.actors; counts = sym counts_are i })
     (step_moves old whole slot name moment stepped nodes before after h new.actors actors (subst (λ n. slot < n) (sym whole.counted) within) (sizes.shards ∙ sym (ap (λ (s : Shape). s.shards) whole.shape_is)))
 
--- ---- events
+-- ---- acts
 
--- what an act does to each tenant is what the event does
-pub acted : (old : KeptWorld) (event : Event) (act : Act) → event.act ≡ act → (reply : Reply) (new : KeptWorld) → Moves (λ config. cluster_step config act) (world_of old) event.slot reply (world_of new) →
-    HasActed setup_of HasCluster old event reply new
-acted old event act same reply new moves = record {
-  same = moves.same;
-  own = subst (λ (a : Act). IsFalse (is_out_of_memory reply) → (cluster : SoloCluster) → StandsAt (world_of old) event.slot cluster →
-      let turn = cluster_step (config_at old.setup event.slot) a cluster in (reply ≡ turn.reply) × StandsAt (world_of new) event.slot turn.after) (sym same) moves.own;
-  others = moves.others;
-}
+-- the same act by another name
+pub acted : (old : World) (slot : ℕ) (act other : Act) → act ≡ other → (reply : Reply) (new : World) → Moves (λ config. cluster_step config other) old slot reply new → Moves (λ config. cluster_step config act) old slot reply new
+acted old slot act other same reply new = subst (λ (a : Act). Moves (λ config. cluster_step config a) old slot reply new) (sym same)

@@ -91,7 +91,7 @@ pub record WithinLimits (config : TenantConfig) : Type 0 where
   pub deps : config.quota.deps ≤ 1024
   pub restarts : config.restarts ≤ 15
 
-tenant_within : (tenants : List Tenant) (slot : ℕ) (tenant : Tenant) → list_all is_tenant tenants ≡ true → slice_get tenants slot ≡ Some tenant → is_tenant tenant ≡ true
+pub tenant_within : (tenants : List Tenant) (slot : ℕ) (tenant : Tenant) → list_all is_tenant tenants ≡ true → slice_get tenants slot ≡ Some tenant → is_tenant tenant ≡ true
 tenant_within [] slot tenant all at = cc
 tenant_within (t ∷ tenants) zero tenant all at = ap is_tenant (sym (same_value t tenant at)) ∙ and_left (is_tenant t) (list_all is_tenant tenants) all
 tenant_within (t ∷ tenants) (suc slot) tenant all at = tenant_within tenants slot tenant (and_right (is_tenant t) (list_all is_tenant tenants) all) at

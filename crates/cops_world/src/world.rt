@@ -318,8 +318,15 @@ impl World {
         requires { event.now.slot < length self.old.setup.tenants }
         ensures { HasActed setup_of HasCluster self.old event.now result self.new }
     {
-        let slot = event.slot;
-        match &event.act {
+        self.act_for(event.slot, &event.act)
+    }
+
+    /// One act of the tenant in a slot.
+    pub(crate) fn act_for(&mut self, slot: u64, act: &Act) -> Reply
+        requires { slot < length self.old.setup.tenants }
+        ensures { Moves (λ config. cluster_step config act.now) (world_of self.old) slot result (world_of self.new) }
+    {
+        match act {
             Act::Open(name, dc) => self.open(slot, *name, *dc),
             Act::Create(name) => self.act(slot, *name, Deed::Create),
             Act::Delete(name, number) => self.act(slot, *name, Deed::Delete(*number)),
