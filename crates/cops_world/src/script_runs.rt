@@ -7,7 +7,7 @@ ghost use Rattle.cops_types.specs.LineRuns.{IfRunRefused};
 ghost use Rattle.cops_types.specs.Lines.{lines_of};
 ghost use Rattle.cops_types.specs.Sink.{sink_failures, sink_writer};
 ghost use Rattle.cops_types.specs.Source.{source_failures, source_reader, source_reads};
-ghost use Rattle.cops_world.specs.ScriptRules.{IsHeadAt};
+ghost use Rattle.cops_world.specs.HeadRules.{IsHeadAt};
 ghost use Rattle.cops_world.specs.ScriptRuns.{WritesFront, WritesScript};
 
 use crate::scripts::{BadConfig, HeadSoFar, Script};
@@ -17,14 +17,14 @@ use std::alloc::Global;
 use std::io::{Read, Write};
 
 /// How many turns a reader has.
-const TURNS: u64 = 4_294_967_296;
+pub(crate) const TURNS: u64 = 4_294_967_296;
 
 /// No more of a line is read, but for one byte.
-const LONGEST_LINE: usize = 8192;
+pub(crate) const LONGEST_LINE: usize = 8192;
 
 /// A script that has come to no line.
 fn new_script<W: Tenancy>() -> Script<W>
-    ensures { IsHeadAt W.setup W.StandsFor AtStart 0 result }
+    ensures { IsHeadAt AtStart 0 result }
 {
     Script::Head(HeadSoFar {
         reader: ConfigReader::new(),

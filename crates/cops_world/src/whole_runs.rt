@@ -21,7 +21,11 @@ pub fn run(alloc: Global, config: Config, events: &[Event]) -> Result<Vec<Reply>
 }
 
 /// A configuration with one of its tenants alone.
-fn with_tenant_alone(alloc: Global, config: &Config, slot: u64) -> Result<Config, AllocError>
+pub(crate) fn with_tenant_alone(
+    alloc: Global,
+    config: &Config,
+    slot: u64,
+) -> Result<Config, AllocError>
     requires { slot < length config.now.tenants }
     ensures { IfOk result (λ alone. (tenant : Tenant) → slice_get config.now.tenants slot ≡ Some tenant → alone ≡ with_tenant_alone config.now tenant) }
 {
