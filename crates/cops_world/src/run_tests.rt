@@ -5,7 +5,7 @@ ghost use Rattle.cops_types.specs.declared.configs.Tenant.{Tenant};
 use crate::script_runs::run_script_in;
 use crate::scripts::BadConfig;
 use crate::test_streams::{Endless, Pieces, Trickle};
-use crate::world_tests::{config_of, event_of, row, says};
+use crate::test_worlds::{config_of, event_of, row, says};
 use crate::{Event, Reply, World, run, run_script, solo};
 use cops_types::{RunFault, Sink, Source, Tenants};
 use std::alloc::{AllocError, Global};

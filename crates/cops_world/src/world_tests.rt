@@ -1,123 +1,11 @@
 //! Worlds act by act: that calls succeed, that replies are those of the worked examples, and that
 //! refused memory is as if the act had not been. Run with the Nth request refused, for each N.
-ghost use Rattle.std.specs.Prelude.{◌<◌, length, IsTrue, IfSome};
-ghost use Rattle.cops_world.specs.GoodHeads.{is_good};
-
-use crate::lines::parse_act;
-use crate::scripts::{HeadSoFar, read_head};
-use crate::tests::text_of;
+use crate::test_worlds::{check, new_world};
 use crate::{Act, Event, Reply, World};
-use cops_types::words::split_word;
-use cops_types::{ByteLists, Config, ConfigReader, Fault, Name, Tenants};
-use std::alloc::Global;
+use cops_node::{AuditEntry, NodeCall, NodeId, NodeReply};
+use cops_types::{ByteLists, Fault, Name};
 use std::process::Abort;
 use std::test::Fail;
-
-/// Reads a line of a head, once more where memory was refused.
-fn read(rt: &impl Abort, alloc: Global, head: &mut HeadSoFar, line: &[u8]) -> Option<Config>
-    ensures { IfSome result (λ config. IsTrue (is_good config)) }
-{
-    match read_head(alloc, head, line) {
-        Ok(begun) => begun,
-        Err(_) => match read_head(alloc, head, line) {
-            Ok(begun) => begun,
-            Err(_) => panic!(rt; "a line of a head"),
-        },
-    }
-}
-
-/// The configuration that these lines give.
-pub(crate) fn config_of(rt: &impl Abort, alloc: Global, head: &str) -> Config
-    ensures { IsTrue (is_good result) }
-{
-    let mut so_far = HeadSoFar {
-        reader: ConfigReader::new(),
-        lines: 0,
-    };
-    for line in head.lines() {
-        if let Some(config) = read(rt, alloc, &mut so_far, line.as_bytes()) {
-            return config;
-        }
-    }
-    panic!(rt; "a head ends with `begin`")
-}
-
-fn new_world(rt: &impl Abort, alloc: Global, head: &str) -> World {
-    match World::new(alloc, config_of(rt, alloc, head)) {
-        Ok(world) => world,
-        Err(_) => World::new(alloc, config_of(rt, alloc, head)).expect(rt, "memory"),
-    }
-}
-
-fn act_of(rt: &impl Abort, alloc: Global, line: &[u8]) -> Act {
-    let parsed = match parse_act(alloc, line) {
-        Ok(parsed) => parsed,
-        Err(_) => parse_act(alloc, line).expect(rt, "memory"),
-    };
-    match parsed {
-        Some(act) => act,
-        None => panic!(rt; "a line of some form"),
-    }
-}
-
-/// The event that a line writes.
-pub(crate) fn event_of(rt: &impl Abort, alloc: Global, tenants: &Tenants, line: &str) -> Event
-    ensures { result.slot < length tenants.now }
-{
-    let (name, _rest) = split_word(line.as_bytes());
-    let slot = tenants.slot_of_name(name).expect(rt, "a tenant");
-    assert!(rt; slot < tenants.len() as u64);
-    Event {
-        slot,
-        act: act_of(rt, alloc, line.as_bytes()),
-    }
-}
-
-/// Whether the text of the reply is one of these.
-pub(crate) fn says(rt: &impl Abort, alloc: Global, reply: &Reply, texts: &str) -> bool {
-    let said = match text_of(alloc, reply) {
-        Ok(said) => said,
-        Err(_) => text_of(alloc, reply).expect(rt, "memory"),
-    };
-    for text in texts.split(" | ") {
-        if said.as_slice() == text.as_bytes() {
-            return true;
-        }
-    }
-    false
-}
-
-/// A line, and what may be said to it.
-pub(crate) fn row<'a>(rt: &impl Abort, row: &'a str) -> (&'a str, &'a str) {
-    match row.split_once(" > ") {
-        Some(parts) => parts,
-        None => panic!(rt; "a line and a reply"),
-    }
-}
-
-/// Applies the events of these rows. Whether memory was never refused.
-fn goes_through(rt: &impl Abort, alloc: Global, world: &mut World, rows: &str) -> bool {
-    for line in rows.lines() {
-        let (line, texts) = row(rt, line);
-        let event = event_of(rt, alloc, &world.config().tenants, line);
-        let reply = world.apply(&event);
-        if matches!(reply, Reply::Refused(Fault::OutOfMemory)) {
-            return false;
-        }
-        assert!(rt; says(rt, alloc, &reply, texts), "{line}");
-    }
-    true
-}
-
-/// Applies the events of these rows. After a refusal of memory those since the last empty line are
-/// begun anew.
-fn check(rt: &impl Abort, alloc: Global, world: &mut World, rows: &str) {
-    for part in rows.split("\n\n") {
-        if !goes_through(rt, alloc, world, part) {
-            assert!(rt; goes_through(rt, alloc, world, part));
-        }
-    }
-}
 
 const TWO_BY_TWO: &str = "cluster 2 2 5000 1
 tenant acme 00000000-0000-0000-0000-000000000001 0 100 10000 10 4 20 8 1000
@@ -157,21 +45,59 @@ acme collect 1 1 9 > removed 0
 beta get a 1 x > started
 beta done a 8 > x=99@1.2";
 
+fn audited<'a>(
+    rt: &impl Abort,
+    world: &'a World,
+    id: NodeId,
+    slot: u64,
+    place: u64,
+) -> Option<&'a AuditEntry> {
+    let config = world.config();
+    assert!(rt; id.dc < config.data_centres);
+    assert!(rt; id.shard < config.shards);
+    assert!(rt; slot < config.tenants.len() as u64);
+    world.audit(id, slot, place)
+}
+
 #[test]
 fn tenants_act_in_one_world(rt: HostRuntime) {
     let mut world = new_world(&rt, rt.alloc(), TWO_BY_TWO);
     check(&rt, rt.alloc(), &mut world, CARRIED);
     let config = world.config();
-    assert_eq!(rt; (config.data_centres, config.shards), (2, 2));
-    assert_eq!(rt; (config.trans_time, config.restarts), (5000, 1));
+    assert!(rt; config.data_centres == 2 && config.shards == 2);
+    assert!(rt; config.trans_time == 5000 && config.restarts == 1);
     assert_eq!(rt; config.tenants.slot_of_name(b"beta"), Some(1));
-    assert_eq!(rt; config.tenants.len(), 2);
+    assert!(rt; config.tenants.len() == 2);
     let calls = [(3, 1), (5, 0), (4, 4), (3, 0)];
     assert_eq!(rt; world.nodes().len(), calls.len());
     for (node, (acme, beta)) in world.nodes().iter().zip(calls) {
         assert!(rt; node.slots() == 2);
         assert_eq!(rt; (node.audit_len(0), node.audit_len(1)), (acme, beta));
     }
+    let y = NodeId { dc: 0, shard: 1 };
+    assert!(rt;
+        matches!(
+            audited(&rt, &world, y, 0, 3),
+            Some(AuditEntry {
+                moment: 5,
+                call: NodeCall::Ack(1, _),
+                reply: NodeReply::Acked
+            })
+        )
+    );
+    assert!(rt; audited(&rt, &world, y, 0, 5).is_none());
+    assert!(rt; audited(&rt, &world, y, 1, 0).is_none());
+    let other_x = NodeId { dc: 1, shard: 0 };
+    assert!(rt;
+        matches!(
+            audited(&rt, &world, other_x, 1, 0),
+            Some(AuditEntry {
+                moment: 7,
+                call: NodeCall::Put(..),
+                ..
+            })
+        )
+    );
 }
 
 /// One context, two dependencies and two actors.
@@ -222,16 +148,13 @@ acme done a 0 > stored y 2.0
 acme put a 1 z 1 > E15
 acme collect 2 0 0 > E22
 acme collect 0 1 0 > E22
-beta done a 0 > nothing";
-
-const MANY_KEYS: &str =
-    "acme get a 1 a b c d e f g h i j k l m n o p q r s t u v w x y z a b c d e f a > E09";
+beta done a 0 > nothing
+acme get a 1 a b c d e f g h i j k l m n o p q r s t u v w x y z a b c d e f a > E09";
 
 #[test]
 fn refusals_come_in_their_order(rt: HostRuntime) -> Result<(), Fail> {
     let mut world = new_world(&rt, rt.alloc(), NARROW);
     check(&rt, rt.alloc(), &mut world, REFUSED);
-    check(&rt, rt.alloc(), &mut world, MANY_KEYS);
     let name = Name::new(b"z").expect(&rt, "a name");
     let event = Event {
         slot: 1,
