@@ -6,7 +6,7 @@ use std::alloc::{AllocError, Global};
 use std::process::Abort;
 use std::test::Fail;
 
-fn text_of(alloc: Global, reply: &Reply) -> Result<Vec<u8>, AllocError> {
+pub(crate) fn text_of(alloc: Global, reply: &Reply) -> Result<Vec<u8>, AllocError> {
     let mut out = Vec::new(alloc);
     push_reply(&mut out, reply)?;
     Ok(out)

@@ -9,12 +9,14 @@ ghost use Rattle.cops_types.specs.Key.{is_key};
 ghost use Rattle.cops_types.specs.Refusal.{IsAnswer, refused_if};
 ghost use Rattle.cops_types.specs.declared.faults.Fault.TheVariants.{BadKey};
 ghost use Rattle.std.specs.List.{list_all};
+ghost use Rattle.std.specs.Option.{option_copied};
 ghost use Rattle.cops_world.specs.Acting.{HasActed, IsNew};
 ghost use Rattle.cops_world.specs.GoodHeads.{is_good};
 ghost use Rattle.cops_world.specs.ActorsStand.{ActorStandsFor, RunsAt};
-ghost use Rattle.cops_world.specs.Cluster.{Actor as Solo, actor_step, actor_steps, cluster_step, goes_on, has_node, has_stream, most_steps, reply_of_collect};
+ghost use Rattle.cops_world.specs.Cluster.{Actor as Solo, SoloCluster, actor_step, actor_steps, cluster_step, goes_on, has_node, has_stream, most_steps, reply_of_collect};
 ghost use Rattle.cops_world.specs.Deeds.{deed_step};
 ghost use Rattle.cops_world.specs.Events.{config_at};
+ghost use Rattle.cops_world.specs.Trails.{audited_at};
 ghost use Rattle.cops_world.specs.Worlds.{HasCluster, HasSizes, Moves, setup_of, join_step, world_of};
 ghost use Rattle.cops_world.specs.ActorTables.{same_actor};
 ghost use Rattle.cops_world.specs.declared.acts.Act.TheVariants as acts;
@@ -23,7 +25,7 @@ ghost use Rattle.cops_world.specs.declared.replies.Reply.TheVariants.{Refused};
 use crate::actor_table::{act_at, put_new, step_at, take_out};
 use crate::actors::{Actor, ActorId, Deed, Keys, Stepped};
 use crate::{Act, Event, Reply, Tenancy};
-use cops_node::{Cluster0, Node, NodeCall, NodeId, NodeReply, Nodes};
+use cops_node::{AuditEntry, Cluster0, Node, NodeCall, NodeId, NodeReply, Nodes};
 use cops_repl::Carrier;
 use cops_session::Session;
 use cops_types::{ByteLists, Bytes, Config, Fault, Key, Name, Value};
@@ -384,6 +386,19 @@ impl World {
         ensures { result.now ≡ self.now.nodes.nodes }
     {
         self.nodes.nodes()
+    }
+
+    /// The call at a place of the audit of a node, for the tenant of a slot.
+    pub fn audit(&self, id: NodeId, slot: u64, place: u64) -> Option<&AuditEntry>
+        requires dc { id.dc < (setup_of self.now).data_centres }
+        requires shard { id.shard < (setup_of self.now).shards }
+        requires slot { slot < length (setup_of self.now).tenants }
+        ensures { (cluster : SoloCluster) → HasCluster self.now slot cluster → option_copied result ≡ audited_at (config_at (setup_of self.now) slot) id place cluster }
+    {
+        let cluster = &self.nodes;
+        let nodes = cluster.nodes();
+        let node = &nodes[(id.dc * self.config.shards + id.shard) as usize];
+        node.audit(slot, place)
     }
 }
 

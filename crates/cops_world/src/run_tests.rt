@@ -1,0 +1,249 @@
+//! Runs of events and of scripts, over readers and writers that cut what they are given or fail.
+ghost use Rattle.std.specs.Prelude.{◌≡◌, ◌<◌, All, IfOk, length};
+ghost use Rattle.cops_types.specs.declared.configs.Tenant.{Tenant};
+
+use crate::script_runs::run_script_in;
+use crate::scripts::BadConfig;
+use crate::test_streams::{Endless, Pieces, Trickle};
+use crate::test_worlds::{config_of, event_of, row, says};
+use crate::{Event, Reply, World, run, run_script, solo};
+use cops_types::{RunFault, Sink, Source, Tenants};
+use std::alloc::{AllocError, Global};
+use std::process::Abort;
+use std::test::Fail;
+
+const TWO_SHARDS: &str = "cluster 1 2 5000 1
+tenant acme 00000000-0000-0000-0000-000000000001 0 100 10000 10 4 20 8 1000
+tenant beta 00000000-0000-0000-0000-000000000002 0 100 10000 10 4 20 8 1000
+begin";
+
+/// Both tenants' events: beta's come between the rounds of acme's transaction.
+const BOTH: &str = "acme open a 0 > opened
+acme ctx a > context 1
+acme open b 0 > opened
+acme ctx b > context 1
+beta open b 0 > opened
+beta ctx b > context 1
+beta put b 1 x 99 > started
+beta done b 900000 > stored x 1.0
+beta collect 0 0 990000 > removed 0
+acme get a 1 x y > started
+beta put b 1 x 99 > started
+beta done b 900000 > stored x 2.0
+beta collect 0 0 990000 > removed 0
+acme step a 10 > working
+beta put b 1 x 99 > started
+beta done b 900000 > stored x 3.0
+beta collect 0 0 990000 > removed 0
+acme put b 1 x 10 > started
+beta put b 1 x 99 > started
+beta done b 900000 > stored x 4.0
+beta collect 0 0 990000 > removed 0
+acme done b 10 > stored x 1.0
+beta put b 1 x 99 > started
+beta done b 900000 > stored x 5.0
+beta collect 0 0 990000 > removed 0
+acme put b 1 y 20 > started
+beta put b 1 x 99 > started
+beta done b 900000 > stored x 6.0
+beta collect 0 0 990000 > removed 0
+acme done b 10 > stored y 2.1
+beta put b 1 x 99 > started
+beta done b 900000 > stored x 7.0
+beta collect 0 0 990000 > removed 0
+acme step a 11 > working
+beta put b 1 x 99 > started
+beta done b 900000 > stored x 8.0
+beta collect 0 0 990000 > removed 0
+acme step a 12 > x=10@1.0 y=20@2.1
+acme show a 1 > all x:1.0,y:2.1 near y:2.1";
+
+/// The events of the rows that begin with this.
+fn events_of(
+    rt: &impl Abort,
+    alloc: Global,
+    tenants: &Tenants,
+    rows: &str,
+    begin: &str,
+) -> Result<Vec<Event>, AllocError>
+    ensures { IfOk result (λ events. All (λ e. e.slot < length tenants.now) events.items) }
+{
+    let mut events = Vec::new(alloc);
+    for line in rows.lines() {
+        if line.starts_with(begin) {
+            let event = event_of(rt, alloc, tenants, row(rt, line).0);
+            events.push(event)?;
+        }
+    }
+    Ok(events)
+}
+
+/// Asserts that the replies are those of the rows that begin with this.
+fn assert_told(rt: &impl Abort, alloc: Global, told: &[Reply], rows: &str, begin: &str) {
+    let mut rest = told.iter();
+    for line in rows.lines() {
+        if line.starts_with(begin) {
+            match rest.next() {
+                Some(reply) => assert!(rt; says(rt, alloc, reply, row(rt, line).1), "{line}"),
+                None => panic!(rt; "a reply to each event"),
+            }
+        }
+    }
+    assert!(rt; rest.next().is_none());
+}
+
+#[test]
+fn a_tenant_between_the_rounds_is_not_noticed(rt: HostRuntime) -> Result<(), Fail> {
+    let alloc = rt.alloc();
+    let config = config_of(&rt, alloc, TWO_SHARDS);
+    let events = events_of(&rt, alloc, &config.tenants, BOTH, "")?;
+    assert!(rt; config.tenants.len() == 2);
+    for (slot, begin) in [(0, "acme "), (1, "beta ")] {
+        let alone = solo(alloc, &config, slot, &events)?;
+        assert_told(&rt, alloc, &alone, BOTH, begin);
+    }
+    let own = events_of(&rt, alloc, &config.tenants, BOTH, "acme ")?;
+    let told = run(alloc, config, &events)?;
+    assert_told(&rt, alloc, &told, BOTH, "");
+    let again = config_of(&rt, alloc, TWO_SHARDS);
+    assert!(rt; again.tenants.len() == 2);
+    let told = run(alloc, again, &own)?;
+    assert_told(&rt, alloc, &told, BOTH, "acme ");
+    Ok(())
+}
+
+const SCRIPT: &[u8] = b"cluster 1 1 5000 1
+tenant acme 00000000-0000-0000-0000-000000000001 0 100 10000 10 4 20 8 1000
+tenant beta {00000000-0000-0000-0000-000000000002} 7 100 10000 10 4 20 8 1000
+begin
+zeta open a 0
+
+acme fly
+acme
+acme put a 1 X 10
+acme put a 1 x 10
+acme open a 0
+beta open a 0
+acme ctx a
+beta ctx a
+acme put a 1 x 10
+beta put a 1 x 99
+acme step a 0
+beta step a 0
+acme get a 1 x y
+acme step a 1
+acme step a 1
+beta done a 0";
+
+const ANSWER: &[u8] = b"- E02
+- E02
+acme E01
+acme E01
+acme E10
+acme E03
+acme opened
+beta opened
+acme context 1
+beta context 1
+acme started
+beta started
+acme stored x 1.0
+beta stored x 8.0
+acme started
+acme working
+acme x=10@1.0 y=none@0.0
+beta E06
+";
+
+/// 0 for an answered script, the number of the bad line and 100 more, or the number of the fault.
+fn code(ran: Result<(), RunFault<BadConfig>>) -> u64 {
+    match ran {
+        Ok(()) => 0,
+        Err(RunFault::Refused(bad)) => bad.line.saturating_add(100),
+        Err(RunFault::OutOfMemory) => 23,
+        Err(RunFault::ReadFault) => 26,
+        Err(RunFault::WriteFault) => 27,
+    }
+}
+
+#[test]
+fn scripts_are_answered(rt: HostRuntime) -> Result<(), Fail> {
+    let mut source = Source::new(SCRIPT);
+    let mut sink = Sink::new(Vec::new(rt.alloc()));
+    assert_eq!(rt; code(run_script(rt.alloc(), &mut source, &mut sink)), 0);
+    assert!(rt; sink.into_inner().as_slice() == ANSWER);
+    for len in [1, 7, 64] {
+        let mut source = Source::new(Pieces {
+            bytes: SCRIPT,
+            len,
+            reads_to_failure: 1000,
+        });
+        let mut sink = Sink::new(Trickle {
+            taken: Vec::new(rt.alloc()),
+            writes_to_failure: 1000,
+        });
+        assert_eq!(rt; code(run_script(rt.alloc(), &mut source, &mut sink)), 0);
+        assert_eq!(rt; (source.failures(), sink.failures()), (0, 0));
+        assert!(rt; sink.into_inner().taken.as_slice() == ANSWER);
+    }
+    Ok(())
+}
+
+#[test]
+fn heads_that_are_bad_write_nothing(rt: HostRuntime) -> Result<(), Fail> {
+    let heads: [(&[u8], u64); 6] = [
+        (b"", 101),
+        (b"cluster 1 17 5000 1\nbegin\n", 101),
+        (b"cluster 1 1 5000 1", 102),
+        (b"cluster 1 1 5000 1\nbegin\nacme open a 0\n", 102),
+        (&SCRIPT[..94], 103),
+        (&SCRIPT[..95], 103),
+    ];
+    for (head, want) in heads {
+        let mut source = Source::new(head);
+        let mut sink = Sink::new(Vec::new(rt.alloc()));
+        assert_eq!(rt; code(run_script(rt.alloc(), &mut source, &mut sink)), want);
+        assert!(rt; sink.into_inner().is_empty());
+    }
+    Ok(())
+}
+
+#[test]
+fn failing_readers_and_writers_leave_a_front(rt: HostRuntime) -> Result<(), Fail> {
+    for reads in 0..SCRIPT.len() as u64 {
+        let mut source = Source::new(Pieces {
+            bytes: SCRIPT,
+            len: 1,
+            reads_to_failure: reads,
+        });
+        let mut sink = Sink::new(Vec::new(rt.alloc()));
+        assert_eq!(rt; code(run_script(rt.alloc(), &mut source, &mut sink)), 26);
+        assert_eq!(rt; source.failures(), 1);
+        assert!(rt;
+            ANSWER.starts_with(sink.into_inner().as_slice()),
+            "after {reads} reads"
+        );
+    }
+    let mut source = Source::new(SCRIPT);
+    let mut sink = Sink::new(Trickle {
+        taken: Vec::new(rt.alloc()),
+        writes_to_failure: 1,
+    });
+    assert_eq!(rt; code(run_script(rt.alloc(), &mut source, &mut sink)), 27);
+    assert_eq!(rt; sink.failures(), 1);
+    assert!(rt; sink.into_inner().taken.as_slice() == b"-".as_slice());
+    Ok(())
+}
+
+#[test]
+fn a_line_that_never_ends_meets_the_bound_on_turns(rt: HostRuntime) -> Result<(), Fail> {
+    for (bytes, answer) in [(SCRIPT, &ANSWER[..ANSWER.len() - 9]), (&SCRIPT[..7], b"")] {
+        let mut source = Source::new(Endless { bytes });
+        let mut sink = Sink::new(Vec::new(rt.alloc()));
+        let ran = run_script_in::<World, Endless, Vec<u8>>(rt.alloc(), 100, &mut source, &mut sink);
+        assert_eq!(rt; code(ran), 26);
+        assert_eq!(rt; (source.reads(), source.failures()), (100, 0));
+        assert!(rt; sink.into_inner().as_slice() == answer);
+    }
+    Ok(())
+}

@@ -1,0 +1,118 @@
+//! Worlds, events and replies by their texts. Each call is made once more where memory was refused.
+ghost use Rattle.std.specs.Prelude.{◌<◌, length, IsTrue, IfSome};
+ghost use Rattle.cops_world.specs.GoodHeads.{is_good};
+
+use crate::lines::parse_act;
+use crate::scripts::{HeadSoFar, read_head};
+use crate::tests::text_of;
+use crate::{Act, Event, Reply, World};
+use cops_types::words::split_word;
+use cops_types::{Config, ConfigReader, Fault, Tenants};
+use std::alloc::Global;
+use std::process::Abort;
+
+/// Reads a line of a head.
+fn read(rt: &impl Abort, alloc: Global, head: &mut HeadSoFar, line: &[u8]) -> Option<Config>
+    ensures { IfSome result (λ config. IsTrue (is_good config)) }
+{
+    match read_head(alloc, head, line) {
+        Ok(begun) => begun,
+        Err(_) => match read_head(alloc, head, line) {
+            Ok(begun) => begun,
+            Err(_) => panic!(rt; "a line of a head"),
+        },
+    }
+}
+
+/// The configuration that these lines give.
+pub(crate) fn config_of(rt: &impl Abort, alloc: Global, head: &str) -> Config
+    ensures { IsTrue (is_good result) }
+{
+    let mut so_far = HeadSoFar {
+        reader: ConfigReader::new(),
+        lines: 0,
+    };
+    for line in head.lines() {
+        if let Some(config) = read(rt, alloc, &mut so_far, line.as_bytes()) {
+            return config;
+        }
+    }
+    panic!(rt; "a head ends with `begin`")
+}
+
+pub(crate) fn new_world(rt: &impl Abort, alloc: Global, head: &str) -> World {
+    match World::new(alloc, config_of(rt, alloc, head)) {
+        Ok(world) => world,
+        Err(_) => World::new(alloc, config_of(rt, alloc, head)).expect(rt, "memory"),
+    }
+}
+
+fn act_of(rt: &impl Abort, alloc: Global, line: &[u8]) -> Act {
+    let parsed = match parse_act(alloc, line) {
+        Ok(parsed) => parsed,
+        Err(_) => parse_act(alloc, line).expect(rt, "memory"),
+    };
+    match parsed {
+        Some(act) => act,
+        None => panic!(rt; "a line of some form"),
+    }
+}
+
+/// The event that a line writes.
+pub(crate) fn event_of(rt: &impl Abort, alloc: Global, tenants: &Tenants, line: &str) -> Event
+    ensures { result.slot < length tenants.now }
+{
+    let (name, _rest) = split_word(line.as_bytes());
+    let slot = tenants.slot_of_name(name).expect(rt, "a tenant");
+    assert!(rt; slot < tenants.len() as u64);
+    Event {
+        slot,
+        act: act_of(rt, alloc, line.as_bytes()),
+    }
+}
+
+/// Whether the text of the reply is one of these.
+pub(crate) fn says(rt: &impl Abort, alloc: Global, reply: &Reply, texts: &str) -> bool {
+    let said = match text_of(alloc, reply) {
+        Ok(said) => said,
+        Err(_) => text_of(alloc, reply).expect(rt, "memory"),
+    };
+    for text in texts.split(" | ") {
+        if said.as_slice() == text.as_bytes() {
+            return true;
+        }
+    }
+    false
+}
+
+/// A line, and what may be said to it.
+pub(crate) fn row<'a>(rt: &impl Abort, row: &'a str) -> (&'a str, &'a str) {
+    match row.split_once(" > ") {
+        Some(parts) => parts,
+        None => panic!(rt; "a line and a reply"),
+    }
+}
+
+/// Applies the events of these rows. Whether memory was never refused.
+fn goes_through(rt: &impl Abort, alloc: Global, world: &mut World, rows: &str) -> bool {
+    for line in rows.lines() {
+        let (line, texts) = row(rt, line);
+        let event = event_of(rt, alloc, &world.config().tenants, line);
+        let reply = world.apply(&event);
+        if matches!(reply, Reply::Refused(Fault::OutOfMemory)) {
+            return false;
+        }
+        assert!(rt; says(rt, alloc, &reply, texts), "{line}");
+    }
+    true
+}
+
+/// Applies the events of these rows. After a refusal of memory those since the last empty line are
+/// begun anew.
+pub(crate) fn check(rt: &impl Abort, alloc: Global, world: &mut World, rows: &str) {
+    for part in rows.split("\n\n") {
+        if !goes_through(rt, alloc, world, part) {
+            assert!(rt; goes_through(rt, alloc, world, part));
+        }
+    }
+}
