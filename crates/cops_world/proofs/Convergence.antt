@@ -52,7 +52,7 @@ le-greatest_of (s ∷ rs) r (inr at) =
     let rest = greatest (map (λ (r : Record). r.entry.version) rs) in
     version_le-trans r.entry.version rest (version_max s.entry.version rest) (le-greatest_of rs r at) (version_max-right s.entry.version rest)
 
-found_by : (v : Timestamp) (rs : List Record) (r : Record) → Among r rs → r.entry.version ≡ v → (s : Record) × (find (λ (r : Record). version_eq r.entry.version v) rs ≡ Some s)
+pub found_by : (v : Timestamp) (rs : List Record) (r : Record) → Among r rs → r.entry.version ≡ v → (s : Record) × (find (λ (r : Record). version_eq r.entry.version v) rs ≡ Some s)
 found_by v [] r at e = absurd at
 found_by v (s ∷ rs) r at e =
     elim (version_eq s.entry.version v) as (λ b. version_eq s.entry.version v ≡ b → (t : Record) × (cond b (Some s) (find (λ (r : Record). version_eq r.entry.version v) rs) ≡ Some t)) [

@@ -93,7 +93,7 @@ module _ (config : TenantConfig) (some : 0 < config.shards) (c : SoloCluster) (t
         let e = map-Among pair_of_entry (at key version) (entries (node_of config c (home_in config dc key))) there in
         inv.closed.pasts_here dc (shard_of key config.shards) (mod-lt (sum key) some) e.0 e.1 q (subst (λ p. Among q (past_of_put ts p)) (sym e.2) older)
 
-    deps_here : (q : Pair) → Among q (deps_read (reads_of keys rs)) → IsHere config c dc q
+    pub deps_here : (q : Pair) → Among q (deps_read (reads_of keys rs)) → IsHere config c dc q
     deps_here q at_q =
         let reads = reads_of keys rs in
         let by = flat_map-Among (λ (r : Read). r.deps) reads q at_q in

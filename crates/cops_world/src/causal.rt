@@ -2,6 +2,7 @@ ghost use Rattle.std.specs.Prelude.{ℕ, ◌<◌, List};
 ghost use Rattle.cops_types.specs.TenantConfig.{TenantConfig};
 ghost use Rattle.cops_world.specs.declared.acts.Act.{Act};
 ghost use Rattle.cops_world.specs.Precedence.{HasLeastPasts};
+ghost use Rattle.cops_world.specs.Restarts.{RestartsOnlyLate};
 ghost use Rattle.cops_world.specs.Laws.{HasExactDeps, HasCommittedPasts, IsConsistent, IsAsExpected, IsConvergent, IsSettled, HasEndingSteps};
 
 /// After every list of acts the past of each operation has just the pairs that were put by operations
@@ -51,4 +52,10 @@ pub fn settled_nodes_agree()
 /// restarted.
 pub fn done_ends()
     ensures { (config : TenantConfig) (acts : List Act) → 0 < config.shards → HasEndingSteps config acts }
+{}
+
+/// In every list of acts a transaction begins again, or has begun again too often, only where a moment
+/// that was handed in exceeds the start of the attempt by more than `trans_time`.
+pub fn restarts_are_late()
+    ensures { (config : TenantConfig) (acts : List Act) → 0 < config.shards → RestartsOnlyLate config acts }
 {}
