@@ -1,6 +1,7 @@
 //! Carriers: each takes the front of one stream to another data centre.
 use crate::node::{Call, Entry, Node, NodeReply};
-use crate::types::{Cluster, Fault, Pair, Version};
+use crate::reply::Reply;
+use crate::types::{Cluster, Fault, Pair};
 use std::rc::Rc;
 
 enum Stage {
@@ -9,17 +10,6 @@ enum Stage {
     Carrying(Rc<Entry>, usize),
     /// The pair, and whether it was committed just now.
     Stored(Pair, bool),
-}
-
-pub enum Delivery {
-    Nothing,
-    Waits(Pair),
-    OutOfOrder(Version),
-    Carried {
-        pair: Pair,
-        fresh: bool,
-        acked: bool,
-    },
 }
 
 pub struct Carrier {
@@ -41,36 +31,36 @@ impl Carrier {
         }
     }
 
-    /// Takes a step. It goes on where there is no answer yet.
-    pub fn step(&mut self, nodes: &mut [Node], moment: u64) -> Result<Option<Delivery>, Fault> {
+    /// Takes a step. After any reply but that it works it is over.
+    pub fn step(&mut self, nodes: &mut [Node], moment: u64) -> Result<Reply, Fault> {
         self.moment = self.moment.max(moment);
         let (node, call) = self.next_call();
         let reply = nodes[node].step(self.moment, call);
         let stage = match (&self.stage, reply) {
             (_, NodeReply::Refused(fault)) => return Err(fault),
-            (Stage::Pulling, NodeReply::Nothing) => return Ok(Some(Delivery::Nothing)),
+            (Stage::Pulling, NodeReply::Nothing) => return Ok(Reply::Nothing),
             (Stage::Pulling, NodeReply::Pulled(entry)) => Stage::Carrying(entry, 0),
             (Stage::Carrying(entry, checked), NodeReply::Checked(true)) => {
                 Stage::Carrying(entry.clone(), checked + 1)
             }
             (Stage::Carrying(entry, checked), NodeReply::Checked(false)) => {
-                return Ok(Some(Delivery::Waits(entry.near[*checked].clone())));
+                return Ok(Reply::Waits(entry.near[*checked].clone()));
             }
             (Stage::Carrying(entry, _), NodeReply::Committed) => Stage::Stored(pair(entry), true),
             (Stage::Carrying(entry, _), NodeReply::Already) => Stage::Stored(pair(entry), false),
             (Stage::Carrying(..), NodeReply::OutOfOrder(mark)) => {
-                return Ok(Some(Delivery::OutOfOrder(mark)));
+                return Ok(Reply::OutOfOrder(mark));
             }
             (Stage::Stored(pair, fresh), NodeReply::Acked) => {
-                return Ok(Some(carried(pair, *fresh, true)));
+                return Ok(carried(pair, *fresh, true));
             }
             (Stage::Stored(pair, fresh), NodeReply::NotFront) => {
-                return Ok(Some(carried(pair, *fresh, false)));
+                return Ok(carried(pair, *fresh, false));
             }
             _ => return Err(Fault::Torn),
         };
         self.stage = stage;
-        Ok(None)
+        Ok(Reply::Working)
     }
 
     /// The call of this stage, and the node that it is made at.
@@ -99,8 +89,8 @@ fn pair(entry: &Entry) -> Pair {
     }
 }
 
-fn carried(pair: &Pair, fresh: bool, acked: bool) -> Delivery {
-    Delivery::Carried {
+fn carried(pair: &Pair, fresh: bool, acked: bool) -> Reply {
+    Reply::Carried {
         pair: pair.clone(),
         fresh,
         acked,

@@ -5,14 +5,16 @@ mod context;
 mod head;
 mod lines;
 mod node;
+mod reply;
 mod session;
 mod types;
 mod world;
 
 use crate::head::Head;
 use crate::lines::{read_line, LONGEST_LINE};
+use crate::reply::write_reply;
 use crate::types::{Config, Fault};
-use crate::world::{write_reply, World};
+use crate::world::World;
 use std::collections::HashMap;
 use std::io::{self, BufRead, BufWriter, Write};
 use std::process::ExitCode;

@@ -1,17 +1,11 @@
 //! Sessions: the requests of a client as steps of at most one node call each.
 use crate::context::{Context, Read};
 use crate::node::{Call, Node, NodeReply};
+use crate::reply::Reply;
 use crate::types::{Cluster, Fault, Pair, Quota, Text, Version};
 use std::collections::{HashMap, HashSet};
 
 const MOST_KEYS: usize = 32;
-
-pub enum Progress {
-    Working,
-    Restarted(u64),
-    Stored(Pair),
-    Values(Vec<Read>),
-}
 
 enum Request {
     Put { key: Text, value: Text },
@@ -125,7 +119,7 @@ impl Session {
     }
 
     /// Takes a step of what runs. After an answer or a fault nothing runs.
-    pub fn step(&mut self, nodes: &mut [Node], moment: u64) -> Result<Progress, Fault> {
+    pub fn step(&mut self, nodes: &mut [Node], moment: u64) -> Result<Reply, Fault> {
         let (number, request) = self.running.take().ok_or(Fault::Idle)?;
         self.moment = self.moment.max(moment);
         match request {
@@ -140,7 +134,7 @@ impl Session {
         number: u64,
         key: Text,
         value: Text,
-    ) -> Result<Progress, Fault> {
+    ) -> Result<Reply, Fault> {
         let context = self.contexts.get_mut(&number).ok_or(Fault::NoContext)?;
         let home = self.cluster.home(self.dc, &key);
         let (deps, near) = (context.all[..].into(), context.near[..].into());
@@ -149,7 +143,7 @@ impl Session {
             NodeReply::Stored(version) => {
                 let pair = Pair { key, version };
                 context.after_put(pair.clone());
-                Ok(Progress::Stored(pair))
+                Ok(Reply::Stored(pair))
             }
             NodeReply::Refused(fault) => Err(fault),
             _ => Err(Fault::Torn),
@@ -161,7 +155,7 @@ impl Session {
         nodes: &mut [Node],
         number: u64,
         mut reading: Reading,
-    ) -> Result<Progress, Fault> {
+    ) -> Result<Reply, Fault> {
         let start = *reading.start.get_or_insert(self.moment);
         if self.moment - start > self.cluster.trans_time {
             return self.restart(number, reading);
@@ -176,11 +170,11 @@ impl Session {
         }
         if reading.reads.len() < reading.keys.len() || !reading.again.is_empty() {
             self.running = Some((number, Request::Get(reading)));
-            return Ok(Progress::Working);
+            return Ok(Reply::Working);
         }
         let context = self.contexts.get_mut(&number).ok_or(Fault::NoContext)?;
         context.observe_all(&reading.reads, self.quota.deps)?;
-        Ok(Progress::Values(reading.reads))
+        Ok(Reply::Values(reading.reads))
     }
 
     /// Reads the next key of the first round. After the last one it is known what to read again.
@@ -232,7 +226,7 @@ impl Session {
         }
     }
 
-    fn restart(&mut self, number: u64, mut reading: Reading) -> Result<Progress, Fault> {
+    fn restart(&mut self, number: u64, mut reading: Reading) -> Result<Reply, Fault> {
         if reading.restarts >= self.cluster.restarts {
             return Err(Fault::Overrun);
         }
@@ -242,6 +236,6 @@ impl Session {
         reading.again.clear();
         let restarts = reading.restarts;
         self.running = Some((number, Request::Get(reading)));
-        Ok(Progress::Restarted(restarts))
+        Ok(Reply::Restarted(restarts))
     }
 }

@@ -1,39 +1,17 @@
 //! What a tenant has in the cluster, and what his acts do.
-use crate::carrier::{Carrier, Delivery};
-use crate::context::{Context, Read};
+use crate::carrier::Carrier;
 use crate::lines::{self, Act};
 use crate::node::{Call, Node, NodeReply};
-use crate::session::{Progress, Session};
-use crate::types::{Cluster, Fault, Pair, Quota, Tenant, Text, Version};
+use crate::reply::Reply;
+use crate::session::Session;
+use crate::types::{Cluster, Fault, Quota, Tenant, Text};
 use std::collections::HashMap;
-use std::io::{self, Write};
 
 const LONGEST_VALUE: usize = 4096;
 
 enum Actor {
     Session(Box<Session>),
     Carrier(Carrier),
-}
-
-pub enum Reply {
-    Opened,
-    Created(u64),
-    Deleted,
-    Started,
-    Lists(Context),
-    Working,
-    Restarted(u64),
-    Stored(Pair),
-    Values(Vec<Read>),
-    Nothing,
-    Waits(Pair),
-    OutOfOrder(Version),
-    Carried {
-        pair: Pair,
-        fresh: bool,
-        acked: bool,
-    },
-    Removed(u64),
 }
 
 /// All that one tenant has.
@@ -138,27 +116,13 @@ impl World {
     fn step(&mut self, name: &str, moment: u64) -> Result<Reply, Fault> {
         let nodes = &mut self.nodes[..];
         match self.actors.get_mut(name).ok_or(Fault::UnknownName)? {
-            Actor::Session(session) => Ok(match session.step(nodes, moment)? {
-                Progress::Working => Reply::Working,
-                Progress::Restarted(times) => Reply::Restarted(times),
-                Progress::Stored(pair) => Reply::Stored(pair),
-                Progress::Values(reads) => Reply::Values(reads),
-            }),
+            Actor::Session(session) => session.step(nodes, moment),
             Actor::Carrier(carrier) => {
-                let delivery = match carrier.step(nodes, moment) {
-                    Ok(None) => return Ok(Reply::Working),
-                    Ok(Some(delivery)) => Ok(delivery),
-                    Err(fault) => Err(fault),
-                };
-                self.actors.remove(name);
-                Ok(match delivery? {
-                    Delivery::Nothing => Reply::Nothing,
-                    Delivery::Waits(pair) => Reply::Waits(pair),
-                    Delivery::OutOfOrder(mark) => Reply::OutOfOrder(mark),
-                    Delivery::Carried { pair, fresh, acked } => {
-                        Reply::Carried { pair, fresh, acked }
-                    }
-                })
+                let reply = carrier.step(nodes, moment);
+                if !matches!(reply, Ok(Reply::Working)) {
+                    self.actors.remove(name);
+                }
+                reply
             }
         }
     }
@@ -173,55 +137,5 @@ impl World {
             NodeReply::Refused(fault) => Err(fault),
             _ => Err(Fault::Torn),
         }
-    }
-}
-
-fn write_list(out: &mut impl Write, pairs: &[Pair]) -> io::Result<()> {
-    if pairs.is_empty() {
-        return out.write_all(b"-");
-    }
-    for (place, pair) in pairs.iter().enumerate() {
-        let comma = if place > 0 { "," } else { "" };
-        write!(out, "{comma}{}:{}", pair.key, pair.version)?;
-    }
-    Ok(())
-}
-
-fn write_reads(out: &mut impl Write, reads: &[Read]) -> io::Result<()> {
-    for (place, read) in reads.iter().enumerate() {
-        let space = if place > 0 { " " } else { "" };
-        let value = read.found.as_ref().map_or("none", |(value, _)| value);
-        write!(out, "{space}{}={value}@{}", read.key, read.version)?;
-    }
-    Ok(())
-}
-
-/// Writes the text of a reply.
-pub fn write_reply(out: &mut impl Write, reply: &Result<Reply, Fault>) -> io::Result<()> {
-    match reply {
-        Err(fault) => write!(out, "{fault}"),
-        Ok(Reply::Opened) => out.write_all(b"opened"),
-        Ok(Reply::Created(number)) => write!(out, "context {number}"),
-        Ok(Reply::Deleted) => out.write_all(b"dropped"),
-        Ok(Reply::Started) => out.write_all(b"started"),
-        Ok(Reply::Lists(context)) => {
-            out.write_all(b"all ")?;
-            write_list(out, &context.all)?;
-            out.write_all(b" near ")?;
-            write_list(out, &context.near)
-        }
-        Ok(Reply::Working) => out.write_all(b"working"),
-        Ok(Reply::Restarted(times)) => write!(out, "restarted {times}"),
-        Ok(Reply::Stored(pair)) => write!(out, "stored {} {}", pair.key, pair.version),
-        Ok(Reply::Values(reads)) => write_reads(out, reads),
-        Ok(Reply::Nothing) => out.write_all(b"nothing"),
-        Ok(Reply::Waits(pair)) => write!(out, "waits {} {}", pair.key, pair.version),
-        Ok(Reply::OutOfOrder(mark)) => write!(out, "outoforder {mark}"),
-        Ok(Reply::Carried { pair, fresh, acked }) => {
-            let committed = if *fresh { "committed" } else { "already" };
-            let taken = if *acked { "acked" } else { "notfront" };
-            write!(out, "{committed} {} {} {taken}", pair.key, pair.version)
-        }
-        Ok(Reply::Removed(count)) => write!(out, "removed {count}"),
     }
 }
