@@ -1,17 +1,17 @@
 -- Facts about the line of one slot.
-use Rattle.std.proofs.Common.{◌≡◌, ◌≢◌, ◌⊎◌, inl, inr, ℕ, zero, suc, ◌+◌, ◌-◌, ◌<◌, ◌≤◌, Bool, true, false, not, ◌&&◌, ◌||◌, List, [], ◌∷◌, ◌++◌, length, refl, sym, ap, ◌∙◌, subst, arith, get_or, set, eq-eqb, true≢false}
+use Rattle.std.proofs.Common.{◌≡◌, ◌≢◌, inl, inr, ℕ, zero, suc, ◌+◌, ◌-◌, ◌^◌, ◌<◌, ◌≤◌, Bool, true, false, not, ◌&&◌, ◌||◌, List, [], ◌∷◌, ◌++◌, length, refl, sym, ap, ◌∙◌, subst, arith, get_or, set, eq-eqb, true≢false}
 use Rattle.std.specs.Prelude.{Option, Some, None, IsSome, ◌==◌, nat_le, if◌then◌else◌, drop, count_by, is_some}
 use Rattle.std.specs.List.{list_any, range_with_len}
 use Rattle.std.proofs.lemmas.Bool.{cases_eq, cases_lt}
 use Rattle.std.proofs.lemmas.Bool.Decides.{nat_tests}
 use Rattle.std.proofs.lemmas.List.{get_or_past, get_or_default, get_or-set_same, get_or-set_other, length-set}
-use Rattle.std.proofs.lemmas.List.Folds.{list_any_at}
+use Rattle.std.proofs.lemmas.List.Folds.{list_any_at, Any-from_list_any}
 use Rattle.cops_types.specs.declared.records.EntryParts.{EntryParts as Entry}
 use Rattle.cops_outbox.specs.declared.rows.Row.{Row}
 use Rattle.cops_outbox.specs.declared.rows.Span.{Span}
 use Rattle.cops_outbox.specs.declared.rows.Line.{Line}
 use Rattle.cops_outbox.specs.Queues.{front}
-use Rattle.cops_outbox.specs.Lines.{row_at, entry_in, next_in, entries_from, entries_in, IsRowOf, IsChain, IsLine, IsAdded, IsGone, IsTurn, IsLonger, IsShorter, OthersStay, extended, nowhere, span_at}
+use Rattle.cops_outbox.specs.Lines.{row_at, entry_in, next_in, entries_from, entries_in, IsRowOf, IsChain, IsLine, IsNeeded, IsAdded, IsGone, IsLonger, IsShorter, extended, nowhere, span_at}
 use Rattle.cops_outbox.proofs.Chains.{apart, chain_head, chain_last, chain_rest, chain_front, span_longer, added_elsewhere, gone_behind, gone_elsewhere}
 
 -- ---- where rows are
@@ -85,7 +85,6 @@ module _ (rows rows' : List (Option Row)) (own slot at : ℕ) (entry : Entry) (l
     (long : length line'.waits.items ≡ length line.waits.items)
     (spans : (dc : ℕ) (d : Span) → dc < length line.waits.items → get_or line'.waits.items dc d ≡ (if dc == own then get_or line.waits.items dc d else extended at (get_or line.waits.items dc d)))
     (counted : count_by is_some rows' ≡ count_by is_some rows + 1) where
-
   own_stays : span_at own line' ≡ span_at own line
   own_stays = elim (cases_lt own (length line.waits.items)) [
     | inl lt ↦ spans own nowhere lt ∙ ap (λ b. if b then span_at own line else extended at (span_at own line)) (eq-eqb own own refl)
@@ -143,6 +142,25 @@ module _ (rows rows' : List (Option Row)) (own slot at : ℕ) (entry : Entry) (l
     itself = empty_entries rows' (span_at own line') own_none ∙ sym (empty_entries rows (span_at own line) h.itself);
   }
 
+  -- where there is another data centre, each row is still needed
+  pub needed_longer : (dc : ℕ) × (dc < length line.waits.items) × (dc ≢ own) → IsNeeded line → IsNeeded line'
+  needed_longer some needed = elim (cases_eq line.kept.count 0) [
+    | inl none ↦ inr (some.0, let one : (span_at some.0 line').count ≡ (span_at some.0 line).count + 1 = ap (λ (s : Span). s.count) (longer_at some.0 some.1 some.2) in let le = h.within some.0 in let more : line'.kept.count ≡ line.kept.count + 1 = ap (λ (s : Span). s.count) kept_is in omega arith)
+    | inr many ↦ by many needed
+  ]
+    where
+      by : line.kept.count ≢ 0 → IsNeeded line → IsNeeded line'
+      by many (inl none) = absurd (many none)
+      by many (inr (dc, all)) =
+          let there : dc < length line.waits.items = elim (cases_lt dc (length line.waits.items)) [
+            | inl lt ↦ lt
+            | inr past ↦ absurd (many (sym all ∙ ap (λ (s : Span). s.count) (get_or_past line.waits.items dc nowhere past)))
+          ] in
+          let differ : dc ≢ own = λ same. many (sym all ∙ ap (λ n. (span_at n line).count) same ∙ h.itself) in
+          let one : (span_at dc line').count ≡ (span_at dc line).count + 1 = ap (λ (s : Span). s.count) (longer_at dc there differ) in
+          let more : line'.kept.count ≡ line.kept.count + 1 = ap (λ (s : Span). s.count) kept_is in
+          inr (dc, omega arith)
+
 -- ---- one row less
 
 shorter_chain : (rows : List (Option Row)) (slot last n first : ℕ) → 0 < n → IsChain rows slot last n first → IsChain rows slot last (n - 1) (next_in (row_at rows first)) × (entries_from rows (n - 1) (next_in (row_at rows first)) ≡ drop 1 (entries_from rows n first))
@@ -195,7 +213,6 @@ module _ (rows rows' : List (Option Row)) (own slot dc : ℕ) (line line1 line2 
     (last_is : line2.last ≡ line1.last)
     (kept_is : line2.kept ≡ record { first = next_in (row_at rows line1.kept.first); count = line1.kept.count - 1 })
     (waits_are : line2.waits.items ≡ line1.waits.items) where
-
   whole : (n : ℕ) → line1.kept.count ≡ suc n → IsChain rows slot line1.last (suc n) line1.kept.first
   whole n e = subst (λ m. IsChain rows slot line1.last m line1.kept.first) e h.turn.stays.kept
 
@@ -208,8 +225,8 @@ module _ (rows rows' : List (Option Row)) (own slot dc : ℕ) (line line1 line2 
   released_by : (n : ℕ) → line1.kept.count ≡ suc n → IsShorter rows rows' own slot dc line line2
   released_by n e =
       let stays : (at : ℕ) → IsChain rows' slot line1.last (span_at at line2).count (span_at at line2).first × (entries_in rows' (span_at at line2) ≡ entries_in rows (span_at at line1)) = λ at.
-          subst (λ (s : Span). IsChain rows' slot line1.last s.count s.first × (entries_in rows' s ≡ entries_in rows (span_at at line1))) (sym (same_span at))
-          (behind n (span_at at line1).count (span_at at line1).first e (let le = h.turn.stays.within at in let differ = unwanted at in omega arith) (h.turn.stays.waits at)) in
+      subst (λ (s : Span). IsChain rows' slot line1.last s.count s.first × (entries_in rows' s ≡ entries_in rows (span_at at line1))) (sym (same_span at))
+      (behind n (span_at at line1).count (span_at at line1).first e (let le = h.turn.stays.within at in let differ = unwanted at in omega arith) (h.turn.stays.waits at)) in
       let count_is : line2.kept.count ≡ n = ap (λ (s : Span). s.count) kept_is ∙ (let less : line1.kept.count - 1 ≡ n = omega arith in less) in
       let rest = behind n n (next_in (row_at rows line1.kept.first)) e (omega arith) (chain_rest rows slot line1.last n line1.kept.first (whole n e)) in
       let kept_as : line2.kept ≡ record { first = next_in (row_at rows line1.kept.first); count = n } = kept_is ∙ ap (λ m. record { first = next_in (row_at rows line1.kept.first); count = m }) (let less : line1.kept.count - 1 ≡ n = omega arith in less) in
@@ -316,3 +333,39 @@ none_is rows dc line span lt read none = sym (ap front (empty_entries rows (span
 -- the row that a line with some begins with
 pub kept_there : (rows : List (Option Row)) (own data_centres slot : ℕ) (line : Line) → IsLine rows own data_centres slot line → 0 < line.kept.count → IsRowOf rows slot line.kept.first
 kept_there rows own data_centres slot line h some = span_head rows slot line.last line.kept some h.kept
+
+-- ---- what is still needed
+
+-- a data centre waits for that many
+pub waited_for : (line : Line) (spans : List Span) → spans ≡ line.waits.items → list_any (λ (s : Span). s.count == line.kept.count) spans ≡ true → IsNeeded line
+waited_for line spans is some =
+    let any = Any-from_list_any (λ (s : Span). s.count == line.kept.count) spans some in
+    inr (any.0, ap (λ (ss : List Span). (get_or ss any.0 nowhere).count) (sym is) ∙ ap (λ (s : Span). s.count) (get_or_default spans any.0 nowhere any.1 any.2 ∙ any.3) ∙ (let same : any.1.count ≡ line.kept.count = grind (arith, nat_tests, any.4) in same))
+
+-- the one that passed the first row waits for all others
+pub needed_released : (dc : ℕ) (line line1 line2 : Line) → IsNeeded line → 0 < line.kept.count → line1.kept ≡ line.kept → ((at : ℕ) → at ≢ dc → span_at at line1 ≡ span_at at line) → (span_at dc line1).count ≡ (span_at dc line).count - 1
+    → ((at : ℕ) → (span_at at line1).count ≢ line1.kept.count) → line2.kept.count ≡ line1.kept.count - 1 → line2.waits.items ≡ line1.waits.items → IsNeeded line2
+needed_released dc line line1 line2 (inl none) some kept_is elsewhere less unwanted count_is waits_are = absurd (omega arith)
+needed_released dc line line1 line2 (inr (at, all)) some kept_is elsewhere less unwanted count_is waits_are =
+    let same_count : line1.kept.count ≡ line.kept.count = ap (λ (s : Span). s.count) kept_is in
+    elim (cases_eq at dc) [
+      | inl same ↦
+          let full : (span_at dc line).count ≡ line.kept.count = ap (λ n. (span_at n line).count) (sym same) ∙ all in
+          inr (dc, ap (λ (ss : List Span). (get_or ss dc nowhere).count) waits_are ∙ (let e : (span_at dc line1).count ≡ line2.kept.count = omega arith in e))
+      | inr differ ↦ absurd (unwanted at (ap (λ (s : Span). s.count) (elsewhere at differ) ∙ all ∙ sym same_count))
+    ]
+
+-- it passes the first
+pub passed_less : (rows : List (Option Row)) (dc : ℕ) (span : Span) (line line' : Line) → dc < length line.waits.items → span ≡ record { first = next_in (row_at rows (span_at dc line).first); count = (span_at dc line).count - 1 } → line'.waits.items ≡ set line.waits.items dc span
+    → ((span_at dc line').count ≡ (span_at dc line).count - 1) × ((at : ℕ) → at ≢ dc → span_at at line' ≡ span_at at line)
+passed_less rows dc span line line' lt span_is waits_are = (
+  ap (λ (ss : List Span). (get_or ss dc nowhere).count) waits_are ∙ ap (λ (s : Span). s.count) (get_or-set_same line.waits.items dc span nowhere lt ∙ span_is),
+  λ at differ. ap (λ (ss : List Span). get_or ss at nowhere) waits_are ∙ get_or-set_other line.waits.items dc at span nowhere differ,
+)
+
+-- no data centre waits for more than are kept
+pub counts_fit : (rows : List (Option Row)) (own data_centres slot : ℕ) (line : Line) (spans : List Span) → IsLine rows own data_centres slot line → spans ≡ line.waits.items → line.kept.count + 1 < 2 ^ 64 → (dc : ℕ) (d : Span) → dc < length spans → (get_or spans dc d).count + 1 < 2 ^ 64
+counts_fit rows own data_centres slot line spans h is fits dc d lt =
+    let same : (get_or spans dc d).count ≡ (span_at dc line).count = ap (λ (s : Span). s.count) (get_or_default spans dc d nowhere lt) ∙ ap (λ (ss : List Span). (get_or ss dc nowhere).count) is in
+    let le = h.within dc in
+    omega arith

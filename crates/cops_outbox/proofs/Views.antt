@@ -1,17 +1,16 @@
 -- Facts about the queues of all slots and data centres.
-use Rattle.std.proofs.Common.{◌≡◌, ◌≢◌, ◌⊎◌, inl, inr, ℕ, zero, suc, ◌+◌, ◌<◌, ◌≤◌, Bool, true, false, not, ◌&&◌, ◌||◌, List, [], ◌∷◌, ◌++◌, length, map, refl, sym, ap, ◌∙◌, subst, arith, get_or, set, eq-eqb}
-use Rattle.std.specs.Prelude.{Option, Some, None, ◌==◌, nat_le, if◌then◌else◌, drop, replicate, count_by, is_some}
+use Rattle.std.proofs.Common.{◌≡◌, ◌≢◌, inl, inr, ℕ, zero, suc, ◌+◌, ◌<◌, ◌≤◌, Bool, true, false, not, ◌&&◌, ◌||◌, List, [], ◌∷◌, ◌++◌, length, map, refl, sym, ap, ◌∙◌, subst, arith, get_or, set, eq-eqb}
+use Rattle.std.specs.Prelude.{Option, ◌==◌, nat_le, if◌then◌else◌, drop, replicate, count_by, is_some}
 use Rattle.std.specs.List.{list_any, range_with_len, sum_by}
-use Rattle.std.proofs.lemmas.Bool.{cases_eq, cases_lt}
-use Rattle.std.proofs.lemmas.Bool.Decides.{nat_tests}
-use Rattle.std.proofs.lemmas.List.{get_or_default, get_or-set_same, get_or-set_other, length-set, set-get_or, map-set, get_or-map, length-map}
+use Rattle.std.proofs.lemmas.Bool.{cases_eq}
+use Rattle.std.proofs.lemmas.List.{get_or-set_same, get_or-set_other, length-set, set-get_or, map-set, get_or-map, length-map}
 use Rattle.std.proofs.lemmas.List.Sums.{sum_by-set, sum_by-cons}
 use Rattle.cops_types.specs.declared.records.EntryParts.{EntryParts as Entry}
 use Rattle.cops_outbox.specs.declared.rows.Row.{Row}
 use Rattle.cops_outbox.specs.declared.rows.Span.{Span}
 use Rattle.cops_outbox.specs.declared.rows.Line.{Line}
 use Rattle.cops_outbox.specs.Queues.{Queues, Waiting, queue_of, is_full, with_last, without_front, pushed}
-use Rattle.cops_outbox.specs.Lines.{entries_in, IsChain, IsLine, AreLines, IsEmpty, IsTurn, IsLonger, IsShorter, nowhere, span_at, slots_at, queues_in}
+use Rattle.cops_outbox.specs.Lines.{entries_in, IsLine, AreLines, IsNeeded, IsEmpty, IsTurn, IsLonger, IsShorter, span_at, slots_at, queues_in}
 use Rattle.cops_outbox.proofs.Chains.{chain_length}
 use Rattle.cops_outbox.proofs.Lines.{empty_chain, empty_entries, test_false}
 
@@ -81,7 +80,6 @@ set_same f g (l ∷ lines) (suc slot) es same =
 
 -- ---- what is shown of a line
 
-
 pub slot_read : (rows : List (Option Row)) (lines : List Line) (dc slot : ℕ) (line : Line) → slot < length lines → line ≡ get_or lines slot line → get_or (slots_at rows lines dc) slot [] ≡ entries_in rows (span_at dc line)
 slot_read rows lines dc slot line lt is = get_or-map (λ (l : Line). entries_in rows (span_at dc l)) lines slot line [] lt ∙ ap (λ (l : Line). entries_in rows (span_at dc l)) (sym is)
 
@@ -119,7 +117,6 @@ module _ (rows rows' : List (Option Row)) (own tenants data_centres slot : ℕ) 
     (h : AreLines rows own tenants data_centres lines)
     (lt : slot < tenants)
     (is : line ≡ get_or lines slot line) where
-
   there : slot < length lines
   there = omega (arith, h.all)
 
@@ -135,8 +132,8 @@ module _ (rows rows' : List (Option Row)) (own tenants data_centres slot : ℕ) 
     itself = k.itself;
   }
 
-  pub lines_after : IsTurn rows rows' own slot line line' → AreLines rows' own tenants data_centres (set lines slot line')
-  lines_after turn = record {
+  pub lines_after : IsTurn rows rows' own slot line line' → IsNeeded line' → AreLines rows' own tenants data_centres (set lines slot line')
+  lines_after turn needed = record {
     all = length-set lines slot line' ∙ h.all;
     counted =
         let sums = sum_by-set (λ (l : Line). l.kept.count) lines slot line' line there in
@@ -149,6 +146,10 @@ module _ (rows rows' : List (Option Row)) (own tenants data_centres slot : ℕ) 
           let found : l ≡ line' = read ∙ ap (λ n. get_or (set lines slot line') n l) same ∙ get_or-set_same lines slot line' l there in
           subst (λ n. IsLine rows' own data_centres n l) (sym same) (subst (λ (k : Line). IsLine rows' own data_centres slot k) (sym found) (subst (λ n. IsLine rows' own n slot line') here.all turn.stays))
       | inr differ ↦ other_line turn s l differ (h.each s l within (read ∙ get_or-set_other lines slot s line' l differ))
+    ];
+    needed = λ s l within read. elim (cases_eq s slot) [
+      | inl same ↦ subst IsNeeded (sym (read ∙ ap (λ n. get_or (set lines slot line') n l) same ∙ get_or-set_same lines slot line' l there)) needed
+      | inr differ ↦ h.needed s l within (read ∙ get_or-set_other lines slot s line' l differ)
     ];
   }
 
@@ -209,9 +210,11 @@ pushed_other dc own w (slots ∷ queues) other zero differ = by (dc == own)
 pushed_other dc own w (slots ∷ queues) other (suc at) differ = pushed_other (dc + 1) own w queues other at differ
 
 -- with no other data centre nothing is sent
-pub alone : (own : ℕ) (w : Waiting) (f : ℕ → List (List Entry)) (data_centres : ℕ) → (data_centres ≡ 0) ⊎ ((data_centres ≡ 1) × (own ≡ 0)) → pushed 0 own w (map f (range_with_len 0 data_centres)) ≡ map f (range_with_len 0 data_centres)
-alone own w f data_centres (inl none) = subst (λ n. pushed 0 own w (map f (range_with_len 0 n)) ≡ map f (range_with_len 0 n)) (sym none) refl
-alone own w f data_centres (inr one) = subst (λ n. pushed 0 own w (map f (range_with_len 0 n)) ≡ map f (range_with_len 0 n)) (sym one.0) (subst (λ o. pushed 0 o w (map f (range_with_len 0 1)) ≡ map f (range_with_len 0 1)) (sym one.1) refl)
+pub alone : (own least : ℕ) (w : Waiting) (f : ℕ → List (List Entry)) (data_centres : ℕ) → ((dc : ℕ) → dc ≢ own → least ≤ dc) → data_centres ≤ least → map f (range_with_len 0 data_centres) ≡ pushed 0 own w (map f (range_with_len 0 data_centres))
+alone own least w f data_centres is le = range_pushed f f own w 0 data_centres (λ k lt. elim (cases_eq (0 + k) own) [
+  | inl same ↦ ap (λ b. if b then f (0 + k) else with_last w (f (0 + k))) (sym (eq-eqb (0 + k) own same))
+  | inr differ ↦ let far = is (0 + k) differ in absurd (omega arith)
+])
 
 -- ---- what leaves one queue
 
@@ -254,6 +257,7 @@ lines_empty rows own tenants data_centres lines none long each = record {
         within = λ dc. let zero_is : (span_at dc l).count ≡ 0 = ap (λ (k : Span). k.count) (empty.waits dc) in omega arith;
         itself = ap (λ (k : Span). k.count) (empty.waits own);
       };
+  needed = λ s l lt is. inl (ap (λ (k : Span). k.count) (each s l (omega arith) is).kept);
 }
 
 map_replicate : (f : Line → List Entry) (lines : List Line) → ((s : ℕ) (l : Line) → s < length lines → l ≡ get_or lines s l → f l ≡ []) → map f lines ≡ replicate (length lines) []
@@ -273,7 +277,6 @@ shown rows own tenants data_centres lines = record { own = own; tenants = tenant
 module _ (rows : List (Option Row)) (own tenants data_centres : ℕ) (lines : List Line) (v : Queues)
     (h : AreLines rows own tenants data_centres lines)
     (is : shown rows own tenants data_centres lines ≡ v) where
-
   dc_within : (dc : ℕ) → dc < length v.queues → dc < data_centres
   dc_within dc lt = subst (λ n. dc < n) (ap (λ (w : Queues). length w.queues) (sym is) ∙ length_range (slots_at rows lines) 0 data_centres) lt
 
@@ -315,5 +318,17 @@ module _ (rows : List (Option Row)) (own tenants data_centres : ℕ) (lines : Li
       subst (λ (w : Queues). shown rows' own tenants data_centres (set lines slot line') ≡ record w { queues = set w.queues dc (without_front slot (get_or w.queues dc [])) }) is
       (ap (λ qs. record { own = own; tenants = tenants; queues = qs }) (acked_is rows rows' own tenants data_centres slot lines line line' h (slot_within slot lt) read dc (dc_within dc within) shorter))
 
-  pub ack_lines : (rows' : List (Option Row)) (slot dc : ℕ) (line line' : Line) → slot < v.tenants → line ≡ get_or lines slot line → IsShorter rows rows' own slot dc line line' → AreLines rows' own tenants data_centres (set lines slot line')
-  ack_lines rows' slot dc line line' lt read shorter = lines_after rows rows' own tenants data_centres slot lines line line' h (slot_within slot lt) read shorter.turn
+  pub line_needed : (slot : ℕ) (line : Line) → slot < v.tenants → line ≡ get_or lines slot line → IsNeeded line
+  line_needed slot line lt read = h.needed slot line (slot_within slot lt) read
+
+  pub turn_lines : (rows1 rows' : List (Option Row)) (slot : ℕ) (line line' : Line) → rows1 ≡ rows → slot < v.tenants → line ≡ get_or lines slot line → IsTurn rows1 rows' own slot line line' → IsNeeded line' → AreLines rows' own tenants data_centres (set lines slot line')
+  turn_lines rows1 rows' slot line line' same lt read turn needed = lines_after rows rows' own tenants data_centres slot lines line line' h (slot_within slot lt) read (subst (λ rs. IsTurn rs rows' own slot line line') same turn) needed
+
+  pub alone_shown : (least : ℕ) (w : Waiting) → ((dc : ℕ) → dc ≢ own → least ≤ dc) → data_centres ≤ least → v ≡ record v { queues = pushed 0 v.own w v.queues }
+  alone_shown least w far le = subst (λ (u : Queues). u ≡ record u { queues = pushed 0 u.own w u.queues }) is (ap (λ qs. record { own = own; tenants = tenants; queues = qs }) (alone own least w (slots_at rows lines) data_centres far le))
+
+  pub none_other : (least dc : ℕ) → ((at : ℕ) → at ≢ own → least ≤ at) → data_centres ≤ least → dc < length v.queues → dc ≢ v.own → ⊥
+  none_other least dc far le lt differ =
+      let past = far dc (λ same. differ (same ∙ ap (λ (w : Queues). w.own) is)) in
+      let within = dc_within dc lt in
+      omega arith

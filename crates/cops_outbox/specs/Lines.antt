@@ -1,5 +1,5 @@
 -- How the entries of all slots lie in one table: those of a slot are linked, and each data centre has a place in that line.
-use Rattle.std.specs.Prelude.{◌≡◌, ◌≢◌, ℕ, zero, suc, ◌+◌, ◌≤◌, ◌<◌, ◌++◌, ◌==◌, List, [], ◌∷◌, length, map, drop, slice_index_or, Option, Some, None, if◌then◌else◌, count_by, is_some}
+use Rattle.std.specs.Prelude.{◌≡◌, ◌≢◌, ◌⊎◌, ℕ, zero, suc, ◌+◌, ◌≤◌, ◌<◌, ◌++◌, ◌==◌, List, [], ◌∷◌, length, map, drop, slice_index_or, Option, Some, None, if◌then◌else◌, count_by, is_some}
 use Rattle.std.specs.List.{range_with_len, sum_by}
 use Rattle.cops_types.specs.declared.records.EntryParts.{EntryParts as Entry}
 use Rattle.cops_outbox.specs.declared.rows.Row.{Row}
@@ -51,17 +51,22 @@ pub record IsLine (rows : List (Option Row)) (own data_centres slot : ℕ) (line
   pub within : (dc : ℕ) → (span_at dc line).count ≤ line.kept.count
   pub itself : (span_at own line).count ≡ 0
 
+-- no row is kept for nobody: a data centre waits for all that are kept
+abbrev pub IsNeeded : Line → Type 0
+IsNeeded line = (line.kept.count ≡ 0) ⊎ ((dc : ℕ) × ((span_at dc line).count ≡ line.kept.count))
+
 -- a line with no rows, for that many data centres
 pub record IsEmpty (data_centres : ℕ) (line : Line) : Type 0 where
   pub kept : line.kept ≡ nowhere
   pub all : length line.waits.items ≡ data_centres
   pub waits : (dc : ℕ) → span_at dc line ≡ nowhere
 
--- each slot has its line, and each row is of a line
+-- each slot has its line, each row is of a line, and each is needed
 pub record AreLines (rows : List (Option Row)) (own tenants data_centres : ℕ) (lines : List Line) : Type 0 where
   pub all : length lines ≡ tenants
   pub counted : sum_by (λ (l : Line). l.kept.count) lines ≡ count_by is_some rows
   pub each : (slot : ℕ) (line : Line) → slot < tenants → line ≡ slice_index_or lines slot line → IsLine rows own data_centres slot line
+  pub needed : (slot : ℕ) (line : Line) → slot < tenants → line ≡ slice_index_or lines slot line → IsNeeded line
 
 -- the queue of each slot for a data centre
 abbrev pub slots_at : List (Option Row) → List Line → ℕ → List (List Entry)

@@ -4,7 +4,7 @@ ghost use Rattle.std.specs.Option.{option_copied};
 ghost use Rattle.std.specs.List.{list_any, range_with_len};
 ghost use Rattle.slab.specs.Slab.{HasRoomFor, slab_len};
 ghost use Rattle.cops_outbox.specs.Queues.{front, is_front};
-ghost use Rattle.cops_outbox.specs.Lines.{row_at, next_in, entries_in, IsRowOf, IsChain, IsLine, IsEmpty, IsAdded, IsGone, IsLonger, IsShorter, span_at, nowhere, extended as span_with};
+ghost use Rattle.cops_outbox.specs.Lines.{row_at, next_in, entries_in, IsRowOf, IsChain, IsLine, IsNeeded, IsEmpty, IsAdded, IsGone, IsLonger, IsShorter, span_at, nowhere, extended as span_with};
 
 use cops_types::{Entry, Version};
 use slab::Slab;
@@ -93,7 +93,10 @@ pub(crate) fn add(rows: &mut Slab<Row>, line: &mut Line, own: u64, slot: usize, 
     requires room { HasRoomFor rows.old 1 }
     requires line { IsLine rows.old.slots own (length line.old.waits.items) slot line.old }
     requires counted { line.old.kept.count ≤ slab_len rows.old }
-    ensures { IsLonger rows.old.slots rows.new.slots own slot entry line.old line.new }
+    requires needed { IsNeeded line.old }
+    requires another { (dc : ℕ) × (dc < length line.old.waits.items) × (dc ≢ own) }
+    ensures longer { IsLonger rows.old.slots rows.new.slots own slot entry line.old line.new }
+    ensures needed { IsNeeded line.new }
 {
     let at = link(rows, line, slot, entry);
     let _rows = rows.len();
@@ -142,7 +145,9 @@ pub(crate) fn pass(rows: &mut Slab<Row>, line: &mut Line, dc: usize)
     requires dc { dc < length line.old.waits.items }
     requires some { 0 < (span_at dc line.old).count }
     requires line { (own slot : ℕ) × IsLine rows.old.slots own (length line.old.waits.items) slot line.old }
-    ensures { (own slot : ℕ) → IsLine rows.old.slots own (length line.old.waits.items) slot line.old → IsShorter rows.old.slots rows.new.slots own slot dc line.old line.new }
+    requires needed { IsNeeded line.old }
+    ensures needed { IsNeeded line.new }
+    ensures shorter { (own slot : ℕ) → IsLine rows.old.slots own (length line.old.waits.items) slot line.old → IsShorter rows.old.slots rows.new.slots own slot dc line.old line.new }
 {
     line.waits[dc] = shortened(rows, line.waits[dc]);
     if !is_waited_for(&line.waits, line.kept.count) {

@@ -1,5 +1,3 @@
-use Rattle.std.proofs.Common.{ap, sym, ◌∙◌, arith}
-use Rattle.cops_outbox.specs.declared.rows.Span.{Span}
 use Rattle.cops_outbox.proofs.Lines.{there_at}
 use Rattle.cops_outbox.proofs.rows.first.Goals as goal
 

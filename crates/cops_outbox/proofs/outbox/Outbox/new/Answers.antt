@@ -1,5 +1,4 @@
 use Rattle.std.proofs.Common.{◌≡◌, ◌∙◌, ap, arith}
-use Rattle.cops_outbox.specs.Queues.{Queues}
 use Rattle.cops_outbox.proofs.Views.{lines_empty, queues_empty}
 use Rattle.cops_outbox.proofs.outbox.Outbox.new.Goals as goal
 
