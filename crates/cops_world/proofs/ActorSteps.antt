@@ -1,5 +1,5 @@
 -- A step of a session or a carrier is a step of the actor that it is.
-use Rattle.std.proofs.Common.{◌≡◌, ℕ, false, subst, refl, sym}
+use Rattle.std.proofs.Common.{◌≡◌, ℕ, false, subst, refl}
 use Rattle.cops_types.specs.TenantConfig.{TenantConfig}
 use Rattle.cops_node.specs.declared.NodeCall.{NodeCall}
 use Rattle.cops_node.specs.declared.NodeId.{NodeId}

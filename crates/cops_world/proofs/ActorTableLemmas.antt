@@ -1,13 +1,14 @@
 -- The table of actors: what is found, and what follows when one is put in another's place.
-use Rattle.std.proofs.Common.{◌≡◌, ◌≢◌, ℕ, zero, suc, ◌<◌, Bool, true, false, cond, ◌&&◌, List, [], ◌∷◌, ◌++◌, length, get_or, nat_eq, refl, sym, subst, ap, ◌∙◌, true≢false, arith}
-use Rattle.std.specs.Prelude.{Option, Some, None, slice_get, position}
+use Rattle.std.proofs.Common.{◌≡◌, ◌≢◌, ℕ, zero, suc, ◌<◌, Bool, true, false, ◌&&◌, List, [], ◌∷◌, length, get_or, nat_eq, refl, sym, subst, ap, ◌∙◌, true≢false, arith}
+use Rattle.std.specs.Prelude.{IsTrue, OnOk, Some, Result, Ok, Err, slice_get, position}
+use Rattle.std.specs.Result.{is_ok}
 use Rattle.std.specs.Cmp.{IsEquivalence}
 use Rattle.std.specs.List.{IsDistinct}
-use Rattle.std.specs.Map.{keys_of, values_of, lookup}
+use Rattle.std.specs.Map.{keys_of, values_of}
 use Rattle.std.proofs.lemmas.Bool.Decides.{Decides-eqb}
 use Rattle.std.proofs.lemmas.List.Quantifiers.{position-Some}
 use Rattle.std.proofs.lemmas.Slice.Eq.{bytes_eq-Decides}
-use Rattle.indexmap.specs.IndexMap.{IndexMap, keys, get, with_value_at, IsUnique, Updates}
+use Rattle.indexmap.specs.IndexMap.{IndexMap, keys, with_value_at, IsUnique, Updates}
 use Rattle.indexmap.proofs.CallerLemmas.{updates-with_value_at, keys-with_value_at}
 use Rattle.cops_types.specs.Key.{key_eq}
 use Rattle.cops_world.specs.declared.actors.ActorId.{ActorId}
@@ -91,3 +92,8 @@ actor_laws = record {
     turned : (a b : ActorId) (t : Bool) → same_actor a b ≡ t → same_actor a b ≡ same_actor b a
     turned a b true e = let same = same_actor-is a b e in λ i. same_actor (same i) (sym same i)
     turned a b false e = e ∙ not_back a b e (same_actor b a) refl
+
+-- what holds on success holds where there was success
+pub ok_is : {A E : Type 0} {P : Type 0} (r : Result A E) {said : Bool} → IsTrue said → said ≡ is_ok r → OnOk r P → P
+ok_is (Ok a) holds same h = h
+ok_is (Err e) holds same h = absurd (true≢false (sym holds ∙ same))

@@ -1,13 +1,11 @@
 -- The step of an actor, at nodes that take the definition's turns, is the step of the cluster.
-use Rattle.std.proofs.Common.{◌≡◌, ◌⊎◌, ℕ, Bool, true, false, cond, inl, inr, List, [], ◌∷◌, map, length, refl, sym, ◌∙◌, ap, subst, max, true≢false}
-use Rattle.std.specs.Prelude.{IsFalse, Option, Some, None, find, slice_index_or, slice_set}
-use Rattle.std.specs.Option.{option_map}
-use Rattle.cops_types.specs.declared.faults.Fault.TheVariants.{Idle, OutOfMemory}
+use Rattle.std.proofs.Common.{◌≡◌, ◌⊎◌, ℕ, Bool, false, inl, inr, List, refl, sym, ◌∙◌, ap, subst, max, true≢false}
+use Rattle.std.specs.Prelude.{IsFalse, Option, Some, None}
+use Rattle.cops_types.specs.declared.faults.Fault.TheVariants.{OutOfMemory}
 use Rattle.cops_types.specs.TenantConfig.{TenantConfig}
 use Rattle.cops_node.specs.declared.NodeCall.{NodeCall}
 use Rattle.cops_node.specs.declared.NodeId.{NodeId}
 use Rattle.cops_node.specs.declared.NodeReply.{NodeReply}
-use Rattle.cops_node.specs.declared.NodeReply.TheVariants as node_reply
 use Rattle.cops_node.specs.Log.{LogStep, Late, Replied, Directed, Next, Call, Restart, Ended}
 use Rattle.cops_node.specs.SoloNode.{SoloNode}
 use Rattle.cops_session.specs.declared.Answer.{Answer}
@@ -20,21 +18,20 @@ use Rattle.cops_session.specs.Session.{Session, Running, request_of, moment_at, 
 use Rattle.cops_session.specs.Session as session
 use Rattle.cops_session.specs.SessionStands.{SessionStandsFor}
 use Rattle.cops_session.specs.Stepping.{DoesNext, HasStepped}
-use Rattle.cops_repl.specs.declared.Delivery.{Delivery}
 use Rattle.cops_repl.specs.declared.Delivery.TheVariants as delivery
 use Rattle.cops_repl.specs.declared.Progress.{Progress as CarrierProgress}
 use Rattle.cops_repl.specs.declared.Progress.TheVariants as carrying
 use Rattle.cops_repl.specs.Carrier.{Carrier, carrier_after}
 use Rattle.cops_repl.specs.Carrier as carrier
-use Rattle.cops_repl.specs.Stands.{CarrierStandsFor, IsStepOf, Kept as KeptCarrier, StandsIfWorking, is_done}
+use Rattle.cops_repl.specs.Stands.{Kept as KeptCarrier, StandsIfWorking, is_done}
 use Rattle.cops_world.specs.declared.actors.Actor.{Actor as Kept}
 use Rattle.cops_world.specs.declared.actors.Actor.TheVariants as kept
 use Rattle.cops_world.specs.declared.actors.Stepped.{Stepped}
 use Rattle.cops_world.specs.declared.replies.Reply.{Reply}
-use Rattle.cops_world.specs.declared.replies.Reply.TheVariants.{Working, Refused}
-use Rattle.cops_world.specs.ActorsStand.{ActorStandsFor, ActorSteps, CarrierSteps, SessionSteps, NodesTurn, IsAfter, StepsCluster, reply_of_carrying}
+use Rattle.cops_world.specs.declared.replies.Reply.TheVariants.{Refused}
+use Rattle.cops_world.specs.ActorsStand.{ActorSteps, CarrierSteps, SessionSteps, NodesTurn, IsAfter, StepsCluster, reply_of_carrying}
 use Rattle.cops_world.specs.Actors.{AreDistinct}
-use Rattle.cops_world.specs.Cluster.{SoloCluster, Turn, Actor, OfSession, OfCarrier, find_actor, with_actor, without_actor, call_node, request_does, running_step, session_stepped, carrier_does, carrier_step, carrier_stepped, step_of, actor_step, reply_of_answer, reply_of_progress, reply_of_delivery}
+use Rattle.cops_world.specs.Cluster.{SoloCluster, Turn, Actor, OfSession, OfCarrier, find_actor, with_actor, without_actor, call_node, request_does, running_step, session_stepped, carrier_does, carrier_step, carrier_stepped, step_of, actor_step, reply_of_progress}
 use Rattle.cops_world.specs.Events.{is_out_of_memory}
 use Rattle.cops_world.proofs.ActorMoves.{with_actor-same}
 use Rattle.cops_world.proofs.RefusedSteps.{carrier_refused, request_refused}

@@ -1,5 +1,5 @@
 -- What a machine has answered keeps to the rules of a script.
-use Rattle.std.proofs.Common.{◌≡◌, ℕ, ◌<◌, zero, suc, List, [], ◌∷◌, ◌++◌, length, map, refl, sym, subst, ap, ◌∙◌, append-nil}
+use Rattle.std.proofs.Common.{◌≡◌, ℕ, List, [], ◌++◌, map, refl, sym, subst, ap, ◌∙◌, append-nil}
 use Rattle.std.specs.Prelude.{Option, Some, None, slice_get}
 use Rattle.std.specs.Option.{option_map}
 use Rattle.std.proofs.lemmas.Option.{get_or_from_slice_get, slice_get-map}
@@ -16,7 +16,7 @@ use Rattle.cops_world.specs.declared.scripts.Script.TheVariants.{Head, Running}
 use Rattle.cops_world.specs.Acting.{IsNew}
 use Rattle.cops_world.specs.ActLines.{act_in}
 use Rattle.cops_world.specs.Cluster.{SoloCluster}
-use Rattle.cops_world.specs.Script.{Said, OfNobody, answer_line, name_at, said_by, said_in, slot_of_name}
+use Rattle.cops_world.specs.Script.{OfNobody, answer_line, name_at, said_by, said_in, slot_of_name}
 use Rattle.cops_world.specs.ScriptRules.{IsAnswered, line_answers}
 
 name_there : (tenants : List Tenant) (slot : ℕ) (tenant : Tenant) → slice_get tenants slot ≡ Some tenant → name_at tenants slot ≡ tenant.name

@@ -1,6 +1,6 @@
 -- A call that a node refuses ends what made it, with the node's fault.
-use Rattle.std.proofs.Common.{◌≡◌, ℕ, suc, ◌<◌, Bool, true, false, cond, List, [], ◌∷◌, ◌++◌, map, length, refl, sym, ◌∙◌, ap, subst, true≢false, arith}
-use Rattle.std.specs.Prelude.{Option, Some, None, slice_get, nat_lt, filter_map}
+use Rattle.std.proofs.Common.{◌≡◌, ℕ, Bool, true, false, List, [], ◌∷◌, ◌++◌, map, length, refl, sym, ◌∙◌, ap, true≢false, arith}
+use Rattle.std.specs.Prelude.{Option, Some, None, slice_get, nat_lt}
 use Rattle.std.specs.Option.{option_or}
 use Rattle.std.proofs.lemmas.List.{length-map}
 use Rattle.std.proofs.lemmas.List.Elements.{filter_map-append}
@@ -12,11 +12,11 @@ use Rattle.cops_node.specs.declared.NodeCall.TheVariants.{Get}
 use Rattle.cops_node.specs.declared.NodeReply.{NodeReply}
 use Rattle.cops_node.specs.declared.NodeReply.TheVariants as node_reply
 use Rattle.cops_node.specs.declared.NodeReply.TheVariants.{Pulled}
-use Rattle.cops_node.specs.Log.{LogStep, Replied, reply_in, Directed, Next, Call, Restart, Ended, fault_in, first_fault}
+use Rattle.cops_node.specs.Log.{LogStep, Replied, reply_in, Directed, Next, Call, Restart, Ended, first_fault}
 use Rattle.cops_session.specs.declared.Answer.{Answer}
 use Rattle.cops_session.specs.declared.Answer.TheVariants.{Refused}
 use Rattle.cops_session.specs.declared.Progress.TheVariants as progress
-use Rattle.cops_session.specs.Request.{Action, Write, Fetch, Request, Attempt, answer_in, attempt_after, attempt_of, begins_again, calls_of, call_after, call_or_answer, complete, home_of, next, replies_of, unless_fault, unless_late, is_late}
+use Rattle.cops_session.specs.Request.{Action, Write, Fetch, Request, Attempt, answer_in, attempt_of, begins_again, calls_of, call_after, call_or_answer, complete, home_of, next, replies_of, unless_fault, unless_late, is_late}
 use Rattle.cops_session.specs.Session.{progress, has_restarted}
 use Rattle.cops_session.specs.Session as session
 use Rattle.cops_session.specs.Transaction.{Asked, gets}

@@ -1,6 +1,6 @@
 -- The lines that a script's tenant is answered are those of his script alone.
-use Rattle.std.proofs.Common.{◌≡◌, ℕ, Bool, true, false, cond, ◌==◌, zero, suc, ◌<◌, List, [], ◌∷◌, ◌++◌, length, map, get_or, refl, sym, subst, ap, ◌∙◌, true≢false, arith}
-use Rattle.std.specs.Prelude.{filter, flat_map, slice_get, slice_index_or, position, Option, Some, None, if◌then◌else◌}
+use Rattle.std.proofs.Common.{◌≡◌, ℕ, Bool, true, false, ◌==◌, zero, suc, ◌<◌, List, [], ◌∷◌, ◌++◌, length, map, get_or, refl, sym, subst, ap, ◌∙◌, true≢false, arith}
+use Rattle.std.specs.Prelude.{filter, flat_map, slice_get, Option, Some, None, if◌then◌else◌}
 use Rattle.std.specs.Option.{option_map}
 use Rattle.std.specs.Str.{bytes_eq}
 use Rattle.std.proofs.lemmas.Bool.Decides.{Decides-eqb}
@@ -10,16 +10,15 @@ use Rattle.cops_types.specs.declared.configs.Tenant.{Tenant}
 use Rattle.cops_types.specs.declared.faults.Fault.TheVariants.{Syntax}
 use Rattle.cops_types.specs.TenantConfig.{TenantConfig, tenant_config}
 use Rattle.cops_types.specs.Words.{first_word, newline}
-use Rattle.cops_types.proofs.WordLemmas.{same_value, same_bytes, bytes_from_test}
+use Rattle.cops_types.proofs.WordLemmas.{same_bytes, bytes_from_test}
 use Rattle.cops_world.specs.declared.acts.Act.{Act}
-use Rattle.cops_world.specs.declared.acts.Event.{Event}
 use Rattle.cops_world.specs.declared.replies.Reply.{Reply}
 use Rattle.cops_world.specs.declared.replies.Reply.TheVariants.{Refused}
 use Rattle.cops_world.specs.Cluster.{SoloCluster, cluster_step, new_cluster}
-use Rattle.cops_world.specs.Events.{with_cluster, config_at, no_config}
+use Rattle.cops_world.specs.Events.{with_cluster, config_at}
 use Rattle.cops_world.specs.ActLines.{act_in}
 use Rattle.cops_world.specs.ReplyText.{text_of_reply}
-use Rattle.cops_world.specs.Script.{Said, OfNobody, Unformed, Acts, said_by, said_in, slot_of_name, is_to, answers_to, answer_line, name_at, script_text, alone_config, alone_lines, solo_text}
+use Rattle.cops_world.specs.Script.{Said, OfNobody, Unformed, Acts, said_by, said_in, slot_of_name, is_to, answers_to, answer_line, name_at, script_text, alone_lines, solo_text}
 use Rattle.cops_world.proofs.Sequence.{answers_from}
 use Rattle.cops_world.proofs.AnswersTo.{new_at, answers_to-from, config_at-found}
 

@@ -1,6 +1,6 @@
 -- A new actor in the world, and a refusal.
-use Rattle.std.proofs.Common.{◌≡◌, ◌≢◌, ℕ, ◌+◌, ◌<◌, ◌≤◌, Bool, zero, suc, true, false, cond, not, List, [], ◌∷◌, length, map, get_or, set, refl, sym, subst, ap, ◌∙◌, true≢false, arith}
-use Rattle.std.specs.Prelude.{IsFalse, Option, Some, None, is_some, nat_le, slice_get, slice_index, slice_set}
+use Rattle.std.proofs.Common.{◌≡◌, ℕ, ◌+◌, ◌<◌, zero, suc, true, false, cond, not, List, [], ◌∷◌, length, map, refl, sym, subst, ap, ◌∙◌, true≢false}
+use Rattle.std.specs.Prelude.{Option, Some, None, is_some, nat_le, slice_get, slice_index, slice_set}
 use Rattle.std.specs.Option.{option_map}
 use Rattle.std.proofs.lemmas.List.{get_or-set_same, get_or-set_other}
 use Rattle.cops_types.specs.declared.configs.Config.{Config}
@@ -9,21 +9,19 @@ use Rattle.cops_types.specs.declared.faults.Fault.{Fault}
 use Rattle.cops_types.specs.declared.faults.Fault.TheVariants.{NoSuchPlace, NameTaken, ActorsFull, OutOfMemory}
 use Rattle.cops_types.specs.Search.{first_refusal}
 use Rattle.cops_types.specs.TenantConfig.{TenantConfig, tenant_config}
-use Rattle.cops_node.specs.Clusters.{Cluster, HasTenant, nodes_of}
 use Rattle.cops_world.specs.declared.actors.Actor.{Actor as Kept}
 use Rattle.cops_world.specs.declared.actors.ActorId.{ActorId}
 use Rattle.cops_world.specs.declared.replies.Reply.{Reply}
 use Rattle.cops_world.specs.declared.replies.Reply.TheVariants.{Refused}
-use Rattle.cops_world.specs.Actors.{ActorsStandFor}
 use Rattle.cops_world.specs.ActorsStand.{ActorStandsFor}
 use Rattle.cops_world.specs.ActorTables.{same_actor}
-use Rattle.cops_world.specs.Cluster.{SoloCluster, Turn, Actor, actor_refusal, find_actor, with_new_actor, reply_with, unless_refused}
-use Rattle.cops_world.specs.Events.{config_at, is_out_of_memory}
+use Rattle.cops_world.specs.Cluster.{SoloCluster, Turn, Actor, with_new_actor, reply_with, unless_refused}
+use Rattle.cops_world.specs.Events.{config_at}
 use Rattle.cops_world.specs.Worlds.{World, StandsAt, Moves, join_step}
 use Rattle.cops_world.proofs.ActorMoves.{absent_too, found_too, joins, count-joined}
 use Rattle.cops_world.proofs.ActorTableLemmas.{same_actor-refl, other_slot, other_name}
 use Rattle.cops_world.proofs.AnswersTo.{config_at-found}
-use Rattle.cops_world.proofs.WorldMoves.{actors_alone, others_stay}
+use Rattle.cops_world.proofs.WorldMoves.{others_stay}
 
 abbrev id_of : ℕ → List ℕ → ActorId
 id_of slot name = record { slot = slot; name = name }

@@ -1,6 +1,6 @@
 -- What a deed, a new actor, a step or a collection does to each tenant's part of the world.
-use Rattle.std.proofs.Common.{◌≡◌, ◌≢◌, ℕ, ◌+◌, ◌<◌, Bool, true, false, cond, List, [], ◌∷◌, length, get_or, refl, sym, subst, ap, ◌∙◌, true≢false, arith}
-use Rattle.std.specs.Prelude.{IsFalse, Option, Some, None, find, slice_index, slice_set}
+use Rattle.std.proofs.Common.{◌≡◌, ◌≢◌, ℕ, cond, List, length, refl, sym, subst, ap, ◌∙◌}
+use Rattle.std.specs.Prelude.{IsFalse, Option, Some, None, find, slice_index}
 use Rattle.std.specs.Option.{option_map, option_and_then}
 use Rattle.cops_types.specs.declared.faults.Fault.{Fault}
 use Rattle.cops_types.specs.declared.faults.Fault.TheVariants.{UnknownName}
@@ -20,10 +20,10 @@ use Rattle.cops_world.specs.Actors.{AreSame, ActorsStandFor, AreDistinct}
 use Rattle.cops_world.specs.ActorsStand.{ActorStandsFor, HasDone}
 use Rattle.cops_world.specs.ActorTables.{same_actor}
 use Rattle.cops_world.specs.ActorTurns.{ActorTurn, actor_turn, unless_actor_refused, actor_does, session_does}
-use Rattle.cops_world.specs.Cluster.{SoloCluster, Turn, NamedActor, Actor, OfSession, OfCarrier, session_in, find_actor, with_actor, on_found, on_session, reply_with, unless_refused}
+use Rattle.cops_world.specs.Cluster.{SoloCluster, Turn, NamedActor, Actor, OfSession, OfCarrier, session_in, find_actor, with_actor, on_found, reply_with, unless_refused}
 use Rattle.cops_world.specs.Deeds.{deed_step, session_deed}
 use Rattle.cops_world.specs.Events.{config_at, is_out_of_memory}
-use Rattle.cops_world.specs.Worlds.{World, IsWorld, StandsAt, Moves}
+use Rattle.cops_world.specs.Worlds.{World, StandsAt, Moves}
 use Rattle.cops_world.proofs.ActorMoves.{absent_too, found_too, put_in_place, with_actor-same, count-with_actor}
 use Rattle.cops_world.proofs.ActorTableLemmas.{same_actor-refl, other_slot, other_name}
 

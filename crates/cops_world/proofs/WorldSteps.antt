@@ -1,16 +1,15 @@
 -- A step of an actor, steps in a row, and a collection, in the world.
-use Rattle.std.proofs.Common.{◌≡◌, ◌≢◌, ◌⊎◌, inl, inr, ℕ, zero, suc, ◌+◌, ◌-◌, ◌<◌, Bool, true, false, cond, List, [], ◌∷◌, length, get_or, set, refl, sym, subst, ap, ◌∙◌, true≢false, arith}
-use Rattle.std.specs.Prelude.{IsFalse, Option, Some, None, slice_index, slice_index_or, slice_set}
+use Rattle.std.proofs.Common.{◌≡◌, ◌≢◌, ◌⊎◌, inl, inr, ℕ, zero, suc, ◌+◌, ◌-◌, ◌<◌, Bool, true, false, cond, List, length, refl, sym, subst, ap, ◌∙◌, true≢false, arith}
+use Rattle.std.specs.Prelude.{IsFalse, Option, Some, None, slice_index, slice_set}
 use Rattle.std.proofs.lemmas.List.{get_or-set_same, get_or-set_other}
 use Rattle.cops_types.specs.declared.configs.Config.{Config}
-use Rattle.cops_types.specs.declared.faults.Fault.TheVariants.{UnknownName, NoSuchPlace, Torn, OutOfMemory}
+use Rattle.cops_types.specs.declared.faults.Fault.TheVariants.{UnknownName}
 use Rattle.cops_types.specs.TenantConfig.{TenantConfig}
 use Rattle.cops_node.specs.declared.NodeCall.{NodeCall}
 use Rattle.cops_node.specs.declared.NodeCall.TheVariants as node_call
 use Rattle.cops_node.specs.declared.NodeId.{NodeId}
 use Rattle.cops_node.specs.declared.NodeReply.{NodeReply}
-use Rattle.cops_node.specs.declared.NodeReply.TheVariants as node_reply
-use Rattle.cops_node.specs.Clusters.{Cluster, HasTenant, nodes_of, shape_of, IsCall}
+use Rattle.cops_node.specs.Clusters.{Cluster, HasTenant, nodes_of, IsCall}
 use Rattle.cops_node.specs.Log.{Next, Call, Restart, Ended}
 use Rattle.cops_session.specs.declared.Answer.{Answer}
 use Rattle.cops_session.specs.declared.Progress.{Progress}
@@ -18,17 +17,16 @@ use Rattle.cops_session.specs.Kept.{Kept as KeptSession}
 use Rattle.cops_session.specs.Request.{next}
 use Rattle.cops_session.specs.Session.{Session, Running, request_of, moment_at}
 use Rattle.cops_session.specs.Stepping.{DoesNext}
-use Rattle.cops_repl.specs.Carrier.{Carrier}
 use Rattle.cops_world.specs.declared.actors.Actor.{Actor as Kept}
 use Rattle.cops_world.specs.declared.actors.Actor.TheVariants as kept
 use Rattle.cops_world.specs.declared.actors.ActorId.{ActorId}
 use Rattle.cops_world.specs.declared.actors.Stepped.{Stepped}
 use Rattle.cops_world.specs.declared.replies.Reply.{Reply}
-use Rattle.cops_world.specs.declared.replies.Reply.TheVariants.{Removed, Refused}
-use Rattle.cops_world.specs.Actors.{ActorsStandFor, AreDistinct}
-use Rattle.cops_world.specs.ActorsStand.{ActorStandsFor, ActorSteps, CarrierSteps, SessionSteps, NodesTurn, IsAfter, StepsCluster}
+use Rattle.cops_world.specs.declared.replies.Reply.TheVariants.{Refused}
+use Rattle.cops_world.specs.Actors.{ActorsStandFor}
+use Rattle.cops_world.specs.ActorsStand.{ActorStandsFor, ActorSteps, SessionSteps, NodesTurn, IsAfter, StepsCluster}
 use Rattle.cops_world.specs.ActorTables.{same_actor}
-use Rattle.cops_world.specs.Cluster.{SoloCluster, Turn, Actor, OfSession, OfCarrier, find_actor, with_actor, without_actor, actor_step, actor_steps, step_of, goes_on, call_node, collect_at, reply_of_collect, reply_with}
+use Rattle.cops_world.specs.Cluster.{SoloCluster, Turn, Actor, OfSession, OfCarrier, find_actor, with_actor, without_actor, actor_step, actor_steps, step_of, goes_on, collect_at, reply_of_collect}
 use Rattle.cops_world.specs.Events.{config_at, is_out_of_memory}
 use Rattle.cops_world.specs.Worlds.{World, StandsAt, Moves, IsWorld}
 use Rattle.cops_world.proofs.ActorMoves.{absent_too, found_too, put_in_place, leaves, count-with_actor, count-without}

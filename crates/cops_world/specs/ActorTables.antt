@@ -1,5 +1,5 @@
 -- The actors of all tenants in one table, by slot and name.
-use Rattle.std.specs.Prelude.{◌≡◌, ℕ, Bool, ◌&&◌, nat_eq, List, Option, Some, None}
+use Rattle.std.specs.Prelude.{◌≡◌, Bool, ◌&&◌, nat_eq, Option, Some}
 use Rattle.cops_types.specs.Key.{key_eq}
 use Rattle.indexmap.specs.IndexMap.{IndexMap, get, Updates}
 use Rattle.cops_node.specs.Shape.{Shape}

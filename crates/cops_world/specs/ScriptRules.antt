@@ -1,18 +1,16 @@
 -- What is answered to each line of a script, and what is left after it.
-use Rattle.std.specs.Prelude.{◌≡◌, ℕ, List, [], Option, Some, None}
+use Rattle.std.specs.Prelude.{◌≡◌, ℕ, List, [], Some, None}
 use Rattle.cops_types.specs.declared.configs.Config.{Config}
 use Rattle.cops_types.specs.declared.faults.Fault.TheVariants.{Syntax}
 use Rattle.cops_types.specs.Counts.{counted}
-use Rattle.cops_types.specs.Head.{Front, AtStart, Within, Begun, front_after}
-use Rattle.cops_types.specs.HeadReader.{front_with}
 use Rattle.cops_types.specs.LineRules.{Rules}
-use Rattle.cops_world.specs.declared.acts.Event.{Event}
 use Rattle.cops_world.specs.declared.replies.Reply.{Reply}
 use Rattle.cops_world.specs.declared.replies.Reply.TheVariants.{Refused}
 use Rattle.cops_world.specs.declared.scripts.BadConfig.{BadConfig}
 use Rattle.cops_world.specs.declared.scripts.Script.{Script}
 use Rattle.cops_world.specs.declared.scripts.Script.TheVariants.{Head, Running}
 use Rattle.cops_world.specs.Cluster.{SoloCluster}
+use Rattle.cops_world.specs.HeadRules.{HeadAnswers, HeadRefuses}
 use Rattle.cops_world.specs.Acting.{IsNew, HasActed}
 use Rattle.cops_world.specs.Script.{Said, OfNobody, Unformed, Acts, said_in, answer_line}
 
@@ -23,23 +21,12 @@ module _ {W : Type 0} (setup : W → Config) (StandsFor : W → ℕ → SoloClus
   IsAnswered old (Unformed slot) text new = (text ≡ answer_line (setup old).tenants (Some (slot, Refused Syntax))) × (new ≡ old)
   IsAnswered old (Acts event) text new = (reply : Reply) × HasActed setup StandsFor old event reply new × (text ≡ answer_line (setup old).tenants (Some (event.slot, reply)))
 
-  -- the head has come so far, with so many lines
-  abbrev pub IsHeadAt : Front → ℕ → Script W → Type 0
-  IsHeadAt front count (Head head) = (head.reader ≡ Some front) × (head.lines ≡ count)
-  IsHeadAt front count (Running world) = ⊥
-
-  -- with this line the head goes on, or the script begins
-  abbrev pub HeadGoesOn : ℕ → Front → Script W → Type 0
-  HeadGoesOn count AtStart new = ⊥
-  HeadGoesOn count (Within config) new = IsHeadAt (Within config) (counted count) new
-  HeadGoesOn count (Begun config) new = (world : W) × IsNew setup StandsFor config world × (new ≡ Running world)
-
   abbrev pub line_answers : Script W → List ℕ → List ℕ → Script W → Type 0
-  line_answers (Head head) line text new = (next : Front) × (front_with head.reader line ≡ Some next) × (text ≡ []) × HeadGoesOn head.lines next new
+  line_answers (Head head) line text new = HeadAnswers (IsNew setup StandsFor) head line text new
   line_answers (Running world) line text new = (after : W) × IsAnswered world (said_in (setup world).tenants line) text after × (new ≡ Running after)
 
   abbrev pub line_refuses : Script W → List ℕ → BadConfig → Type 0
-  line_refuses (Head head) line bad = (front_with head.reader line ≡ None) × (bad.line ≡ counted head.lines)
+  line_refuses (Head head) line bad = HeadRefuses head line bad
   line_refuses (Running world) line bad = ⊥
 
   abbrev pub end_answers : Script W → List ℕ → Script W → Type 0

@@ -1,6 +1,7 @@
 -- A world as contracts see it, and the cluster that a tenant's part of it stands for.
-use Rattle.std.specs.Prelude.{◌≡◌, ◌≢◌, ℕ, true, ◌<◌, IsFalse, IsTrue, List, length, slice_index, Option, Some}
-use Rattle.std.specs.Map.{lookup}
+use Rattle.std.specs.Prelude.{◌≡◌, ◌≢◌, ℕ, true, IsFalse, IsTrue, List, length, slice_index, Option, Some}
+use Rattle.std.specs.List.{IsDistinct}
+use Rattle.std.specs.Map.{keys_of, lookup}
 use Rattle.cops_types.specs.declared.configs.Config.{Config}
 use Rattle.cops_types.specs.TenantConfig.{TenantConfig}
 use Rattle.cops_node.specs.Clusters.{Cluster, HasTenant, nodes_of, shape_of}
@@ -37,12 +38,30 @@ pub record IsWorld (world : World) : Type 0 where
   pub counted : length world.counts ≡ length world.setup.tenants
   pub run : (id : ActorId) (actor : Kept) → world.actors id ≡ Some actor → RunsAt (shape_of world.setup) id.slot actor
 
+-- a world may be kept so: no two entries are of one actor
+pub record IsKeptWorld (kept : KeptWorld) : Type 0 where
+  pub whole : IsWorld (world_of kept)
+  pub distinct : IsDistinct same_actor (keys_of kept.entries)
+
 -- the tenant of a slot has this cluster
 pub record StandsAt (world : World) (slot : ℕ) (cluster : SoloCluster) : Type 0 where
   pub has : HasTenant (config_at world.setup slot) slot world.nodes
   pub nodes_are : nodes_of (config_at world.setup slot) slot world.nodes ≡ cluster.nodes
   pub actors_are : ActorsStandFor (ActorStandsFor (config_at world.setup slot)) (λ name. world.actors (record { slot = slot; name = name })) cluster
   pub count_is : slice_index world.counts slot ≡ length cluster.actors
+
+-- the configuration, and the tenants' clusters, of a world as it is kept
+abbrev pub setup_of : KeptWorld → Config
+setup_of kept = kept.setup
+
+abbrev pub HasCluster : KeptWorld → ℕ → SoloCluster → Type 0
+HasCluster kept = StandsAt (world_of kept)
+
+-- a tenant's configuration has the sizes of the whole one
+pub record HasSizes (config : TenantConfig) (setup : Config) : Type 0 where
+  pub data_centres : config.data_centres ≡ setup.data_centres
+  pub shards : config.shards ≡ setup.shards
+  pub restarts : config.restarts ≡ setup.restarts
 
 -- the tenant's cluster took this turn, unless memory was refused, and no other tenant's changed
 pub record Moves (turn_of : TenantConfig → SoloCluster → Turn) (old : World) (slot : ℕ) (reply : Reply) (new : World) : Type 0 where

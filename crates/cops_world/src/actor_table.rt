@@ -1,7 +1,7 @@
 //! The actors of all tenants, by slot and name.
-ghost use Rattle.std.specs.Prelude.{◌≡◌, ◌≢◌, ◌<◌, ◌⊎◌, ℕ, position, slice_get, Some, None};
+ghost use Rattle.std.specs.Prelude.{◌≡◌, ◌≢◌, ◌<◌, ◌⊎◌, ℕ, IsTrue, IsFalse, position, slice_get, Some, None};
 ghost use Rattle.std.specs.List.{IsDistinct};
-ghost use Rattle.indexmap.specs.IndexMap.{keys, values};
+ghost use Rattle.indexmap.specs.IndexMap.{keys, values, Updates};
 ghost use Rattle.cops_types.specs.TenantConfig.{TenantConfig};
 ghost use Rattle.cops_types.specs.declared.faults.Fault.TheVariants.{UnknownName};
 ghost use Rattle.cops_node.specs.Shape.{Shape};
@@ -70,4 +70,21 @@ pub(crate) fn step_at<N: Nodes>(
 {
     let actor = &mut actors[place];
     actor.step(nodes, id.slot, moment)
+}
+
+/// Puts in a new actor. Whether there was memory for it.
+pub(crate) fn put_new(actors: &mut IndexMap<ActorId, Actor>, id: ActorId, actor: Actor) -> bool
+    ensures ok { IsTrue result → PutsBack actors.old id actor actors.new }
+    ensures lack { IsFalse result → actors.new.entries ≡ actors.old.entries }
+    ensures unique { IsDistinct same_actor (keys actors.new) }
+{
+    actors.insert(id, actor).is_ok()
+}
+
+/// Takes out an actor.
+pub(crate) fn take_out(actors: &mut IndexMap<ActorId, Actor>, id: ActorId)
+    ensures out { Updates same_actor actors.old actors.new id None }
+    ensures unique { IsDistinct same_actor (keys actors.new) }
+{
+    let _over = actors.swap_remove(&id);
 }

@@ -32,7 +32,7 @@ fn reply_to<W: Tenancy>(
 }
 
 /// Answers a line after the head at the end of the output.
-fn answer<W: Tenancy>(
+pub(crate) fn answer<W: Tenancy>(
     alloc: Global,
     world: &mut W,
     line: &[u8],

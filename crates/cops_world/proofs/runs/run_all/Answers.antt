@@ -1,4 +1,4 @@
-use Rattle.std.proofs.Common.{◌≡◌, ℕ, ◌+◌, length, length-append, take, drop, List, [], ◌∷◌, ◌++◌, sym, ◌∙◌, ap, subst, arith, length-take}
+use Rattle.std.proofs.Common.{◌≡◌, ℕ, ◌+◌, length, length-append, take, List, [], ◌∷◌, ◌++◌, sym, ◌∙◌, ap, subst, arith, length-take}
 use Rattle.std.proofs.lemmas.List.{take_more}
 use Rattle.cops_types.specs.declared.configs.Config.{Config}
 use Rattle.cops_world.specs.declared.acts.Event.{Event}

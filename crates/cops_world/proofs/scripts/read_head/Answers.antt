@@ -1,4 +1,4 @@
-use Rattle.std.proofs.Common.{◌≡◌, sym, ◌∙◌}
+use Rattle.std.proofs.Common.{sym, ◌∙◌}
 use Rattle.cops_world.proofs.GoodFronts.{bad_said, begin_good, begin_said, more_said, still_good}
 use Rattle.cops_world.proofs.scripts.read_head.Goals as goal
 

@@ -7,11 +7,11 @@ ghost use Rattle.cops_types.specs.LineRuns.{IfRunRefused};
 ghost use Rattle.cops_types.specs.Lines.{lines_of};
 ghost use Rattle.cops_types.specs.Sink.{sink_failures, sink_writer};
 ghost use Rattle.cops_types.specs.Source.{source_failures, source_reader, source_reads};
-ghost use Rattle.cops_world.specs.ScriptRules.{IsHeadAt};
+ghost use Rattle.cops_world.specs.HeadRules.{IsHeadAt};
 ghost use Rattle.cops_world.specs.ScriptRuns.{WritesFront, WritesScript};
 
-use crate::Tenancy;
 use crate::scripts::{BadConfig, HeadSoFar, Script};
+use crate::{Tenancy, World};
 use cops_types::{ConfigReader, RunFault, Sink, Source, run_lines};
 use std::alloc::Global;
 use std::io::{Read, Write};
@@ -20,11 +20,11 @@ use std::io::{Read, Write};
 pub(crate) const TURNS: u64 = 4_294_967_296;
 
 /// No more of a line is read, but for one byte.
-const LONGEST_LINE: usize = 8192;
+pub(crate) const LONGEST_LINE: usize = 8192;
 
 /// A script that has come to no line.
 fn new_script<W: Tenancy>() -> Script<W>
-    ensures { IsHeadAt W.setup W.StandsFor AtStart 0 result }
+    ensures { IsHeadAt AtStart 0 result }
 {
     Script::Head(HeadSoFar {
         reader: ConfigReader::new(),
@@ -60,4 +60,35 @@ pub(crate) fn run_script_in<W: Tenancy + Drop, R: Read, O: Write>(
 {
     let mut script: Script<W> = new_script();
     run_lines(&mut script, alloc, turns, LONGEST_LINE, source, sink)
+}
+
+/// Answers a script: reads its head, and writes one line for each line after it.
+///
+/// The reader is asked for at most 4,096 bytes a turn, for at most 4,294,967,296 turns. No more of a
+/// line is kept than 8,193 bytes. What is answered is written about once a turn.
+pub fn run_script<R: Read, O: Write>(
+    alloc: Global,
+    source: &mut Source<R>,
+    sink: &mut Sink<O>,
+) -> Result<(), RunFault<BadConfig>>
+    // All is read, and each line after the head is answered, or a front of the answers is written.
+    ensures end { OnOk result (IsAtEnd (R.remaining (source_reader source.new))) }
+    ensures ok { OnOk result (IfSome (R.remaining (source_reader source.old)) (λ bytes.
+        WritesScript bytes (O.contents (sink_writer sink.old)) (O.contents (sink_writer sink.new)))) }
+    ensures err { OnErr result (IfSome (R.remaining (source_reader source.old)) (λ bytes.
+        WritesFront bytes (O.contents (sink_writer sink.old)) (O.contents (sink_writer sink.new)))) }
+
+    // A head is refused where it is bad, and nothing is written then.
+    ensures bad_head { IfErr result (λ fault. IfRunRefused fault (λ bad.
+        IfSome (R.remaining (source_reader source.old)) (λ bytes. head_of (lines_of bytes) ≡ BadAt bad.line))) }
+    ensures unwritten { IfErr result (λ fault. IfRunRefused fault (λ bad.
+        Keeps (O.contents (sink_writer sink.old)) (O.contents (sink_writer sink.new)))) }
+
+    // The reader or the writer failed in this call, or the bound on turns was met.
+    ensures read_fault { IsErrOf result RunFault.ReadFault →
+        HasRisen (source_failures source.old) (source_failures source.new)
+        ⊎ HasRisenBy (source_reads source.old) (source_reads source.new) 4294967296 }
+    ensures write_fault { IsErrOf result RunFault.WriteFault → HasRisen (sink_failures sink.old) (sink_failures sink.new) }
+{
+    run_script_in::<World, R, O>(alloc, TURNS, source, sink)
 }

@@ -1,7 +1,7 @@
 use Rattle.std.proofs.lemmas.Result.{MatchResult-weaker, on_ok_weaker}
 use Rattle.cops_world.proofs.ScriptLemmas.{all_written, bad_head, front_written}
 use Rattle.cops_world.proofs.SilentHeads.{unwritten}
-use Rattle.cops_world.proofs.run_script.run_script_in.Goals as goal
+use Rattle.cops_world.proofs.script_runs.run_script_in.Goals as goal
 
 pub returns-clause-ok : goal.returns-clause-ok
 returns-clause-ok g c = on_ok_weaker c.run_lines.result (all_written g.W.Tenancy.setup g.W.Tenancy.StandsFor _ _ _ _ c.new_script-script.ensures _ _) c.run_lines.ensures.ok

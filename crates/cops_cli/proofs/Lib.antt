@@ -1,0 +1,2 @@
+mod CommandLineFacts
+mod NothingWritten

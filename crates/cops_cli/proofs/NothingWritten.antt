@@ -1,0 +1,35 @@
+-- What ends before it has read or written has written a front.
+use Rattle.std.proofs.Common.{◌≡◌, IfSome, ℕ, List, [], Option, Some, None, Result, Err, refl, subst, sym, append-nil}
+use Rattle.std.specs.Io.KnownBytes.{Appends}
+use Rattle.cops_types.specs.Sink.{AppendsFront}
+use Rattle.cops_types.proofs.KnownLemmas.{AppendsFront-more}
+use Rattle.cops_world.specs.ScriptRuns.{WritesFront, text_in}
+use Rattle.cops_world.specs.Script.{script_out}
+use Rattle.cops_cli.specs.Runs.{Runs}
+use Rattle.cops_cli.specs.declared.faults.CliFault.{CliFault}
+use Rattle.cops_cli.specs.declared.faults.CliFault.TheVariants.{OutOfMemory}
+
+appends_nothing : (known : Option (List ℕ)) → Appends known known []
+appends_nothing None = tt
+appends_nothing (Some bytes) = sym (append-nil bytes)
+
+front_of_nothing : (known : Option (List ℕ)) → AppendsFront known known []
+front_of_nothing known = ([], record { written = []; whole = refl; appended = appends_nothing known })
+
+pub nothing_written : (remaining contents : Option (List ℕ)) → IfSome remaining (λ bytes. WritesFront bytes contents contents)
+nothing_written None contents = tt
+nothing_written (Some bytes) contents = record {
+  tenants = [];
+  told = [];
+  written = front_of_nothing contents;
+  right = λ spared. AppendsFront-more contents contents [] (text_in (script_out bytes)) (front_of_nothing contents);
+}
+
+pub ends_for_lack : {T : Type 0} → (remaining contents : Option (List ℕ)) (result : Result T CliFault) → result ≡ Err OutOfMemory → Runs remaining remaining contents contents result
+ends_for_lack remaining contents result is =
+    subst (Runs remaining remaining contents contents) (sym is) (record {
+      of_run = tt;
+      written = nothing_written remaining contents;
+      bad = tt;
+      unwritten = tt;
+    })

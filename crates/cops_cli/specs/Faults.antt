@@ -1,0 +1,39 @@
+-- What becomes of the faults of the calls that the program makes.
+use Rattle.std.specs.Prelude.{◌≡◌, ◌≢◌, ⊤, ℕ}
+use Rattle.clap.specs.Words.{kind_of}
+use Rattle.clap.specs.declared.error.Error.{Error}
+use Rattle.clap.specs.declared.error.kind.ErrorKind.TheVariants as kind
+use Rattle.cops_types.specs.declared.line_runs.fault.RunFault.{RunFault}
+use Rattle.cops_types.specs.declared.line_runs.fault.RunFault.TheVariants as run
+use Rattle.cops_world.specs.declared.scripts.BadConfig.{BadConfig}
+use Rattle.cops_cli.specs.declared.faults.CliFault.{CliFault}
+use Rattle.cops_cli.specs.declared.faults.CliFault.TheVariants.{CommandLine, NoText, BadHead, OutOfMemory, ReadFault, WriteFault}
+
+-- the fault of a run
+abbrev pub ended_by : RunFault BadConfig → CliFault
+ended_by (run.Refused bad) = BadHead bad.line
+ended_by run.OutOfMemory = OutOfMemory
+ended_by run.ReadFault = ReadFault
+ended_by run.WriteFault = WriteFault
+
+-- the fault of words that clap refuses
+pub record RefusesWords (error : Error) (fault : CliFault) : Type 0 where
+  pub lack : kind_of error ≡ kind.OutOfMemory → fault ≡ OutOfMemory
+  pub words : kind_of error ≢ kind.OutOfMemory → fault ≡ CommandLine error
+
+-- the fault is of the command line, or memory was refused
+abbrev pub IsOfWords : CliFault → Type 0
+IsOfWords (CommandLine error) = kind_of error ≢ kind.OutOfMemory
+IsOfWords OutOfMemory = ⊤
+IsOfWords other = ⊥
+
+-- where the fault is of the command line
+abbrev pub IfOfWords : CliFault → Type 0 → Type 0
+IfOfWords (CommandLine error) P = P
+IfOfWords NoText P = P
+IfOfWords other P = ⊤
+
+-- where the head is bad, at such a line
+abbrev pub IfBadHead : CliFault → (ℕ → Type 0) → Type 0
+IfBadHead (BadHead line) P = P line
+IfBadHead other P = ⊤

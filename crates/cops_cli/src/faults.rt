@@ -1,0 +1,75 @@
+//! Why the program ends with another status than 0.
+ghost use Rattle.std.specs.Prelude.{◌≡◌};
+ghost use Rattle.cops_cli.specs.Faults.{RefusesWords, ended_by};
+ghost use Rattle.cops_cli.specs.Statuses.{fault_status};
+ghost use Rattle.cops_cli.specs.declared.faults.CliFault.TheVariants.{OutOfMemory};
+
+use clap::error::ErrorKind;
+use cops_types::{Fault, RunFault};
+use cops_world::BadConfig;
+use std::alloc::AllocError;
+use thiserror::Error;
+
+/// Its text is what standard error gets, newlines and all.
+#[derive(Debug, Drop, Error)]
+pub(crate) enum CliFault {
+    /// The words are none that the program takes, or they ask for help or the version.
+    #[error("{0}")]
+    CommandLine(clap::Error),
+    #[error("cops: a word of the command line isn't text\n")]
+    NoText,
+    /// This line of the head is bad, counted from 1.
+    #[error("cops: configuration line {0}\n")]
+    BadHead(u64),
+    #[error("cops: {}\n", Fault::OutOfMemory)]
+    OutOfMemory,
+    #[error("cops: {}\n", Fault::ReadFault)]
+    ReadFault,
+    #[error("cops: {}\n", Fault::WriteFault)]
+    WriteFault,
+}
+
+impl CliFault {
+    /// The status that the program ends with.
+    pub(crate) fn status(&self) -> u8
+        ensures { result ≡ fault_status self.now }
+    {
+        match self {
+            CliFault::CommandLine(_) | CliFault::NoText | CliFault::BadHead(_) => 2,
+            CliFault::OutOfMemory | CliFault::ReadFault | CliFault::WriteFault => 1,
+        }
+    }
+}
+
+impl From<RunFault<BadConfig>> for CliFault {
+    ghost from_gives = { λ fault ended. ended ≡ ended_by fault };
+
+    fn from(fault: RunFault<BadConfig>) -> CliFault {
+        match fault {
+            RunFault::Refused(bad) => CliFault::BadHead(bad.line),
+            RunFault::OutOfMemory => CliFault::OutOfMemory,
+            RunFault::ReadFault => CliFault::ReadFault,
+            RunFault::WriteFault => CliFault::WriteFault,
+        }
+    }
+}
+
+impl From<AllocError> for CliFault {
+    ghost from_gives = { λ _ fault. fault ≡ OutOfMemory };
+
+    fn from(_error: AllocError) -> CliFault {
+        CliFault::OutOfMemory
+    }
+}
+
+impl From<clap::Error> for CliFault {
+    ghost from_gives = { RefusesWords };
+
+    fn from(error: clap::Error) -> CliFault {
+        if error.kind() == ErrorKind::OutOfMemory {
+            CliFault::OutOfMemory
+        } else {
+            CliFault::CommandLine(error)
+        }
+    }
+}

@@ -1,0 +1,54 @@
+//! The program `cops`: answers a script of tenants' events, from standard input to standard output.
+#![tactic(auto)]
+
+ghost use Rattle.std.specs.Prelude.{◌≡◌};
+ghost use Rattle.std.specs.Process.{exit_status};
+ghost use Rattle.cops_cli.specs.Statuses.{status_of};
+
+mod command_line;
+mod faults;
+mod program;
+#[cfg(test)]
+mod tests;
+
+use cops_types::{Sink, Source};
+use faults::CliFault;
+use program::answer;
+use std::io::ErrorKind;
+use std::process::ExitCode;
+use std::rt::Env;
+use std::{env, io};
+
+/// The words of the command line, the program's name first.
+fn words_of<R: Env + AllocGlobal>(rt: &R) -> Result<Vec<String>, CliFault> {
+    let words = match env::args(rt) {
+        Ok(words) => words,
+        Err(error) if error.kind() == ErrorKind::OutOfMemory => return Err(CliFault::OutOfMemory),
+        Err(_) => return Err(CliFault::NoText),
+    };
+    words.collect(rt.alloc()).map_err(|_| CliFault::OutOfMemory)
+}
+
+/// Does what the command line asks for.
+fn run<R: Env + Input + Print + AllocGlobal>(rt: &R) -> Result<(), CliFault> {
+    let words = words_of(rt)?;
+    let mut source = Source::new(rt.reader());
+    let mut sink = Sink::new(io::writer(rt));
+    answer(rt.alloc(), words.as_slice(), &mut source, &mut sink)
+}
+
+/// Writes the text of a fault to standard error, and gives the status.
+fn end<R: Eprint>(rt: &R, outcome: Result<(), CliFault>) -> ExitCode
+    ensures { exit_status result ≡ status_of outcome }
+{
+    let Err(fault) = outcome else {
+        return ExitCode::SUCCESS;
+    };
+    // Where standard error takes nothing, the status has to do.
+    let _ = rt.eprint(&fault);
+    ExitCode::from(fault.status())
+}
+
+fn main(rt: HostRuntime) -> ExitCode {
+    end(&rt, run(&rt))
+}

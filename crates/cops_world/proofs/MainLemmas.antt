@@ -1,0 +1,74 @@
+-- The main theorem, from what each tenant was told.
+use Rattle.std.proofs.Common.{◌≡◌, ℕ, ◌<◌, Bool, true, false, List, length, refl, sym, subst, ◌∙◌, true≢false, ◌&&◌}
+use Rattle.std.specs.Prelude.{IsTrue, nat_le, slice_get, Some}
+use Rattle.std.proofs.lemmas.Bool.{leb-true}
+use Rattle.std.specs.List.{list_all}
+use Rattle.cops_types.specs.declared.configs.Config.{Config}
+use Rattle.cops_types.specs.declared.configs.Tenant.{Tenant}
+use Rattle.cops_types.specs.HeadLines.{are_sizes, is_between, is_tenant}
+use Rattle.cops_types.specs.TenantConfig.{TenantConfig}
+use Rattle.cops_types.specs.Words.{is_u64}
+use Rattle.cops_world.specs.declared.acts.Act.{Act}
+use Rattle.cops_world.specs.declared.acts.Event.{Event}
+use Rattle.cops_world.specs.declared.replies.Reply.{Reply}
+use Rattle.cops_world.specs.Events.{config_at, own, solo_replies}
+use Rattle.cops_world.specs.GoodHeads.{is_good}
+use Rattle.cops_world.specs.MainTheorem.{HoldsFor, IsToldAlone, KeepsCausality, with_tenant_alone}
+use Rattle.cops_world.proofs.Committed.{has_committed_pasts}
+use Rattle.cops_world.proofs.Consistent.{is_consistent}
+use Rattle.cops_world.proofs.Convergence.{is_convergent}
+use Rattle.cops_world.proofs.EndingSteps.{has_ending_steps}
+use Rattle.cops_world.proofs.LeastPasts.{has_least_pasts}
+use Rattle.cops_world.proofs.Never.{is_as_expected}
+use Rattle.cops_world.proofs.Past.{has_exact_deps}
+use Rattle.cops_world.proofs.Settled.{is_settled}
+use Rattle.cops_world.proofs.WorldJoins.{quota_at}
+use Rattle.cops_world.proofs.WorldKeeps.{sizes_at, tenant_within}
+
+and_left : (a b : Bool) → (a && b) ≡ true → a ≡ true
+and_left true b h = refl
+and_left false b h = absurd (true≢false (sym h))
+
+and_right : (a b : Bool) → (a && b) ≡ true → b ≡ true
+and_right true b h = h
+and_right false b h = absurd (true≢false (sym h))
+
+pub some_shard : (config : Config) → IsTrue (is_good config) → 0 < config.shards
+some_shard config good =
+    let shards = is_between 1 16 config.shards in
+    let sizes = and_left (are_sizes config) (list_all is_tenant config.tenants) good in
+    let front = and_left (is_between 1 8 config.data_centres && shards && is_u64 config.trans_time) (nat_le config.restarts 15) sizes in
+    let two = and_left (is_between 1 8 config.data_centres && shards) (is_u64 config.trans_time) front in
+    let low = and_left (nat_le 1 config.shards) (nat_le config.shards 16) (and_right (is_between 1 8 config.data_centres) shards two) in
+    leb-true 1 config.shards low
+
+pub keeps_causality : (config : TenantConfig) (acts : List Act) → 0 < config.shards → KeepsCausality config acts
+keeps_causality config acts some = record {
+  consistent = is_consistent config some acts;
+  least_pasts = has_least_pasts config some acts;
+  exact_deps = has_exact_deps config some acts;
+  committed = has_committed_pasts config some acts;
+  expected = is_as_expected config some acts;
+  convergent = is_convergent config some acts;
+  settled = is_settled config some acts;
+  ends = has_ending_steps config some acts;
+}
+
+pub holds_for : (config : Config) (events : List Event) (told : List Reply) (slot : ℕ) → IsTrue (is_good config) → slot < length config.tenants → IsToldAlone config events told slot → HoldsFor config events told slot
+holds_for config events told slot good within alone = record {
+  alone = alone;
+  same = λ other more heard place there concern agree spared too.
+      there spared ∙ (λ i. solo_replies (concern i) (agree i)) ∙ sym (alone too);
+  causal = keeps_causality (config_at config slot) (own slot events) (subst (λ n. 0 < n) (sym (sizes_at config slot within).shards) (some_shard config good));
+}
+
+-- ---- one tenant alone
+
+pub alone_good : (config : Config) (slot : ℕ) (tenant : Tenant) → IsTrue (is_good config) → slice_get config.tenants slot ≡ Some tenant → IsTrue (is_good (with_tenant_alone config tenant))
+alone_good config slot tenant good at =
+    let sizes = and_left (are_sizes config) (list_all is_tenant config.tenants) good in
+    let own = tenant_within config.tenants slot tenant (and_right (are_sizes config) (list_all is_tenant config.tenants) good) at in
+    (λ i. sizes i && (own i && true))
+
+pub alone_config : (config : Config) (slot : ℕ) (tenant : Tenant) → slice_get config.tenants slot ≡ Some tenant → config_at (with_tenant_alone config tenant) 0 ≡ config_at config slot
+alone_config config slot tenant at = sym (quota_at config slot tenant at)

@@ -1,0 +1,107 @@
+-- Puts and gets whose keys and values are some, and those that are refused for them.
+use Rattle.std.proofs.Common.{◌≡◌, ◌⊎◌, inl, inr, ℕ, Bool, true, false, not, cond, List, [], ◌∷◌, length, refl, sym, subst, ap, ◌∙◌, true≢false}
+use Rattle.std.specs.Prelude.{Some, None, Result, Ok, Err, nat_lt}
+use Rattle.std.specs.List.{list_all}
+use Rattle.std.proofs.lemmas.Bool.{leb-false, lt-leb, lt-ltb, ltb-true}
+use Rattle.cops_types.specs.declared.faults.Fault.{Fault}
+use Rattle.cops_types.specs.declared.faults.Fault.TheVariants.{Syntax, BadKey, ValueTooLong, OutOfMemory}
+use Rattle.cops_types.specs.Key.{is_key}
+use Rattle.cops_types.specs.Refusal.{refused_if}
+use Rattle.cops_types.specs.Search.{first_refusal}
+use Rattle.cops_types.specs.Value.{is_value, is_too_long}
+use Rattle.cops_session.specs.Request.{Write, Fetch}
+use Rattle.cops_session.specs.Session.{put_refusal, get_refusal, request_begun}
+use Rattle.cops_world.specs.declared.acts.Act.TheVariants as acts
+use Rattle.cops_world.specs.declared.actors.Deed.TheVariants as deeds
+use Rattle.cops_world.specs.declared.replies.Reply.{Reply}
+use Rattle.cops_world.specs.declared.replies.Reply.TheVariants.{Started, Refused}
+use Rattle.cops_world.specs.Cluster.{SoloCluster, Turn, OfSession, cluster_step, on_session, reply_with, unless_refused, with_actor}
+use Rattle.cops_world.specs.Deeds.{deed_step}
+use Rattle.cops_world.specs.Events.{config_at}
+use Rattle.cops_world.specs.Worlds.{World, Moves}
+use Rattle.cops_world.proofs.WorldJoins.{lack_moves, refused_moves, same_moves}
+
+-- ---- keys
+
+abbrev pub key_or_fault : List ℕ → Result (List ℕ) Fault
+key_or_fault bytes = cond (is_key bytes) (Ok bytes) (Err BadKey)
+
+pub bad_key : (bytes : List ℕ) (fault : Fault) → Err fault ≡ key_or_fault bytes → (fault ≡ BadKey) × (is_key bytes ≡ false)
+bad_key bytes fault h = by (is_key bytes) refl h
+  where
+    by : (t : Bool) → is_key bytes ≡ t → Err fault ≡ cond t (Ok bytes) (Err BadKey) → (fault ≡ BadKey) × (is_key bytes ≡ false)
+    by true e h = cc
+    by false e h = (cc, e)
+
+pub good_key : (bytes key : List ℕ) → Ok key ≡ key_or_fault bytes → (key ≡ bytes) × (is_key bytes ≡ true)
+good_key bytes key h = by (is_key bytes) refl h
+  where
+    by : (t : Bool) → is_key bytes ≡ t → Ok key ≡ cond t (Ok bytes) (Err BadKey) → (key ≡ bytes) × (is_key bytes ≡ true)
+    by true e h = (cc, e)
+    by false e h = cc
+
+-- ---- values
+
+pub too_long : (value : List ℕ) (t : Bool) → is_too_long value ≡ t → is_value value ≡ not t
+too_long value true e = lt-leb (length value) 4096 (ltb-true 4096 (length value) e)
+too_long value false e = by (is_value value) refl
+  where
+    by : (t : Bool) → is_value value ≡ t → is_value value ≡ true
+    by true h = h
+    by false h = absurd (true≢false (sym (lt-ltb 4096 (length value) (leb-false (length value) 4096 h)) ∙ e))
+
+-- ---- puts
+
+module _ (old : World) (slot : ℕ) (name : List ℕ) (number : ℕ) (key value : List ℕ) where
+  abbrev put_if : Bool → Bool → SoloCluster → Turn
+  put_if k v cluster =
+      let config = config_at old.setup slot in
+      unless_refused (first_refusal ((not k, BadKey) ∷ (not v, ValueTooLong) ∷ [])) cluster
+      (on_session name cluster λ s.
+      unless_refused (put_refusal config number key s) cluster
+      (reply_with Started (with_actor name (OfSession (request_begun number (Write key value) s)) cluster)))
+
+  pub bad_key_moves : is_key key ≡ false → Moves (λ config. cluster_step config (acts.Put name number key value)) old slot (Refused BadKey) old
+  bad_key_moves bad = refused_moves (λ config. cluster_step config (acts.Put name number key value)) old slot BadKey (λ cluster h. ap (λ b. put_if b (is_value value) cluster) bad)
+
+  pub bad_value_moves : (fault : Fault) → is_key key ≡ true → (fault ≡ OutOfMemory) ⊎ (refused_if (is_too_long value) ValueTooLong ≡ Some fault) → Moves (λ config. cluster_step config (acts.Put name number key value)) old slot (Refused fault) old
+  bad_value_moves fault good (inl lack) = subst (λ f. Moves (λ config. cluster_step config (acts.Put name number key value)) old slot (Refused f) old) (sym lack) (lack_moves (λ config. cluster_step config (acts.Put name number key value)) old slot)
+  bad_value_moves fault good (inr is) = by (is_too_long value) refl is
+    where
+      by : (t : Bool) → is_too_long value ≡ t → cond t (Some ValueTooLong) None ≡ Some fault → Moves (λ config. cluster_step config (acts.Put name number key value)) old slot (Refused fault) old
+      by true e h = refused_moves (λ config. cluster_step config (acts.Put name number key value)) old slot fault
+          (λ cluster stands. (λ i. put_if (good i) (too_long value true e i) cluster) ∙ ap (λ f. reply_with (Refused f) cluster) cc)
+      by false e h = cc
+
+  pub put_moves : is_key key ≡ true → is_value value ≡ true → (reply : Reply) (new : World) → Moves (λ config. deed_step config name (deeds.Put number key value)) old slot reply new →
+      Moves (λ config. cluster_step config (acts.Put name number key value)) old slot reply new
+  put_moves good short reply new = same_moves (λ config. deed_step config name (deeds.Put number key value)) (λ config. cluster_step config (acts.Put name number key value)) old slot reply new
+      (λ cluster i. put_if (sym good i) (sym short i) cluster)
+
+-- ---- gets
+
+module _ (old : World) (slot : ℕ) (name : List ℕ) (number : ℕ) (keys : List (List ℕ)) where
+  abbrev get_if : Bool → Bool → SoloCluster → Turn
+  get_if none all cluster =
+      let config = config_at old.setup slot in
+      unless_refused (first_refusal ((none, Syntax) ∷ (not all, BadKey) ∷ [])) cluster
+      (on_session name cluster λ s.
+      unless_refused (get_refusal config number keys s) cluster
+      (reply_with Started (with_actor name (OfSession (request_begun number (Fetch keys) s)) cluster)))
+
+  pub no_key_moves : nat_lt (length keys) 1 ≡ true → Moves (λ config. cluster_step config (acts.Get name number keys)) old slot (Refused Syntax) old
+  no_key_moves none = refused_moves (λ config. cluster_step config (acts.Get name number keys)) old slot Syntax (λ cluster h. ap (λ b. get_if b (list_all is_key keys) cluster) none)
+
+  pub bad_keys_moves : (fault : Fault) → nat_lt (length keys) 1 ≡ false → (fault ≡ OutOfMemory) ⊎ (refused_if (not (list_all is_key keys)) BadKey ≡ Some fault) → Moves (λ config. cluster_step config (acts.Get name number keys)) old slot (Refused fault) old
+  bad_keys_moves fault some (inl lack) = subst (λ f. Moves (λ config. cluster_step config (acts.Get name number keys)) old slot (Refused f) old) (sym lack) (lack_moves (λ config. cluster_step config (acts.Get name number keys)) old slot)
+  bad_keys_moves fault some (inr is) = by (list_all is_key keys) refl is
+    where
+      by : (t : Bool) → list_all is_key keys ≡ t → cond (not t) (Some BadKey) None ≡ Some fault → Moves (λ config. cluster_step config (acts.Get name number keys)) old slot (Refused fault) old
+      by false e h = refused_moves (λ config. cluster_step config (acts.Get name number keys)) old slot fault
+          (λ cluster stands. (λ i. get_if (some i) (e i) cluster) ∙ ap (λ f. reply_with (Refused f) cluster) cc)
+      by true e h = cc
+
+  pub get_moves : nat_lt (length keys) 1 ≡ false → list_all is_key keys ≡ true → (reply : Reply) (new : World) → Moves (λ config. deed_step config name (deeds.Get number keys)) old slot reply new →
+      Moves (λ config. cluster_step config (acts.Get name number keys)) old slot reply new
+  get_moves some all reply new = same_moves (λ config. deed_step config name (deeds.Get number keys)) (λ config. cluster_step config (acts.Get name number keys)) old slot reply new
+      (λ cluster i. get_if (sym some i) (sym all i) cluster)

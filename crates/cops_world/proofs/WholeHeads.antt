@@ -1,0 +1,45 @@
+-- What a whole head says of its tenants, and the lines of one of them.
+use Rattle.std.proofs.Common.{◌≡◌, ℕ, ◌+◌, List, [], ◌∷◌, inl, inr, refl, sym, subst, ap, ◌∙◌}
+use Rattle.std.specs.Prelude.{Option, Some, None, filter, flat_map, nat_lt, length}
+use Rattle.cops_types.specs.declared.configs.Config.{Config}
+use Rattle.cops_types.specs.Head.{Front, AtStart, Within, Begun, Follows, Whole, BadAt, front_after, head_of, reading_from}
+use Rattle.cops_types.specs.HeadLines.{is_distinct}
+use Rattle.cops_types.specs.Lines.{lines_of}
+use Rattle.cops_types.proofs.FrontLemmas.{front_after-is}
+use Rattle.cops_types.proofs.WordLemmas.{both, bytes_from_test}
+use Rattle.cops_world.specs.Script.{NoTenant, Written, answer_line, answers_to, is_to, slot_of_name, solo_after, solo_out, solo_text}
+use Rattle.cops_world.proofs.ApartTenants.{AreApart, apart_push, found_at, none_apart, only_one}
+use Rattle.cops_world.proofs.HeadRuns.{tenants_in}
+use Rattle.cops_world.proofs.SoloLines.{solo_text-is}
+
+follows_apart : (front : Front) (line : List ℕ) (next : Front) → AreApart (tenants_in front) → Follows front line next → AreApart (tenants_in next)
+follows_apart AtStart line next apart h = subst AreApart (sym (ap tenants_in h.2 ∙ h.1.bare)) none_apart
+follows_apart (Within old) line next apart (inl joins) = subst AreApart (sym (ap tenants_in joins.after)) (apart_push old.tenants joins.tenant apart (both (nat_lt (length old.tenants) 64) (is_distinct old.tenants joins.tenant) joins.may).1)
+follows_apart (Within old) line next apart (inr ends) = subst AreApart (sym (ap tenants_in ends.after)) apart
+follows_apart (Begun old) line next apart h = absurd h
+
+-- no two tenants of a whole head have one name
+whole_apart : (lines : List (List ℕ)) (number : ℕ) (front : Front) (config : Config) (rest : List (List ℕ)) → AreApart (tenants_in front) → reading_from lines number front ≡ Whole config rest → AreApart config.tenants
+whole_apart [] number AtStart config rest apart e = cc
+whole_apart [] number (Within old) config rest apart e = cc
+whole_apart lines number (Begun old) config rest apart e = subst AreApart (let same : old ≡ config = cc in ap (λ (k : Config). k.tenants) same) apart
+whole_apart (line ∷ lines) number AtStart config rest apart e = by (front_after AtStart line) refl (λ next. whole_apart lines (number + 1) next config rest) e
+  where
+    by : (found : Option Front) → front_after AtStart line ≡ found → ((next : Front) → AreApart (tenants_in next) → reading_from lines (number + 1) next ≡ Whole config rest → AreApart config.tenants) →
+        elim found [ None ↦ BadAt number | Some next ↦ reading_from lines (number + 1) next ] ≡ Whole config rest → AreApart config.tenants
+    by None is on e = cc
+    by (Some next) is on e = on next (follows_apart AtStart line next apart (front_after-is AtStart line next is)) e
+whole_apart (line ∷ lines) number (Within old) config rest apart e = by (front_after (Within old) line) refl (λ next. whole_apart lines (number + 1) next config rest) e
+  where
+    by : (found : Option Front) → front_after (Within old) line ≡ found → ((next : Front) → AreApart (tenants_in next) → reading_from lines (number + 1) next ≡ Whole config rest → AreApart config.tenants) →
+        elim found [ None ↦ BadAt number | Some next ↦ reading_from lines (number + 1) next ] ≡ Whole config rest → AreApart config.tenants
+    by None is on e = cc
+    by (Some next) is on e = on next (follows_apart (Within old) line next apart (front_after-is (Within old) line next is)) e
+
+pub lines_alone : (bytes name : List ℕ) (config : Config) (lines : List (List ℕ)) (slot : ℕ) → head_of (lines_of bytes) ≡ Whole config lines → slot_of_name config.tenants name ≡ Some slot →
+    solo_out name bytes ≡ Written (flat_map (answer_line config.tenants) (filter (is_to slot) (answers_to config lines)))
+lines_alone bytes name config lines slot head there =
+    let found = found_at config.tenants name slot there in
+    let only = only_one name config.tenants slot found.0 found.1 found.2 (whole_apart (lines_of bytes) 1 AtStart config lines none_apart head name) in
+    ap (solo_after name) head ∙ ap (λ o. elim o [ None ↦ NoTenant | Some slot ↦ Written (solo_text config name lines) ]) there
+    ∙ ap Written (solo_text-is config name slot found.0 lines there found.1 only (bytes_from_test found.0.name name found.2))

@@ -1,0 +1,17 @@
+use Rattle.std.proofs.Common.{◌≡◌, ◌<◌, take, length}
+use Rattle.cops_world.specs.Cluster.{new_cluster}
+use Rattle.cops_world.specs.Events.{config_at, own, IsSpared, ToldAlone}
+use Rattle.cops_world.specs.Worlds.{HasCluster}
+use Rattle.cops_world.proofs.whole_runs.solo.Given as goal
+
+-- the tenant was told so far what the definition tells him, and the world is his cluster then
+abbrev pub invariant-loop-event : goal.invariant-loop-event
+invariant-loop-event l =
+    let config = config_at l.config l.slot in
+    let past = take l.event-index l.events in
+    record {
+      there : 0 < length l.world.setup.tenants;
+      same : config_at l.world.setup 0 ≡ config;
+      as_long : length l.told.items ≡ length (own l.slot past);
+      alone : IsSpared l.told.items → ToldAlone config (new_cluster config) (own l.slot past) l.told.items (HasCluster l.world 0);
+    }

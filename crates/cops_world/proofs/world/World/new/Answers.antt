@@ -1,0 +1,15 @@
+use Rattle.std.proofs.Common.{refl, ap, ◌∙◌}
+use Rattle.std.specs.Prelude.{replicate}
+use Rattle.cops_world.proofs.WorldKeeps.{clocks_of_good, new_stands, nothing_in}
+use Rattle.cops_world.proofs.world.World.new.Goals as goal
+
+pub new-requires-clause-clocks : goal.new-requires-clause-clocks
+new-requires-clause-clocks c = clocks_of_good c.args.config c.requires
+
+pub returns : goal.returns
+returns c = record {
+  setup_is = refl;
+  empty = new_stands c.args.config c.in_ok-nodes.nodes (record { setup = c.args.config; nodes = c.in_ok-nodes.nodes; entries = c.new-2.result.entries; counts = c.in_ok-counts.counts.items })
+      refl refl (nothing_in c.new-2.result.entries c.new-2.ensures.len) (c.in_ok-counts.ensures.items_if_clones_equal (λ y same. same) ∙ ap (λ n. replicate n 0) c.len-tenants.ensures)
+      c.in_ok-nodes.ensures.tenants c.in_ok-nodes.ensures.fresh;
+}

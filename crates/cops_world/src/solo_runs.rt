@@ -1,0 +1,51 @@
+//! A script of which one tenant's lines are answered, over any reader and any writer.
+ghost use Rattle.std.specs.Prelude.{◌≡◌, ◌⊎◌, IfErr, IfSome, IsErrOf, OnErr, OnOk};
+ghost use Rattle.std.specs.Io.KnownBytes.{IsAtEnd, Keeps};
+ghost use Rattle.cops_types.specs.Counts.{HasRisen, HasRisenBy};
+ghost use Rattle.cops_types.specs.LineRuns.{IfRunRefused};
+ghost use Rattle.cops_types.specs.Sink.{sink_failures, sink_writer};
+ghost use Rattle.cops_types.specs.Source.{source_failures, source_reader, source_reads};
+ghost use Rattle.cops_world.specs.SoloRuns.{IsRefusedFor, WritesSolo, WritesSoloFront};
+
+use crate::World;
+use crate::script_runs::{LONGEST_LINE, TURNS};
+use crate::solo_machine::{SoloRefusal, SoloScript, new_solo_script};
+use cops_types::{RunFault, Sink, Source, run_lines};
+use std::alloc::Global;
+use std::io::{Read, Write};
+
+/// Answers the lines of one tenant of a script, in a cluster that he has to himself: reads the whole
+/// head, and writes one line for each line that names him.
+///
+/// It reads and writes as `run_script` does.
+pub fn solo_script<R: Read, O: Write>(
+    alloc: Global,
+    source: &mut Source<R>,
+    sink: &mut Sink<O>,
+    tenant: &[u8],
+) -> Result<(), RunFault<SoloRefusal>>
+    // All is read, and each of the tenant's lines is answered, or a front of the answers is written.
+    ensures end { OnOk result (IsAtEnd (R.remaining (source_reader source.new))) }
+    ensures ok { OnOk result (IfSome (R.remaining (source_reader source.old)) (λ bytes.
+        WritesSolo tenant.now bytes (O.contents (sink_writer sink.old)) (O.contents (sink_writer sink.new)))) }
+    ensures err { OnErr result (IfSome (R.remaining (source_reader source.old)) (λ bytes.
+        WritesSoloFront tenant.now bytes (O.contents (sink_writer sink.old)) (O.contents (sink_writer sink.new)))) }
+
+    // The head is refused where it is bad, and the tenant where it has none of the name; nothing is written then.
+    ensures refused { IfErr result (λ fault. IfRunRefused fault (λ refusal.
+        IfSome (R.remaining (source_reader source.old)) (λ bytes. IsRefusedFor tenant.now bytes refusal))) }
+    ensures unwritten { IfErr result (λ fault. IfRunRefused fault (λ refusal.
+        Keeps (O.contents (sink_writer sink.old)) (O.contents (sink_writer sink.new)))) }
+
+    // The reader or the writer failed in this call, or the bound on turns was met.
+    ensures read_fault { IsErrOf result RunFault.ReadFault →
+        HasRisen (source_failures source.old) (source_failures source.new)
+        ⊎ HasRisenBy (source_reads source.old) (source_reads source.new) 4294967296 }
+    ensures write_fault { IsErrOf result RunFault.WriteFault → HasRisen (sink_failures sink.old) (sink_failures sink.new) }
+{
+    let Ok(solo) = new_solo_script(alloc, tenant) else {
+        return Err(RunFault::OutOfMemory);
+    };
+    let mut solo: SoloScript<World> = solo;
+    run_lines(&mut solo, alloc, TURNS, LONGEST_LINE, source, sink)
+}

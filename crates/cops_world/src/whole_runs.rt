@@ -1,0 +1,63 @@
+//! Runs of events in a new world: of all tenants, and of one alone.
+ghost use Rattle.std.specs.Prelude.{◌≡◌, ◌<◌, All, IfOk, IsTrue, length, slice_get, Some};
+ghost use Rattle.cops_types.specs.declared.configs.Tenant.{Tenant};
+ghost use Rattle.cops_world.specs.Events.{config_at, own, solo_replies, IsSpared};
+ghost use Rattle.cops_world.specs.GoodHeads.{is_good};
+ghost use Rattle.cops_world.specs.MainTheorem.{MainTheorem, with_tenant_alone};
+
+use crate::{Event, Reply, World, run_all};
+use cops_types::{Config, Tenants};
+use std::alloc::{AllocError, Global};
+
+/// The replies to events in a row, in a new world of a configuration.
+pub fn run(alloc: Global, config: Config, events: &[Event]) -> Result<Vec<Reply>, AllocError>
+    requires good { IsTrue (is_good config) }
+    requires slots { All (λ e. e.slot < length config.tenants) events.now }
+    ensures length { IfOk result (λ told. length told.items ≡ length events.now) }
+    ensures theorem { IfOk result (λ told. MainTheorem config events.now told.items) }
+{
+    let mut world = World::new(alloc, config)?;
+    run_all(alloc, &mut world, events)
+}
+
+/// A configuration with one of its tenants alone.
+pub(crate) fn with_tenant_alone(
+    alloc: Global,
+    config: &Config,
+    slot: u64,
+) -> Result<Config, AllocError>
+    requires { slot < length config.now.tenants }
+    ensures { IfOk result (λ alone. (tenant : Tenant) → slice_get config.now.tenants slot ≡ Some tenant → alone ≡ with_tenant_alone config.now tenant) }
+{
+    let mut tenants = Tenants::new(alloc);
+    tenants.push(*config.tenants.tenant(slot))?;
+    Ok(Config {
+        data_centres: config.data_centres,
+        shards: config.shards,
+        trans_time: config.trans_time,
+        restarts: config.restarts,
+        tenants,
+    })
+}
+
+/// The replies to one tenant's events among these, in a cluster that he has to himself.
+pub fn solo(
+    alloc: Global,
+    config: &Config,
+    slot: u64,
+    events: &[Event],
+) -> Result<Vec<Reply>, AllocError>
+    requires good { IsTrue (is_good config.now) }
+    requires slot { slot < length config.now.tenants }
+    ensures length { IfOk result (λ told. length told.items ≡ length (own slot events.now)) }
+    ensures alone { IfOk result (λ told. IsSpared told.items → told.items ≡ solo_replies (config_at config.now slot) (own slot events.now)) }
+{
+    let mut world = World::new(alloc, with_tenant_alone(alloc, config, slot)?)?;
+    let mut told = Vec::new(alloc);
+    for event in events {
+        if event.slot == slot {
+            told.push(world.act_for(0, &event.act))?;
+        }
+    }
+    Ok(told)
+}

@@ -1,0 +1,406 @@
+//! All tenants of a cluster in one process.
+ghost use Rattle.std.specs.Prelude.{◌≡◌, ◌<◌, ◌-◌, ℕ, true, false, not, IfOk, IfSome, IfNone, IsTrue, IsFalse, None, length, nat_le, slice_index, slice_set, if◌then◌else◌};
+ghost use Rattle.cops_types.specs.TenantConfig.{TenantConfig};
+ghost use Rattle.cops_node.specs.Clusters.{shape_of};
+ghost use Rattle.cops_session.specs.Session.{new_session};
+ghost use Rattle.cops_repl.specs.Carrier.{new_carrier};
+ghost use Rattle.cops_repl.specs.Stands.{RunsIn};
+ghost use Rattle.cops_types.specs.Key.{is_key};
+ghost use Rattle.cops_types.specs.Refusal.{IsAnswer, refused_if};
+ghost use Rattle.cops_types.specs.declared.faults.Fault.TheVariants.{BadKey};
+ghost use Rattle.std.specs.List.{list_all};
+ghost use Rattle.cops_world.specs.Acting.{HasActed, IsNew};
+ghost use Rattle.cops_world.specs.GoodHeads.{is_good};
+ghost use Rattle.cops_world.specs.ActorsStand.{ActorStandsFor, RunsAt};
+ghost use Rattle.cops_world.specs.Cluster.{Actor as Solo, actor_step, actor_steps, cluster_step, goes_on, has_node, has_stream, most_steps, reply_of_collect};
+ghost use Rattle.cops_world.specs.Deeds.{deed_step};
+ghost use Rattle.cops_world.specs.Events.{config_at};
+ghost use Rattle.cops_world.specs.Worlds.{HasCluster, HasSizes, Moves, setup_of, join_step, world_of};
+ghost use Rattle.cops_world.specs.ActorTables.{same_actor};
+ghost use Rattle.cops_world.specs.declared.acts.Act.TheVariants as acts;
+ghost use Rattle.cops_world.specs.declared.replies.Reply.TheVariants.{Refused};
+
+use crate::actor_table::{act_at, put_new, step_at, take_out};
+use crate::actors::{Actor, ActorId, Deed, Keys, Stepped};
+use crate::{Act, Event, Reply, Tenancy};
+use cops_node::{Cluster0, Node, NodeCall, NodeId, NodeReply, Nodes};
+use cops_repl::Carrier;
+use cops_session::Session;
+use cops_types::{ByteLists, Bytes, Config, Fault, Key, Name, Value};
+use indexmap::IndexMap;
+use std::alloc::{AllocError, Global};
+use std::marker::Model;
+
+/// The nodes of a cluster, and the sessions and carriers of all its tenants.
+#[derive(Drop)]
+pub struct World {
+    alloc: Global,
+    config: Config,
+    nodes: Cluster0,
+    actors: IndexMap<ActorId, Actor>,
+    counts: Vec<u64>,
+}
+
+impl Model for World {
+    ghost use Rattle.cops_world.specs.Worlds.{KeptWorld, IsKeptWorld};
+
+    ghost Value = { KeptWorld };
+
+    ghost view = { λ w. record { setup = w.config; nodes = w.nodes; entries = w.actors.entries; counts = w.counts.items } };
+
+    ghost invariant = { λ w. IsKeptWorld (record { setup = w.config; nodes = w.nodes; entries = w.actors.entries; counts = w.counts.items }) };
+}
+
+/// The keys, where each is one.
+fn keys_of(alloc: Global, lists: &ByteLists) -> Result<Keys, Fault>
+    ensures ok { IfOk result (λ keys. keys ≡ lists.now) }
+    ensures refused { IsAnswer (refused_if (not (list_all is_key lists.now)) BadKey) result }
+{
+    let lists = lists.as_slice();
+    let mut keys = Vec::with_capacity(alloc, lists.len())?;
+    for list in lists {
+        let key = Key::new(list.as_slice())?;
+        if keys.push(key).is_err() {
+            return Err(Fault::OutOfMemory);
+        }
+    }
+    Ok(Keys::of(keys))
+}
+
+/// A session of a tenant at a data centre, as an actor.
+fn new_session(alloc: Global, config: &Config, slot: u64, dc: u64) -> Actor
+    requires slot { slot < length config.now.tenants }
+    requires dc { dc < config.now.data_centres }
+    requires shards { 0 < config.now.shards }
+    ensures stands { ActorStandsFor (config_at config.now slot) result (Solo.OfSession (new_session dc 1)) }
+    ensures runs { RunsAt (shape_of config.now) slot result }
+{
+    Actor::OfSession(Session::new(alloc, config, slot, dc))
+}
+
+/// A carrier from a node to another data centre, as an actor.
+fn new_carrier(config: &Config, origin: NodeId, to_dc: u64) -> Actor
+    requires { RunsIn (shape_of config.now) config.now.shards (record { origin = origin; to_dc = to_dc }) }
+    ensures stands { (tenant : TenantConfig) → tenant.shards ≡ config.now.shards →
+        ActorStandsFor tenant result (Solo.OfCarrier (new_carrier (record { origin = origin; to_dc = to_dc }))) }
+    ensures runs { (slot : ℕ) → RunsAt (shape_of config.now) slot result }
+{
+    Actor::OfCarrier(Carrier::new(config, origin, to_dc))
+}
+
+/// The reply, where the actor doesn't go on after it.
+fn answer_in(reply: Reply) -> Option<Reply>
+    ensures some { IfSome result (λ answer. answer ≡ reply) }
+    ensures last { IfSome result (λ answer. goes_on reply ≡ false) }
+    ensures none { IfNone result (goes_on reply ≡ true) }
+{
+    match reply {
+        Reply::Working | Reply::Restarted(_) => None,
+        answer => Some(answer),
+    }
+}
+
+/// What a collection answered, as a reply.
+fn reply_of_collect(answered: NodeReply) -> Reply
+    ensures { result ≡ reply_of_collect answered }
+{
+    match answered {
+        NodeReply::Removed(count) => Reply::Removed(count),
+        NodeReply::Refused(fault) => Reply::Refused(fault),
+        _ => Reply::Refused(Fault::Torn),
+    }
+}
+
+impl World {
+    /// Has a session of a tenant do what is asked.
+    fn act(&mut self, slot: u64, name: Name, deed: Deed) -> Reply
+        ensures { Moves (λ config. deed_step config name deed) (world_of self.old) slot result (world_of self.new) }
+    {
+        act_at(&mut self.actors, ActorId { slot, name }, self.alloc, deed)
+    }
+
+    /// Whether a tenant has as many actors as he may.
+    fn is_full(&self, slot: u64) -> bool
+        requires { slot < length self.now.setup.tenants }
+        ensures { result ≡ nat_le (config_at self.now.setup slot).quota.actors (slice_index self.now.counts slot) }
+    {
+        self.counts[slot as usize] >= self.config.tenants.tenant(slot).quota.actors
+    }
+
+    /// Why a new actor may not join: its name is taken, or its tenant has as many as he may.
+    fn refuses(&self, id: ActorId) -> Option<Fault>
+        requires { id.slot < length self.now.setup.tenants }
+        ensures refused { IfSome result (λ fault. (solo : Solo) (reply : Reply) → Moves (join_step id.name solo reply) (world_of self.now) id.slot (Refused fault) (world_of self.now)) }
+        ensures free { IfNone result ((world_of self.now).actors id ≡ None) }
+        ensures room { IfNone result (nat_le (config_at self.now.setup id.slot).quota.actors (slice_index self.now.counts id.slot) ≡ false) }
+    {
+        if self.actors.contains_key(&id) {
+            return Some(Fault::NameTaken);
+        }
+        if self.is_full(id.slot) {
+            return Some(Fault::ActorsFull);
+        }
+        None
+    }
+
+    /// Takes in a new actor, whose name is free and whose tenant may have one more. Whether there
+    /// was memory for it.
+    fn admit(&mut self, id: ActorId, actor: Actor) -> bool
+        requires slot { id.slot < length self.old.setup.tenants }
+        requires runs { RunsAt (shape_of self.old.setup) id.slot actor }
+        requires free { (world_of self.old).actors id ≡ None }
+        requires room { nat_le (config_at self.old.setup id.slot).quota.actors (slice_index self.old.counts id.slot) ≡ false }
+        ensures joined { IsTrue result → (solo : Solo) (reply : Reply) → ActorStandsFor (config_at self.old.setup id.slot) actor solo →
+            Moves (join_step id.name solo reply) (world_of self.old) id.slot reply (world_of self.new) }
+        ensures lack { IsFalse result → world_of self.new ≡ world_of self.old }
+    {
+        let slot = id.slot;
+        if !put_new(&mut self.actors, id, actor) {
+            return false;
+        }
+        self.counts[slot as usize] += 1;
+        true
+    }
+
+    /// Opens a session of a tenant at a data centre.
+    fn open(&mut self, slot: u64, name: Name, dc: u64) -> Reply
+        requires { slot < length self.old.setup.tenants }
+        ensures { Moves (λ config. cluster_step config (acts.Open name dc)) (world_of self.old) slot result (world_of self.new) }
+    {
+        if dc >= self.config.data_centres {
+            return Reply::Refused(Fault::NoSuchPlace);
+        }
+        if let Some(fault) = self.refuses(ActorId { slot, name }) {
+            return Reply::Refused(fault);
+        }
+        let session = new_session(self.alloc, &self.config, slot, dc);
+        if self.admit(ActorId { slot, name }, session) {
+            Reply::Opened
+        } else {
+            Reply::Refused(Fault::OutOfMemory)
+        }
+    }
+
+    /// Whether there is such a node.
+    fn has_node(&self, dc: u64, shard: u64) -> bool
+        ensures { (config : TenantConfig) → HasSizes config self.now.setup → result ≡ has_node config dc shard }
+    {
+        dc < self.config.data_centres && shard < self.config.shards
+    }
+
+    /// Whether there is such a node, and this data centre, which is another one.
+    fn has_stream(&self, origin: NodeId, to_dc: u64) -> bool
+        ensures { (config : TenantConfig) → HasSizes config self.now.setup → result ≡ has_stream config origin.dc origin.shard to_dc }
+    {
+        self.has_node(origin.dc, origin.shard)
+            && to_dc < self.config.data_centres
+            && origin.dc != to_dc
+    }
+
+    /// Begins a carrier of a tenant from a node to another data centre.
+    fn carry(&mut self, slot: u64, name: Name, origin: NodeId, to_dc: u64) -> Reply
+        requires { slot < length self.old.setup.tenants }
+        ensures { Moves (λ config. cluster_step config (acts.Carry name origin.dc origin.shard to_dc)) (world_of self.old) slot result (world_of self.new) }
+    {
+        if !self.has_stream(origin, to_dc) {
+            return Reply::Refused(Fault::NoSuchPlace);
+        }
+        if let Some(fault) = self.refuses(ActorId { slot, name }) {
+            return Reply::Refused(fault);
+        }
+        let carrier = new_carrier(&self.config, origin, to_dc);
+        if self.admit(ActorId { slot, name }, carrier) {
+            Reply::Started
+        } else {
+            Reply::Refused(Fault::OutOfMemory)
+        }
+    }
+
+    /// Takes out an actor that is over.
+    fn leave(&mut self, id: ActorId)
+        requires { id.slot < length self.old.setup.tenants }
+        ensures setup { self.new.setup ≡ self.old.setup }
+        ensures nodes { self.new.nodes ≡ self.old.nodes }
+        ensures actors { (other : ActorId) → (world_of self.new).actors other ≡ (if same_actor id other then None else (world_of self.old).actors other) }
+        ensures counts { self.new.counts ≡ slice_set self.old.counts id.slot (slice_index self.old.counts id.slot - 1) }
+    {
+        let slot = id.slot;
+        take_out(&mut self.actors, id);
+        let count = &mut self.counts[slot as usize];
+        *count = count.saturating_sub(1);
+    }
+
+    /// Takes a step of an actor at a moment.
+    fn step(&mut self, slot: u64, name: Name, moment: u64) -> Reply
+        requires { slot < length self.old.setup.tenants }
+        ensures { Moves (λ config. actor_step config name moment) (world_of self.old) slot result (world_of self.new) }
+    {
+        let id = ActorId { slot, name };
+        let Some(place) = self.actors.get_index_of(&id) else {
+            return Reply::Refused(Fault::UnknownName);
+        };
+        let Stepped { reply, is_over } = step_at(
+            &mut self.actors,
+            place,
+            id,
+            &mut self.nodes,
+            moment,
+        );
+        if is_over {
+            self.leave(id);
+        }
+        reply
+    }
+
+    /// Takes steps of an actor at one moment until it has answered, at most `more` after the first.
+    fn steps(&mut self, slot: u64, name: Name, moment: u64, mut more: u64) -> Reply
+        requires { slot < length self.old.setup.tenants }
+        ensures { Moves (λ config. actor_steps more config name moment) (world_of self.old) slot result (world_of self.new) }
+    {
+        while more > 0 {
+            if let Some(answer) = answer_in(self.step(slot, name, moment)) {
+                return answer;
+            }
+            more -= 1;
+        }
+        self.step(slot, name, moment)
+    }
+
+    /// Collects at a node.
+    fn collect(&mut self, slot: u64, id: NodeId, moment: u64) -> Reply
+        requires { slot < length self.old.setup.tenants }
+        ensures { Moves (λ config. cluster_step config (acts.Collect id.dc id.shard moment)) (world_of self.old) slot result (world_of self.new) }
+    {
+        if !self.has_node(id.dc, id.shard) {
+            return Reply::Refused(Fault::NoSuchPlace);
+        }
+        reply_of_collect(self.nodes.step(id, slot, moment, NodeCall::Collect))
+    }
+
+    /// Begins a put of a session, where the key and the value are some.
+    fn put(&mut self, slot: u64, name: Name, number: u64, key: &Bytes, value: &Bytes) -> Reply
+        ensures { Moves (λ config. cluster_step config (acts.Put name number key.now value.now)) (world_of self.old) slot result (world_of self.new) }
+    {
+        let key = match Key::new(key.as_slice()) {
+            Ok(key) => key,
+            Err(fault) => return Reply::Refused(fault),
+        };
+        match Value::new(self.alloc, value.as_slice()) {
+            Ok(value) => self.act(slot, name, Deed::Put(number, key, value)),
+            Err(fault) => Reply::Refused(fault),
+        }
+    }
+
+    /// Begins a get transaction of a session, where there are keys and each is one.
+    fn get(&mut self, slot: u64, name: Name, number: u64, keys: &ByteLists) -> Reply
+        ensures { Moves (λ config. cluster_step config (acts.Get name number keys.now)) (world_of self.old) slot result (world_of self.new) }
+    {
+        if keys.len() == 0 {
+            return Reply::Refused(Fault::Syntax);
+        }
+        match keys_of(self.alloc, keys) {
+            Ok(keys) => self.act(slot, name, Deed::Get(number, keys)),
+            Err(fault) => Reply::Refused(fault),
+        }
+    }
+
+    /// More steps than any request of a session or any carrier takes.
+    fn most_steps(&self, slot: u64) -> u64
+        requires { slot < length self.now.setup.tenants }
+        ensures { result ≡ most_steps (config_at self.now.setup slot) }
+    {
+        let deps = self.config.tenants.tenant(slot).quota.deps;
+        (self.config.restarts + 1) * (2 * 32 + 1) + deps + 3
+    }
+
+    /// One event: it acts on its own tenant's cluster, unless memory was refused, and on no other.
+    pub fn apply(&mut self, event: &Event) -> Reply
+        requires { event.now.slot < length self.old.setup.tenants }
+        ensures { HasActed setup_of HasCluster self.old event.now result self.new }
+    {
+        self.act_for(event.slot, &event.act)
+    }
+
+    /// One act of the tenant in a slot.
+    pub(crate) fn act_for(&mut self, slot: u64, act: &Act) -> Reply
+        requires { slot < length self.old.setup.tenants }
+        ensures { Moves (λ config. cluster_step config act.now) (world_of self.old) slot result (world_of self.new) }
+    {
+        match act {
+            Act::Open(name, dc) => self.open(slot, *name, *dc),
+            Act::Create(name) => self.act(slot, *name, Deed::Create),
+            Act::Delete(name, number) => self.act(slot, *name, Deed::Delete(*number)),
+            Act::Put(name, number, key, value) => self.put(slot, *name, *number, key, value),
+            Act::Get(name, number, keys) => self.get(slot, *name, *number, keys),
+            Act::Show(name, number) => self.act(slot, *name, Deed::Show(*number)),
+            Act::Carry(name, dc, shard, to_dc) => {
+                let origin = NodeId {
+                    dc: *dc,
+                    shard: *shard,
+                };
+                self.carry(slot, *name, origin, *to_dc)
+            }
+            Act::Step(name, moment) => self.step(slot, *name, *moment),
+            Act::Done(name, moment) => {
+                let more = self.most_steps(slot);
+                self.steps(slot, *name, *moment, more)
+            }
+            Act::Collect(dc, shard, moment) => {
+                let id = NodeId {
+                    dc: *dc,
+                    shard: *shard,
+                };
+                self.collect(slot, id, *moment)
+            }
+        }
+    }
+
+    /// A new world of a configuration.
+    pub fn new(alloc: Global, config: Config) -> Result<Self, AllocError>
+        requires { IsTrue (is_good config) }
+        ensures { IfOk result (IsNew setup_of HasCluster config) }
+    {
+        let nodes = Cluster0::new(alloc, &config)?;
+        let tenants = config.tenants.len();
+        let counts = vec![in alloc; 0; tenants]?;
+        Ok(World {
+            alloc,
+            config,
+            nodes,
+            actors: IndexMap::new(alloc),
+            counts,
+        })
+    }
+
+    /// The configuration.
+    pub fn config(&self) -> &Config
+        ensures { result.now ≡ setup_of self.now }
+    {
+        &self.config
+    }
+
+    /// The nodes, by number.
+    pub fn nodes(&self) -> &[Node]
+        ensures { result.now ≡ self.now.nodes.nodes }
+    {
+        self.nodes.nodes()
+    }
+}
+
+impl Tenancy for World {
+    ghost setup = { setup_of };
+
+    ghost StandsFor = { HasCluster };
+
+    fn begin(alloc: Global, config: Config) -> Result<Self, AllocError> {
+        World::new(alloc, config)
+    }
+
+    fn setup(&self) -> &Config {
+        self.config()
+    }
+
+    fn apply(&mut self, event: &Event) -> Reply {
+        World::apply(self, event)
+    }
+}
