@@ -51,7 +51,7 @@ pub record IsLine (rows : List (Option Row)) (own data_centres slot : ℕ) (line
   pub within : (dc : ℕ) → (span_at dc line).count ≤ line.kept.count
   pub itself : (span_at own line).count ≡ 0
 
--- no row is kept for nobody: a data centre waits for all that are kept
+-- each row is needed: a data centre waits for all that are kept
 abbrev pub IsNeeded : Line → Type 0
 IsNeeded line = (line.kept.count ≡ 0) ⊎ ((dc : ℕ) × ((span_at dc line).count ≡ line.kept.count))
 

@@ -99,6 +99,7 @@ pub(crate) fn add(rows: &mut Slab<Row>, line: &mut Line, own: u64, slot: usize, 
     ensures needed { IsNeeded line.new }
 {
     let at = link(rows, line, slot, entry);
+    // No line has more rows than the table, so one more can be counted.
     let _rows = rows.len();
     line.kept = extended(line.kept, at);
     extend_all(&mut line.waits, own, at);
