@@ -1,4 +1,4 @@
-ghost use Rattle.std.specs.Prelude.{◌≡◌, ℕ, ◌==◌, slice_index, drop, if◌then◌else◌};
+ghost use Rattle.std.specs.Prelude.{◌≡◌, ⊤, ℕ, ◌==◌, slice_index, drop, if◌then◌else◌};
 ghost use Rattle.std.specs.Int.{w64, from_be_bytes};
 ghost use Rattle.cops_handles.specs.Wire.{wire_of};
 
@@ -32,6 +32,10 @@ impl<K: Kind> Model for Handle<K> {
 }
 
 impl<K: Kind> Clone for Handle<K> {
+    ghost is_clone = { λ handle copy. copy ≡ handle };
+
+    ghost is_infallible = { λ _. ⊤ };
+
     fn clone(&self) -> Result<Self, AllocError> {
         Ok(Handle::of_number(self.number))
     }

@@ -1,8 +1,8 @@
 -- What each call does to what is kept of a slot.
-use Rattle.std.proofs.Common.{◌≡◌, ◌≢◌, ℕ, zero, suc, ◌+◌, ◌<◌, ◌≤◌, Bool, true, false, cond, not, ◌&&◌, ◌||◌, List, [], ◌∷◌, ◌++◌, length, map, refl, sym, ap, ◌∙◌, subst, arith, true≢false, nat_eq, nat_lt, max, get_or, set, length-append, append-nil, IsTrue, inl, inr, ◌⊎◌}
-use Rattle.std.specs.Prelude.{if◌then◌else◌, ◌==◌, nat_le, filter, drop, Option, Some, None, Result, Ok, Err, ok_or}
+use Rattle.std.proofs.Common.{◌≡◌, ◌≢◌, ℕ, zero, suc, ◌+◌, ◌<◌, ◌≤◌, Bool, true, false, not, ◌&&◌, ◌||◌, List, [], ◌∷◌, ◌++◌, length, map, refl, sym, ap, ◌∙◌, subst, arith, true≢false, nat_eq, max, get_or, set, length-append, IsTrue}
+use Rattle.std.specs.Prelude.{if◌then◌else◌, ◌==◌, nat_le, filter, drop, Option, Some, None, Ok, ok_or}
 use Rattle.std.specs.List.{AllByRecursion, fold, list_any, range_with_len}
-use Rattle.std.proofs.lemmas.Bool.Decides.{Decides-eqb, Decides-ltb, nat_tests}
+use Rattle.std.proofs.lemmas.Bool.Decides.{Decides-eqb, Decides-ltb}
 use Rattle.std.proofs.lemmas.List.{get_or-set_same, get_or-set_other, map-append, drop-append-le, length-drop}
 use Rattle.std.proofs.lemmas.List.Elements.{filter-append}
 use Rattle.std.proofs.Math.ListN.{length-set}
@@ -11,20 +11,18 @@ use Rattle.cops_types.specs.declared.faults.Fault.TheVariants.{ClockFull, Versio
 use Rattle.cops_types.specs.declared.pairs.Pair.{Pair}
 use Rattle.cops_types.specs.declared.records.EntryParts.{EntryParts as Entry}
 use Rattle.cops_types.specs.declared.records.Record.{Record}
-use Rattle.cops_types.specs.Layout.{NODES}
 use Rattle.cops_types.specs.Pairs.{greatest_clock}
-use Rattle.cops_types.specs.Records.{Tracked, StandsFor, clock, mark, ever, collected, records_in_use, bytes_in_use, mark_among}
-use Rattle.cops_types.specs.Version.{Timestamp, version_le, version_eq, next_version, last_clock}
-use Rattle.cops_store.specs.Contents.{Contents, rows_of, NoneLater, refusal}
+use Rattle.cops_types.specs.Records.{Tracked, StandsFor, mark, ever, collected, mark_among}
+use Rattle.cops_types.specs.Version.{Timestamp, version_le, next_version, last_clock}
+use Rattle.cops_store.specs.Contents.{Contents, rows_of, NoneLater}
 use Rattle.cops_outbox.specs.Queues.{Queues, queue_of, is_full, is_front}
 use Rattle.cops_outbox.specs.Queues as outbox_queues
 use Rattle.cops_node.specs.declared.parts.Counters.{Counters}
 use Rattle.cops_node.specs.declared.Place.{Place}
-use Rattle.cops_node.specs.declared.NodeReply.{NodeReply}
 use Rattle.cops_node.specs.declared.NodeReply.TheVariants.{Acked, NotFront, Refused, Stored}
 use Rattle.cops_node.specs.Parts.{StandsAt, AreMarks}
 use Rattle.cops_node.specs.Place.{is_other_dc, own_number}
-use Rattle.cops_node.specs.SoloNode.{SoloNode, queue, issued, front}
+use Rattle.cops_node.specs.SoloNode.{SoloNode, queue, issued}
 use Rattle.cops_node.specs.Step.{committed, is_outbox_full, acknowledge, Turn, version_of_put, put, put_at, put_refusal, store_unless, entry_of_put, unchanged}
 use Rattle.cops_node.proofs.NewRecords.{AreMarks-push, NoneLater-push, NoneLater-raised, clock-push}
 use Rattle.cops_node.proofs.MarkLaws.{ever-collected}

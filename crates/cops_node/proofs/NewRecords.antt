@@ -1,20 +1,17 @@
 -- What one more record does to marks, clock and queues, and that its version is new.
-use Rattle.std.proofs.Common.{◌≡◌, ◌≢◌, ℕ, zero, suc, ◌+◌, ◌<◌, ◌≤◌, Bool, true, false, cond, not, List, [], ◌∷◌, ◌++◌, length, map, refl, sym, ap, ◌∙◌, subst, arith, true≢false, nat_eq, nat_lt, max, get_or, set, length-append, append-nil, IsTrue, inl, inr, ◌⊎◌}
-use Rattle.std.specs.Prelude.{if◌then◌else◌, ◌==◌, filter, drop, Option, Some, None}
+use Rattle.std.proofs.Common.{◌≡◌, ◌≢◌, ℕ, ◌<◌, ◌≤◌, Bool, true, false, cond, not, List, [], ◌∷◌, ◌++◌, length, map, refl, sym, ap, ◌∙◌, subst, arith, true≢false, max, get_or, set}
+use Rattle.std.specs.Prelude.{if◌then◌else◌, ◌==◌, filter, Option}
 use Rattle.std.specs.List.{AllByRecursion, fold}
-use Rattle.std.specs.List.Sorted.{IsPermutation}
 use Rattle.std.proofs.lemmas.Bool.Decides.{Decides-eqb, nat_tests}
-use Rattle.std.proofs.lemmas.List.{get_or-set_same, get_or-set_other, map-append, drop-append-le}
-use Rattle.std.proofs.lemmas.List.Elements.{filter-append, recursion_from_All, All-from_recursion}
+use Rattle.std.proofs.lemmas.List.{get_or-set_same, get_or-set_other, map-append}
+use Rattle.std.proofs.lemmas.List.Elements.{recursion_from_All, All-from_recursion}
 use Rattle.std.proofs.lemmas.List.Sums.{fold-append}
 use Rattle.std.proofs.lemmas.List.Sorted.{All-permutation, IsPermutation-sym}
 use Rattle.std.proofs.Math.ListN.{length-set}
 use Rattle.cops_types.specs.declared.records.Dated.{Dated}
-use Rattle.cops_types.specs.declared.records.EntryParts.{EntryParts as Entry}
 use Rattle.cops_types.specs.declared.records.Record.{Record}
-use Rattle.cops_types.specs.Layout.{NODES}
 use Rattle.cops_types.specs.Records.{Tracked, StandsFor, clock, mark, mark_among, ever, kept, dated, stale_from}
-use Rattle.cops_types.specs.Version.{Timestamp, no_version, version_le, version_max, greatest, last_clock}
+use Rattle.cops_types.specs.Version.{Timestamp, version_le, version_max, greatest}
 use Rattle.cops_types.proofs.VersionOrder.{version_max-left, version_max-right, version_le-trans, version_le-false, version_lt-le, version_max-no_version_right}
 use Rattle.cops_store.specs.Contents.{LacksVersion, NoneLater}
 use Rattle.cops_node.specs.Parts.{AreMarks}

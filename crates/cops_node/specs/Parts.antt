@@ -19,9 +19,9 @@ use Rattle.cops_node.specs.declared.Place.{Place}
 use Rattle.cops_node.specs.declared.parts.Audited.{Audited}
 use Rattle.cops_node.specs.declared.parts.Counters.{Counters}
 use Rattle.cops_node.specs.declared.parts.Part.{Part}
-use Rattle.cops_node.specs.Place.{is_other_dc, place_of}
+use Rattle.cops_node.specs.Place.{fits, is_other_dc, place_of}
 use Rattle.cops_node.specs.Run.{node_after, calls_of}
-use Rattle.cops_node.specs.Shape.{Shape}
+use Rattle.cops_node.specs.Shape.{Shape, place_in}
 use Rattle.cops_node.specs.SoloNode.{SoloNode, new_node, queue, issued}
 use Rattle.cops_node.specs.Step.{node_step, effect}
 
@@ -70,11 +70,20 @@ pub record IsPlace (place : Place) : Type 0 where
   pub numbers_fit : place.data_centres * place.shards ≤ NODES
   pub clock_fits : place.first_clock ≤ last_clock
 
--- a turn of a slot: it is the turn of the solo node, or memory was refused and nothing changed
+-- a turn of a slot: it is the turn of the solo node
+abbrev pub IsSoloTurn : ℕ → ℕ → NodeCall → NodeReply → Place → Shared → Shared → Type 0
+IsSoloTurn slot moment call reply place old new =
+    (reply ≡ (node_step place moment call (solo_of slot place old)).reply) × (solo_of slot place new ≡ (node_step place moment call (solo_of slot place old)).after)
+
+-- the same, or memory was refused and nothing changed
 abbrev pub IsTurn : ℕ → ℕ → NodeCall → NodeReply → Place → Shared → Shared → Type 0
-IsTurn slot moment call reply place old new =
-    ((reply ≡ Refused OutOfMemory) × (new ≡ old))
-    ⊎ ((reply ≡ (node_step place moment call (solo_of slot place old)).reply) × (solo_of slot place new ≡ (node_step place moment call (solo_of slot place old)).after))
+IsTurn slot moment call reply place old new = ((reply ≡ Refused OutOfMemory) × (new ≡ old)) ⊎ IsSoloTurn slot moment call reply place old new
+
+-- the audit is longer by exactly this call and reply, or it was full, and nothing changed
+abbrev pub IsNoted : ℕ → ℕ → NodeCall → NodeReply → Shared → Shared → Type 0
+IsNoted slot moment call reply old new =
+    ((reply ≡ Refused AuditFull) × (new ≡ old))
+    ⊎ (new.audit ≡ old.audit ++ record { slot = slot; entry = record { moment = moment; call = call; reply = reply } } ∷ [])
 
 -- the audit is longer by exactly this call and reply, or the call was refused before it, and nothing changed
 abbrev pub IsAudited : ℕ → ℕ → NodeCall → NodeReply → Shared → Shared → Type 0
@@ -158,3 +167,20 @@ pub record IsFresh (part : Part) : Type 0 where
   pub clock_is : part.counters.clock ≡ part.place.first_clock
   pub marks : part.counters.marks.items ≡ replicate NODES no_version
   pub trail : part.trail.items ≡ []
+
+-- ---- turns of a machine
+
+-- the turn of a slot's solo node, which joins the audit unless that is full, and changes no other slot
+pub record IsMachineTurn (old : Shared) (slot moment : ℕ) (call : NodeCall) (reply : NodeReply) (new : Shared) : Type 0 where
+  pub own : (place : Place) → place ≡ slice_index_or old.home.places slot place → IsSoloTurn slot moment call reply place old new
+  pub noted : IsNoted slot moment call reply old new
+  pub others : (other : ℕ) → other ≢ slot → trail_of other new.audit ≡ trail_of other old.audit
+  pub home : new.home ≡ old.home
+
+-- the node before any call
+abbrev pub before_calls : Shared → Shared
+before_calls node = record { home = node.home; audit = [] }
+
+-- the slot is there, and the call may come to this node
+abbrev pub FitsNode : Shared → ℕ → NodeCall → Type 0
+FitsNode node slot call = (slot < node.home.shape.slots) × IsTrue (fits (place_in node.home.shape node.home.id) call)

@@ -1,11 +1,11 @@
 //! A node for many tenants: one store, one outbox and one audit for all.
-ghost use Rattle.std.specs.Prelude.{◌≡◌, ◌≢◌, ℕ, ◌<◌, ◌≤◌, length, map, slice_get, slice_index_or, List, [], Some, IsTrue, IfOk};
+ghost use Rattle.std.specs.Prelude.{◌≡◌, ◌≢◌, ℕ, ◌<◌, ◌≤◌, length, map, slice_get, slice_index_or, List, [], Some, IsTrue, IfOk, OnErr};
 ghost use Rattle.std.specs.List.{AllByRecursion};
 ghost use Rattle.std.specs.Option.{option_copied};
 ghost use Rattle.cops_types.specs.HeadLines.{are_sizes};
 ghost use Rattle.cops_types.specs.Version.{last_clock};
 ghost use Rattle.cops_node.specs.declared.Place.{Place};
-ghost use Rattle.cops_node.specs.Parts.{trail_of, solo_of, home_of, are_clocks, IsTurn, IsAudited};
+ghost use Rattle.cops_node.specs.Parts.{trail_of, solo_of, home_of, are_clocks, IsTurn, IsSoloTurn, IsNoted, IsAudited};
 ghost use Rattle.cops_node.specs.Place.{is_home, is_other_dc, is_other_equivalent, fits};
 ghost use Rattle.cops_node.specs.Shape.{place_in};
 
@@ -13,7 +13,7 @@ use crate::parts::{self, Audited, Part};
 use crate::{AuditEntry, NodeCall, NodeId, NodeReply, Place, calls};
 use cops_outbox::Outbox;
 use cops_store::Store;
-use cops_types::{Config, Fault, Key};
+use cops_types::{Config, Fault, Key, Machine};
 use std::alloc::{AllocError, Global};
 use std::marker::Model;
 
@@ -141,28 +141,29 @@ impl Node {
         }
     }
 
-    /// Makes a call for the tenant of a slot. Where the audit is full or memory is refused, that is
-    /// the reply and nothing changes.
-    pub fn step(&mut self, slot: u64, moment: u64, call: NodeCall) -> NodeReply
+    /// Makes a call for the tenant of a slot. Where the audit is full that is the reply, and nothing
+    /// changes. Nothing changes either where memory is refused.
+    fn try_step(&mut self, slot: u64, moment: u64, call: NodeCall) -> Result<NodeReply, AllocError>
         requires slot_exists { slot < self.old.home.shape.slots }
         requires call_fits { IsTrue (fits (place_in self.old.home.shape self.old.home.id) call) }
-        ensures turn { (place : Place) → place ≡ slice_index_or self.old.home.places slot place → IsTurn slot moment call result place self.old self.new }
-        ensures audited { IsAudited slot moment call result self.old self.new }
+        ensures turn { IfOk result (λ reply. (place : Place) → place ≡ slice_index_or self.old.home.places slot place → IsSoloTurn slot moment call reply place self.old self.new) }
+        ensures noted { IfOk result (λ reply. IsNoted slot moment call reply self.old self.new) }
         ensures others { (other : ℕ) → other ≢ slot → trail_of other self.new.audit ≡ trail_of other self.old.audit }
         ensures home { self.new.home ≡ self.old.home }
+        ensures err { OnErr result (self.new ≡ self.old) }
     {
         let slot = slot as usize;
         let at = self.audit.len();
         let part = &self.parts[slot];
         if parts::is_audit_full(part) {
-            return NodeReply::Refused(Fault::AuditFull);
+            return Ok(NodeReply::Refused(Fault::AuditFull));
         }
         if self.audit.reserve(1).is_err() {
-            return NodeReply::Refused(Fault::OutOfMemory);
+            return Err(AllocError);
         }
         let part = &mut self.parts[slot];
         if part.trail.reserve(1).is_err() {
-            return NodeReply::Refused(Fault::OutOfMemory);
+            return Err(AllocError);
         }
         let now = part.moment.max(moment);
         let Ok(replies) = calls::act(
@@ -175,7 +176,7 @@ impl Node {
             now,
             &call,
         ) else {
-            return NodeReply::Refused(Fault::OutOfMemory);
+            return Err(AllocError);
         };
         part.moment = now;
         part.trail.push(at).unwrap();
@@ -185,6 +186,46 @@ impl Node {
             reply: replies.kept,
         };
         self.audit.push(Audited { slot, entry }).unwrap();
-        replies.told
+        Ok(replies.told)
+    }
+
+    /// Makes a call for the tenant of a slot. Where the audit is full or memory is refused, that is
+    /// the reply and nothing changes.
+    pub fn step(&mut self, slot: u64, moment: u64, call: NodeCall) -> NodeReply
+        requires slot_exists { slot < self.old.home.shape.slots }
+        requires call_fits { IsTrue (fits (place_in self.old.home.shape self.old.home.id) call) }
+        ensures turn { (place : Place) → place ≡ slice_index_or self.old.home.places slot place → IsTurn slot moment call result place self.old self.new }
+        ensures audited { IsAudited slot moment call result self.old self.new }
+        ensures others { (other : ℕ) → other ≢ slot → trail_of other self.new.audit ≡ trail_of other self.old.audit }
+        ensures home { self.new.home ≡ self.old.home }
+    {
+        match self.try_step(slot, moment, call) {
+            Ok(reply) => reply,
+            Err(_) => NodeReply::Refused(Fault::OutOfMemory),
+        }
+    }
+}
+
+impl Machine for Node {
+    ghost use Rattle.cops_node.specs.Parts.{FitsNode, IsMachineTurn, before_calls};
+
+    type Call = NodeCall;
+
+    type Reply = NodeReply;
+
+    /// The node before any call.
+    type Place = Node;
+
+    ghost place = { before_calls };
+
+    ghost fits = { FitsNode };
+
+    ghost turns = { IsMachineTurn };
+
+    fn turn(&mut self, slot: u64, moment: u64, call: NodeCall) -> Result<NodeReply, Fault> {
+        match self.try_step(slot, moment, call) {
+            Ok(reply) => Ok(reply),
+            Err(_) => Err(Fault::OutOfMemory),
+        }
     }
 }

@@ -1,6 +1,7 @@
-use crate::{Cluster0, Node, NodeCall, NodeId, NodeReply, Nodes, Wanted, has_clocks};
+use crate::{AuditEntry, Cluster0, Node, NodeCall, NodeId, NodeReply, Nodes, Wanted, has_clocks};
 use cops_types::{
-    Config, Deps, Entry, EntryParts, Fault, Key, Name, Near, Quota, Tenant, Tenants, Value, Version,
+    Config, Deps, Entry, EntryParts, Fault, Key, Machine, Name, Near, Quota, Tenant, Tenants,
+    Value, Version,
 };
 use std::alloc::Global;
 use std::process::Abort;
@@ -74,6 +75,16 @@ fn ask(rt: &impl Abort, node: &mut Node, slot: u64, moment: u64, call: NodeCall)
     assert!(rt; slot < node.slots());
     assert!(rt; node.fits(&call));
     node.step(slot, moment, call)
+}
+
+fn audit_len(rt: &impl Abort, node: &Node, slot: u64) -> u64 {
+    assert!(rt; slot < node.slots());
+    node.audit_len(slot)
+}
+
+fn audit<'a>(rt: &impl Abort, node: &'a Node, slot: u64, place: u64) -> Option<&'a AuditEntry> {
+    assert!(rt; slot < node.slots());
+    node.audit(slot, place)
 }
 
 fn key(rt: &impl Abort, bytes: &[u8]) -> Key {
@@ -373,4 +384,124 @@ fn calls_under_want_of_memory(rt: HostRuntime) -> Result<(), Fail> {
         )
     );
     Ok(())
+}
+
+#[test]
+fn turns_of_a_machine(rt: HostRuntime) -> Result<(), Fail> {
+    let alloc = rt.alloc();
+    let mut node = one_of_two(&rt, alloc, 0, 0, QUOTA);
+    for clock in 1..3 {
+        let call = put(&rt, alloc, b"x");
+        assert!(rt; 0 < node.slots() && node.fits(&call));
+        let reply = node.turn(0, 0, call).expect(&rt, "memory");
+        assert_eq!(rt; number(reply), clock * 256);
+    }
+    assert_eq!(rt; audit_len(&rt, &node, 0), 2);
+    Ok(())
+}
+
+#[test]
+fn commits_in_order(rt: HostRuntime) {
+    let alloc = rt.alloc();
+    let mut node = one_of_two(&rt, alloc, 1, 0, QUOTA);
+    assert!(rt;
+        matches!(
+            ask(&rt, &mut node, 0, 0, commit(&rt, alloc, 2, 1)),
+            NodeReply::OutOfOrder(_)
+        )
+    );
+    assert_eq!(rt;
+        number(ask(&rt, &mut node, 0, 0, commit(&rt, alloc, 2, 1))),
+        0
+    );
+    assert!(rt;
+        matches!(
+            ask(&rt, &mut node, 0, 0, commit(&rt, alloc, 1, 0)),
+            NodeReply::Committed
+        )
+    );
+    assert!(rt;
+        matches!(
+            ask(&rt, &mut node, 0, 0, commit(&rt, alloc, 2, 1)),
+            NodeReply::Committed
+        )
+    );
+    assert!(rt;
+        matches!(
+            ask(&rt, &mut node, 0, 0, commit(&rt, alloc, 1, 0)),
+            NodeReply::Already
+        )
+    );
+    let second = NodeCall::DepCheck(key(&rt, b"x"), version(&rt, 2, 0));
+    assert!(rt; matches!(ask(&rt, &mut node, 0, 0, second), NodeReply::Checked(true)));
+    let third = NodeCall::DepCheck(key(&rt, b"x"), version(&rt, 3, 0));
+    assert!(rt; matches!(ask(&rt, &mut node, 0, 0, third), NodeReply::Checked(false)));
+    assert!(rt;
+        matches!(
+            ask(&rt, &mut node, 0, 0, get(&rt, b"x", 3, 0)),
+            NodeReply::NotYet
+        )
+    );
+    let other = NodeCall::DepCheck(key(&rt, b"x"), version(&rt, 2, 0));
+    assert!(rt; matches!(ask(&rt, &mut node, 1, 0, other), NodeReply::Checked(false)));
+    assert_eq!(rt; audit_len(&rt, &node, 0), 8);
+    assert_eq!(rt; audit_len(&rt, &node, 1), 1);
+}
+
+#[test]
+fn quotas_are_each_tenants_own(rt: HostRuntime) {
+    let alloc = rt.alloc();
+    let versions = Quota {
+        versions: 1,
+        audit: 3,
+        ..QUOTA
+    };
+    let mut node = one_of_two(&rt, alloc, 0, 0, versions);
+    assert_eq!(rt;
+        number(ask(&rt, &mut node, 0, 0, put(&rt, alloc, b"x"))),
+        256
+    );
+    let second = ask(&rt, &mut node, 0, 0, put(&rt, alloc, b"y"));
+    assert!(rt; is_refused(&second, Fault::VersionQuota));
+    assert_eq!(rt;
+        number(ask(&rt, &mut node, 1, 0, put(&rt, alloc, b"x"))),
+        256
+    );
+    let third = ask(&rt, &mut node, 0, 0, NodeCall::Collect);
+    assert_eq!(rt; number(third), 0);
+    let fourth = ask(&rt, &mut node, 0, 0, NodeCall::Collect);
+    assert!(rt; is_refused(&fourth, Fault::AuditFull));
+    assert_eq!(rt; audit_len(&rt, &node, 0), 3);
+    assert_eq!(rt; number(ask(&rt, &mut node, 1, 0, NodeCall::Collect)), 0);
+    let bytes = Quota { bytes: 2, ..QUOTA };
+    let mut small = one_of_two(&rt, alloc, 0, 0, bytes);
+    let large = ask(&rt, &mut small, 0, 0, put(&rt, alloc, b"x"));
+    assert!(rt; is_refused(&large, Fault::ByteQuota));
+    let outbox = Quota { outbox: 1, ..QUOTA };
+    let mut narrow = one_of_two(&rt, alloc, 0, 0, outbox);
+    assert_eq!(rt;
+        number(ask(&rt, &mut narrow, 0, 0, put(&rt, alloc, b"x"))),
+        256
+    );
+    let queued = ask(&rt, &mut narrow, 0, 0, put(&rt, alloc, b"x"));
+    assert!(rt; is_refused(&queued, Fault::OutboxFull));
+}
+
+#[test]
+fn the_audit_has_refusals(rt: HostRuntime) {
+    let alloc = rt.alloc();
+    let none = Quota {
+        versions: 0,
+        ..QUOTA
+    };
+    let mut node = one_of_two(&rt, alloc, 0, 0, none);
+    assert_eq!(rt; number(ask(&rt, &mut node, 1, 3, NodeCall::Collect)), 0);
+    let refused = ask(&rt, &mut node, 0, 5, put(&rt, alloc, b"x"));
+    assert!(rt; is_refused(&refused, Fault::VersionQuota));
+    assert_eq!(rt; audit_len(&rt, &node, 0), 1);
+    let entry = audit(&rt, &node, 0, 0).expect(&rt, "an entry");
+    assert_eq!(rt; entry.moment, 5);
+    assert!(rt; is_refused(&entry.reply, Fault::VersionQuota));
+    assert!(rt; matches!(entry.call, NodeCall::Put(_, _, _, _)));
+    assert!(rt; audit(&rt, &node, 0, 1).is_none());
 }

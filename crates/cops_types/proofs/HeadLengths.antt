@@ -1,17 +1,16 @@
 -- The lines of a head are short, and its tenants have names.
-use Rattle.std.proofs.Common.{◌≡◌, ℕ, ◌+◌, ◌<◌, ◌≤◌, ◌^◌, suc, nat_eq, Bool, true, false, cond, inl, inr, List, [], ◌∷◌, ◌++◌, length, refl, sym, subst, ap, ◌∙◌, length-append, arith}
-use Rattle.std.specs.Prelude.{IsTrue, codes, decimal, nat_lt, nat_le, Option, Some, None}
+use Rattle.std.proofs.Common.{◌≡◌, ℕ, ◌+◌, ◌<◌, ◌≤◌, ◌^◌, suc, nat_eq, Bool, true, false, cond, inl, inr, List, [], ◌∷◌, ◌++◌, length, refl, sym, subst, length-append, arith}
+use Rattle.std.specs.Prelude.{IsTrue, codes, decimal, nat_le, Some, None}
 use Rattle.std.specs.List.{AllByRecursion}
 use Rattle.std.proofs.lemmas.Bool.Decides.{nat_tests, Decides-eqb}
 use Rattle.std.proofs.lemmas.Fmt.{length-decimal-le}
 use Rattle.uuid.specs.Text.{parsed, parsed_simple, parsed_hyphenated, parsed_braced, parsed_urn}
 use Rattle.cops_types.specs.declared.configs.Config.{Config}
 use Rattle.cops_types.specs.declared.configs.Tenant.{Tenant}
-use Rattle.cops_types.specs.Head.{Front, AtStart, Within, Begun, with_tenant, Joins, Ends, Follows, Leads, front_after}
-use Rattle.cops_types.specs.HeadLines.{is_name, is_tenant, is_quota, IsClusterLine, IsTenantLine}
+use Rattle.cops_types.specs.Head.{Front, AtStart, Within, Begun, Follows, front_after}
+use Rattle.cops_types.specs.HeadLines.{is_name, is_tenant, IsClusterLine, IsTenantLine}
 use Rattle.cops_types.specs.Key.{is_key}
 use Rattle.cops_types.specs.Lines.{longest_line}
-use Rattle.cops_types.specs.Version.{last_clock}
 use Rattle.cops_types.specs.Words.{spaced, is_u64}
 use Rattle.cops_types.proofs.FrontLemmas.{front_after-is}
 use Rattle.cops_types.proofs.HeadLemmas.{sizes_fit, tenant_fits}

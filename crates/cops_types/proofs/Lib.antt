@@ -3,6 +3,7 @@ pub mod Examples
 pub mod FaultLemmas
 pub mod FrontLemmas
 pub mod GreatestLists
+pub mod Merging
 mod HeadExamples
 pub mod HeadLemmas
 pub mod HeadLengths

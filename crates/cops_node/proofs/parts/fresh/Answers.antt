@@ -1,4 +1,4 @@
-use Rattle.std.proofs.Common.{◌≡◌, refl, ap, sym, ◌∙◌, length, arith}
+use Rattle.std.proofs.Common.{◌≡◌, refl, ap, sym, ◌∙◌, length}
 use Rattle.std.specs.Prelude.{replicate}
 use Rattle.cops_types.specs.Layout.{NODES}
 use Rattle.cops_types.specs.Version.{Timestamp}

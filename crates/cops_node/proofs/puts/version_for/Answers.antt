@@ -1,14 +1,8 @@
-use Rattle.std.proofs.Common.{◌≡◌, ◌+◌, ◌∙◌, ap, sym, refl, true, false, nat_lt, length}
-use Rattle.std.specs.Prelude.{Option, Some, None, Ok, Err, ok_or, if◌then◌else◌}
-use Rattle.cops_types.specs.declared.faults.Fault.{Fault}
+use Rattle.std.proofs.Common.{◌+◌, ◌∙◌, ap, sym, nat_lt, length}
+use Rattle.std.specs.Prelude.{Some, None, if◌then◌else◌}
 use Rattle.cops_types.specs.declared.faults.Fault.TheVariants.{OutboxFull}
-use Rattle.cops_types.specs.Pairs.{greatest_clock}
 use Rattle.cops_types.specs.Records.{records_in_use, bytes_in_use}
-use Rattle.cops_types.specs.Version.{Timestamp, next_version}
-use Rattle.cops_node.specs.Parts.{StandsAt}
-use Rattle.cops_node.specs.Place.{own_number}
-use Rattle.cops_node.specs.SoloNode.{SoloNode}
-use Rattle.cops_node.specs.Step.{put_at, is_outbox_full, put_refusal, version_of_put}
+use Rattle.cops_node.specs.Step.{is_outbox_full}
 use Rattle.cops_node.proofs.Effects.{full_is, quota_refuses, quota_allows, refused_put, version_found}
 use Rattle.cops_node.proofs.puts.version_for.Goals as goal
 

@@ -1,4 +1,4 @@
-use Rattle.std.proofs.Common.{◌≡◌, ◌<◌, ◌∙◌, ap, sym, subst, length, set, IsTrue}
+use Rattle.std.proofs.Common.{◌<◌, ◌∙◌, sym, subst, length, set, IsTrue}
 use Rattle.cops_node.specs.declared.NodeId.{NodeId}
 use Rattle.cops_node.specs.Clusters.{Cluster, IsCall}
 use Rattle.cops_node.specs.Place.{fits, number_of}

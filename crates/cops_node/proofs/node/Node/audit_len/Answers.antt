@@ -1,4 +1,4 @@
-use Rattle.std.proofs.Common.{◌≡◌, ◌<◌, ◌∙◌, ap, sym, subst, length}
+use Rattle.std.proofs.Common.{◌<◌, ◌∙◌, ap, sym, subst, length}
 use Rattle.cops_node.specs.Parts.{Shared, trail_of}
 use Rattle.cops_node.proofs.Slots.{length_places, solo_trail}
 use Rattle.cops_node.proofs.node.Node.audit_len.Goals as goal

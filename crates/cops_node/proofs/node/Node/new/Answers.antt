@@ -1,6 +1,5 @@
 use Rattle.std.proofs.Common.{◌≡◌, sym, ap, ◌∙◌, length, subst, []}
 use Rattle.std.specs.Prelude.{replicate}
-use Rattle.cops_outbox.specs.Queues.{Queues}
 use Rattle.cops_node.specs.Parts.{IsNode}
 use Rattle.cops_node.proofs.Fresh.{IsNode-new, clocks_of, numbers_fit}
 use Rattle.cops_node.proofs.node.Node.new.Goals as goal

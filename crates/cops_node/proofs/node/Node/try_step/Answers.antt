@@ -1,10 +1,9 @@
-use Rattle.std.proofs.Common.{◌≡◌, ◌<◌, ◌∙◌, ap, sym, refl, subst, length, inl, inr, List, get_or, set, ◌++◌, ◌∷◌, [], not, nat_lt}
-use Rattle.cops_node.specs.declared.Place.{Place}
+use Rattle.std.proofs.Common.{◌≡◌, ◌<◌, ◌∙◌, ap, sym, refl, subst, length, List, get_or, set, ◌++◌, ◌∷◌, [], not, nat_lt}
 use Rattle.cops_node.specs.declared.parts.Audited.{Audited}
 use Rattle.cops_node.specs.declared.parts.Part.{Part}
 use Rattle.cops_node.specs.Parts.{Shared, IsNode}
 use Rattle.cops_node.proofs.Slots.{place_read, same_part, full_done, raised_solo, IsNode-kept, turn_done, turn_node, view_set}
-use Rattle.cops_node.proofs.node.Node.step.Goals as goal
+use Rattle.cops_node.proofs.node.Node.try_step.Goals as goal
 
 pub returns-then-is_audit_full-clause-turn : goal.returns-then-is_audit_full-clause-turn
 returns-then-is_audit_full-clause-turn c = λ place is.
@@ -12,7 +11,7 @@ returns-then-is_audit_full-clause-turn c = λ place is.
     let place_is = place_read c.self.inside.parts.items c.args.slot place c.index-part.result.now within (subst (λ (v : Shared). place ≡ get_or v.home.places c.args.slot place) (sym c.self.view_is) is) c.index-part.ensures in
     let done = full_done c.self.inside.id c.self.inside.data_centres c.self.inside.shards c.args.slot c.args.moment c.args.call c.self.inside.parts.items c.index-part.result.now c.self.inside.store c.self.inside.outbox c.self.inside.audit.items
     c.is_audit_full.result c.self.invariant within c.index-part.ensures c.is_audit_full.ensures c.if-is_audit_full.true place c.args.self.now.audit place_is (ap (λ (v : Shared). v.audit) c.self.view_is) in
-    inr (done.0, done.1)
+    (done.0, done.1)
 
 pub invariant_of-self-then-is_err-2 : goal.invariant_of-self-then-is_err-2
 invariant_of-self-then-is_err-2 c =
@@ -22,21 +21,10 @@ invariant_of-self-then-is_err-2 c =
     (IsNode-kept c.args.slot c.self.inside.id c.self.inside.data_centres c.self.inside.shards c.self.inside.parts.items c.index_mut-part.result.now new c.self.inside.store c.self.inside.store c.self.inside.outbox c.self.inside.outbox c.self.inside.audit.items
     c.self.invariant within c.index_mut-part.ensures.value refl refl refl c.reserve-2.ensures.items refl refl refl)
 
-pub returns-then-is_err-2-clause-turn : goal.returns-then-is_err-2-clause-turn
-returns-then-is_err-2-clause-turn c = λ place is.
-    inl (
-      refl,
-      view_set c.self.inside.id c.self.inside.data_centres c.self.inside.shards c.args.slot c.self.inside.parts.items c.index_mut-part.result.now (record c.index_mut-part.result.now { trail = c.reserve-2.new.self }) c.self.inside.audit.items c.reserve.new.self.items
-          c.index_mut-part.ensures.value refl c.reserve.ensures.items ∙ c.self.view_is,
-    )
-
-pub returns-then-is_err-2-clause-audited : goal.returns-then-is_err-2-clause-audited
-returns-then-is_err-2-clause-audited c =
-    inl (
-      inl refl,
-      view_set c.self.inside.id c.self.inside.data_centres c.self.inside.shards c.args.slot c.self.inside.parts.items c.index_mut-part.result.now (record c.index_mut-part.result.now { trail = c.reserve-2.new.self }) c.self.inside.audit.items c.reserve.new.self.items
-          c.index_mut-part.ensures.value refl c.reserve.ensures.items ∙ c.self.view_is,
-    )
+pub returns-then-is_err-2-clause-err : goal.returns-then-is_err-2-clause-err
+returns-then-is_err-2-clause-err c =
+    view_set c.self.inside.id c.self.inside.data_centres c.self.inside.shards c.args.slot c.self.inside.parts.items c.index_mut-part.result.now (record c.index_mut-part.result.now { trail = c.reserve-2.new.self }) c.self.inside.audit.items c.reserve.new.self.items
+    c.index_mut-part.ensures.value refl c.reserve.ensures.items ∙ c.self.view_is
 
 pub returns-then-is_err-2-clause-home : goal.returns-then-is_err-2-clause-home
 returns-then-is_err-2-clause-home c =
@@ -58,21 +46,10 @@ invariant_of-self-in_default c =
     (IsNode-kept c.args.slot c.self.inside.id c.self.inside.data_centres c.self.inside.shards c.self.inside.parts.items c.index_mut-part.result.now new c.self.inside.store c.act.new.store c.self.inside.outbox c.act.new.outbox c.self.inside.audit.items
     c.self.invariant within c.index_mut-part.ensures.value refl refl same.counters_are c.reserve-2.ensures.items same.rows same.tenants same.outbox_is)
 
-pub returns-in_default-clause-turn : goal.returns-in_default-clause-turn
-returns-in_default-clause-turn c = λ place is.
-    inl (
-      refl,
-      view_set c.self.inside.id c.self.inside.data_centres c.self.inside.shards c.args.slot c.self.inside.parts.items c.index_mut-part.result.now (record c.index_mut-part.result.now { counters = c.act.new.counters; trail = c.reserve-2.new.self }) c.self.inside.audit.items c.reserve.new.self.items
-          c.index_mut-part.ensures.value refl c.reserve.ensures.items ∙ c.self.view_is,
-    )
-
-pub returns-in_default-clause-audited : goal.returns-in_default-clause-audited
-returns-in_default-clause-audited c =
-    inl (
-      inl refl,
-      view_set c.self.inside.id c.self.inside.data_centres c.self.inside.shards c.args.slot c.self.inside.parts.items c.index_mut-part.result.now (record c.index_mut-part.result.now { counters = c.act.new.counters; trail = c.reserve-2.new.self }) c.self.inside.audit.items c.reserve.new.self.items
-          c.index_mut-part.ensures.value refl c.reserve.ensures.items ∙ c.self.view_is,
-    )
+pub returns-in_default-clause-err : goal.returns-in_default-clause-err
+returns-in_default-clause-err c =
+    view_set c.self.inside.id c.self.inside.data_centres c.self.inside.shards c.args.slot c.self.inside.parts.items c.index_mut-part.result.now (record c.index_mut-part.result.now { counters = c.act.new.counters; trail = c.reserve-2.new.self }) c.self.inside.audit.items c.reserve.new.self.items
+    c.index_mut-part.ensures.value refl c.reserve.ensures.items ∙ c.self.view_is
 
 pub returns-in_default-clause-home : goal.returns-in_default-clause-home
 returns-in_default-clause-home c =
@@ -115,7 +92,7 @@ returns-clause-turn c = λ place is.
     c.self.inside.store c.act.new.store c.self.inside.outbox c.act.new.outbox c.self.inside.audit.items c.push-2.new.self.items c.in-Ok.replies.told c.in-Ok.replies.kept c.is_audit_full.result
     c.self.invariant within c.index_mut-part.ensures.value (room c) c.if-is_audit_full.false c.max-now.ensures refl refl (noted c) c.in-Ok.ensures.done c.in-Ok.ensures.kept c.in-Ok.ensures.others (pushed c)
     place c.args.self.now.audit place_is (ap (λ (v : Shared). v.audit) c.self.view_is) in
-    inr (done.0, done.1)
+    (done.0, done.1)
 
 pub returns-clause-home : goal.returns-clause-home
 returns-clause-home c =
