@@ -13,7 +13,7 @@ use Rattle.cops_types.specs.Records.{StandsFor}
 use Rattle.cops_types.specs.TenantConfig.{tenant_config}
 use Rattle.cops_types.specs.Version.{Timestamp, no_version, last_clock}
 use Rattle.cops_store.specs.Contents.{Contents, rows_of}
-use Rattle.cops_outbox.specs.Queues.{Queues, entries_of}
+use Rattle.cops_outbox.specs.Queues.{Queues, queue_of}
 use Rattle.cops_node.specs.declared.NodeId.{NodeId}
 use Rattle.cops_node.specs.declared.Place.{Place}
 use Rattle.cops_node.specs.declared.parts.Part.{Part}
@@ -67,9 +67,14 @@ place_at config id (p ∷ parts) (t ∷ tenants) (suc slot) part same clocks lt 
     let rest : map (λ (p : Part). p.place) parts ≡ map (λ (t : Tenant). place_of (tenant_config config t) id) tenants = cc in
     place_at config id parts tenants slot part rest clocks.1 (omega arith) is
 
+nothing_waits : (data_centres slots dc slot : ℕ) → let none : List (List (List Entry)) = replicate data_centres (replicate slots []) in get_or (get_or none dc []) slot [] ≡ []
+nothing_waits zero slots dc slot = refl
+nothing_waits (suc data_centres) slots zero slot = replicate_read slots slot []
+nothing_waits (suc data_centres) slots (suc dc) slot = nothing_waits data_centres slots dc slot
+
 pub IsNode-new : (config : Config) (id : NodeId) (parts : List Part) (store : Contents) (outbox : Queues) → id.dc < config.data_centres → id.shard < config.shards → config.data_centres * config.shards ≤ NODES
     → AllByRecursion (λ (t : Tenant). t.first_clock ≤ last_clock) config.tenants → AllByRecursion IsFresh parts → map (λ (p : Part). p.place) parts ≡ map (λ (t : Tenant). place_of (tenant_config config t) id) config.tenants
-    → store.tenants ≡ length parts → outbox ≡ record { own = id.dc; tenants = length parts; queues = replicate config.data_centres [] }
+    → store.tenants ≡ length parts → outbox ≡ record { own = id.dc; tenants = length parts; queues = replicate config.data_centres (replicate (length parts) []) }
     → ((slot : ℕ) → StandsFor (rows_of slot store) []) → IsNode id config.data_centres config.shards parts store outbox []
 IsNode-new config id parts store outbox dc shard numbers clocks fresh places stored outbox_is empty = record {
   shard_exists = shard;
@@ -96,9 +101,9 @@ IsNode-new config id parts store outbox dc shard numbers clocks fresh places sto
             stored = subst (λ n. slot < n) (sym stored) lt;
             queued = subst (λ (o : Queues). slot < o.tenants) (sym outbox_is) lt;
             own_is = ap (λ (o : Queues). o.own) outbox_is ∙ subst (λ (q : Place). id.dc ≡ q.id.dc) back refl;
-            all_queues = ap (λ (o : Queues). length o.queues) outbox_is ∙ length_replicate config.data_centres [] ∙ sym sizes;
+            all_queues = ap (λ (o : Queues). length o.queues) outbox_is ∙ length_replicate config.data_centres (replicate (length parts) []) ∙ sym sizes;
             rows = empty slot;
-            queues = λ dc other. ap (λ (o : Queues). entries_of slot (get_or o.queues dc [])) outbox_is ∙ ap (entries_of slot) (replicate_read config.data_centres dc []) ∙ sym (drop_nothing (get_or (replicate part.place.data_centres 0) dc 0));
+            queues = λ dc other. ap (queue_of slot dc) outbox_is ∙ nothing_waits config.data_centres (length parts) dc slot ∙ sym (drop_nothing (get_or (replicate part.place.data_centres 0) dc 0));
             all_acked = length_replicate part.place.data_centres 0;
             acked = λ dc. subst (λ n. n ≤ 0) (sym (replicate_read part.place.data_centres dc 0)) (omega arith);
             clock_is = h.clock_is;

@@ -1,42 +1,44 @@
-use Rattle.std.proofs.Common.{◌≡◌, ◌∙◌, ap, sym, ℕ, List, [], ◌++◌, get_or, take, drop, length}
-use Rattle.std.specs.Vec.{with_items}
-use Rattle.std.proofs.Math.Seq.{take-append_seam}
-use Rattle.std.specs.Prelude.{OnOk, OnErr, Ok, Err, Result}
-use Rattle.cops_outbox.specs.declared.queue.Queue.{Queue}
-use Rattle.cops_outbox.specs.declared.queue.Waiting.{Waiting}
-use Rattle.cops_outbox.specs.Queues.{Queues, entries_of, pushed, rows_of}
-use Rattle.cops_outbox.proofs.Rows.{pushed_entry, pushed_other}
+use Rattle.std.proofs.Common.{◌≡◌, ◌∙◌, ap, subst, set}
+use Rattle.cops_types.specs.declared.records.EntryParts.{EntryParts as Entry}
+use Rattle.slab.specs.Slab.{Slab}
+use Rattle.cops_outbox.specs.declared.rows.Row.{Row}
+use Rattle.cops_outbox.specs.Queues.{queue_of, pushed}
+use Rattle.cops_outbox.specs.Lines.{IsLonger}
+use Rattle.cops_outbox.proofs.Views.{shown, push_shown, turn_lines, alone_shown, none_other, slot_inside, pushed_entry, pushed_other}
 use Rattle.cops_outbox.proofs.outbox.Outbox.push.Goals as goal
 
-on_ok : {A E : Type 0} (r : Result A E) (P Q : Type 0) → (P → Q) → OnOk r P → OnOk r Q
-on_ok (Ok a) P Q f p = f p
-on_ok (Err e) P Q f p = p
+pushed_view : (c : goal.After-self-1) → shown c.add.new.rows.slots c.self.inside.own c.self.inside.tenants c.self.inside.data_centres (set c.self.inside.lines.items c.args.slot c.add.new.line)
+    ≡ record c.args.self.now { queues = pushed 0 c.args.self.now.own (record { slot = c.args.slot; entry = c.args.entry.now }) c.args.self.now.queues }
+pushed_view c =
+    push_shown c.self.inside.rows.slots c.self.inside.own c.self.inside.tenants c.self.inside.data_centres c.self.inside.lines.items c.args.self.now c.self.invariant c.self.view_is
+    c.reserve.new.self.slots c.add.new.rows.slots c.args.slot c.args.entry.now c.index_mut-line.result.now c.add.new.line (ap (λ (s : Slab Row). s.slots) c.reserve.ensures.rest_kept) c.requires.slot c.index_mut-line.ensures.value
+    (subst (λ (e : Entry). IsLonger c.reserve.new.self.slots c.add.new.rows.slots c.self.inside.own c.args.slot e c.index_mut-line.result.now c.add.new.line) c.in_ok-copy.ensures c.add.ensures.longer)
 
-either : {A E : Type 0} (r : Result A E) (P Q R : Type 0) → (P → R) → (Q → R) → OnOk r P → OnErr r Q → R
-either (Ok a) P Q R f g p q = f p
-either (Err e) P Q R f g p q = g q
-
-refilled : (n : ℕ) (new old : List Queue) → length new ≡ n → take n (new ++ drop (length new) old) ≡ new
-refilled n new old long = ap (λ m. take m (new ++ drop (length new) old)) (sym long) ∙ take-append_seam new (drop (length new) old)
-
-abbrev waiting : goal.After-self-1 → Waiting
-waiting c = record { slot = c.args.slot; entry = c.args.entry.now }
-
-abbrev view : goal.After-self-1 → List (List Waiting)
-view c = rows_of (with_items c.self.inside.queues c.push_all.new.queues).items
-
-written : (c : goal.After-self-1) → view c ≡ rows_of c.push_all.new.queues
-written c = ap rows_of (refilled (c.self.inside.queues.len) c.push_all.new.queues c.self.inside.queues.items (c.push_all.auto.queues ∙ c.deref_mut.ensures.len))
-
-shown : (c : goal.After-self-1) → pushed 0 c.self.inside.own (waiting c) (rows_of c.deref_mut.result.now) ≡ pushed 0 c.args.self.now.own (waiting c) c.args.self.now.queues
-shown c = ap (λ (qs : List Queue). pushed 0 c.self.inside.own (waiting c) (rows_of qs)) c.deref_mut.ensures.value ∙ ap (λ (v : Queues). pushed 0 v.own (waiting c) v.queues) c.self.view_is
+pub returns-clause-ok : goal.returns-clause-ok
+returns-clause-ok c = pushed_view c
 
 pub returns-clause-entry : goal.returns-clause-entry
-returns-clause-entry c = on_ok c.push_all.result _ _ (λ e dc lt differ. ap (λ (qs : List (List Waiting)). entries_of c.args.slot (get_or qs dc [])) (written c ∙ e ∙ shown c) ∙ pushed_entry c.args.self.now.own (waiting c) c.args.self.now.queues dc lt differ) c.push_all.ensures.ok
+returns-clause-entry c = λ dc lt differ.
+    ap (queue_of c.args.slot dc) (pushed_view c)
+    ∙ pushed_entry c.args.self.now.own (record { slot = c.args.slot; entry = c.args.entry.now }) c.args.self.now.queues dc lt differ
+    (slot_inside c.self.inside.rows.slots c.self.inside.own c.self.inside.tenants c.self.inside.data_centres c.self.inside.lines.items c.args.self.now c.self.invariant c.self.view_is c.args.slot dc c.requires.slot lt)
 
 pub returns-clause-others : goal.returns-clause-others
 returns-clause-others c = λ other dc differ.
-    either c.push_all.result _ _ _
-    (λ e. ap (λ (qs : List (List Waiting)). entries_of other (get_or qs dc [])) (written c ∙ e ∙ shown c) ∙ pushed_other 0 c.args.self.now.own (waiting c) c.args.self.now.queues other dc differ)
-    (λ e. ap (λ (qs : List (List Waiting)). entries_of other (get_or qs dc [])) (written c ∙ e ∙ ap rows_of c.deref_mut.ensures.value ∙ ap (λ (v : Queues). v.queues) c.self.view_is))
-    c.push_all.ensures.ok c.push_all.ensures.err
+    ap (queue_of other dc) (pushed_view c) ∙ pushed_other 0 c.args.self.now.own (record { slot = c.args.slot; entry = c.args.entry.now }) c.args.self.now.queues other dc differ
+
+pub invariant_of-self-2 : goal.invariant_of-self-2
+invariant_of-self-2 c =
+    turn_lines c.self.inside.rows.slots c.self.inside.own c.self.inside.tenants c.self.inside.data_centres c.self.inside.lines.items c.args.self.now c.self.invariant c.self.view_is
+    c.reserve.new.self.slots c.add.new.rows.slots c.args.slot c.index_mut-line.result.now c.add.new.line (ap (λ (s : Slab Row). s.slots) c.reserve.ensures.rest_kept) c.requires.slot c.index_mut-line.ensures.value
+    c.add.ensures.longer.turn c.add.ensures.needed
+
+pub returns-then-self-least_other-clause-ok : goal.returns-then-self-least_other-clause-ok
+returns-then-self-least_other-clause-ok c =
+    alone_shown c.self.inside.rows.slots c.self.inside.own c.self.inside.tenants c.self.inside.data_centres c.self.inside.lines.items c.args.self.now c.self.invariant c.self.view_is
+    c.least_other.result (record { slot = c.args.slot; entry = c.args.entry.now }) c.least_other.ensures.least c.if-self-least_other.true
+
+pub returns-then-self-least_other-clause-entry : goal.returns-then-self-least_other-clause-entry
+returns-then-self-least_other-clause-entry c = λ dc lt differ.
+    absurd (none_other c.self.inside.rows.slots c.self.inside.own c.self.inside.tenants c.self.inside.data_centres c.self.inside.lines.items c.args.self.now c.self.invariant c.self.view_is
+    c.least_other.result dc c.least_other.ensures.least c.if-self-least_other.true lt differ)

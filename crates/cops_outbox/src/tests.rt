@@ -1,0 +1,152 @@
+//! Worked examples. In a run in which one request for memory is refused, the call is made again
+//! where nothing has changed.
+ghost use Rattle.std.specs.Prelude.{◌≡◌, ◌<◌, length};
+
+use crate::Outbox;
+use cops_types::{Deps, Entry, EntryParts, Key, Near, Value, Version};
+use std::alloc::Global;
+use std::process::Abort;
+
+fn version(rt: &impl Abort, clock: u64) -> Version {
+    assert!(rt; clock <= 72057594037927935);
+    Version::of(clock, 0)
+}
+
+fn parts(rt: &impl Abort, alloc: Global, clock: u64) -> EntryParts {
+    let value = match Value::new(alloc, b"10") {
+        Ok(value) => value,
+        Err(_) => Value::new(alloc, b"10").expect(rt, "a value"),
+    };
+    EntryParts {
+        key: Key::new(b"x").expect(rt, "a key"),
+        version: version(rt, clock),
+        value,
+        deps: Deps::empty(alloc),
+        near: Near::empty(alloc),
+        prev: version(rt, 0),
+    }
+}
+
+/// An entry of the version with this clock.
+fn entry(rt: &impl Abort, alloc: Global, clock: u64) -> Entry {
+    match Entry::new(alloc, parts(rt, alloc, clock)) {
+        Ok(entry) => entry,
+        Err(_) => Entry::new(alloc, parts(rt, alloc, clock)).expect(rt, "memory"),
+    }
+}
+
+/// What the first of some data centres sends, for two tenants.
+fn outbox(rt: &impl Abort, alloc: Global, data_centres: usize) -> Outbox
+    ensures tenants { result.tenants ≡ 2 }
+    ensures data_centres { length result.queues ≡ data_centres }
+{
+    match Outbox::new(alloc, data_centres, 0, 2) {
+        Ok(outbox) => outbox,
+        Err(_) => Outbox::new(alloc, data_centres, 0, 2).expect(rt, "memory"),
+    }
+}
+
+/// The clock of the slot's first entry, or 0 where there is none.
+fn front(outbox: &Outbox, slot: usize, dc: usize) -> u64
+    requires slot { slot < outbox.now.tenants }
+    requires dc { dc < length outbox.now.queues }
+{
+    match outbox.front_of(slot, dc) {
+        Some(entry) => entry.version().clock(),
+        None => 0,
+    }
+}
+
+/// The front of each tenant and how many entries wait, for a data centre.
+fn seen(outbox: &Outbox, dc: usize) -> ((u64, usize), (u64, usize))
+    requires tenants { outbox.now.tenants ≡ 2 }
+    requires dc { dc < length outbox.now.queues }
+{
+    let first = (front(outbox, 0, dc), outbox.waiting(0, dc));
+    let second = (front(outbox, 1, dc), outbox.waiting(1, dc));
+    (first, second)
+}
+
+/// Adds the entry with this clock, to all or to none.
+fn push(rt: &impl Abort, alloc: Global, outbox: &mut Outbox, slot: usize, clock: u64)
+    requires slot { slot < 2 }
+    requires tenants { outbox.old.tenants ≡ 2 }
+    requires data_centres { length outbox.old.queues ≡ 3 }
+    ensures tenants { outbox.new.tenants ≡ 2 }
+    ensures data_centres { length outbox.new.queues ≡ 3 }
+{
+    let entry = entry(rt, alloc, clock);
+    let before = (seen(outbox, 1), seen(outbox, 2));
+    if outbox.push(slot, &entry).is_err() {
+        assert_eq!(rt; (seen(outbox, 1), seen(outbox, 2)), before);
+        outbox.push(slot, &entry).expect(rt, "memory");
+    }
+}
+
+#[test]
+fn each_tenant_has_a_limit_and_a_front(rt: HostRuntime) {
+    let alloc = rt.alloc();
+    let mut outbox = outbox(&rt, alloc, 2);
+    assert!(rt; !outbox.is_full(0, 1) && !outbox.is_full(1, 1));
+    let first = entry(&rt, alloc, 1);
+    if outbox.push(0, &first).is_err() {
+        assert_eq!(rt; seen(&outbox, 1), ((0, 0), (0, 0)));
+        outbox.push(0, &first).expect(&rt, "memory");
+    }
+    assert!(rt; outbox.is_full(0, 1) && !outbox.is_full(1, 1));
+    let second = entry(&rt, alloc, 2);
+    if outbox.push(1, &second).is_err() {
+        assert_eq!(rt; seen(&outbox, 1), ((1, 1), (0, 0)));
+        outbox.push(1, &second).expect(&rt, "memory");
+    }
+    assert_eq!(rt; seen(&outbox, 1), ((1, 1), (2, 1)));
+    assert!(rt; !outbox.ack(1, 1, version(&rt, 1)));
+    assert_eq!(rt; seen(&outbox, 1), ((1, 1), (2, 1)));
+    assert!(rt; outbox.ack(0, 1, version(&rt, 1)));
+    assert_eq!(rt; seen(&outbox, 1), ((0, 0), (2, 1)));
+    assert!(rt; !outbox.ack(0, 1, version(&rt, 1)));
+    assert!(rt; !outbox.is_full(0, 1) && outbox.is_full(1, 1));
+    assert_eq!(rt; seen(&outbox, 0), ((0, 0), (0, 0)));
+}
+
+#[test]
+fn data_centres_acknowledge_at_their_own_pace(rt: HostRuntime) {
+    let alloc = rt.alloc();
+    let mut outbox = outbox(&rt, alloc, 3);
+    push(&rt, alloc, &mut outbox, 0, 1);
+    push(&rt, alloc, &mut outbox, 1, 1);
+    push(&rt, alloc, &mut outbox, 0, 2);
+    push(&rt, alloc, &mut outbox, 1, 5);
+    push(&rt, alloc, &mut outbox, 0, 3);
+    assert_eq!(rt; seen(&outbox, 0), ((0, 0), (0, 0)));
+    assert_eq!(rt; seen(&outbox, 1), ((1, 3), (1, 2)));
+    assert_eq!(rt; seen(&outbox, 2), ((1, 3), (1, 2)));
+    assert!(rt; !outbox.ack(0, 1, version(&rt, 2)));
+    assert!(rt; outbox.ack(0, 1, version(&rt, 1)));
+    assert!(rt; outbox.ack(0, 1, version(&rt, 2)));
+    assert_eq!(rt; seen(&outbox, 1), ((3, 1), (1, 2)));
+    assert_eq!(rt; seen(&outbox, 2), ((1, 3), (1, 2)));
+    assert!(rt; outbox.is_full(0, 3) && !outbox.is_full(1, 3));
+    assert!(rt; outbox.ack(0, 2, version(&rt, 1)));
+    push(&rt, alloc, &mut outbox, 0, 4);
+    assert_eq!(rt; seen(&outbox, 1), ((3, 2), (1, 2)));
+    assert_eq!(rt; seen(&outbox, 2), ((2, 3), (1, 2)));
+    assert!(rt; outbox.ack(0, 1, version(&rt, 3)) && outbox.ack(0, 1, version(&rt, 4)));
+    assert_eq!(rt; seen(&outbox, 1), ((0, 0), (1, 2)));
+    assert!(rt; outbox.ack(0, 2, version(&rt, 2)) && outbox.ack(0, 2, version(&rt, 3)));
+    assert!(rt; outbox.ack(1, 2, version(&rt, 1)) && !outbox.ack(1, 0, version(&rt, 1)));
+    assert_eq!(rt; seen(&outbox, 2), ((4, 1), (5, 1)));
+    push(&rt, alloc, &mut outbox, 0, 6);
+    assert_eq!(rt; seen(&outbox, 1), ((6, 1), (1, 2)));
+    assert_eq!(rt; seen(&outbox, 2), ((4, 2), (5, 1)));
+}
+
+#[test]
+fn one_data_centre_sends_nothing(rt: HostRuntime) {
+    let alloc = rt.alloc();
+    let mut outbox = outbox(&rt, alloc, 1);
+    let entry = entry(&rt, alloc, 1);
+    outbox.push(0, &entry).expect(&rt, "no memory is asked for");
+    assert_eq!(rt; seen(&outbox, 0), ((0, 0), (0, 0)));
+    assert!(rt; !outbox.is_full(0, 0));
+}
