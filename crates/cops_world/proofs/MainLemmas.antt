@@ -21,6 +21,7 @@ use Rattle.cops_world.proofs.EndingSteps.{has_ending_steps}
 use Rattle.cops_world.proofs.LeastPasts.{has_least_pasts}
 use Rattle.cops_world.proofs.Never.{is_as_expected}
 use Rattle.cops_world.proofs.Past.{has_exact_deps}
+use Rattle.cops_world.proofs.Restarting.{restarts_only_late}
 use Rattle.cops_world.proofs.Settled.{is_settled}
 use Rattle.cops_world.proofs.WorldJoins.{quota_at}
 use Rattle.cops_world.proofs.WorldKeeps.{sizes_at, tenant_within}
@@ -51,6 +52,7 @@ keeps_causality config acts some = record {
   expected = is_as_expected config some acts;
   convergent = is_convergent config some acts;
   settled = is_settled config some acts;
+  late = restarts_only_late config some acts;
   ends = has_ending_steps config some acts;
 }
 

@@ -9,6 +9,7 @@ use Rattle.cops_world.specs.declared.replies.Reply.{Reply}
 use Rattle.cops_world.specs.Events.{config_at, own, replies, solo_replies, IsSpared}
 use Rattle.cops_world.specs.Laws.{HasExactDeps, HasCommittedPasts, IsConsistent, IsAsExpected, IsConvergent, IsSettled, HasEndingSteps}
 use Rattle.cops_world.specs.Precedence.{HasLeastPasts}
+use Rattle.cops_world.specs.Restarts.{RestartsOnlyLate}
 
 -- unless a reply to him was for want of memory, the tenant of the slot was told what a cluster of his own tells him
 abbrev pub IsToldAlone : Config → List Event → List Reply → ℕ → Type 0
@@ -28,6 +29,8 @@ pub record KeepsCausality (config : TenantConfig) (acts : List Act) : Type 0 whe
   -- equivalent nodes come to show the same
   pub convergent : IsConvergent config acts
   pub settled : IsSettled config acts
+  -- a transaction begins again only at a moment that is late for it
+  pub late : RestartsOnlyLate config acts
   -- `done` ends
   pub ends : HasEndingSteps config acts
 

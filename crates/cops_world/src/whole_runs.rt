@@ -1,13 +1,35 @@
 //! Runs of events in a new world: of all tenants, and of one alone.
-ghost use Rattle.std.specs.Prelude.{◌≡◌, ◌<◌, All, IfOk, IsTrue, length, slice_get, Some};
+ghost use Rattle.std.specs.Prelude.{◌≡◌, ◌<◌, ℕ, All, IfOk, IsTrue, length, slice_get, Some};
 ghost use Rattle.cops_types.specs.declared.configs.Tenant.{Tenant};
-ghost use Rattle.cops_world.specs.Events.{config_at, own, solo_replies, IsSpared};
+ghost use Rattle.cops_world.specs.Events.{config_at, own, replies, solo_replies, IsSpared};
 ghost use Rattle.cops_world.specs.GoodHeads.{is_good};
+ghost use Rattle.cops_world.specs.Laws.{cluster_of};
+ghost use Rattle.cops_world.specs.Worlds.{HasCluster, setup_of};
 ghost use Rattle.cops_world.specs.MainTheorem.{MainTheorem, with_tenant_alone};
 
 use crate::{Event, Reply, World, run_all};
 use cops_types::{Config, Tenants};
 use std::alloc::{AllocError, Global};
+
+/// A new world of a configuration after events in a row, and the replies to them. What its audits
+/// show of a tenant is what those of his own cluster show.
+pub fn run_world(
+    alloc: Global,
+    config: Config,
+    events: &[Event],
+) -> Result<(World, Vec<Reply>), AllocError>
+    requires good { IsTrue (is_good config) }
+    requires slots { All (λ e. e.slot < length config.tenants) events.now }
+    ensures length { IfOk result (λ run. length run.1.items ≡ length events.now) }
+    ensures setup { IfOk result (λ run. setup_of run.0 ≡ config) }
+    ensures theorem { IfOk result (λ run. MainTheorem config events.now run.1.items) }
+    ensures clusters { IfOk result (λ run. (slot : ℕ) → slot < length config.tenants → IsSpared (replies slot events.now run.1.items) →
+        HasCluster run.0 slot (cluster_of (config_at config slot) (own slot events.now))) }
+{
+    let mut world = World::new(alloc, config)?;
+    let told = run_all(alloc, &mut world, events)?;
+    Ok((world, told))
+}
 
 /// The replies to events in a row, in a new world of a configuration.
 pub fn run(alloc: Global, config: Config, events: &[Event]) -> Result<Vec<Reply>, AllocError>
@@ -16,8 +38,8 @@ pub fn run(alloc: Global, config: Config, events: &[Event]) -> Result<Vec<Reply>
     ensures length { IfOk result (λ told. length told.items ≡ length events.now) }
     ensures theorem { IfOk result (λ told. MainTheorem config events.now told.items) }
 {
-    let mut world = World::new(alloc, config)?;
-    run_all(alloc, &mut world, events)
+    let (_world, told) = run_world(alloc, config, events)?;
+    Ok(told)
 }
 
 /// A configuration with one of its tenants alone.

@@ -1,0 +1,25 @@
+use Rattle.std.proofs.Common.{◌≡◌, ap, subst, ◌∙◌}
+use Rattle.cops_types.specs.declared.configs.Config.{Config}
+use Rattle.cops_world.specs.Cluster.{new_cluster}
+use Rattle.cops_world.specs.Events.{cluster_after, config_at, own, replies_from}
+use Rattle.cops_world.specs.Worlds.{HasCluster}
+use Rattle.cops_world.proofs.MainLemmas.{holds_for}
+use Rattle.cops_world.proofs.whole_runs.run_world.Goals as goal
+
+pub returns-clause-theorem : goal.returns-clause-theorem
+returns-clause-theorem c = λ slot within.
+    let config = c.args.config in
+    let events = c.args.events.now in
+    let new = c.in_ok-world.ensures in
+    holds_for config events c.in_ok-told.told.items slot c.requires.good within
+    (λ spared.
+    (c.in_ok-told.ensures.alone slot (new_cluster (config_at config slot)) (new.empty slot within) spared).same
+    ∙ ap (λ k. replies_from (config_at k slot) (own slot events) (new_cluster (config_at config slot))) new.setup_is)
+
+pub returns-clause-clusters : goal.returns-clause-clusters
+returns-clause-clusters c = λ slot within spared.
+    let config = c.args.config in
+    let events = c.args.events.now in
+    let new = c.in_ok-world.ensures in
+    subst (λ (k : Config). HasCluster c.run_all.new.world slot (cluster_after (config_at k slot) (own slot events) (new_cluster (config_at config slot)))) new.setup_is
+    (c.in_ok-told.ensures.alone slot (new_cluster (config_at config slot)) (new.empty slot within) spared).stands
