@@ -21,6 +21,7 @@ use Rattle.cops_world.proofs.EndingSteps.{has_ending_steps}
 use Rattle.cops_world.proofs.LeastPasts.{has_least_pasts}
 use Rattle.cops_world.proofs.Never.{is_as_expected}
 use Rattle.cops_world.proofs.Past.{has_exact_deps}
+use Rattle.cops_world.proofs.Restarting.{restarts_only_late}
 use Rattle.cops_world.proofs.Settled.{is_settled}
 use Rattle.cops_world.proofs.WorldJoins.{quota_at}
 use Rattle.cops_world.proofs.WorldKeeps.{sizes_at, tenant_within}
@@ -52,6 +53,7 @@ keeps_causality config acts some = record {
   convergent = is_convergent config some acts;
   settled = is_settled config some acts;
   ends = has_ending_steps config some acts;
+  restarts = restarts_only_late config some acts;
 }
 
 pub holds_for : (config : Config) (events : List Event) (told : List Reply) (slot : ℕ) → IsTrue (is_good config) → slot < length config.tenants → IsToldAlone config events told slot → HoldsFor config events told slot

@@ -9,6 +9,7 @@ use Rattle.cops_world.specs.declared.replies.Reply.{Reply}
 use Rattle.cops_world.specs.Events.{config_at, own, replies, solo_replies, IsSpared}
 use Rattle.cops_world.specs.Laws.{HasExactDeps, HasCommittedPasts, IsConsistent, IsAsExpected, IsConvergent, IsSettled, HasEndingSteps}
 use Rattle.cops_world.specs.Precedence.{HasLeastPasts}
+use Rattle.cops_world.specs.Restarts.{RestartsOnlyLate}
 
 -- unless a reply to him was for want of memory, the tenant of the slot was told what a cluster of his own tells him
 abbrev pub IsToldAlone : Config → List Event → List Reply → ℕ → Type 0
@@ -30,6 +31,8 @@ pub record KeepsCausality (config : TenantConfig) (acts : List Act) : Type 0 whe
   pub settled : IsSettled config acts
   -- `done` ends
   pub ends : HasEndingSteps config acts
+  -- a transaction begins again only where a moment handed in is late for its attempt
+  pub restarts : RestartsOnlyLate config acts
 
 -- the tenant of a slot is told what a cluster of his own tells him; in any other run that agrees on his own events, and on the
 -- configuration as it concerns him, he is told the same; and what he is told keeps the causal laws
