@@ -54,6 +54,7 @@ keeps_causality config acts some = record {
   settled = is_settled config some acts;
   late = restarts_only_late config some acts;
   ends = has_ending_steps config some acts;
+  restarts = restarts_only_late config some acts;
 }
 
 pub holds_for : (config : Config) (events : List Event) (told : List Reply) (slot : ℕ) → IsTrue (is_good config) → slot < length config.tenants → IsToldAlone config events told slot → HoldsFor config events told slot

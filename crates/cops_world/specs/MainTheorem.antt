@@ -33,6 +33,8 @@ pub record KeepsCausality (config : TenantConfig) (acts : List Act) : Type 0 whe
   pub late : RestartsOnlyLate config acts
   -- `done` ends
   pub ends : HasEndingSteps config acts
+  -- a transaction begins again only where a moment handed in is late for its attempt
+  pub restarts : RestartsOnlyLate config acts
 
 -- the tenant of a slot is told what a cluster of his own tells him; in any other run that agrees on his own events, and on the
 -- configuration as it concerns him, he is told the same; and what he is told keeps the causal laws
