@@ -52,7 +52,6 @@ keeps_causality config acts some = record {
   expected = is_as_expected config some acts;
   convergent = is_convergent config some acts;
   settled = is_settled config some acts;
-  late = restarts_only_late config some acts;
   ends = has_ending_steps config some acts;
   restarts = restarts_only_late config some acts;
 }

@@ -29,8 +29,6 @@ pub record KeepsCausality (config : TenantConfig) (acts : List Act) : Type 0 whe
   -- equivalent nodes come to show the same
   pub convergent : IsConvergent config acts
   pub settled : IsSettled config acts
-  -- a transaction begins again only at a moment that is late for it
-  pub late : RestartsOnlyLate config acts
   -- `done` ends
   pub ends : HasEndingSteps config acts
   -- a transaction begins again only where a moment handed in is late for its attempt
