@@ -14,6 +14,7 @@ mod parts;
 mod puts;
 mod queues;
 mod replies;
+mod seeds;
 #[cfg(test)]
 mod tests;
 

@@ -10,7 +10,7 @@ ghost use Rattle.cops_node.specs.Place.{is_home, is_other_dc, is_other_equivalen
 ghost use Rattle.cops_node.specs.Shape.{place_in};
 
 use crate::parts::{self, Audited, Part};
-use crate::{AuditEntry, NodeCall, NodeId, NodeReply, Place, calls};
+use crate::{AuditEntry, NodeCall, NodeId, NodeReply, Place, calls, seeds};
 use cops_outbox::Outbox;
 use cops_store::Store;
 use cops_types::{Config, Fault, Key, Machine};
@@ -53,7 +53,8 @@ impl Node {
     {
         let parts = parts::fresh_parts(alloc, config, id)?;
         let tenants = parts.len();
-        let store = match Store::new(alloc, tenants) {
+        let seeds = seeds::seeds_of(config.tenants.as_slice());
+        let store = match Store::seeded(alloc, tenants, seeds) {
             Ok(store) => store,
             Err(_) => return Err(AllocError),
         };
