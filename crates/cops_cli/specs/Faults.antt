@@ -1,13 +1,15 @@
 -- What becomes of the faults of the calls that the program makes.
-use Rattle.std.specs.Prelude.{◌≡◌, ◌≢◌, ⊤, ℕ}
+use Rattle.std.specs.Prelude.{◌≡◌, ◌≢◌, ⊤, ℕ, Result, Err}
 use Rattle.clap.specs.Words.{kind_of}
 use Rattle.clap.specs.declared.error.Error.{Error}
 use Rattle.clap.specs.declared.error.kind.ErrorKind.TheVariants as kind
 use Rattle.cops_types.specs.declared.line_runs.fault.RunFault.{RunFault}
 use Rattle.cops_types.specs.declared.line_runs.fault.RunFault.TheVariants as run
 use Rattle.cops_world.specs.declared.scripts.BadConfig.{BadConfig}
+use Rattle.cops_world.specs.declared.solo_machine.SoloRefusal.{SoloRefusal}
+use Rattle.cops_world.specs.declared.solo_machine.SoloRefusal.TheVariants as solo
 use Rattle.cops_cli.specs.declared.faults.CliFault.{CliFault}
-use Rattle.cops_cli.specs.declared.faults.CliFault.TheVariants.{CommandLine, NoText, BadHead, OutOfMemory, ReadFault, WriteFault}
+use Rattle.cops_cli.specs.declared.faults.CliFault.TheVariants.{CommandLine, NoText, BadHead, UnknownTenant, OutOfMemory, ReadFault, WriteFault}
 
 -- the fault of a run
 abbrev pub ended_by : RunFault BadConfig → CliFault
@@ -15,6 +17,14 @@ ended_by (run.Refused bad) = BadHead bad.line
 ended_by run.OutOfMemory = OutOfMemory
 ended_by run.ReadFault = ReadFault
 ended_by run.WriteFault = WriteFault
+
+-- the fault of a run for one tenant alone
+abbrev pub ended_alone_by : RunFault SoloRefusal → CliFault
+ended_alone_by (run.Refused (solo.BadConfig bad)) = BadHead bad.line
+ended_alone_by (run.Refused solo.UnknownTenant) = UnknownTenant
+ended_alone_by run.OutOfMemory = OutOfMemory
+ended_alone_by run.ReadFault = ReadFault
+ended_alone_by run.WriteFault = WriteFault
 
 -- the fault of words that clap refuses
 pub record RefusesWords (error : Error) (fault : CliFault) : Type 0 where
@@ -33,7 +43,24 @@ IfOfWords (CommandLine error) P = P
 IfOfWords NoText P = P
 IfOfWords other P = ⊤
 
+-- where the fault is none of the command line
+abbrev pub UnlessOfWords : {T : Type 0} → Result T CliFault → Type 0 → Type 0
+UnlessOfWords (Err (CommandLine error)) P = ⊤
+UnlessOfWords (Err NoText) P = ⊤
+UnlessOfWords other P = P
+
 -- where the head is bad, at such a line
 abbrev pub IfBadHead : CliFault → (ℕ → Type 0) → Type 0
 IfBadHead (BadHead line) P = P line
 IfBadHead other P = ⊤
+
+-- where a tenant is not answered, by such a refusal
+abbrev pub IfNotAnswered : CliFault → (SoloRefusal → Type 0) → Type 0
+IfNotAnswered (BadHead line) P = P (solo.BadConfig (record { line = line }))
+IfNotAnswered UnknownTenant P = P solo.UnknownTenant
+IfNotAnswered other P = ⊤
+
+-- where the head has no such tenant
+abbrev pub IfUnknownTenant : CliFault → Type 0 → Type 0
+IfUnknownTenant UnknownTenant P = P
+IfUnknownTenant other P = ⊤

@@ -1,12 +1,12 @@
 //! Why the program ends with another status than 0.
 ghost use Rattle.std.specs.Prelude.{◌≡◌};
-ghost use Rattle.cops_cli.specs.Faults.{RefusesWords, ended_by};
+ghost use Rattle.cops_cli.specs.Faults.{RefusesWords, ended_alone_by, ended_by};
 ghost use Rattle.cops_cli.specs.Statuses.{fault_status};
 ghost use Rattle.cops_cli.specs.declared.faults.CliFault.TheVariants.{OutOfMemory};
 
 use clap::error::ErrorKind;
 use cops_types::{Fault, RunFault};
-use cops_world::BadConfig;
+use cops_world::{BadConfig, SoloRefusal};
 use std::alloc::AllocError;
 use thiserror::Error;
 
@@ -21,6 +21,8 @@ pub(crate) enum CliFault {
     /// This line of the head is bad, counted from 1.
     #[error("cops: configuration line {0}\n")]
     BadHead(u64),
+    #[error("cops: {}\n", Fault::UnknownTenant)]
+    UnknownTenant,
     #[error("cops: {}\n", Fault::OutOfMemory)]
     OutOfMemory,
     #[error("cops: {}\n", Fault::ReadFault)]
@@ -35,7 +37,8 @@ impl CliFault {
         ensures { result ≡ fault_status self.now }
     {
         match self {
-            CliFault::CommandLine(_) | CliFault::NoText | CliFault::BadHead(_) => 2,
+            CliFault::CommandLine(_) | CliFault::NoText => 2,
+            CliFault::BadHead(_) | CliFault::UnknownTenant => 2,
             CliFault::OutOfMemory | CliFault::ReadFault | CliFault::WriteFault => 1,
         }
     }
@@ -47,6 +50,20 @@ impl From<RunFault<BadConfig>> for CliFault {
     fn from(fault: RunFault<BadConfig>) -> CliFault {
         match fault {
             RunFault::Refused(bad) => CliFault::BadHead(bad.line),
+            RunFault::OutOfMemory => CliFault::OutOfMemory,
+            RunFault::ReadFault => CliFault::ReadFault,
+            RunFault::WriteFault => CliFault::WriteFault,
+        }
+    }
+}
+
+impl From<RunFault<SoloRefusal>> for CliFault {
+    ghost from_gives = { λ fault ended. ended ≡ ended_alone_by fault };
+
+    fn from(fault: RunFault<SoloRefusal>) -> CliFault {
+        match fault {
+            RunFault::Refused(SoloRefusal::BadConfig(bad)) => CliFault::BadHead(bad.line),
+            RunFault::Refused(SoloRefusal::UnknownTenant) => CliFault::UnknownTenant,
             RunFault::OutOfMemory => CliFault::OutOfMemory,
             RunFault::ReadFault => CliFault::ReadFault,
             RunFault::WriteFault => CliFault::WriteFault,

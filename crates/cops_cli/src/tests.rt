@@ -8,6 +8,7 @@ use std::test::Fail;
 fn texts_of_faults(rt: HostRuntime) -> Result<(), Fail> {
     let texts = [
         (CliFault::BadHead(7), "cops: configuration line 7\n"),
+        (CliFault::UnknownTenant, "cops: E02\n"),
         (CliFault::OutOfMemory, "cops: E23\n"),
         (CliFault::ReadFault, "cops: E26\n"),
         (CliFault::WriteFault, "cops: E27\n"),
@@ -27,7 +28,8 @@ const HELP: &str = "A causal store shared by isolated tenants
 Usage: cops <COMMAND>
 
 Commands:
-  run  Answers the script on standard input
+  run   Answers the script on standard input
+  solo  Answers it for one tenant alone
 
 Options:
   -h, --help     Print help
@@ -48,14 +50,23 @@ Usage: cops run
 For more information, try '--help'.
 ";
 
+const NO_TENANT: &str = "error: the following required arguments were not provided:
+  <TENANT>
+
+Usage: cops solo <TENANT>
+
+For more information, try '--help'.
+";
+
 #[test]
-fn words_that_ask_for_no_run(rt: HostRuntime) -> Result<(), Fail> {
-    let cases: [(&[&str], &str); 5] = [
+fn words_that_ask_for_nothing(rt: HostRuntime) -> Result<(), Fail> {
+    let cases: [(&[&str], &str); 6] = [
         (&["cops"], HELP),
         (&["cops", "--help"], HELP),
         (&["cops", "--version"], "cops 0.1\n"),
         (&["cops", "fly"], NO_COMMAND),
         (&["cops", "run", "acme"], LEFT_OVER),
+        (&["cops", "solo"], NO_TENANT),
     ];
     for (words, text) in cases {
         let mut source = Source::new(b"begin\n".as_slice());
@@ -65,5 +76,46 @@ fn words_that_ask_for_no_run(rt: HostRuntime) -> Result<(), Fail> {
         assert_eq!(rt; fault.status(), 2);
         assert!(rt; sink.into_inner().is_empty());
     }
+    Ok(())
+}
+
+const SCRIPT: &[u8] = b"cluster 1 1 5000 1
+tenant acme 00000000-0000-0000-0000-000000000001 0 100 10000 10 4 20 8 1000
+tenant beta 00000000-0000-0000-0000-000000000002 0 100 10000 10 4 20 8 1000
+begin
+acme open a 0
+beta fly
+zeta
+acme ctx a
+";
+
+#[test]
+fn words_that_are_answered(rt: HostRuntime) -> Result<(), Fail> {
+    let cases: [(&[&str], &[u8]); 3] = [
+        (
+            &["cops", "run"],
+            b"acme opened\nbeta E01\n- E02\nacme context 1\n",
+        ),
+        (&["cops", "solo", "acme"], b"acme opened\nacme context 1\n"),
+        (&["cops", "solo", "beta"], b"beta E01\n"),
+    ];
+    for (words, text) in cases {
+        let mut source = Source::new(SCRIPT);
+        let mut sink = Sink::new(Vec::new(rt.alloc()));
+        answer(rt.alloc(), words, &mut source, &mut sink).expect(&rt, "an answer");
+        assert!(rt; sink.into_inner().as_slice() == text);
+    }
+    Ok(())
+}
+
+#[test]
+fn a_tenant_that_is_not_there(rt: HostRuntime) -> Result<(), Fail> {
+    let words = ["cops", "solo", "zeta"];
+    let mut source = Source::new(SCRIPT);
+    let mut sink = Sink::new(Vec::new(rt.alloc()));
+    let fault = answer(rt.alloc(), &words, &mut source, &mut sink).expect_err(&rt, "a fault");
+    assert_eq!(rt; fault.to_string(rt.alloc())?.as_str(), "cops: E02\n");
+    assert_eq!(rt; fault.status(), 2);
+    assert!(rt; sink.into_inner().is_empty());
     Ok(())
 }
