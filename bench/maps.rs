@@ -17,7 +17,10 @@ impl Key {
     fn new(text: &[u8]) -> Key {
         let mut bytes = [0; 64];
         bytes[..text.len()].copy_from_slice(text);
-        Key { bytes, len: text.len() }
+        Key {
+            bytes,
+            len: text.len(),
+        }
     }
 
     fn bytes(&self) -> &[u8] {
@@ -59,7 +62,9 @@ struct Kept {
 type Chains = HashMap<(usize, Key), Vec<Kept>>;
 
 fn next(state: u64) -> u64 {
-    state.wrapping_mul(6364136223846793005).wrapping_add(1442695040888963407)
+    state
+        .wrapping_mul(6364136223846793005)
+        .wrapping_add(1442695040888963407)
 }
 
 fn drawn(state: u64) -> (usize, usize) {
@@ -68,12 +73,23 @@ fn drawn(state: u64) -> (usize, usize) {
 }
 
 fn insert(chains: &mut Chains, slot: usize, key: Key, version: u64, now: u64) {
-    let entry = Entry { key, version, value: Arc::from([7; 16].as_slice()), deps: None, near: None, prev: 0 };
+    let entry = Entry {
+        key,
+        version,
+        value: Arc::from([7; 16].as_slice()),
+        deps: None,
+        near: None,
+        prev: 0,
+    };
     let chain = chains.entry((slot, key)).or_default();
     if let Some(last) = chain.last_mut() {
         last.stale = Some(now);
     }
-    chain.push(Kept { entry: Arc::new(entry), at: now, stale: None });
+    chain.push(Kept {
+        entry: Arc::new(entry),
+        at: now,
+        stale: None,
+    });
 }
 
 fn fill(chains: &mut Chains, keys: &[Key], count: u64) {
@@ -106,7 +122,11 @@ fn read_exactly(chains: &Chains, keys: &[Key], count: u64, clocks: u64) -> u64 {
         let (slot, place) = drawn(state);
         let version = ((state >> 33) % clocks + 1) * 256;
         if let Some(chain) = chains.get(&(slot, keys[place])) {
-            hits += u64::from(chain.binary_search_by_key(&version, |kept| kept.entry.version).is_ok());
+            hits += u64::from(
+                chain
+                    .binary_search_by_key(&version, |kept| kept.entry.version)
+                    .is_ok(),
+            );
         }
     }
     hits
@@ -117,7 +137,10 @@ fn collect_all(chains: &mut Chains, now: u64) -> u64 {
     let mut removed = 0;
     for chain in chains.values_mut() {
         let before = chain.len();
-        chain.retain(|kept| kept.stale.map_or(true, |from| now.saturating_sub(from) <= 1));
+        chain.retain(|kept| {
+            kept.stale
+                .map_or(true, |from| now.saturating_sub(from) <= 1)
+        });
         removed += before - chain.len();
     }
     removed as u64
@@ -132,27 +155,44 @@ fn timed(figures: &mut Figures, name: &str, run: impl FnOnce() -> u64) {
 }
 
 fn plain(count: u64) -> Figures {
-    let keys: Vec<Key> = (0..10_000).map(|n| Key::new(format!("key_{n:05}").as_bytes())).collect();
+    let keys: Vec<Key> = (0..10_000)
+        .map(|n| Key::new(format!("key_{n:05}").as_bytes()))
+        .collect();
     let mut chains = Chains::new();
     let mut figures = Vec::new();
     timed(&mut figures, "insert", || {
         fill(&mut chains, &keys, count);
         1
     });
-    timed(&mut figures, "latest", || read_latest(&chains, &keys, count * 10));
-    timed(&mut figures, "exactly", || read_exactly(&chains, &keys, count * 10, count));
-    timed(&mut figures, "collect_half", || collect_all(&mut chains, count / 2));
-    timed(&mut figures, "collect_rest", || collect_all(&mut chains, count + 10));
+    timed(&mut figures, "latest", || {
+        read_latest(&chains, &keys, count * 10)
+    });
+    timed(&mut figures, "exactly", || {
+        read_exactly(&chains, &keys, count * 10, count)
+    });
+    timed(&mut figures, "collect_half", || {
+        collect_all(&mut chains, count / 2)
+    });
+    timed(&mut figures, "collect_rest", || {
+        collect_all(&mut chains, count + 10)
+    });
     figures
 }
 
 fn store(program: &str, measured: u64, count: u64) -> Figures {
-    let ran = Command::new(program).args([measured.to_string(), count.to_string()]).output().unwrap();
+    let ran = Command::new(program)
+        .args([measured.to_string(), count.to_string()])
+        .output()
+        .unwrap();
     assert!(ran.status.success());
     let text = String::from_utf8(ran.stdout).unwrap();
     let figure = |line: &str| {
         let words: Vec<&str> = line.split(' ').collect();
-        (words[0].to_string(), words[1].parse().unwrap(), words[2].parse().unwrap())
+        (
+            words[0].to_string(),
+            words[1].parse().unwrap(),
+            words[2].parse().unwrap(),
+        )
     };
     text.lines().map(figure).collect()
 }
@@ -166,8 +206,14 @@ fn median(mut numbers: Vec<f64>) -> f64 {
 fn medians(runs: &[Figures]) -> Vec<(String, f64)> {
     let first = &runs[0];
     let of = |i: usize| {
-        assert!(runs.iter().all(|run| run[i].2 == first[i].2), "other answers");
-        (first[i].0.clone(), median(runs.iter().map(|run| run[i].1).collect()))
+        assert!(
+            runs.iter().all(|run| run[i].2 == first[i].2),
+            "other answers"
+        );
+        (
+            first[i].0.clone(),
+            median(runs.iter().map(|run| run[i].1).collect()),
+        )
     };
     (0..first.len()).map(of).collect()
 }
@@ -181,25 +227,44 @@ fn main() {
         theirs.push(plain(1_000_000));
     }
     for (mine, other) in ours[0].iter().zip(&theirs[0]) {
-        assert_eq!((&mine.0, mine.2), (&other.0, other.2), "other answers than the map");
+        assert_eq!(
+            (&mine.0, mine.2),
+            (&other.0, other.2),
+            "other answers than the map"
+        );
     }
     println!("time in ratio to a plain HashMap of chains");
     for ((name, mine), (_, other)) in medians(&ours).iter().zip(medians(&theirs)) {
         println!("  {name} {:.2}", mine / other);
     }
-    println!("nanoseconds a record, with so many versions of one key: insert, latest, exactly, collect");
-    for count in [1_000, 10_000, 100_000, 1_000_000] {
+    println!("with so many versions of one key, in ratio to the first row: insert, latest, exactly, and what is collected, a record");
+    grown(&[1_000, 10_000, 100_000, 1_000_000], |count| {
         let runs: Vec<Figures> = (0..times).map(|_| store(&words[1], 1, count)).collect();
         let all = medians(&runs);
-        let own = |i: usize, calls: u64| all[i].1 / calls as f64;
         let removed = runs[0][3].2;
-        println!("  {count} {:.0} {:.0} {:.0} {:.0}", own(0, count), own(1, 1_000_000), own(2, 1_000_000), own(3, removed));
-    }
-    println!("nanoseconds a call, beside so many records of others: insert, latest, collect of nothing; and microseconds of one collect of all that is stale");
-    for count in [0, 100_000, 1_000_000, 4_000_000] {
+        vec![
+            all[0].1 / count as f64,
+            all[1].1,
+            all[2].1,
+            all[3].1 / removed as f64,
+        ]
+    });
+    println!("beside so many records of others, in ratio to the first row: insert, latest, a collection of nothing, and one of all that is stale");
+    grown(&[0, 100_000, 1_000_000, 4_000_000], |count| {
         let runs: Vec<Figures> = (0..times).map(|_| store(&words[1], 2, count)).collect();
-        let all = medians(&runs);
-        let own = |i: usize, calls: f64| all[i].1 / calls;
-        println!("  {count} {:.0} {:.0} {:.1} {:.0}", own(1, 100_000.0), own(2, 1_000_000.0), own(3, 1_000_000.0), own(4, 1_000.0));
+        medians(&runs)[1..].iter().map(|figure| figure.1).collect()
+    });
+}
+
+/// Prints for each count the figures in ratio to those of the first.
+fn grown(counts: &[u64], figures: impl Fn(u64) -> Vec<f64>) {
+    let first = figures(counts[0]);
+    for count in counts {
+        let ratios: Vec<String> = figures(*count)
+            .iter()
+            .zip(&first)
+            .map(|(one, other)| format!("{:.2}", one / other))
+            .collect();
+        println!("  {count} {}", ratios.join(" "));
     }
 }
