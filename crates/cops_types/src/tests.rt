@@ -78,7 +78,7 @@ fn nearest(rt: HostRuntime) -> Result<(), Fail> {
     assert!(rt; near.add(x2, 2).is_ok());
     assert!(rt; near.add(x1, 2).is_ok());
     assert!(rt; near.add(x1, 2).is_ok());
-    assert_eq!(rt; near.to_near(rt.alloc())?.pairs(), [x1, x2].as_slice());
+    assert_eq!(rt; near.to_near()?.pairs(), [x1, x2].as_slice());
     assert!(rt;
         matches!(
             near.add(pair(&rt, b"y", 1, 0), 2),
