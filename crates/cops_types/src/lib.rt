@@ -13,7 +13,7 @@ mod laws;
 mod line_runs;
 mod machines;
 mod names;
-pub mod pair_lists;
+mod pair_lists;
 mod pairs;
 mod quotas;
 mod records;

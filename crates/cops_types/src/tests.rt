@@ -1,4 +1,6 @@
-use crate::{Deps, Entry, EntryParts, Fault, GrowingNear, Key, Near, Pair, Value, Version};
+use crate::{
+    Deps, Entry, EntryParts, Fault, GrowingDeps, GrowingNear, Key, Near, Pair, Value, Version,
+};
 use std::alloc::Global;
 use std::process::Abort;
 use std::test::Fail;
@@ -71,6 +73,24 @@ fn joins(rt: HostRuntime) -> Result<(), Fail> {
 }
 
 #[test]
+fn growing_joins(rt: HostRuntime) -> Result<(), Fail> {
+    let x1 = pair(&rt, b"x", 1, 0);
+    let x2 = pair(&rt, b"x", 2, 1);
+    let y1 = pair(&rt, b"y", 1, 0);
+    let more = deps(&rt, rt.alloc(), &[x2, y1]);
+    let mut list = GrowingDeps::empty(rt.alloc()).with_room(1)?;
+    list.add_reserved(x1);
+    assert!(rt; list.add(x1).is_ok());
+    assert!(rt; matches!(list.join(&more, 1), Err(Fault::DependenciesFull)));
+    assert_eq!(rt; list.pairs(), [x1].as_slice());
+    assert!(rt; list.join(&more, 2).is_ok());
+    assert_eq!(rt; list.to_deps()?.pairs(), [x2, y1].as_slice());
+    assert_eq!(rt; list.len(), 2);
+    assert!(rt; list.has_key(&x1.key) && list.holds(&x2) && !list.holds(&x1));
+    Ok(())
+}
+
+#[test]
 fn nearest(rt: HostRuntime) -> Result<(), Fail> {
     let x1 = pair(&rt, b"x", 1, 0);
     let x2 = pair(&rt, b"x", 2, 0);
@@ -78,7 +98,7 @@ fn nearest(rt: HostRuntime) -> Result<(), Fail> {
     assert!(rt; near.add(x2, 2).is_ok());
     assert!(rt; near.add(x1, 2).is_ok());
     assert!(rt; near.add(x1, 2).is_ok());
-    assert_eq!(rt; near.to_near(rt.alloc())?.pairs(), [x1, x2].as_slice());
+    assert_eq!(rt; near.to_near()?.pairs(), [x1, x2].as_slice());
     assert!(rt;
         matches!(
             near.add(pair(&rt, b"y", 1, 0), 2),
@@ -87,6 +107,11 @@ fn nearest(rt: HostRuntime) -> Result<(), Fail> {
     );
     near.drop_held(&deps(&rt, rt.alloc(), &[x2]));
     assert_eq!(rt; near.pairs(), [x1].as_slice());
+    let mut copy = near.with_room(1)?;
+    assert_eq!(rt; copy.len(), 1);
+    assert!(rt; copy.add(x2, 2).is_ok());
+    copy.set_only(x2);
+    assert_eq!(rt; copy.pairs(), [x2].as_slice());
     Ok(())
 }
 
