@@ -12,8 +12,9 @@ use Rattle.cops_types.specs.Version.{Timestamp, version_le, version_eq, next_ver
 use Rattle.cops_store.specs.Contents.{Contents, rows_of, rows_in, NoneLater, LacksVersion}
 use Rattle.cops_outbox.specs.Queues.{Queues, queue_of, is_front}
 use Rattle.cops_outbox.specs.Queues as outbox_queues
+use Rattle.cops_outbox.specs.declared.outbox.Ack.{Ack as Answer}
+use Rattle.cops_outbox.specs.declared.outbox.Ack.TheVariants as answer
 use Rattle.cops_node.specs.declared.parts.Counters.{Counters}
-use Rattle.cops_node.specs.declared.replies.Replies.{Replies}
 use Rattle.cops_node.specs.declared.Place.{Place}
 use Rattle.cops_node.specs.declared.NodeCall.TheVariants.{Put, Commit, Ack}
 use Rattle.cops_node.specs.declared.NodeReply.{NodeReply}
@@ -192,20 +193,25 @@ same_front : (es : List Entry) → front es ≡ outbox_queues.front es
 same_front [] = refl
 same_front (e ∷ es) = refl
 
-pub ack_done : (slot dc : ℕ) (version : Timestamp) (b : Bool) (place : Place) (counters : Counters) (store : Contents) (outbox outbox' : Queues) (solo : SoloNode) (replies : Replies) → StandsAt slot place counters store outbox solo →
+-- the reply is that to the outbox's answer
+pub told_acked : (b : Bool) (is : Answer) (told : NodeReply) → is ≡ (if b then answer.Acked else answer.NotFront) → (is ≡ answer.Acked → told ≡ Acked) → (is ≡ answer.NotFront → told ≡ NotFront) → told ≡ (if b then Acked else NotFront)
+told_acked true is told found acked not_front = acked found
+told_acked false is told found acked not_front = not_front found
+
+pub ack_done : (slot dc : ℕ) (version : Timestamp) (b : Bool) (place : Place) (counters : Counters) (store : Contents) (outbox outbox' : Queues) (solo : SoloNode) (told : NodeReply) → StandsAt slot place counters store outbox solo →
     IsTrue (is_other_dc place dc) → b ≡ is_front version (outbox_queues.front (queue_of slot dc outbox)) →
     queue_of slot dc outbox' ≡ (if b then drop 1 (queue_of slot dc outbox) else queue_of slot dc outbox) →
     ((at : ℕ) → at ≢ dc → queue_of slot at outbox' ≡ queue_of slot at outbox) →
     outbox'.own ≡ outbox.own → outbox'.tenants ≡ outbox.tenants → length outbox'.queues ≡ length outbox.queues →
-    replies ≡ (if b then record { told = Acked; kept = Acked } else record { told = NotFront; kept = NotFront }) →
-    (replies.told ≡ (effect place (Ack dc version) solo).reply) × StandsAt slot place counters store outbox' (effect place (Ack dc version) solo).after
-ack_done slot dc version b place counters store outbox outbox' solo replies h other found entry elsewhere own queued dcs is =
+    told ≡ (if b then Acked else NotFront) →
+    (told ≡ (effect place (Ack dc version) solo).reply) × StandsAt slot place counters store outbox' (effect place (Ack dc version) solo).after
+ack_done slot dc version b place counters store outbox outbox' solo told h other found entry elsewhere own queued dcs is =
     let test : b ≡ is_front version (front (queue place dc solo)) = found ∙ ap (λ es. is_front version (outbox_queues.front es)) (h.queues dc other) ∙ ap (is_front version) (sym (same_front (queue place dc solo))) in
     let turn : ack_turn b dc solo ≡ effect place (Ack dc version) solo = ap (λ t. ack_turn t dc solo) test ∙ sym (acknowledge_is dc version solo (front (queue place dc solo))) in (
-      ap (λ (r : Replies). r.told) is ∙ reply b ∙ ap (λ (t : Turn). t.reply) turn,
+      is ∙ reply b ∙ ap (λ (t : Turn). t.reply) turn,
       subst (λ (t : Turn). StandsAt slot place counters store outbox' t.after) turn (StandsAt-acked slot dc version b place counters store outbox outbox' solo h other found entry elsewhere own queued dcs (other_dc place dc other).0),
     )
   where
-    reply : (t : Bool) → (let both : Replies = (if t then record { told = Acked; kept = Acked } else record { told = NotFront; kept = NotFront }) in both.told) ≡ (ack_turn t dc solo).reply
+    reply : (t : Bool) → (if t then Acked else NotFront) ≡ (ack_turn t dc solo).reply
     reply true = refl
     reply false = refl

@@ -6,7 +6,7 @@ ghost use Rattle.cops_types.specs.Pairs.{greatest_clock as greatest_clock_of};
 ghost use Rattle.cops_types.specs.Records.{Tracked, StandsFor};
 ghost use Rattle.cops_types.specs.Version.{next_version as version_after, last_clock};
 ghost use Rattle.cops_store.specs.Contents.{rows_of, use_of, refusal, size_of, HasRoom, LacksVersion, NoneLater};
-ghost use Rattle.cops_outbox.specs.Queues.{queue_of};
+ghost use Rattle.cops_outbox.specs.Queues.{queue_of, is_full};
 ghost use Rattle.cops_node.specs.declared.NodeCall.{NodeCall};
 ghost use Rattle.cops_node.specs.declared.NodeReply.{NodeReply};
 ghost use Rattle.cops_node.specs.Parts.{IsPlace, StandsAt, HasSolo, IsDone, OthersStay, IsUnchanged};
@@ -60,6 +60,7 @@ fn version_for(
     ensures version { IfOk result (λ version. (solo : SoloNode) → StandsAt slot place.now counters.now store.now outbox.now solo → version_of_put place.now solo deps.now ≡ Some version) }
     ensures unrefused { IfOk result (λ version. (solo : SoloNode) → StandsAt slot place.now counters.now store.now outbox.now solo → put_refusal place.now solo key.now value.now ≡ None) }
     ensures room { IfOk result (λ version. refusal place.now.quota (length key.now + length value.now) (use_of (rows_of slot store.now)) ≡ None) }
+    ensures sendable { OnOk result (is_full slot place.now.quota.outbox outbox.now ≡ false) }
     ensures refused { IfErr result (λ fault. (solo : SoloNode) → StandsAt slot place.now counters.now store.now outbox.now solo → (near : List Pair) → put_turn place.now solo key.now value.now deps.now near ≡ unchanged (NodeReply.Refused fault) solo) }
 {
     let version = next_version(place, counters, deps)?;
@@ -129,7 +130,11 @@ pub(crate) fn put(
     let prev = parts::own_mark(place, counters);
     let entry = entry_of(alloc, version, prev, key, value, deps, near)?;
     commits::reserve(store, slot, key)?;
-    outbox.push(slot, &entry)?;
+    match outbox.push(slot, &entry, place.quota.outbox) {
+        Ok(()) => {}
+        Err(Fault::OutOfMemory) => return Err(AllocError),
+        Err(_) => unreachable!(),
+    }
     commits::keep(counters, store, slot, now, &place.quota, entry);
     Ok(replies)
 }

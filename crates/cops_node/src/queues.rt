@@ -1,12 +1,12 @@
 //! What a node answers of its queues.
-ghost use Rattle.std.specs.Prelude.{◌≡◌, ◌<◌, length, IfOk, if◌then◌else◌};
+ghost use Rattle.std.specs.Prelude.{◌≡◌, ◌<◌, length, IfOk};
 ghost use Rattle.cops_node.specs.SoloNode.{front};
 ghost use Rattle.cops_node.specs.Step.{reply_pull};
 ghost use Rattle.cops_outbox.specs.Queues.{queue_of};
 
 use crate::NodeReply;
 use crate::replies::Replies;
-use cops_outbox::Outbox;
+use cops_outbox::{Ack, Outbox};
 use std::alloc::{AllocError, Global};
 
 // A call `Pull`.
@@ -34,18 +34,19 @@ pub(crate) fn pull(
 }
 
 // The replies to a call `Ack`.
-pub(crate) fn acknowledged(is_acked: bool) -> Replies
-    ensures { result ≡ (if is_acked then record { told = NodeReply.Acked; kept = NodeReply.Acked } else record { told = NodeReply.NotFront; kept = NodeReply.NotFront }) }
+pub(crate) fn acknowledged(answer: Ack) -> Replies
+    ensures acked { answer ≡ Ack.Acked → result.told ≡ NodeReply.Acked }
+    ensures not_front { answer ≡ Ack.NotFront → result.told ≡ NodeReply.NotFront }
+    ensures kept { result.kept ≡ result.told }
 {
-    if is_acked {
-        Replies {
+    match answer {
+        Ack::Acked => Replies {
             told: NodeReply::Acked,
             kept: NodeReply::Acked,
-        }
-    } else {
-        Replies {
+        },
+        Ack::NotFront => Replies {
             told: NodeReply::NotFront,
             kept: NodeReply::NotFront,
-        }
+        },
     }
 }

@@ -218,6 +218,11 @@ alone own least w f data_centres is le = range_pushed f f own w 0 data_centres (
 
 -- ---- what leaves one queue
 
+pub not_acked : (slot dc : ℕ) (v : Queues) (b : Bool) → false ≡ b → v ≡ record v { queues = set v.queues dc (if b then without_front slot (get_or v.queues dc []) else get_or v.queues dc []) }
+not_acked slot dc v b not_first =
+    ap (λ (queues : List (List (List Entry))). record v { queues = queues }) (sym (set-get_or v.queues dc []))
+    ∙ ap (λ t. record v { queues = set v.queues dc (if t then without_front slot (get_or v.queues dc []) else get_or v.queues dc []) }) not_first
+
 pub acked_entry : (slot dc : ℕ) (queues : List (List (List Entry))) → dc < length queues → slot < length (get_or queues dc []) → get_or (get_or (set queues dc (without_front slot (get_or queues dc []))) dc []) slot [] ≡ drop 1 (get_or (get_or queues dc []) slot [])
 acked_entry slot dc queues lt inside =
     ap (λ (slots : List (List Entry)). get_or slots slot []) (get_or-set_same queues dc (without_front slot (get_or queues dc [])) [] lt)

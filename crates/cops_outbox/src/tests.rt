@@ -2,8 +2,8 @@
 //! where nothing has changed.
 ghost use Rattle.std.specs.Prelude.{◌≡◌, ◌<◌, length};
 
-use crate::Outbox;
-use cops_types::{Deps, Entry, EntryParts, Key, Near, Value, Version};
+use crate::{Ack, Outbox};
+use cops_types::{Deps, Entry, EntryParts, Fault, Key, Near, Value, Version};
 use std::alloc::Global;
 use std::process::Abort;
 
@@ -68,7 +68,14 @@ fn seen(outbox: &Outbox, dc: usize) -> ((u64, usize), (u64, usize))
 }
 
 /// Adds the entry with this clock, to all or to none.
-fn push(rt: &impl Abort, alloc: Global, outbox: &mut Outbox, slot: usize, clock: u64)
+fn push_within(
+    rt: &impl Abort,
+    alloc: Global,
+    outbox: &mut Outbox,
+    slot: usize,
+    clock: u64,
+    limit: u64,
+)
     requires slot { slot < 2 }
     requires tenants { outbox.old.tenants ≡ 2 }
     requires data_centres { length outbox.old.queues ≡ 3 }
@@ -77,10 +84,22 @@ fn push(rt: &impl Abort, alloc: Global, outbox: &mut Outbox, slot: usize, clock:
 {
     let entry = entry(rt, alloc, clock);
     let before = (seen(outbox, 1), seen(outbox, 2));
-    if outbox.push(slot, &entry).is_err() {
+    if let Err(fault) = outbox.push(slot, &entry, limit) {
+        assert_eq!(rt; fault, Fault::OutOfMemory);
         assert_eq!(rt; (seen(outbox, 1), seen(outbox, 2)), before);
-        outbox.push(slot, &entry).expect(rt, "memory");
+        outbox.push(slot, &entry, limit).expect(rt, "memory");
     }
+}
+
+/// Adds the entry with this clock where no queue is limited.
+fn push(rt: &impl Abort, alloc: Global, outbox: &mut Outbox, slot: usize, clock: u64)
+    requires slot { slot < 2 }
+    requires tenants { outbox.old.tenants ≡ 2 }
+    requires data_centres { length outbox.old.queues ≡ 3 }
+    ensures tenants { outbox.new.tenants ≡ 2 }
+    ensures data_centres { length outbox.new.queues ≡ 3 }
+{
+    push_within(rt, alloc, outbox, slot, clock, u64::MAX);
 }
 
 #[test]
@@ -89,22 +108,24 @@ fn each_tenant_has_a_limit_and_a_front(rt: HostRuntime) {
     let mut outbox = outbox(&rt, alloc, 2);
     assert!(rt; !outbox.is_full(0, 1) && !outbox.is_full(1, 1));
     let first = entry(&rt, alloc, 1);
-    if outbox.push(0, &first).is_err() {
+    if let Err(fault) = outbox.push(0, &first, 1) {
+        assert_eq!(rt; fault, Fault::OutOfMemory);
         assert_eq!(rt; seen(&outbox, 1), ((0, 0), (0, 0)));
-        outbox.push(0, &first).expect(&rt, "memory");
+        outbox.push(0, &first, 1).expect(&rt, "memory");
     }
     assert!(rt; outbox.is_full(0, 1) && !outbox.is_full(1, 1));
     let second = entry(&rt, alloc, 2);
-    if outbox.push(1, &second).is_err() {
+    if let Err(fault) = outbox.push(1, &second, 1) {
+        assert_eq!(rt; fault, Fault::OutOfMemory);
         assert_eq!(rt; seen(&outbox, 1), ((1, 1), (0, 0)));
-        outbox.push(1, &second).expect(&rt, "memory");
+        outbox.push(1, &second, 1).expect(&rt, "memory");
     }
     assert_eq!(rt; seen(&outbox, 1), ((1, 1), (2, 1)));
-    assert!(rt; !outbox.ack(1, 1, version(&rt, 1)));
+    assert_eq!(rt; outbox.ack(1, 1, version(&rt, 1)), Ack::NotFront);
     assert_eq!(rt; seen(&outbox, 1), ((1, 1), (2, 1)));
-    assert!(rt; outbox.ack(0, 1, version(&rt, 1)));
+    assert_eq!(rt; outbox.ack(0, 1, version(&rt, 1)), Ack::Acked);
     assert_eq!(rt; seen(&outbox, 1), ((0, 0), (2, 1)));
-    assert!(rt; !outbox.ack(0, 1, version(&rt, 1)));
+    assert_eq!(rt; outbox.ack(0, 1, version(&rt, 1)), Ack::NotFront);
     assert!(rt; !outbox.is_full(0, 1) && outbox.is_full(1, 1));
     assert_eq!(rt; seen(&outbox, 0), ((0, 0), (0, 0)));
 }
@@ -121,20 +142,23 @@ fn data_centres_acknowledge_at_their_own_pace(rt: HostRuntime) {
     assert_eq!(rt; seen(&outbox, 0), ((0, 0), (0, 0)));
     assert_eq!(rt; seen(&outbox, 1), ((1, 3), (1, 2)));
     assert_eq!(rt; seen(&outbox, 2), ((1, 3), (1, 2)));
-    assert!(rt; !outbox.ack(0, 1, version(&rt, 2)));
-    assert!(rt; outbox.ack(0, 1, version(&rt, 1)));
-    assert!(rt; outbox.ack(0, 1, version(&rt, 2)));
+    assert_eq!(rt; outbox.ack(0, 1, version(&rt, 2)), Ack::NotFront);
+    assert_eq!(rt; outbox.ack(0, 1, version(&rt, 1)), Ack::Acked);
+    assert_eq!(rt; outbox.ack(0, 1, version(&rt, 2)), Ack::Acked);
     assert_eq!(rt; seen(&outbox, 1), ((3, 1), (1, 2)));
     assert_eq!(rt; seen(&outbox, 2), ((1, 3), (1, 2)));
     assert!(rt; outbox.is_full(0, 3) && !outbox.is_full(1, 3));
-    assert!(rt; outbox.ack(0, 2, version(&rt, 1)));
+    assert_eq!(rt; outbox.ack(0, 2, version(&rt, 1)), Ack::Acked);
     push(&rt, alloc, &mut outbox, 0, 4);
     assert_eq!(rt; seen(&outbox, 1), ((3, 2), (1, 2)));
     assert_eq!(rt; seen(&outbox, 2), ((2, 3), (1, 2)));
-    assert!(rt; outbox.ack(0, 1, version(&rt, 3)) && outbox.ack(0, 1, version(&rt, 4)));
+    assert_eq!(rt; outbox.ack(0, 1, version(&rt, 3)), Ack::Acked);
+    assert_eq!(rt; outbox.ack(0, 1, version(&rt, 4)), Ack::Acked);
     assert_eq!(rt; seen(&outbox, 1), ((0, 0), (1, 2)));
-    assert!(rt; outbox.ack(0, 2, version(&rt, 2)) && outbox.ack(0, 2, version(&rt, 3)));
-    assert!(rt; outbox.ack(1, 2, version(&rt, 1)) && !outbox.ack(1, 0, version(&rt, 1)));
+    assert_eq!(rt; outbox.ack(0, 2, version(&rt, 2)), Ack::Acked);
+    assert_eq!(rt; outbox.ack(0, 2, version(&rt, 3)), Ack::Acked);
+    assert_eq!(rt; outbox.ack(1, 2, version(&rt, 1)), Ack::Acked);
+    assert_eq!(rt; outbox.ack(1, 0, version(&rt, 1)), Ack::NotFront);
     assert_eq!(rt; seen(&outbox, 2), ((4, 1), (5, 1)));
     push(&rt, alloc, &mut outbox, 0, 6);
     assert_eq!(rt; seen(&outbox, 1), ((6, 1), (1, 2)));
@@ -142,11 +166,39 @@ fn data_centres_acknowledge_at_their_own_pace(rt: HostRuntime) {
 }
 
 #[test]
+fn one_full_queue_refuses_for_all(rt: HostRuntime) {
+    let alloc = rt.alloc();
+    let mut outbox = outbox(&rt, alloc, 3);
+    push_within(&rt, alloc, &mut outbox, 0, 1, 1);
+    assert_eq!(rt; outbox.ack(0, 1, version(&rt, 1)), Ack::Acked);
+    assert_eq!(rt; seen(&outbox, 1), ((0, 0), (0, 0)));
+    assert_eq!(rt; seen(&outbox, 2), ((1, 1), (0, 0)));
+    let second = entry(&rt, alloc, 2);
+    assert_eq!(rt; outbox.push(0, &second, 1), Err(Fault::OutboxFull));
+    assert_eq!(rt; outbox.push(1, &second, 0), Err(Fault::OutboxFull));
+    assert_eq!(rt; seen(&outbox, 0), ((0, 0), (0, 0)));
+    assert_eq!(rt; seen(&outbox, 1), ((0, 0), (0, 0)));
+    assert_eq!(rt; seen(&outbox, 2), ((1, 1), (0, 0)));
+    push_within(&rt, alloc, &mut outbox, 1, 2, 1);
+    push_within(&rt, alloc, &mut outbox, 0, 2, 2);
+    assert_eq!(rt; outbox.push(0, &second, 2), Err(Fault::OutboxFull));
+    assert_eq!(rt; seen(&outbox, 1), ((2, 1), (2, 1)));
+    assert_eq!(rt; seen(&outbox, 2), ((1, 2), (2, 1)));
+    assert_eq!(rt; outbox.ack(0, 2, version(&rt, 1)), Ack::Acked);
+    assert_eq!(rt; outbox.ack(0, 2, version(&rt, 1)), Ack::NotFront);
+    push_within(&rt, alloc, &mut outbox, 0, 3, 2);
+    assert_eq!(rt; seen(&outbox, 1), ((2, 2), (2, 1)));
+    assert_eq!(rt; seen(&outbox, 2), ((2, 2), (2, 1)));
+}
+
+#[test]
 fn one_data_centre_sends_nothing(rt: HostRuntime) {
     let alloc = rt.alloc();
     let mut outbox = outbox(&rt, alloc, 1);
     let entry = entry(&rt, alloc, 1);
-    outbox.push(0, &entry).expect(&rt, "no memory is asked for");
+    outbox
+        .push(0, &entry, 0)
+        .expect(&rt, "no memory is asked for");
     assert_eq!(rt; seen(&outbox, 0), ((0, 0), (0, 0)));
     assert!(rt; !outbox.is_full(0, 0));
 }

@@ -1,6 +1,7 @@
-use Rattle.std.proofs.Common.{◌≡◌, ◌∙◌, ap, sym, subst, IsTrue}
+use Rattle.std.proofs.Common.{◌≡◌, ◌∙◌, refl, ap, sym, subst, IsTrue}
 use Rattle.cops_types.specs.Records.{StandsFor, collected, collectable}
 use Rattle.cops_store.specs.Contents.{rows_of}
+use Rattle.cops_outbox.specs.Queues.{queue_of, front, is_front}
 use Rattle.cops_node.specs.declared.NodeCall.{NodeCall}
 use Rattle.cops_node.specs.declared.NodeReply.TheVariants.{Removed}
 use Rattle.cops_node.specs.declared.replies.Replies.{Replies}
@@ -8,14 +9,15 @@ use Rattle.cops_node.specs.Parts.{StandsAt}
 use Rattle.cops_node.specs.Place.{fits}
 use Rattle.cops_node.specs.Step.{effect}
 use Rattle.cops_node.proofs.Effects.{StandsAt-collected}
-use Rattle.cops_node.proofs.Stored.{ack_done}
+use Rattle.cops_node.proofs.Stored.{ack_done, told_acked}
 use Rattle.cops_node.proofs.calls.act.Goals as goal
 
 pub returns-in-Ack-clause-done : goal.returns-in-Ack-clause-done
 returns-in-Ack-clause-done c = λ solo moment h.
     subst (λ (k : NodeCall). (c.acknowledged.result.told ≡ (effect c.args.place.now k solo).reply) × StandsAt c.args.slot c.args.place.now c.args.counters.now c.args.store.now c.ack.new.self (effect c.args.place.now k solo).after) (sym c.in-Ack.is)
-    (ack_done c.args.slot c.in-Ack.dc c.in-Ack.version c.ack.result c.args.place.now c.args.counters.now c.args.store.now c.args.outbox.now c.ack.new.self solo c.acknowledged.result h
-    (subst (λ (k : NodeCall). IsTrue (fits c.args.place.now k)) c.in-Ack.is c.requires.fits) c.ack.ensures.found c.ack.ensures.entry c.ack.ensures.elsewhere c.ack.ensures.own c.ack.ensures.tenants c.ack.ensures.data_centres c.acknowledged.ensures)
+    (ack_done c.args.slot c.in-Ack.dc c.in-Ack.version (is_front c.in-Ack.version (front (queue_of c.args.slot c.in-Ack.dc c.args.outbox.now))) c.args.place.now c.args.counters.now c.args.store.now c.args.outbox.now c.ack.new.self solo c.acknowledged.result.told h
+    (subst (λ (k : NodeCall). IsTrue (fits c.args.place.now k)) c.in-Ack.is c.requires.fits) refl c.ack.ensures.entry c.ack.ensures.elsewhere c.ack.ensures.own c.ack.ensures.tenants c.ack.ensures.data_centres
+    (told_acked (is_front c.in-Ack.version (front (queue_of c.args.slot c.in-Ack.dc c.args.outbox.now))) c.ack.result c.acknowledged.result.told c.ack.ensures.found c.acknowledged.ensures.acked c.acknowledged.ensures.not_front))
 
 pub returns-in-Collect-clause-done : goal.returns-in-Collect-clause-done
 returns-in-Collect-clause-done c = λ solo moment h.

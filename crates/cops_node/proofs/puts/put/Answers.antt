@@ -18,5 +18,5 @@ returns-clause-done c = λ solo moment h.
     let done = put_done c.args.slot c.args.now c.args.place.now c.args.counters.now c.keep.new.counters c.args.store.now c.reserve.new.store c.keep.new.store c.args.outbox.now c.push.new.self solo
     c.args.key.now c.args.value.now c.args.deps.now c.args.near.now c.in-Ok.version c.own_mark-prev.result c.in_ok-entry.entry moment h (c.in-Ok.ensures.version solo h) (c.in-Ok.ensures.unrefused solo h)
     (c.own_mark-prev.ensures solo.recs h.marks) c.in_ok-entry.ensures c.reserve.ensures.rows c.reserve.ensures.tenants c.keep.ensures.stands_for c.keep.ensures.tenants c.keep.ensures.fits
-    c.keep.ensures.clock c.keep.ensures.marks c.push.ensures.own c.push.ensures.tenants c.push.ensures.data_centres c.in_ok-push.ensures.entry in
+    c.keep.ensures.clock c.keep.ensures.marks c.push.ensures.own c.push.ensures.tenants c.push.ensures.data_centres c.in-Ok-push.ensures.entry in
     (ap (λ (r : Replies). r.told) c.stored-replies.ensures ∙ done.0, done.1)
