@@ -211,6 +211,10 @@ module _ {A : Type 0} (Stands : A → Actor → Type 0) (name : List ℕ) (befor
     distinct = distinct-without name cluster.actors h.distinct;
   }
 
+-- the other actor is found in its place
+pub found_again : (name : List ℕ) (actor old : Actor) (cluster : SoloCluster) → find_actor name cluster ≡ Some old → find_actor name (with_actor name actor cluster) ≡ Some actor
+found_again name actor old cluster found = actor_in-replaced name actor cluster.actors ∙ ap (option_map (λ a. actor)) found
+
 -- how many there are then
 pub count-with_actor : (name : List ℕ) (actor : Actor) (cluster : SoloCluster) → length (with_actor name actor cluster).actors ≡ length cluster.actors
 count-with_actor name actor cluster = length-map cluster.actors (replaced name actor)

@@ -1,6 +1,6 @@
 -- The table of actors: what is found, and what follows when one is put in another's place.
-use Rattle.std.proofs.Common.{◌≡◌, ◌≢◌, ℕ, zero, suc, ◌<◌, Bool, true, false, ◌&&◌, List, [], ◌∷◌, length, get_or, nat_eq, refl, sym, subst, ap, ◌∙◌, true≢false, arith}
-use Rattle.std.specs.Prelude.{IsTrue, OnOk, Some, Result, Ok, Err, slice_get, position}
+use Rattle.std.proofs.Common.{◌≡◌, ◌≢◌, ℕ, zero, suc, ◌<◌, Bool, true, false, cond, ◌&&◌, List, [], ◌∷◌, length, get_or, nat_eq, refl, sym, subst, ap, ◌∙◌, true≢false, arith}
+use Rattle.std.specs.Prelude.{IsTrue, OnOk, Option, Some, Result, Ok, Err, slice_get, position}
 use Rattle.std.specs.Result.{is_ok}
 use Rattle.std.specs.Cmp.{IsEquivalence}
 use Rattle.std.specs.List.{IsDistinct}
@@ -74,6 +74,15 @@ here id es i h =
 module _ {V Z : Type 0} (laws : IsEquivalence same_actor) (id : ActorId) (table : IndexMap ActorId V Z) (unique : IsUnique same_actor table) (i : ℕ) (index : Some i ≡ position (same_actor id) (keys table)) where
   pub puts : (after : V) → Updates same_actor table (with_value_at table i after) id (Some after)
   puts after = let h = here id table.entries i index in updates-with_value_at table i after laws unique id h.value h.entry
+
+-- the same actor in its place
+pub put_same : {V : Type 0} (old new : ActorId → Option V) (id : ActorId) (value after : V) → ((q : ActorId) → new q ≡ cond (same_actor id q) (Some after) (old q)) → Some value ≡ old id → after ≡ value →
+    (q : ActorId) → new q ≡ old q
+put_same {V} old new id value after updates there same q = updates q ∙ by (same_actor id q) refl
+  where
+    by : (t : Bool) → same_actor id q ≡ t → cond (same_actor id q) (Some after) (old q) ≡ old q
+    by true e = ap (λ b. cond b (Some after) (old q)) e ∙ (λ i. Some (same i)) ∙ there ∙ ap old (same_actor-is id q e)
+    by false e = ap (λ b. cond b (Some after) (old q)) e
 
 pub stays_unique : {V Z : Type 0} (table : IndexMap ActorId V Z) (i : ℕ) (after : V) → IsDistinct same_actor (keys table) → IsDistinct same_actor (keys (with_value_at table i after))
 stays_unique table i after unique = subst (IsDistinct same_actor) (sym (keys-with_value_at table i after)) unique

@@ -127,7 +127,7 @@ module _ (old : World) (whole : IsWorld old) (slot : ℕ) (name : List ℕ) (mom
   counts_elsewhere true other differ = get_or-set_other old.counts slot other (slice_index old.counts slot - 1) 0 (λ same. differ (sym same))
 
   -- the tenant's own cluster
-  stands_after : (cluster : SoloCluster) (solo : Actor) (turn : Turn) → StandsAt old slot cluster → slot < length old.counts → find_actor name cluster ≡ Some solo → StepsCluster config_of_slot name cluster (nodes_of config_of_slot slot nodes) turn stepped after →
+  pub stands_after : (cluster : SoloCluster) (solo : Actor) (turn : Turn) → StandsAt old slot cluster → slot < length old.counts → find_actor name cluster ≡ Some solo → StepsCluster config_of_slot name cluster (nodes_of config_of_slot slot nodes) turn stepped after →
       StandsAt stepped_world slot turn.after
   stands_after cluster solo turn stood within found took = record {
     has = once_tenants old.nodes nodes slot slot h.once config_of_slot stood.has;
@@ -169,17 +169,26 @@ module _ (old : World) (whole : IsWorld old) (slot : ℕ) (name : List ℕ) (mom
           minus_one : (n : ℕ) → n + 1 - 1 ≡ n
           minus_one n = omega arith
 
+  -- the actor of the tenant's own cluster takes this step
+  pub solo_steps : config_of_slot.shards ≡ old.nodes.shape.shards → (cluster : SoloCluster) → StandsAt old slot cluster → (solo : Actor) × (find_actor name cluster ≡ Some solo)
+      × ActorSteps (NodesTurn config_of_slot cluster.nodes (nodes_of config_of_slot slot nodes)) (nodes_of config_of_slot slot nodes ≡ cluster.nodes) config_of_slot moment stepped solo after
+  solo_steps shards cluster stood =
+      let solo = found_too (ActorStandsFor config_of_slot) name (λ n. old.actors (id_of slot n)) (λ n. actors (id_of slot n)) cluster stood.actors_are before h.there in (
+        solo.0,
+        solo.1,
+        steps_weaker (λ at node call reply. IsCall old.nodes node slot at call reply nodes) (NodesTurn config_of_slot cluster.nodes (nodes_of config_of_slot slot nodes))
+        (nodes ≡ old.nodes) (nodes_of config_of_slot slot nodes ≡ cluster.nodes)
+        (λ at node call reply made. subst (λ ns. NodesTurn config_of_slot ns (nodes_of config_of_slot slot nodes) at node call reply) stood.nodes_are (call_turns config_of_slot old.nodes nodes slot at node call reply shards stood.has made))
+        (λ stays. ap (nodes_of config_of_slot slot) stays ∙ stood.nodes_are)
+        config_of_slot moment stepped solo.0 after (h.steps config_of_slot solo.0 solo.2),
+      )
+
   pub step_moves : slot < length old.counts → (config_at old.setup slot).shards ≡ old.nodes.shape.shards → Moves (λ config. actor_step config name moment) old slot stepped.reply stepped_world
   step_moves within shards = record {
     same = refl;
     own = λ spared cluster stood.
-        let solo = found_too (ActorStandsFor config_of_slot) name (λ n. old.actors (id_of slot n)) (λ n. actors (id_of slot n)) cluster stood.actors_are before h.there in
-        let weaker = steps_weaker (λ at node call reply. IsCall old.nodes node slot at call reply nodes) (NodesTurn config_of_slot cluster.nodes (nodes_of config_of_slot slot nodes))
-        (nodes ≡ old.nodes) (nodes_of config_of_slot slot nodes ≡ cluster.nodes)
-        (λ at node call reply made. subst (λ ns. NodesTurn config_of_slot ns (nodes_of config_of_slot slot nodes) at node call reply) stood.nodes_are (call_turns config_of_slot old.nodes nodes slot at node call reply shards stood.has made))
-        (λ stays. ap (nodes_of config_of_slot slot) stays ∙ stood.nodes_are)
-        config_of_slot moment stepped solo.0 after (h.steps config_of_slot solo.0 solo.2) in
-        let took = actor_turn config_of_slot name cluster (nodes_of config_of_slot slot nodes) moment solo.0 after stepped stood.actors_are.distinct solo.1 spared weaker in
+        let solo = solo_steps shards cluster stood in
+        let took = actor_turn config_of_slot name cluster (nodes_of config_of_slot slot nodes) moment solo.0 after stepped stood.actors_are.distinct solo.1 spared solo.2 in
         (took.reply_is, stands_after cluster solo.0 (actor_step config_of_slot name moment cluster) stood within solo.1 took);
     others = λ other differ. others_stay old nodes actors (counts_after stepped.is_over old.counts slot) slot other differ
         (once_nodes old.nodes nodes slot other differ h.once) (once_tenants old.nodes nodes slot other h.once)
@@ -194,7 +203,7 @@ absent_step old slot name moment none = refused_moves (λ config. actor_step con
 
 -- ---- steps in a row
 
-goes_on-spared : (reply : Reply) → goes_on reply ≡ true → is_out_of_memory reply ≡ false
+pub goes_on-spared : (reply : Reply) → goes_on reply ≡ true → is_out_of_memory reply ≡ false
 goes_on-spared reply e = by (is_out_of_memory reply) refl
   where
     by : (t : Bool) → is_out_of_memory reply ≡ t → t ≡ false

@@ -70,6 +70,11 @@ pub record Moves (turn_of : TenantConfig → SoloCluster → Turn) (old : World)
       (reply ≡ (turn_of (config_at old.setup slot) cluster).reply) × StandsAt new slot (turn_of (config_at old.setup slot) cluster).after
   pub others : (other : ℕ) → slot ≢ other → (cluster : SoloCluster) → StandsAt old other cluster → StandsAt new other cluster
 
+-- where memory was refused, this holds of what is left of the tenant's cluster
+abbrev pub Leaves : (TenantConfig → SoloCluster → SoloCluster → Type 0) → World → ℕ → Reply → World → Type 0
+Leaves Left old slot reply new =
+    IsTrue (is_out_of_memory reply) → (cluster : SoloCluster) → StandsAt old slot cluster → (after : SoloCluster) × Left (config_at old.setup slot) cluster after × StandsAt new slot after
+
 -- a new actor joins, where its place exists, unless its name is taken or the tenant has as many as he may
 abbrev pub join_step : List ℕ → Actor → Reply → TenantConfig → SoloCluster → Turn
 join_step name actor reply config cluster = unless_refused (actor_refusal config true name cluster) cluster (reply_with reply (with_new_actor name actor cluster))

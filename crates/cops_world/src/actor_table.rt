@@ -12,7 +12,9 @@ ghost use Rattle.cops_world.specs.ActorTables.{same_actor, actor_at, AllRun, Put
 ghost use Rattle.cops_world.specs.ActorTurns.{actor_does};
 ghost use Rattle.cops_world.specs.ActorsStand.{ActorStandsFor, ActorSteps, HasDone, RunsAt};
 ghost use Rattle.cops_world.specs.Cluster.{Actor as Solo};
+ghost use Rattle.cops_world.specs.Events.{is_out_of_memory};
 ghost use Rattle.cops_world.specs.declared.actors.Actor.{Actor as Kept};
+ghost use Rattle.cops_world.specs.declared.actors.ActorId.{ActorId as Id};
 ghost use Rattle.cops_world.specs.declared.replies.Reply.TheVariants.{Refused};
 
 use crate::Reply;
@@ -34,6 +36,7 @@ pub(crate) fn act_at(
         × ((config : TenantConfig) (solo : Solo) → ActorStandsFor config before solo → HasDone config solo (actor_does config deed solo) result after)
         × ((shape : Shape) → RunsAt shape id.slot before → RunsAt shape id.slot after) }
     ensures absent { actor_at actors.old id ≡ None → (result ≡ Refused UnknownName) × (actors.new ≡ actors.old) }
+    ensures lack { IsTrue (is_out_of_memory result) → (q : Id) → actor_at actors.new q ≡ actor_at actors.old q }
     ensures unique { IsDistinct same_actor (keys actors.new) }
 {
     match actors.get_index_of(&id) {

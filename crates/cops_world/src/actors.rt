@@ -1,5 +1,5 @@
 //! The actors of tenants: sessions and carriers.
-ghost use Rattle.std.specs.Prelude.{◌≡◌, ◌<◌, ◌⊎◌, ℕ, false, IfOk};
+ghost use Rattle.std.specs.Prelude.{◌≡◌, ◌<◌, ◌⊎◌, ℕ, false, IfOk, IsTrue};
 ghost use Rattle.cops_types.specs.TenantConfig.{TenantConfig};
 ghost use Rattle.cops_node.specs.Shape.{Shape};
 ghost use Rattle.cops_session.specs.Session.{Session as SoloSession};
@@ -12,6 +12,7 @@ ghost use Rattle.cops_repl.specs.Stands.{CarrierStandsFor, RunsIn, has_ended};
 ghost use Rattle.cops_world.specs.ActorsStand.{ActorStandsFor, ActorSteps, CarrierSteps, SessionSteps, RunsAt, HasDone};
 ghost use Rattle.cops_world.specs.ActorTurns.{actor_does, session_does};
 ghost use Rattle.cops_world.specs.Cluster.{Actor as Solo, reply_of_answer, reply_of_progress, reply_of_delivery};
+ghost use Rattle.cops_world.specs.Events.{is_out_of_memory};
 ghost use Rattle.cops_world.specs.declared.actors.Actor.TheVariants.{OfSession as KeptSession};
 ghost use Rattle.cops_world.specs.declared.actors.Deed.TheVariants as deeds;
 
@@ -95,6 +96,7 @@ fn create(session: &mut Session) -> Reply
     ensures own { (config : TenantConfig) (solo : SoloSession) → SessionStandsFor config session.old solo →
         HasDone config (Solo.OfSession solo) (session_does config solo deeds.Create) result (KeptSession session.new) }
     ensures setting { session.new.setting ≡ session.old.setting }
+    ensures lack { IsTrue (is_out_of_memory result) → session.new ≡ session.old }
 {
     match session.create_context() {
         Ok(handle) => Reply::Created(handle.number()),
@@ -106,6 +108,7 @@ fn delete(session: &mut Session, number: u64) -> Reply
     ensures own { (config : TenantConfig) (solo : SoloSession) → SessionStandsFor config session.old solo →
         HasDone config (Solo.OfSession solo) (session_does config solo (deeds.Delete number)) result (KeptSession session.new) }
     ensures setting { session.new.setting ≡ session.old.setting }
+    ensures lack { IsTrue (is_out_of_memory result) → session.new ≡ session.old }
 {
     match session.delete_context(Handle::of_number(number)) {
         Ok(()) => Reply::Deleted,
@@ -117,6 +120,7 @@ fn begin_put(session: &mut Session, number: u64, key: Key, value: Value) -> Repl
     ensures own { (config : TenantConfig) (solo : SoloSession) → SessionStandsFor config session.old solo →
         HasDone config (Solo.OfSession solo) (session_does config solo (deeds.Put number key value)) result (KeptSession session.new) }
     ensures setting { session.new.setting ≡ session.old.setting }
+    ensures lack { IsTrue (is_out_of_memory result) → session.new ≡ session.old }
 {
     match session.begin_put(Handle::of_number(number), key, value) {
         Ok(_) => Reply::Started,
@@ -128,6 +132,7 @@ fn begin_get(session: &mut Session, number: u64, keys: &Keys) -> Reply
     ensures own { (config : TenantConfig) (solo : SoloSession) → SessionStandsFor config session.old solo →
         HasDone config (Solo.OfSession solo) (session_does config solo (deeds.Get number keys.now)) result (KeptSession session.new) }
     ensures setting { session.new.setting ≡ session.old.setting }
+    ensures lack { IsTrue (is_out_of_memory result) → session.new ≡ session.old }
 {
     match session.begin_get_trans(Handle::of_number(number), keys.as_slice()) {
         Ok(_) => Reply::Started,
@@ -163,6 +168,7 @@ fn act_in(alloc: Global, session: &mut Session, deed: Deed) -> Reply
     ensures own { (config : TenantConfig) (solo : SoloSession) → SessionStandsFor config session.old solo →
         HasDone config (Solo.OfSession solo) (session_does config solo deed) result (KeptSession session.new) }
     ensures setting { session.new.setting ≡ session.old.setting }
+    ensures lack { IsTrue (is_out_of_memory result) → session.new ≡ session.old }
 {
     match deed {
         Deed::Create => create(session),
@@ -258,6 +264,7 @@ impl Actor {
     pub(crate) fn act(&mut self, alloc: Global, deed: Deed) -> Reply
         ensures own { (config : TenantConfig) (solo : Solo) → ActorStandsFor config self.old solo → HasDone config solo (actor_does config deed solo) result self.new }
         ensures runs { (shape : Shape) (slot : ℕ) → RunsAt shape slot self.old → RunsAt shape slot self.new }
+        ensures lack { IsTrue (is_out_of_memory result) → self.new ≡ self.old }
     {
         match self {
             Actor::OfSession(session) => act_in(alloc, session, deed),

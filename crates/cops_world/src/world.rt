@@ -16,8 +16,9 @@ ghost use Rattle.cops_world.specs.ActorsStand.{ActorStandsFor, RunsAt};
 ghost use Rattle.cops_world.specs.Cluster.{Actor as Solo, SoloCluster, actor_step, actor_steps, cluster_step, goes_on, has_node, has_stream, most_steps, reply_of_collect};
 ghost use Rattle.cops_world.specs.Deeds.{deed_step};
 ghost use Rattle.cops_world.specs.Events.{config_at};
+ghost use Rattle.cops_world.specs.Lacks.{Lacks, Stays, StepStops, StepsStop};
 ghost use Rattle.cops_world.specs.Trails.{audited_at};
-ghost use Rattle.cops_world.specs.Worlds.{HasCluster, HasSizes, Moves, setup_of, join_step, world_of};
+ghost use Rattle.cops_world.specs.Worlds.{HasCluster, HasSizes, Leaves, Moves, setup_of, join_step, world_of};
 ghost use Rattle.cops_world.specs.ActorTables.{same_actor};
 ghost use Rattle.cops_world.specs.declared.acts.Act.TheVariants as acts;
 ghost use Rattle.cops_world.specs.declared.replies.Reply.TheVariants.{Refused};
@@ -116,7 +117,8 @@ fn reply_of_collect(answered: NodeReply) -> Reply
 impl World {
     /// Has a session of a tenant do what is asked.
     fn act(&mut self, slot: u64, name: Name, deed: Deed) -> Reply
-        ensures { Moves (λ config. deed_step config name deed) (world_of self.old) slot result (world_of self.new) }
+        ensures moves { Moves (λ config. deed_step config name deed) (world_of self.old) slot result (world_of self.new) }
+        ensures lack { Leaves Stays (world_of self.old) slot result (world_of self.new) }
     {
         act_at(&mut self.actors, ActorId { slot, name }, self.alloc, deed)
     }
@@ -167,7 +169,8 @@ impl World {
     /// Opens a session of a tenant at a data centre.
     fn open(&mut self, slot: u64, name: Name, dc: u64) -> Reply
         requires { slot < length self.old.setup.tenants }
-        ensures { Moves (λ config. cluster_step config (acts.Open name dc)) (world_of self.old) slot result (world_of self.new) }
+        ensures moves { Moves (λ config. cluster_step config (acts.Open name dc)) (world_of self.old) slot result (world_of self.new) }
+        ensures lack { Leaves Stays (world_of self.old) slot result (world_of self.new) }
     {
         if dc >= self.config.data_centres {
             return Reply::Refused(Fault::NoSuchPlace);
@@ -202,7 +205,8 @@ impl World {
     /// Begins a carrier of a tenant from a node to another data centre.
     fn carry(&mut self, slot: u64, name: Name, origin: NodeId, to_dc: u64) -> Reply
         requires { slot < length self.old.setup.tenants }
-        ensures { Moves (λ config. cluster_step config (acts.Carry name origin.dc origin.shard to_dc)) (world_of self.old) slot result (world_of self.new) }
+        ensures moves { Moves (λ config. cluster_step config (acts.Carry name origin.dc origin.shard to_dc)) (world_of self.old) slot result (world_of self.new) }
+        ensures lack { Leaves Stays (world_of self.old) slot result (world_of self.new) }
     {
         if !self.has_stream(origin, to_dc) {
             return Reply::Refused(Fault::NoSuchPlace);
@@ -235,7 +239,8 @@ impl World {
     /// Takes a step of an actor at a moment.
     fn step(&mut self, slot: u64, name: Name, moment: u64) -> Reply
         requires { slot < length self.old.setup.tenants }
-        ensures { Moves (λ config. actor_step config name moment) (world_of self.old) slot result (world_of self.new) }
+        ensures moves { Moves (λ config. actor_step config name moment) (world_of self.old) slot result (world_of self.new) }
+        ensures lack { Leaves (λ config. StepStops config name moment) (world_of self.old) slot result (world_of self.new) }
     {
         let id = ActorId { slot, name };
         let Some(place) = self.actors.get_index_of(&id) else {
@@ -257,7 +262,8 @@ impl World {
     /// Takes steps of an actor at one moment until it has answered, at most `more` after the first.
     fn steps(&mut self, slot: u64, name: Name, moment: u64, mut more: u64) -> Reply
         requires { slot < length self.old.setup.tenants }
-        ensures { Moves (λ config. actor_steps more config name moment) (world_of self.old) slot result (world_of self.new) }
+        ensures moves { Moves (λ config. actor_steps more config name moment) (world_of self.old) slot result (world_of self.new) }
+        ensures lack { Leaves (λ config. StepsStop more config name moment) (world_of self.old) slot result (world_of self.new) }
     {
         while more > 0 {
             if let Some(answer) = answer_in(self.step(slot, name, moment)) {
@@ -271,7 +277,8 @@ impl World {
     /// Collects at a node.
     fn collect(&mut self, slot: u64, id: NodeId, moment: u64) -> Reply
         requires { slot < length self.old.setup.tenants }
-        ensures { Moves (λ config. cluster_step config (acts.Collect id.dc id.shard moment)) (world_of self.old) slot result (world_of self.new) }
+        ensures moves { Moves (λ config. cluster_step config (acts.Collect id.dc id.shard moment)) (world_of self.old) slot result (world_of self.new) }
+        ensures lack { Leaves Stays (world_of self.old) slot result (world_of self.new) }
     {
         if !self.has_node(id.dc, id.shard) {
             return Reply::Refused(Fault::NoSuchPlace);
@@ -281,7 +288,8 @@ impl World {
 
     /// Begins a put of a session, where the key and the value are some.
     fn put(&mut self, slot: u64, name: Name, number: u64, key: &Bytes, value: &Bytes) -> Reply
-        ensures { Moves (λ config. cluster_step config (acts.Put name number key.now value.now)) (world_of self.old) slot result (world_of self.new) }
+        ensures moves { Moves (λ config. cluster_step config (acts.Put name number key.now value.now)) (world_of self.old) slot result (world_of self.new) }
+        ensures lack { Leaves Stays (world_of self.old) slot result (world_of self.new) }
     {
         let key = match Key::new(key.as_slice()) {
             Ok(key) => key,
@@ -295,7 +303,8 @@ impl World {
 
     /// Begins a get transaction of a session, where there are keys and each is one.
     fn get(&mut self, slot: u64, name: Name, number: u64, keys: &ByteLists) -> Reply
-        ensures { Moves (λ config. cluster_step config (acts.Get name number keys.now)) (world_of self.old) slot result (world_of self.new) }
+        ensures moves { Moves (λ config. cluster_step config (acts.Get name number keys.now)) (world_of self.old) slot result (world_of self.new) }
+        ensures lack { Leaves Stays (world_of self.old) slot result (world_of self.new) }
     {
         if keys.len() == 0 {
             return Reply::Refused(Fault::Syntax);
@@ -315,7 +324,9 @@ impl World {
         (self.config.restarts + 1) * (2 * 32 + 1) + deps + 3
     }
 
-    /// One event: it acts on its own tenant's cluster, unless memory was refused, and on no other.
+    /// One event: it acts on its own tenant's cluster and on no other. Where memory was refused
+    /// nothing changed, unless a step was taken: its request or its carrier is then over, and what
+    /// the calls did stands.
     pub fn apply(&mut self, event: &Event) -> Reply
         requires { event.now.slot < length self.old.setup.tenants }
         ensures { HasActed setup_of HasCluster self.old event.now result self.new }
@@ -326,7 +337,8 @@ impl World {
     /// One act of the tenant in a slot.
     pub(crate) fn act_for(&mut self, slot: u64, act: &Act) -> Reply
         requires { slot < length self.old.setup.tenants }
-        ensures { Moves (λ config. cluster_step config act.now) (world_of self.old) slot result (world_of self.new) }
+        ensures moves { Moves (λ config. cluster_step config act.now) (world_of self.old) slot result (world_of self.new) }
+        ensures lack { Leaves (λ config. Lacks config act.now) (world_of self.old) slot result (world_of self.new) }
     {
         match act {
             Act::Open(name, dc) => self.open(slot, *name, *dc),

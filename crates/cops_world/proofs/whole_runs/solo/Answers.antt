@@ -52,7 +52,7 @@ loop-event-preserved c =
     let takes : take (i + 1) xs ≡ take i xs ++ e ∷ [] = take_more xs i e c.loop-event-test.true ∙ ap (λ d. take i xs ++ d ∷ []) (sym c.event-item.is) in
     elim c.if-event-slot.branch [
       | then-event-slot+in_ok-push w ↦
-          let moves = w.act_for.ensures in
+          let moves = w.act_for.ensures.moves in
           let reply = w.act_for.result in
           let items = ap (λ t. t.items) w.told-is ∙ w.in_ok-push.ensures.items in
           let After = HasCluster w.act_for.new.self 0 in

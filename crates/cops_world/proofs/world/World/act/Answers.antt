@@ -4,8 +4,10 @@ use Rattle.cops_node.specs.Clusters.{shape_of}
 use Rattle.cops_world.specs.declared.actors.ActorId.{ActorId}
 use Rattle.cops_world.specs.ActorTables.{same_actor}
 use Rattle.cops_world.specs.Deeds.{deed_step}
-use Rattle.cops_world.specs.Worlds.{KeptWorld, Moves, world_of}
+use Rattle.cops_world.specs.Lacks.{Stays}
+use Rattle.cops_world.specs.Worlds.{KeptWorld, Leaves, Moves, world_of}
 use Rattle.cops_world.proofs.WorldKeeps.{runs_after_act}
+use Rattle.cops_world.proofs.WorldLacks.{deed_leaves}
 use Rattle.cops_world.proofs.WorldMoves.{deed_moves}
 use Rattle.cops_world.proofs.world.World.act.Goals as goal
 
@@ -24,8 +26,8 @@ invariant_of-self c =
       distinct = c.act_at.ensures.unique;
     }
 
-pub returns : goal.returns
-returns c =
+pub returns-clause-moves : goal.returns-clause-moves
+returns-clause-moves c =
     let new : ActorId → _ = λ id. lookup (same_actor id) c.act_at.new.actors.entries in
     let old : KeptWorld = record { setup = c.self.inside.config; nodes = c.self.inside.nodes; entries = c.self.inside.actors.entries; counts = c.self.inside.counts.items } in
     subst (λ (kept : KeptWorld). Moves (λ config. deed_step config c.args.name c.args.deed) (world_of kept) c.args.slot c.act_at.result (record (world_of old) { actors = new })) c.self.view_is
@@ -33,3 +35,10 @@ returns c =
       found = λ before e. let f = c.act_at.ensures.found before e in (f.0, (f.1.0, f.2));
       absent = λ e. let a = c.act_at.ensures.absent e in (a.0, ap (λ table id. lookup (same_actor id) table.entries) a.1);
     }))
+
+pub returns-clause-lack : goal.returns-clause-lack
+returns-clause-lack c =
+    let new : ActorId → _ = λ id. lookup (same_actor id) c.act_at.new.actors.entries in
+    let old : KeptWorld = record { setup = c.self.inside.config; nodes = c.self.inside.nodes; entries = c.self.inside.actors.entries; counts = c.self.inside.counts.items } in
+    subst (λ (kept : KeptWorld). Leaves Stays (world_of kept) c.args.slot c.act_at.result (record (world_of old) { actors = new })) c.self.view_is
+    (deed_leaves (world_of old) c.args.slot c.act_at.result new c.act_at.ensures.lack)

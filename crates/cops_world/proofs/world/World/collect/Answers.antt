@@ -1,16 +1,20 @@
-use Rattle.std.proofs.Common.{◌≡◌, ◌<◌, true, length, ap, subst, sym, ◌∙◌}
+use Rattle.std.proofs.Common.{◌≡◌, ◌<◌, true, length, ap, refl, subst, sym, ◌∙◌}
 use Rattle.cops_node.specs.Shape.{Shape}
+use Rattle.cops_types.specs.declared.faults.Fault.TheVariants.{NoSuchPlace}
 use Rattle.cops_world.specs.declared.acts.Act.TheVariants as acts
+use Rattle.cops_world.specs.declared.replies.Reply.TheVariants.{Refused}
 use Rattle.cops_world.specs.Cluster.{cluster_step, has_node}
 use Rattle.cops_world.specs.Events.{config_at}
-use Rattle.cops_world.specs.Worlds.{KeptWorld, Moves, world_of}
+use Rattle.cops_world.specs.Lacks.{Stays}
+use Rattle.cops_world.specs.Worlds.{KeptWorld, Leaves, Moves, world_of}
 use Rattle.cops_world.proofs.WorldKeeps.{sizes_at}
 use Rattle.cops_world.proofs.WorldCalls.{node_fits, no_node_moves, node_collects}
+use Rattle.cops_world.proofs.WorldLacks.{collect_leaves, same_leaves}
 use Rattle.cops_world.proofs.WorldSteps.{collect_moves}
 use Rattle.cops_world.proofs.world.World.collect.Goals as goal
 
-pub returns-then-not-has_node : goal.returns-then-not-has_node
-returns-then-not-has_node c =
+pub returns-then-not-has_node-clause-moves : goal.returns-then-not-has_node-clause-moves
+returns-then-not-has_node-clause-moves c =
     let sizes = sizes_at c.args.self.now.setup c.args.slot c.requires in
     no_node_moves (world_of c.args.self.now) c.args.slot c.args.id c.args.moment
     (sym (c.has_node.ensures (config_at c.args.self.now.setup c.args.slot) sizes) ∙ c.if-not-has_node.true)
@@ -28,8 +32,8 @@ step-requires c =
     (subst (λ n. c.args.slot < n) (sym (ap (λ (s : Shape). s.slots) same_shape ∙ ap (λ setup. length setup.tenants) same_setup)) c.requires)
     (sym (c.has_node.ensures (config_at now.setup c.args.slot) sizes) ∙ c.if-not-has_node.false)
 
-pub returns : goal.returns
-returns c =
+pub returns-clause-moves : goal.returns-clause-moves
+returns-clause-moves c =
     let now = c.args.self.now in
     let sizes = sizes_at now.setup c.args.slot c.requires in
     let old : KeptWorld = record { setup = c.self.inside.config; nodes = c.self.inside.nodes; entries = c.self.inside.actors.entries; counts = c.self.inside.counts.items } in
@@ -41,3 +45,15 @@ returns c =
     (subst (λ (k : KeptWorld). has_node (config_at k.setup c.args.slot) c.args.id.dc c.args.id.shard ≡ true) (sym c.self.view_is) there)
     c.reply_of_collect.result (world_of new)
     (collect_moves (world_of old) c.args.slot c.args.id c.args.moment c.step.result c.step.new.self c.reply_of_collect.result shards c.step.ensures.answers c.reply_of_collect.ensures))
+
+pub returns-then-not-has_node-clause-lack : goal.returns-then-not-has_node-clause-lack
+returns-then-not-has_node-clause-lack c = same_leaves (world_of c.args.self.now) c.args.slot (Refused NoSuchPlace) (world_of c.args.self.now) refl
+
+pub returns-clause-lack : goal.returns-clause-lack
+returns-clause-lack c =
+    let sizes = sizes_at c.args.self.now.setup c.args.slot c.requires in
+    let old : KeptWorld = record { setup = c.self.inside.config; nodes = c.self.inside.nodes; entries = c.self.inside.actors.entries; counts = c.self.inside.counts.items } in
+    let new : KeptWorld = record old { nodes = c.step.new.self } in
+    let shards = subst (λ (k : KeptWorld). (config_at k.setup c.args.slot).shards ≡ k.setup.shards) (sym c.self.view_is) sizes.shards ∙ sym (ap (λ (s : Shape). s.shards) c.self.invariant.whole.shape_is) in
+    subst (λ (kept : KeptWorld). Leaves Stays (world_of kept) c.args.slot c.reply_of_collect.result (world_of new)) c.self.view_is
+    (collect_leaves (world_of old) c.args.slot c.args.id c.args.moment c.step.result c.step.new.self c.reply_of_collect.result shards c.step.ensures.answers c.reply_of_collect.ensures)

@@ -10,13 +10,15 @@ use Rattle.cops_world.specs.declared.actors.ActorId.{ActorId}
 use Rattle.cops_world.specs.ActorsStand.{RunsAt}
 use Rattle.cops_world.specs.ActorTables.{same_actor}
 use Rattle.cops_world.specs.Cluster.{actor_step}
-use Rattle.cops_world.specs.Worlds.{KeptWorld, Moves, world_of}
+use Rattle.cops_world.specs.Lacks.{StepStops}
+use Rattle.cops_world.specs.Worlds.{KeptWorld, Leaves, Moves, world_of}
 use Rattle.cops_world.proofs.WorldKeeps.{back_table, left_table, runs_after}
+use Rattle.cops_world.proofs.WorldLacks.{spared_leaves, steps_world_leaves}
 use Rattle.cops_world.proofs.WorldSteps.{absent_step, counts_after}
 use Rattle.cops_world.proofs.world.World.step.Goals as goal
 
-pub returns-in_default : goal.returns-in_default
-returns-in_default c =
+pub returns-in_default-clause-moves : goal.returns-in_default-clause-moves
+returns-in_default-clause-moves c =
     let old : KeptWorld = record { setup = c.self.inside.config; nodes = c.self.inside.nodes; entries = c.self.inside.actors.entries; counts = c.self.inside.counts.items } in
     subst (λ (k : KeptWorld). Moves (λ config. actor_step config c.args.name c.args.moment) (world_of k) c.args.slot (Refused UnknownName) (world_of k)) c.self.view_is
     (absent_step (world_of old) c.args.slot c.args.name c.args.moment (none_there _ (sym c.in_default.ensures.found)))
@@ -57,8 +59,8 @@ invariant_of-self-else-is_over c =
       distinct = ensures.unique;
     }
 
-pub returns-then-is_over : goal.returns-then-is_over
-returns-then-is_over c =
+pub returns-then-is_over-clause-moves : goal.returns-then-is_over-clause-moves
+returns-then-is_over-clause-moves c =
     let slot = c.args.slot in
     let old : KeptWorld = record { setup = c.self.inside.config; nodes = c.self.inside.nodes; entries = c.self.inside.actors.entries; counts = c.self.inside.counts.items } in
     let id : ActorId = record { slot = slot; name = c.args.name } in
@@ -73,8 +75,8 @@ returns-then-is_over c =
     c.leave.ensures.setup c.leave.ensures.nodes (c.leave.ensures.counts ∙ sym (ap (λ b. counts_after b old.counts slot) c.if-is_over.true))
     (subst (λ (k : KeptWorld). slot < length k.setup.tenants) (sym c.self.view_is) c.requires))
 
-pub returns-else-is_over : goal.returns-else-is_over
-returns-else-is_over c =
+pub returns-else-is_over-clause-moves : goal.returns-else-is_over-clause-moves
+returns-else-is_over-clause-moves c =
     let slot = c.args.slot in
     let old : KeptWorld = record { setup = c.self.inside.config; nodes = c.self.inside.nodes; entries = c.self.inside.actors.entries; counts = c.self.inside.counts.items } in
     let id : ActorId = record { slot = slot; name = c.args.name } in
@@ -85,6 +87,41 @@ returns-else-is_over c =
     let new = world_of (record old { nodes = c.step_at-reply.new.nodes; entries = c.step_at-reply.new.actors.entries }) in
     subst (λ (k : KeptWorld). Moves (λ config. actor_step config c.args.name c.args.moment) (world_of k) slot stepped.reply new) c.self.view_is
     (steps_world (world_of old) c.self.invariant.whole slot c.args.name c.args.moment stepped c.step_at-reply.new.nodes before.0 f.0 (record { there = before.1; steps = f.2; once = ensures.once }) new
+    (back_table (world_of old).actors new.actors id f.0 stepped.is_over c.if-is_over.false f.1.0)
+    refl refl (sym (ap (λ b. counts_after b old.counts slot) c.if-is_over.false))
+    (subst (λ (k : KeptWorld). slot < length k.setup.tenants) (sym c.self.view_is) c.requires))
+
+pub returns-in_default-clause-lack : goal.returns-in_default-clause-lack
+returns-in_default-clause-lack c = spared_leaves (λ config. StepStops config c.args.name c.args.moment) (world_of c.args.self.now) c.args.slot (Refused UnknownName) (world_of c.args.self.now) refl
+
+pub returns-then-is_over-clause-lack : goal.returns-then-is_over-clause-lack
+returns-then-is_over-clause-lack c =
+    let slot = c.args.slot in
+    let old : KeptWorld = record { setup = c.self.inside.config; nodes = c.self.inside.nodes; entries = c.self.inside.actors.entries; counts = c.self.inside.counts.items } in
+    let id : ActorId = record { slot = slot; name = c.args.name } in
+    let ensures = c.step_at-reply.ensures in
+    let stepped = c.step_at-reply.result in
+    let before = ensures.there in
+    let f = ensures.stepped before.0 before.1 in
+    let new = world_of c.leave.new.self in
+    subst (λ (k : KeptWorld). Leaves (λ config. StepStops config c.args.name c.args.moment) (world_of k) slot stepped.reply new) c.self.view_is
+    (steps_world_leaves (world_of old) c.self.invariant.whole slot c.args.name c.args.moment stepped c.step_at-reply.new.nodes before.0 f.0 (record { there = before.1; steps = f.2; once = ensures.once }) new
+    (left_table (world_of old).actors (λ q. lookup (same_actor q) c.step_at-reply.new.actors.entries) new.actors id f.0 stepped.is_over c.if-is_over.true f.1.0 c.leave.ensures.actors)
+    c.leave.ensures.setup c.leave.ensures.nodes (c.leave.ensures.counts ∙ sym (ap (λ b. counts_after b old.counts slot) c.if-is_over.true))
+    (subst (λ (k : KeptWorld). slot < length k.setup.tenants) (sym c.self.view_is) c.requires))
+
+pub returns-else-is_over-clause-lack : goal.returns-else-is_over-clause-lack
+returns-else-is_over-clause-lack c =
+    let slot = c.args.slot in
+    let old : KeptWorld = record { setup = c.self.inside.config; nodes = c.self.inside.nodes; entries = c.self.inside.actors.entries; counts = c.self.inside.counts.items } in
+    let id : ActorId = record { slot = slot; name = c.args.name } in
+    let ensures = c.step_at-reply.ensures in
+    let stepped = c.step_at-reply.result in
+    let before = ensures.there in
+    let f = ensures.stepped before.0 before.1 in
+    let new = world_of (record old { nodes = c.step_at-reply.new.nodes; entries = c.step_at-reply.new.actors.entries }) in
+    subst (λ (k : KeptWorld). Leaves (λ config. StepStops config c.args.name c.args.moment) (world_of k) slot stepped.reply new) c.self.view_is
+    (steps_world_leaves (world_of old) c.self.invariant.whole slot c.args.name c.args.moment stepped c.step_at-reply.new.nodes before.0 f.0 (record { there = before.1; steps = f.2; once = ensures.once }) new
     (back_table (world_of old).actors new.actors id f.0 stepped.is_over c.if-is_over.false f.1.0)
     refl refl (sym (ap (λ b. counts_after b old.counts slot) c.if-is_over.false))
     (subst (λ (k : KeptWorld). slot < length k.setup.tenants) (sym c.self.view_is) c.requires))
