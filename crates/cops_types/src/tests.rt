@@ -110,8 +110,7 @@ fn nearest(rt: HostRuntime) -> Result<(), Fail> {
     let mut copy = near.with_room(1)?;
     assert_eq!(rt; copy.len(), 1);
     assert!(rt; copy.add(x2, 2).is_ok());
-    copy.set_only(x2);
-    assert_eq!(rt; copy.pairs(), [x2].as_slice());
+    assert_eq!(rt; copy.pairs(), [x1, x2].as_slice());
     Ok(())
 }
 
