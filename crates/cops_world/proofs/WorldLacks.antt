@@ -69,10 +69,10 @@ pub collect_leaves : (old : World) (slot : ℕ) (id : NodeId) (moment : ℕ) (an
 collect_leaves old slot id moment answered nodes reply shards made is = λ lack cluster stands. elim made.turn [
   | inl refused ↦ (cluster, refl, subst (λ ns. StandsAt (record old { nodes = ns }) slot cluster) (sym refused.1) stands)
   | inr turn ↦
-    let config = config_at old.setup slot in
-    let turned = (turn config shards stands.has).reply_is in
-    let node = slice_index_or (nodes_of config slot old.nodes) (number_of config.shards id) (new_node config.data_centres) in
-    absurd (true≢false (sym lack ∙ ap is_out_of_memory (is ∙ ap reply_of_collect turned) ∙ collect_spared (place_of config id) moment node))
+      let config = config_at old.setup slot in
+      let turned = (turn config shards stands.has).reply_is in
+      let node = slice_index_or (nodes_of config slot old.nodes) (number_of config.shards id) (new_node config.data_centres) in
+      absurd (true≢false (sym lack ∙ ap is_out_of_memory (is ∙ ap reply_of_collect turned) ∙ collect_spared (place_of config id) moment node))
 ]
 
 -- ---- steps

@@ -177,10 +177,10 @@ module _ (old : World) (whole : IsWorld old) (slot : ℕ) (name : List ℕ) (mom
         solo.0,
         solo.1,
         steps_weaker (λ at node call reply. IsCall old.nodes node slot at call reply nodes) (NodesTurn config_of_slot cluster.nodes (nodes_of config_of_slot slot nodes))
-        (nodes ≡ old.nodes) (nodes_of config_of_slot slot nodes ≡ cluster.nodes)
-        (λ at node call reply made. subst (λ ns. NodesTurn config_of_slot ns (nodes_of config_of_slot slot nodes) at node call reply) stood.nodes_are (call_turns config_of_slot old.nodes nodes slot at node call reply shards stood.has made))
-        (λ stays. ap (nodes_of config_of_slot slot) stays ∙ stood.nodes_are)
-        config_of_slot moment stepped solo.0 after (h.steps config_of_slot solo.0 solo.2),
+            (nodes ≡ old.nodes) (nodes_of config_of_slot slot nodes ≡ cluster.nodes)
+            (λ at node call reply made. subst (λ ns. NodesTurn config_of_slot ns (nodes_of config_of_slot slot nodes) at node call reply) stood.nodes_are (call_turns config_of_slot old.nodes nodes slot at node call reply shards stood.has made))
+            (λ stays. ap (nodes_of config_of_slot slot) stays ∙ stood.nodes_are)
+            config_of_slot moment stepped solo.0 after (h.steps config_of_slot solo.0 solo.2),
       )
 
   pub step_moves : slot < length old.counts → (config_at old.setup slot).shards ≡ old.nodes.shape.shards → Moves (λ config. actor_step config name moment) old slot stepped.reply stepped_world
