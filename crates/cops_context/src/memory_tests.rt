@@ -1,0 +1,86 @@
+//! Each request for memory may be refused: the context is then as it was, and the same call again
+//! is answered. Run with the Nth request refused, for each N.
+
+use crate::Context;
+use crate::tests::{x, y, z};
+use cops_types::{Deps, Fault, Pair, Read, Value};
+use std::alloc::Global;
+use std::process::Abort;
+
+/// The dependencies that have x alone.
+fn deps_on_x(rt: &impl Abort, alloc: Global) -> Deps {
+    let mut deps = Deps::empty(alloc);
+    if deps.add(x(rt), 20).is_err() {
+        deps.add(x(rt), 20).expect(rt, "memory");
+    }
+    deps
+}
+
+fn read(rt: &impl Abort, alloc: Global, pair: Pair) -> Read {
+    let value = match Value::new(alloc, b"10") {
+        Ok(value) => value,
+        Err(_) => Value::new(alloc, b"10").expect(rt, "memory"),
+    };
+    Read {
+        key: pair.key,
+        value: Some(value),
+        version: pair.version,
+        deps: Deps::empty(alloc),
+    }
+}
+
+/// The context has these lists.
+fn assert_lists(rt: &impl Abort, context: &Context, all: &[Pair], near: &[Pair]) {
+    assert_eq!(rt; context.all(), all);
+    assert_eq!(rt; context.near(), near);
+}
+
+#[test]
+fn refused_memory_leaves_a_new_context(rt: HostRuntime) {
+    let alloc = rt.alloc();
+    let on_x = deps_on_x(&rt, alloc);
+    let mut context = Context::new(alloc);
+    match context.observe(y(&rt), &on_x, 20) {
+        Ok(()) => {}
+        Err(fault) => {
+            assert!(rt; fault == Fault::OutOfMemory);
+            assert_lists(&rt, &context, &[], &[]);
+            context.observe(y(&rt), &on_x, 20).expect(&rt, "memory");
+        }
+    }
+    assert_lists(&rt, &context, &[x(&rt), y(&rt)], &[y(&rt)]);
+}
+
+#[test]
+fn refused_memory_observes_no_half(rt: HostRuntime) {
+    let alloc = rt.alloc();
+    let reads = [read(&rt, alloc, x(&rt)), read(&rt, alloc, y(&rt))];
+    let mut context = Context::new(alloc);
+    match context.observe_all(&reads, 20) {
+        Ok(()) => {}
+        Err(fault) => {
+            assert!(rt; fault == Fault::OutOfMemory);
+            assert_lists(&rt, &context, &[], &[]);
+            context.observe_all(&reads, 20).expect(&rt, "memory");
+        }
+    }
+    assert_lists(&rt, &context, &[x(&rt), y(&rt)], &[x(&rt), y(&rt)]);
+}
+
+#[test]
+fn refused_memory_sends_no_put(rt: HostRuntime) {
+    let put = z(&rt);
+    let key = put.key;
+    let mut context = Context::new(rt.alloc());
+    let is_ready = match context.put_args(&key, 20) {
+        Ok(_) => true,
+        Err(fault) => {
+            assert!(rt; fault == Fault::OutOfMemory);
+            assert_lists(&rt, &context, &[], &[]);
+            context.put_args(&key, 20).is_ok()
+        }
+    };
+    assert!(rt; is_ready);
+    context.after_put(put);
+    assert_lists(&rt, &context, &[z(&rt)], &[z(&rt)]);
+}
