@@ -41,7 +41,7 @@ fn fresh(alloc: Global, place: Place) -> Result<Part, AllocError>
     ensures fresh { IfOk result IsFresh }
     ensures place { IfOk result (λ part. part.place ≡ place) }
 {
-    let marks = vec![in alloc; Version::none(); 256]?;
+    let marks = vec![in alloc; Version::none(); Version::NODES as usize]?;
     let clock = place.first_clock;
     Ok(Part {
         place,
@@ -106,8 +106,7 @@ pub(crate) fn clock_of(version: Version) -> u64
     ensures value { result ≡ version.clock }
     ensures fits { result ≤ last_clock }
 {
-    let _place = version.place();
-    version.to_u64() / 256
+    version.clock()
 }
 
 // Whether a version was committed: the mark of its node has reached it.

@@ -13,6 +13,7 @@ use crate::configs::{Config, Tenant};
 use crate::names::Name;
 use crate::quotas::Quota;
 use crate::tenants::Tenants;
+use crate::versions::Version;
 use crate::words::{Words, parse_number};
 use std::alloc::{AllocError, Global};
 use uuid::Uuid;
@@ -24,7 +25,7 @@ const MOST_TENANTS: usize = 64;
 const GREATEST_QUOTA: u64 = 4294967295;
 
 /// The last number of a clock.
-const LAST_CLOCK: u64 = (1 << 56) - 1;
+const LAST_CLOCK: u64 = Version::LAST_CLOCK;
 
 /// Takes the next word, where it writes a number.
 fn next_number(words: &mut Words) -> Option<u64>

@@ -33,6 +33,12 @@ impl Model for Version {
 }
 
 impl Version {
+    /// How many node numbers there are: a node has the last 8 bits of a version.
+    pub const NODES: u64 = 256;
+
+    /// The greatest clock: it has the other 56 bits.
+    pub const LAST_CLOCK: u64 = (1 << 56) - 1;
+
     /// The version 0.0, which means that there is none.
     pub fn none() -> Self
         ensures { result ≡ no_version }
@@ -47,20 +53,21 @@ impl Version {
         ensures { result ≡ record { clock = clock; node = node } }
     {
         Version {
-            bits: clock * 256 + node,
+            bits: clock * Self::NODES + node,
         }
     }
 
     pub fn clock(self) -> u64
-        ensures { result ≡ self.clock }
+        ensures value { result ≡ self.clock }
+        ensures fits { result ≤ last_clock }
     {
-        self.bits / 256
+        self.bits / Self::NODES
     }
 
     pub fn node(self) -> u64
         ensures { result ≡ self.node }
     {
-        self.bits % 256
+        self.bits % Self::NODES
     }
 
     /// The node, as a place in a list of all nodes.
@@ -68,7 +75,7 @@ impl Version {
         ensures value { result ≡ self.node }
         ensures small { result < NODES }
     {
-        (self.bits % 256) as usize
+        (self.bits % Self::NODES) as usize
     }
 
     /// The version in one number, as frames write it.
@@ -100,7 +107,7 @@ impl Version {
         ensures { result ≡ ok_or (next_version clock deps_clock node) Fault.ClockFull }
     {
         let greatest = clock.max(deps_clock);
-        if greatest < (1 << 56) - 1 {
+        if greatest < Self::LAST_CLOCK {
             Ok(Version::of(greatest + 1, node))
         } else {
             Err(Fault::ClockFull)
