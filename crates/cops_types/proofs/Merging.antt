@@ -1,8 +1,8 @@
 -- Two lists in order are merged, and their merge is the greatest version of each key.
-use Rattle.std.proofs.Common.{◌≡◌, ◌⊎◌, inl, inr, ℕ, zero, suc, ◌-◌, ◌<◌, ◌≤◌, arith, take, drop, length, get_or, Bool, true, false, cond, ◌||◌, List, [], ◌∷◌, ◌++◌, refl, sym, subst, ap, ◌∙◌, append_assoc, append-nil}
+use Rattle.std.proofs.Common.{◌≡◌, ◌⊎◌, inl, inr, ℕ, zero, suc, ◌+◌, ◌-◌, ◌<◌, ◌≤◌, arith, take, drop, length, get_or, Bool, true, false, cond, ◌||◌, List, [], ◌∷◌, ◌++◌, refl, sym, subst, ap, ◌∙◌, append_assoc, append-nil}
 use Rattle.std.proofs.Math.ListN.{drop_of_length-le}
 use Rattle.std.proofs.Math.Seq.{take-length}
-use Rattle.std.proofs.lemmas.List.{length-drop}
+use Rattle.std.proofs.lemmas.List.{length-drop, drop_more}
 use Rattle.std.specs.declared.cmp.Ordering.TheVariants.{Less, Equal, Greater}
 use Rattle.std.specs.Ordering.{ordering_reverse}
 use Rattle.cops_types.specs.declared.pairs.Pair.{Pair}
@@ -187,17 +187,22 @@ left_at (x ∷ l) (suc i) p below read = left_at l i p (omega arith) read
 pub none_left : (l : List Pair) (i : ℕ) → length l ≤ i → drop i l ≡ []
 none_left l i beyond = drop_of_length-le l beyond
 
+-- the item at a place joins those that are done
+pub moved : (done l : List Pair) (i : ℕ) (p : Pair) → i < length l → p ≡ get_or l i p → (done ++ p ∷ []) ++ drop (i + 1) l ≡ done ++ drop i l
+moved done l i p below read =
+    append_assoc done (p ∷ []) (drop (i + 1) l) ∙ ap (λ qs. done ++ qs) (ap (λ q. q ∷ drop (i + 1) l) read ∙ sym (drop_more l i p below))
+
 pub whole_left : (l : List Pair) (i : ℕ) → take (length l - i) (drop i l) ≡ drop i l
 whole_left l i = ap (λ n. take n (drop i l)) (sym (length-drop i l)) ∙ take-length (drop i l)
 
 -- the merge and what is left of both lists, where one is at its end
 pub merged_all : (pairs more done : List Pair) (i j : ℕ) → IsMerging pairs more done (drop i pairs) (drop j more) → (length pairs ≤ i) ⊎ (length more ≤ j) →
-    (done ++ take (length pairs - i) (drop i pairs)) ++ take (length more - j) (drop j more) ≡ joined pairs more
+    (done ++ take (length pairs - i) (drop i pairs)) ++ drop j more ≡ joined pairs more
 merged_all pairs more done i j h (inr beyond) =
     let none = none_left more j beyond in
-    (λ k. (done ++ whole_left pairs i k) ++ (whole_left more j ∙ none) k) ∙ append-nil (done ++ drop i pairs)
+    (λ k. (done ++ whole_left pairs i k) ++ none k) ∙ append-nil (done ++ drop i pairs)
     ∙ merged_first pairs more done (drop i pairs) (subst (λ l. IsMerging pairs more done (drop i pairs) l) none h)
 merged_all pairs more done i j h (inl beyond) =
     let none = none_left pairs i beyond in
-    (λ k. (done ++ (whole_left pairs i ∙ none) k) ++ whole_left more j k) ∙ ap (λ l. l ++ drop j more) (append-nil done)
+    (λ k. (done ++ (whole_left pairs i ∙ none) k) ++ drop j more) ∙ ap (λ l. l ++ drop j more) (append-nil done)
     ∙ merged_second pairs more done (drop j more) (subst (λ l. IsMerging pairs more done l (drop j more)) none h)

@@ -14,6 +14,8 @@ pub mod LineRules
 pub mod LineRuns
 pub mod Lines
 pub mod OnLiterals
+pub mod Packed
+pub mod PackedRows
 pub mod Padding
 pub mod Pairs
 pub mod Records

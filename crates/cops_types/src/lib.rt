@@ -13,6 +13,7 @@ mod laws;
 mod line_runs;
 mod machines;
 mod names;
+mod packed;
 mod pair_lists;
 mod pairs;
 mod quotas;

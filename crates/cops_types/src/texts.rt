@@ -1,10 +1,11 @@
 //! Texts of numbers, versions, pairs and faults, put at the end of a vector.
-ghost use Rattle.std.specs.Prelude.{◌≡◌, ◌++◌, decimal, OnOk, OnErr};
+ghost use Rattle.std.specs.Prelude.{◌≡◌, ◌<◌, ◌++◌, length, drop, decimal, OnOk, OnErr};
 ghost use Rattle.cops_types.specs.FaultText.{fault_text};
 ghost use Rattle.cops_types.specs.Words.{StartsWith, list_text, more_text, pair_text, version_text};
 
 use crate::faults::Fault;
-use crate::pairs::Pair;
+use crate::packed::PackedPairs;
+use crate::pairs::{Deps, Near, Pair};
 use crate::versions::Version;
 use std::alloc::AllocError;
 
@@ -42,26 +43,44 @@ pub fn push_pair(out: &mut Vec<u8>, pair: &Pair) -> Result<(), AllocError>
 
 /// Puts the pairs with commas between, or a hyphen for none, at the end. After an `Err` a front of
 /// it may be there.
-pub fn push_list(out: &mut Vec<u8>, pairs: &[Pair]) -> Result<(), AllocError>
+pub fn push_deps(out: &mut Vec<u8>, deps: &Deps) -> Result<(), AllocError>
+    ensures ok { OnOk result (out.new.items ≡ out.old.items ++ list_text deps.now) }
+    ensures front { StartsWith out.new.items out.old.items }
+{
+    push_list(out, deps.packed())
+}
+
+/// Puts the pairs with commas between, or a hyphen for none, at the end. After an `Err` a front of
+/// it may be there.
+pub fn push_near(out: &mut Vec<u8>, near: &Near) -> Result<(), AllocError>
+    ensures ok { OnOk result (out.new.items ≡ out.old.items ++ list_text near.now) }
+    ensures front { StartsWith out.new.items out.old.items }
+{
+    push_list(out, near.packed())
+}
+
+/// Puts the pairs with commas between, or a hyphen for none, at the end.
+fn push_list(out: &mut Vec<u8>, pairs: &PackedPairs) -> Result<(), AllocError>
     ensures ok { OnOk result (out.new.items ≡ out.old.items ++ list_text pairs.now) }
     ensures front { StartsWith out.new.items out.old.items }
 {
-    let Some((first, rest)) = pairs.split_first() else {
+    if pairs.len() == 0 {
         out.push(b'-')?;
         return Ok(());
-    };
-    push_pair(out, first)?;
-    push_more(out, rest)
+    }
+    push_pair(out, &pairs.pair(0))?;
+    push_more(out, pairs)
 }
 
-/// Puts each pair after a comma at the end.
-fn push_more(out: &mut Vec<u8>, pairs: &[Pair]) -> Result<(), AllocError>
-    ensures ok { OnOk result (out.new.items ≡ out.old.items ++ more_text pairs.now) }
+/// Puts each pair but the first after a comma at the end.
+fn push_more(out: &mut Vec<u8>, pairs: &PackedPairs) -> Result<(), AllocError>
+    requires { 0 < length pairs.now }
+    ensures ok { OnOk result (out.new.items ≡ out.old.items ++ more_text (drop 1 pairs.now)) }
     ensures front { StartsWith out.new.items out.old.items }
 {
-    for pair in pairs {
+    for place in 1..pairs.len() {
         out.push(b',')?;
-        push_pair(out, pair)?;
+        push_pair(out, &pairs.pair(place))?;
     }
     Ok(())
 }

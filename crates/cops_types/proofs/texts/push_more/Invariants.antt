@@ -1,6 +1,9 @@
-use Rattle.std.proofs.Common.{◌≡◌, ◌++◌, take}
+use Rattle.std.proofs.Common.{◌≡◌, ◌≤◌, ◌++◌, drop, length, take}
 use Rattle.cops_types.specs.Words.{more_text}
 use Rattle.cops_types.proofs.texts.push_more.Given as goal
 
-abbrev pub invariant-loop-pair : goal.invariant-loop-pair
-invariant-loop-pair l = l.out.items ≡ l.fn.out.items ++ more_text (take l.pair-index l.pairs)
+abbrev pub invariant-loop-place : goal.invariant-loop-place
+invariant-loop-place l = record {
+  below : 1 ≤ l.place;
+  items : l.out.items ≡ l.fn.out.items ++ more_text (drop 1 (take l.place l.pairs));
+}

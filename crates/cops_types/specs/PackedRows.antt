@@ -1,0 +1,9 @@
+-- The pairs that rows stand for, in either form.
+use Rattle.std.specs.Prelude.{List}
+use Rattle.cops_types.specs.declared.packed.Rows.{Rows}
+use Rattle.cops_types.specs.declared.packed.Rows.TheVariants.{Short, Full}
+use Rattle.cops_types.specs.declared.pairs.Pair.{Pair}
+
+abbrev pub pairs_of : Rows → List Pair
+pairs_of (Short pairs) = pairs
+pairs_of (Full pairs) = pairs

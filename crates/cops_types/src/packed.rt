@@ -1,0 +1,267 @@
+//! Lists of pairs as they are kept: a list whose keys are all short takes less memory.
+ghost use Rattle.std.specs.Prelude.{◌≡◌, ◌<◌, ◌≤◌, [], length, slice_index_or, MatchResult, IfOk, IsTrue, nat_le};
+ghost use Rattle.std.specs.List.{HoldsAt, list_all};
+ghost use Rattle.std.specs.List.Sorted.{IsSearchInRange, IsPartitionPoint};
+ghost use Rattle.std.specs.declared.cmp.Ordering.TheVariants.{Less, Equal, Greater};
+ghost use Rattle.cops_types.specs.Key.{key_cmp};
+ghost use Rattle.cops_types.specs.Packed.{SHORT, has_short_key};
+ghost use Rattle.cops_types.specs.Pairs.{IsDeps, holds, version_of, greatest_clock as greatest_clock_of};
+ghost use Rattle.cops_types.specs.Version.{last_clock};
+
+use crate::keys::Key;
+use crate::pair_lists::place_of;
+use crate::pairs::Pair;
+use crate::shared::Shared;
+use crate::versions::Version;
+use std::alloc::{AllocError, Global};
+use std::cmp::Ordering;
+use std::marker::Model;
+
+/// A pair whose key has at most 15 bytes. Contracts see a pair like any other.
+#[derive(Clone, Copy, Debug)]
+pub(crate) struct ShortPair {
+    bytes: [u8; 15],
+    len: u8,
+    version: Version,
+}
+
+impl Model for ShortPair {
+    ghost use Rattle.std.specs.Prelude.{length, take};
+    ghost use Rattle.cops_types.specs.declared.pairs.Pair.{Pair};
+
+    ghost Value = { Pair };
+
+    ghost use Rattle.cops_types.specs.Key.{is_key};
+    ghost use Rattle.cops_types.specs.Padding.{IsPadded, padded, padded-take};
+
+    ghost view = { λ p. record { key = take p.len p.bytes; version = p.version } };
+
+    ghost invariant = { λ p. IsPadded 15 is_key p.bytes p.len };
+
+    ghost inverse = { λ pair. record { bytes = padded 15 pair.key; len = length pair.key; version = pair.version } };
+
+    ghost inverse_ok = { λ p h i. record { bytes = (padded-take 15 is_key p.bytes p.len h).0 i; len = (padded-take 15 is_key p.bytes p.len h).1 i; version = p.version } };
+}
+
+impl ShortPair {
+    /// A pair with a short key.
+    fn of(pair: &Pair) -> Self
+        requires { length pair.now.key ≤ SHORT }
+        ensures { result ≡ pair.now }
+    {
+        ShortPair {
+            bytes: pair.key.cells(),
+            len: pair.key.len() as u8,
+            version: pair.version,
+        }
+    }
+
+    /// The same pair, with a key like any other.
+    fn pair(&self) -> Pair
+        ensures { result ≡ self.now }
+    {
+        Pair {
+            key: Key::of_cells(&self.bytes, usize::from(self.len)),
+            version: self.version,
+        }
+    }
+
+    /// The version.
+    fn version(&self) -> Version
+        ensures { result ≡ self.now.version }
+    {
+        self.version
+    }
+
+    /// How the key stands to another.
+    fn key_order(&self, key: &Key) -> Ordering
+        ensures { result ≡ key_cmp self.now.key key.now }
+    {
+        self.bytes[..usize::from(self.len)].cmp(key.bytes())
+    }
+}
+
+/// Pairs, all with short keys or in full.
+#[derive(Debug, Drop)]
+enum Rows {
+    Short(Shared<ShortPair>),
+    Full(Shared<Pair>),
+}
+
+/// Pairs that are shared. Contracts see the list of them.
+#[derive(Debug, Drop)]
+pub(crate) struct PackedPairs {
+    rows: Rows,
+}
+
+impl Model for PackedPairs {
+    ghost use Rattle.std.specs.Prelude.{List};
+    ghost use Rattle.cops_types.specs.declared.pairs.Pair.{Pair};
+
+    ghost Value = { List Pair };
+
+    ghost use Rattle.cops_types.specs.PackedRows.{pairs_of};
+
+    ghost view = { λ p. pairs_of p.rows };
+}
+
+/// The clock of a version.
+fn clock_of(version: Version) -> u64
+    ensures value { result ≡ version.clock }
+    ensures fits { result ≤ last_clock }
+{
+    let _place = version.place();
+    version.to_u64() / 256
+}
+
+/// Whether each key is short.
+fn are_short(pairs: &[Pair]) -> bool
+    ensures { result ≡ list_all has_short_key pairs.now }
+{
+    pairs.iter().all(|pair| pair.key.len() <= 15)
+}
+
+/// The pairs, which all have short keys.
+fn shortened(alloc: Global, pairs: &[Pair]) -> Result<Vec<ShortPair>, AllocError>
+    requires { IsTrue (list_all has_short_key pairs.now) }
+    ensures { IfOk result (λ list. list.items ≡ pairs.now) }
+{
+    let mut list = Vec::with_capacity(alloc, pairs.len())?;
+    for pair in pairs {
+        list.push(ShortPair::of(pair))?;
+    }
+    Ok(list)
+}
+
+/// Where the key is among short pairs, or its place.
+fn place_among_short(pairs: &[ShortPair], key: &Key) -> Result<usize, usize>
+    requires { IsDeps pairs.now }
+    ensures within { IsSearchInRange result (length pairs.now) }
+    ensures place { MatchResult result
+        (HoldsAt (λ p. key_cmp p.key key.now ≡ Equal) pairs.now)
+        (IsPartitionPoint (λ p. key_cmp p.key key.now ≡ Less) (λ p. key_cmp p.key key.now ≡ Greater) pairs.now) }
+{
+    pairs.binary_search_by(|pair| pair.key_order(key))
+}
+
+impl PackedPairs {
+    /// No pairs.
+    pub(crate) fn empty(alloc: Global) -> Self
+        ensures { result ≡ [] }
+    {
+        PackedPairs {
+            rows: Rows::Short(Shared::empty(alloc)),
+        }
+    }
+
+    /// A copy of pairs, with one request for memory.
+    pub(crate) fn copy_of(alloc: Global, pairs: &[Pair]) -> Result<Self, AllocError>
+        ensures { IfOk result (λ packed. packed ≡ pairs.now) }
+    {
+        let rows = if are_short(pairs) {
+            Rows::Short(Shared::from_vec(shortened(alloc, pairs)?)?)
+        } else {
+            Rows::Full(Shared::from_slice(alloc, pairs)?)
+        };
+        Ok(PackedPairs { rows })
+    }
+
+    /// How many pairs there are.
+    pub(crate) fn len(&self) -> usize
+        ensures { result ≡ length self.now }
+    {
+        match &self.rows {
+            Rows::Short(pairs) => pairs.as_slice().len(),
+            Rows::Full(pairs) => pairs.as_slice().len(),
+        }
+    }
+
+    /// The pair at a place.
+    pub(crate) fn pair(&self, place: usize) -> Pair
+        requires { place < length self.now }
+        ensures { result ≡ slice_index_or self.now place result }
+    {
+        match &self.rows {
+            Rows::Short(pairs) => pairs.as_slice()[place].pair(),
+            Rows::Full(pairs) => pairs.as_slice()[place],
+        }
+    }
+
+    /// The version of the pair at a place.
+    pub(crate) fn version(&self, place: usize) -> Version
+        requires { place < length self.now }
+        ensures { HoldsAt (λ p. p.version ≡ result) self.now place }
+    {
+        match &self.rows {
+            Rows::Short(pairs) => pairs.as_slice()[place].version(),
+            Rows::Full(pairs) => pairs.as_slice()[place].version,
+        }
+    }
+
+    /// The handle for memory.
+    pub(crate) fn allocator(&self) -> Global {
+        match &self.rows {
+            Rows::Short(pairs) => pairs.allocator(),
+            Rows::Full(pairs) => pairs.allocator(),
+        }
+    }
+
+    /// One more owner of the pairs.
+    pub(crate) fn share(&self, alloc: Global) -> Result<Self, AllocError>
+        ensures { IfOk result (λ packed. packed ≡ self.now) }
+    {
+        let rows = match &self.rows {
+            Rows::Short(pairs) => Rows::Short(pairs.share(alloc)?),
+            Rows::Full(pairs) => Rows::Full(pairs.share(alloc)?),
+        };
+        Ok(PackedPairs { rows })
+    }
+
+    /// Where the key is, or its place.
+    fn place_of(&self, key: &Key) -> Result<usize, usize>
+        requires { IsDeps self.now }
+        ensures within { IsSearchInRange result (length self.now) }
+        ensures place { MatchResult result
+            (HoldsAt (λ p. key_cmp p.key key.now ≡ Equal) self.now)
+            (IsPartitionPoint (λ p. key_cmp p.key key.now ≡ Less) (λ p. key_cmp p.key key.now ≡ Greater) self.now) }
+    {
+        match &self.rows {
+            Rows::Short(pairs) => place_among_short(pairs.as_slice(), key),
+            Rows::Full(pairs) => place_of(pairs.as_slice(), key),
+        }
+    }
+
+    /// The version that pairs in order have of a key, 0.0 where they have none.
+    pub(crate) fn version_of(&self, key: &Key) -> Version
+        requires { IsDeps self.now }
+        ensures { result ≡ version_of key.now self.now }
+    {
+        match self.place_of(key) {
+            Ok(place) => self.version(place),
+            Err(_) => Version::none(),
+        }
+    }
+
+    /// Whether pairs with one version for each key hold exactly this pair.
+    pub(crate) fn holds(&self, pair: &Pair) -> bool
+        requires { IsDeps self.now }
+        ensures { result ≡ holds self.now pair.now }
+    {
+        match self.place_of(&pair.key) {
+            Ok(place) => self.version(place) == pair.version,
+            Err(_) => false,
+        }
+    }
+
+    /// The greatest clock among the pairs.
+    pub(crate) fn greatest_clock(&self) -> u64
+        ensures value { result ≡ greatest_clock_of self.now }
+        ensures fits { result ≤ last_clock }
+    {
+        let mut greatest = 0;
+        for place in 0..self.len() {
+            greatest = greatest.max(clock_of(self.version(place)));
+        }
+        greatest
+    }
+}
