@@ -101,14 +101,6 @@ pub(crate) fn own_number(place: &Place) -> u64
     id.dc * shards + id.shard
 }
 
-// The clock of a version.
-pub(crate) fn clock_of(version: Version) -> u64
-    ensures value { result ≡ version.clock }
-    ensures fits { result ≤ last_clock }
-{
-    version.clock()
-}
-
 // Whether a version was committed: the mark of its node has reached it.
 pub(crate) fn was_committed(counters: &Counters, version: Version) -> bool
     requires { length counters.now.marks.items ≡ NODES }
@@ -141,6 +133,6 @@ pub(crate) fn raise(counters: &mut Counters, version: Version)
     ensures marks { counters.new.marks.items ≡ slice_set counters.old.marks.items version.node version }
     ensures fits { version.clock ≤ last_clock }
 {
-    counters.clock = counters.clock.max(clock_of(version));
+    counters.clock = counters.clock.max(version.clock());
     counters.marks[version.place()] = version;
 }

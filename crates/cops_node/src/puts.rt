@@ -19,20 +19,8 @@ use crate::replies::Replies;
 use crate::{Place, commits};
 use cops_outbox::Outbox;
 use cops_store::Store;
-use cops_types::{Deps, Entry, EntryParts, Fault, Key, Near, Pair, Quota, Value, Version};
+use cops_types::{Deps, Entry, EntryParts, Fault, Key, Near, Quota, Value, Version};
 use std::alloc::{AllocError, Global};
-
-// The greatest clock among pairs.
-fn greatest_clock(pairs: &[Pair]) -> u64
-    ensures value { result ≡ greatest_clock_of pairs.now }
-    ensures fits { result ≤ last_clock }
-{
-    let mut greatest = 0;
-    for pair in pairs {
-        greatest = greatest.max(parts::clock_of(pair.version));
-    }
-    greatest
-}
 
 // The version that a put with these dependencies gets.
 fn next_version(place: &Place, counters: &Counters, deps: &Deps) -> Result<Version, Fault>
@@ -41,7 +29,7 @@ fn next_version(place: &Place, counters: &Counters, deps: &Deps) -> Result<Versi
     ensures { result ≡ ok_or (version_after counters.now.clock (greatest_clock_of deps.now) (own_number_of place.now)) Fault.ClockFull }
 {
     let node = parts::own_number(place);
-    let deps_clock = greatest_clock(deps.pairs());
+    let deps_clock = deps.greatest_clock();
     Version::next(counters.clock, deps_clock, node)
 }
 

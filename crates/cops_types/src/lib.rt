@@ -4,8 +4,10 @@
 mod bytes;
 mod configs;
 mod contexts;
+mod deps;
 mod faults;
-mod growing;
+mod growing_deps;
+mod growing_near;
 mod head_lines;
 mod heads;
 mod keys;
@@ -13,6 +15,7 @@ mod laws;
 mod line_runs;
 mod machines;
 mod names;
+mod near;
 mod packed;
 mod pair_lists;
 mod pairs;
@@ -27,6 +30,8 @@ mod tests;
 #[cfg(test)]
 mod tests_of_heads;
 #[cfg(test)]
+mod tests_of_pairs;
+#[cfg(test)]
 mod tests_of_runs;
 #[cfg(test)]
 mod tests_of_texts;
@@ -38,15 +43,18 @@ pub mod words;
 pub use bytes::{ByteLists, Bytes};
 pub use configs::{Config, Tenant};
 pub use contexts::{Read, Reads};
+pub use deps::Deps;
 pub use faults::Fault;
-pub use growing::{GrowingDeps, GrowingNear};
+pub use growing_deps::GrowingDeps;
+pub use growing_near::GrowingNear;
 pub use heads::{ConfigReader, HeadLine};
 pub use keys::Key;
 pub use laws::{fault_numbers_are_read_back, head_is_read};
 pub use line_runs::{LineMachine, RunFault, Stop, run_lines};
 pub use machines::Machine;
 pub use names::Name;
-pub use pairs::{Deps, Near, Pair};
+pub use near::Near;
+pub use pairs::Pair;
 pub use quotas::Quota;
 pub use records::{Dated, Entry, EntryParts, Record};
 pub use sinks::Sink;

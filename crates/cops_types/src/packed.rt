@@ -105,15 +105,6 @@ impl Model for PackedPairs {
     ghost view = { λ p. pairs_of p.rows };
 }
 
-/// The clock of a version.
-fn clock_of(version: Version) -> u64
-    ensures value { result ≡ version.clock }
-    ensures fits { result ≤ last_clock }
-{
-    let _place = version.place();
-    version.to_u64() / 256
-}
-
 /// Whether each key is short.
 fn are_short(pairs: &[Pair]) -> bool
     ensures { result ≡ list_all has_short_key pairs.now }
@@ -260,7 +251,7 @@ impl PackedPairs {
     {
         let mut greatest = 0;
         for place in 0..self.len() {
-            greatest = greatest.max(clock_of(self.version(place)));
+            greatest = greatest.max(self.version(place).clock());
         }
         greatest
     }

@@ -1,7 +1,8 @@
 ghost use Rattle.std.specs.Prelude.{◌≡◌, IfOk};
 
+use crate::deps::Deps;
 use crate::keys::Key;
-use crate::pairs::{Deps, Near};
+use crate::near::Near;
 use crate::values::Value;
 use crate::versions::Version;
 use std::alloc::{AllocError, Global};

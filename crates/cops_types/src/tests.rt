@@ -1,13 +1,13 @@
 use crate::{
     Deps, Entry, EntryParts, Fault, GrowingDeps, GrowingNear, Key, Near, Pair, Value, Version,
 };
-use std::alloc::Global;
+use std::alloc::{AllocError, Global};
 use std::process::Abort;
 use std::test::Fail;
 use std::thread;
 use std::thread::Threads;
 
-fn pair(rt: &impl Abort, key: &[u8], clock: u64, node: u64) -> Pair {
+pub(crate) fn pair(rt: &impl Abort, key: &[u8], clock: u64, node: u64) -> Pair {
     assert!(rt; clock < 1000 && node < 256);
     let key = Key::new(key).expect(rt, "a key");
     Pair {
@@ -16,12 +16,31 @@ fn pair(rt: &impl Abort, key: &[u8], clock: u64, node: u64) -> Pair {
     }
 }
 
-fn deps(rt: &impl Abort, alloc: Global, pairs: &[Pair]) -> Deps {
+/// The dependencies of these pairs.
+pub(crate) fn deps(rt: &impl Abort, alloc: Global, pairs: &[Pair]) -> Deps {
     let mut deps = Deps::empty(alloc);
     for pair in pairs {
         deps.add(*pair, 100).expect(rt, "room");
     }
     deps
+}
+
+/// The pairs of a list.
+pub(crate) fn pairs_of(deps: &Deps, alloc: Global) -> Result<Vec<Pair>, AllocError> {
+    let mut pairs = Vec::new(alloc);
+    for place in 0..deps.len() {
+        pairs.push(deps.pair(place))?;
+    }
+    Ok(pairs)
+}
+
+/// The pairs of a list of nearest ones.
+pub(crate) fn near_pairs_of(near: &Near, alloc: Global) -> Result<Vec<Pair>, AllocError> {
+    let mut pairs = Vec::new(alloc);
+    for place in 0..near.len() {
+        pairs.push(near.pair(place))?;
+    }
+    Ok(pairs)
 }
 
 #[test]
@@ -63,12 +82,17 @@ fn joins(rt: HostRuntime) -> Result<(), Fail> {
     let more = deps(&rt, rt.alloc(), &[x2, y1]);
     let mut list = deps(&rt, rt.alloc(), &[x1]);
     assert!(rt; matches!(list.join(&more, 1), Err(Fault::DependenciesFull)));
-    assert_eq!(rt; list.pairs(), [x1].as_slice());
+    assert_eq!(rt; pairs_of(&list, rt.alloc())?.as_slice(), [x1].as_slice());
     assert!(rt; list.join(&more, 2).is_ok());
-    assert_eq!(rt; list.copy(rt.alloc())?.pairs(), [x2, y1].as_slice());
+    let copy = list.copy(rt.alloc())?;
+    assert_eq!(rt;
+        pairs_of(&copy, rt.alloc())?.as_slice(),
+        [x2, y1].as_slice()
+    );
     let mut one = deps(&rt, rt.alloc(), &[x1]);
     assert!(rt; one.add(pair(&rt, b"x", 2, 0), 1).is_ok());
-    assert_eq!(rt; one.pairs(), [pair(&rt, b"x", 2, 0)].as_slice());
+    let newer = pair(&rt, b"x", 2, 0);
+    assert_eq!(rt; pairs_of(&one, rt.alloc())?.as_slice(), [newer].as_slice());
     Ok(())
 }
 
@@ -84,7 +108,11 @@ fn growing_joins(rt: HostRuntime) -> Result<(), Fail> {
     assert!(rt; matches!(list.join(&more, 1), Err(Fault::DependenciesFull)));
     assert_eq!(rt; list.pairs(), [x1].as_slice());
     assert!(rt; list.join(&more, 2).is_ok());
-    assert_eq!(rt; list.to_deps()?.pairs(), [x2, y1].as_slice());
+    let shared = list.to_deps()?;
+    assert_eq!(rt;
+        pairs_of(&shared, rt.alloc())?.as_slice(),
+        [x2, y1].as_slice()
+    );
     assert_eq!(rt; list.len(), 2);
     assert!(rt; list.has_key(&x1.key) && list.holds(&x2) && !list.holds(&x1));
     Ok(())
@@ -98,7 +126,11 @@ fn nearest(rt: HostRuntime) -> Result<(), Fail> {
     assert!(rt; near.add(x2, 2).is_ok());
     assert!(rt; near.add(x1, 2).is_ok());
     assert!(rt; near.add(x1, 2).is_ok());
-    assert_eq!(rt; near.to_near()?.pairs(), [x1, x2].as_slice());
+    let shared = near.to_near()?;
+    assert_eq!(rt;
+        near_pairs_of(&shared, rt.alloc())?.as_slice(),
+        [x1, x2].as_slice()
+    );
     assert!(rt;
         matches!(
             near.add(pair(&rt, b"y", 1, 0), 2),

@@ -1,6 +1,9 @@
-use crate::texts::{push_fault, push_list, push_number, push_pair, push_version};
+use crate::tests::{deps, pair};
+use crate::texts::{push_deps, push_fault, push_near, push_number, push_pair, push_version};
 use crate::words::{Words, parse_number, split_word};
-use crate::{ByteLists, Bytes, Fault, Key, Name, Pair, Version};
+use crate::{ByteLists, Bytes, Fault, Key, Name, Near, Pair, Version};
+use std::alloc::Global;
+use std::process::Abort;
 use std::test::Fail;
 
 #[test]
@@ -48,16 +51,39 @@ fn texts_of_numbers_and_lists(rt: HostRuntime) -> Result<(), Fail> {
     out.clear();
     push_pair(&mut out, &x)?;
     assert_eq!(rt; out.as_slice(), b"x:2.1".as_slice());
-    for (pairs, text) in [
-        (&[] as &[Pair], b"-".as_slice()),
-        (&[x] as &[Pair], b"x:2.1".as_slice()),
-        (&[x, x, x] as &[Pair], b"x:2.1,x:2.1,x:2.1".as_slice()),
-    ] {
-        out.clear();
-        push_list(&mut out, pairs)?;
-        assert_eq!(rt; out.as_slice(), text);
-    }
     Ok(())
+}
+
+/// Asks whether both kinds of lists of these pairs are written so.
+fn are_written(rt: &impl Abort, alloc: Global, pairs: &[Pair], text: &[u8]) -> Result<(), Fail> {
+    let all = deps(rt, alloc, pairs);
+    let mut near = Near::empty(alloc);
+    for pair in pairs {
+        near.add(*pair, 3).expect(rt, "room");
+    }
+    let mut out = Vec::new(alloc);
+    push_deps(&mut out, &all)?;
+    assert_eq!(rt; out.as_slice(), text);
+    out.clear();
+    push_near(&mut out, &near)?;
+    assert_eq!(rt; out.as_slice(), text);
+    Ok(())
+}
+
+#[test]
+fn lists_as_words(rt: HostRuntime) -> Result<(), Fail> {
+    let x = pair(&rt, b"x", 2, 1);
+    let y = pair(&rt, b"y", 3, 0);
+    let long = pair(&rt, b"sixteen_letters_", 4, 5);
+    are_written(&rt, rt.alloc(), &[], b"-")?;
+    are_written(&rt, rt.alloc(), &[x], b"x:2.1")?;
+    are_written(&rt, rt.alloc(), &[y, x], b"x:2.1,y:3.0")?;
+    are_written(
+        &rt,
+        rt.alloc(),
+        &[y, x, long],
+        b"sixteen_letters_:4.5,x:2.1,y:3.0",
+    )
 }
 
 #[test]

@@ -3,9 +3,11 @@ ghost use Rattle.std.specs.Prelude.{◌≡◌, ◌<◌, ◌++◌, length, drop, 
 ghost use Rattle.cops_types.specs.FaultText.{fault_text};
 ghost use Rattle.cops_types.specs.Words.{StartsWith, list_text, more_text, pair_text, version_text};
 
+use crate::deps::Deps;
 use crate::faults::Fault;
+use crate::near::Near;
 use crate::packed::PackedPairs;
-use crate::pairs::{Deps, Near, Pair};
+use crate::pairs::Pair;
 use crate::versions::Version;
 use std::alloc::AllocError;
 

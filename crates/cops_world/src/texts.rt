@@ -8,7 +8,7 @@ ghost use Rattle.cops_world.specs.ReplyWords.{later_texts};
 ghost use Rattle.cops_world.specs.Script.{answer_line, name_at};
 
 use crate::Reply;
-use cops_types::texts::{push_fault, push_list, push_number, push_version};
+use cops_types::texts::{push_deps, push_fault, push_near, push_number, push_version};
 use cops_types::{Deps, Name, Near, Pair, Read, Value, Version};
 use std::alloc::AllocError;
 
@@ -89,9 +89,9 @@ fn push_lists(out: &mut Vec<u8>, all: &Deps, near: &Near) -> Result<(), AllocErr
     ensures { OnOk result (out.new.items ≡ out.old.items ++ text_of_reply (Lists all.now near.now)) }
 {
     push_word(out, b"all ")?;
-    push_list(out, all.pairs())?;
+    push_deps(out, all)?;
     push_word(out, b" near ")?;
-    push_list(out, near.pairs())
+    push_near(out, near)
 }
 
 /// Puts what became of a stream's front at the end.
