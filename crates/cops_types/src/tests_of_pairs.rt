@@ -27,6 +27,11 @@ fn are_pairs(rt: &impl Abort, alloc: Global, list: &Deps, pairs: &[Pair]) -> Res
     Ok(())
 }
 
+/// The first key at a clock.
+fn first(rt: &impl Abort, clock: u64) -> Pair {
+    pair(rt, b"a", clock, 0)
+}
+
 #[test]
 fn keys_of_either_length_are_added(rt: HostRuntime) -> Result<(), Fail> {
     let (a, x) = (pair(&rt, b"a", 1, 0), pair(&rt, b"x", 2, 0));
@@ -66,63 +71,80 @@ fn versions_of_keys_of_either_length(rt: HostRuntime) {
 
 #[test]
 fn lists_of_either_form_join(rt: HostRuntime) -> Result<(), Fail> {
-    let (a1, a2) = (pair(&rt, b"a", 1, 0), pair(&rt, b"a", 2, 0));
-    let brief = deps(&rt, rt.alloc(), &[a1, short(&rt, 7)]);
-    let mixed = deps(&rt, rt.alloc(), &[a2, long(&rt, 3), short(&rt, 6)]);
-    let both = [a2, short(&rt, 7), long(&rt, 3)];
-    let mut first = brief.copy(rt.alloc())?;
-    assert!(rt; matches!(first.join(&mixed, 2), Err(Fault::DependenciesFull)));
-    are_pairs(&rt, rt.alloc(), &first, &[a1, short(&rt, 7)])?;
-    first.join(&mixed, 3).expect(&rt, "room");
-    are_pairs(&rt, rt.alloc(), &first, &both)?;
-    let mut second = mixed.copy(rt.alloc())?;
-    second.join(&brief, 3).expect(&rt, "room");
-    are_pairs(&rt, rt.alloc(), &second, &both)
+    let brief = deps(&rt, rt.alloc(), &[first(&rt, 1), short(&rt, 7)]);
+    let mixed = deps(
+        &rt,
+        rt.alloc(),
+        &[first(&rt, 2), long(&rt, 3), short(&rt, 6)],
+    );
+    let both = [first(&rt, 2), short(&rt, 7), long(&rt, 3)];
+    let mut one = brief.copy(rt.alloc())?;
+    assert!(rt; matches!(one.join(&mixed, 2), Err(Fault::DependenciesFull)));
+    are_pairs(&rt, rt.alloc(), &one, &[first(&rt, 1), short(&rt, 7)])?;
+    one.join(&mixed, 3).expect(&rt, "room");
+    are_pairs(&rt, rt.alloc(), &one, &both)?;
+    let mut other = mixed.copy(rt.alloc())?;
+    other.join(&brief, 3).expect(&rt, "room");
+    are_pairs(&rt, rt.alloc(), &other, &both)
 }
 
 #[test]
 fn a_long_list_joins(rt: HostRuntime) -> Result<(), Fail> {
-    let a = pair(&rt, b"a", 1, 0);
     let only_long = deps(&rt, rt.alloc(), &[long(&rt, 4)]);
     let mut list = Deps::empty(rt.alloc());
     assert_eq!(rt; list.greatest_clock(), 0);
-    list.join(&deps(&rt, rt.alloc(), &[a]), 3)
+    list.join(&deps(&rt, rt.alloc(), &[first(&rt, 1)]), 3)
         .expect(&rt, "room");
-    are_pairs(&rt, rt.alloc(), &list, &[a])?;
+    are_pairs(&rt, rt.alloc(), &list, &[first(&rt, 1)])?;
     list.join(&only_long, 3).expect(&rt, "room");
-    are_pairs(&rt, rt.alloc(), &list, &[a, long(&rt, 4)])?;
+    are_pairs(&rt, rt.alloc(), &list, &[first(&rt, 1), long(&rt, 4)])?;
     let mut other = only_long.copy(rt.alloc())?;
     other.join(&list, 2).expect(&rt, "room");
-    are_pairs(&rt, rt.alloc(), &other, &[a, long(&rt, 4)])
+    are_pairs(&rt, rt.alloc(), &other, &[first(&rt, 1), long(&rt, 4)])
 }
 
 #[test]
 fn growing_lists_take_either_form(rt: HostRuntime) -> Result<(), Fail> {
-    let (a1, a2) = (pair(&rt, b"a", 1, 0), pair(&rt, b"a", 2, 0));
-    let brief = deps(&rt, rt.alloc(), &[a2, short(&rt, 7)]);
-    let mixed = deps(&rt, rt.alloc(), &[a1, long(&rt, 3), short(&rt, 8)]);
+    let brief = deps(&rt, rt.alloc(), &[first(&rt, 2), short(&rt, 7)]);
+    let mixed = deps(
+        &rt,
+        rt.alloc(),
+        &[first(&rt, 1), long(&rt, 3), short(&rt, 8)],
+    );
     let mut list = GrowingDeps::empty(rt.alloc());
     list.join(&brief, 2).expect(&rt, "room");
-    assert_eq!(rt; list.pairs(), [a2, short(&rt, 7)].as_slice());
+    assert_eq!(rt; list.pairs(), [first(&rt, 2), short(&rt, 7)].as_slice());
     are_pairs(&rt, rt.alloc(), &list.to_deps()?, list.pairs())?;
     list.join(&mixed, 3).expect(&rt, "room");
-    assert_eq!(rt; list.pairs(), [a2, short(&rt, 8), long(&rt, 3)].as_slice());
+    assert_eq!(rt;
+        list.pairs(),
+        [first(&rt, 2), short(&rt, 8), long(&rt, 3)].as_slice()
+    );
     are_pairs(&rt, rt.alloc(), &list.to_deps()?, list.pairs())
 }
 
 #[test]
 fn what_lists_of_either_form_hold_is_dropped(rt: HostRuntime) {
-    let (a1, a2) = (pair(&rt, b"a", 1, 0), pair(&rt, b"a", 2, 0));
-    let brief = deps(&rt, rt.alloc(), &[a2, short(&rt, 7)]);
-    let mixed = deps(&rt, rt.alloc(), &[a1, long(&rt, 3), short(&rt, 8)]);
+    let brief = deps(&rt, rt.alloc(), &[first(&rt, 2), short(&rt, 7)]);
+    let mixed = deps(
+        &rt,
+        rt.alloc(),
+        &[first(&rt, 1), long(&rt, 3), short(&rt, 8)],
+    );
     let mut near = GrowingNear::empty(rt.alloc());
-    for pair in [a1, a2, short(&rt, 8), long(&rt, 2), long(&rt, 3)] {
+    for pair in [
+        first(&rt, 1),
+        first(&rt, 2),
+        short(&rt, 8),
+        long(&rt, 2),
+        long(&rt, 3),
+    ] {
         near.add(pair, 5).expect(&rt, "room");
     }
     near.drop_held(&brief);
     assert_eq!(rt;
         near.pairs(),
-        [a1, short(&rt, 8), long(&rt, 2), long(&rt, 3)].as_slice()
+        [first(&rt, 1), short(&rt, 8), long(&rt, 2), long(&rt, 3)].as_slice()
     );
     near.drop_held(&mixed);
     assert_eq!(rt; near.pairs(), [long(&rt, 2)].as_slice());

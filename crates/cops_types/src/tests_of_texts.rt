@@ -72,18 +72,13 @@ fn are_written(rt: &impl Abort, alloc: Global, pairs: &[Pair], text: &[u8]) -> R
 
 #[test]
 fn lists_as_words(rt: HostRuntime) -> Result<(), Fail> {
-    let x = pair(&rt, b"x", 2, 1);
-    let y = pair(&rt, b"y", 3, 0);
-    let long = pair(&rt, b"sixteen_letters_", 4, 5);
     are_written(&rt, rt.alloc(), &[], b"-")?;
+    let x = pair(&rt, b"x", 2, 1);
     are_written(&rt, rt.alloc(), &[x], b"x:2.1")?;
-    are_written(&rt, rt.alloc(), &[y, x], b"x:2.1,y:3.0")?;
-    are_written(
-        &rt,
-        rt.alloc(),
-        &[y, x, long],
-        b"sixteen_letters_:4.5,x:2.1,y:3.0",
-    )
+    let two = [pair(&rt, b"y", 3, 0), pair(&rt, b"x", 2, 1)];
+    are_written(&rt, rt.alloc(), &two, b"x:2.1,y:3.0")?;
+    let long = [pair(&rt, b"z", 3, 0), pair(&rt, b"sixteen_letters_", 4, 5)];
+    are_written(&rt, rt.alloc(), &long, b"sixteen_letters_:4.5,z:3.0")
 }
 
 #[test]
