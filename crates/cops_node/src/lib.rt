@@ -16,6 +16,8 @@ mod queues;
 mod replies;
 mod seeds;
 #[cfg(test)]
+mod test_nodes;
+#[cfg(test)]
 mod tests;
 
 pub use cluster::Cluster0;
