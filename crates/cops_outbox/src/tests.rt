@@ -102,67 +102,106 @@ fn push(rt: &impl Abort, alloc: Global, outbox: &mut Outbox, slot: usize, clock:
     push_within(rt, alloc, outbox, slot, clock, u64::MAX);
 }
 
+/// The data centre acknowledges the version with this clock.
+fn ack(rt: &impl Abort, outbox: &mut Outbox, slot: usize, dc: usize, clock: u64, told: Ack)
+    requires slot { slot < 2 }
+    requires dc { dc < 3 }
+    requires tenants { outbox.old.tenants ≡ 2 }
+    requires data_centres { length outbox.old.queues ≡ 3 }
+    ensures tenants { outbox.new.tenants ≡ 2 }
+    ensures data_centres { length outbox.new.queues ≡ 3 }
+{
+    assert_eq!(rt; outbox.ack(slot, dc, version(rt, clock)), told);
+}
+
+/// Three data centres and the first entry of each tenant.
+fn with_one_each(rt: &impl Abort, alloc: Global) -> Outbox
+    ensures tenants { result.tenants ≡ 2 }
+    ensures data_centres { length result.queues ≡ 3 }
+{
+    let mut outbox = outbox(rt, alloc, 3);
+    push_within(rt, alloc, &mut outbox, 0, 1, 1);
+    push_within(rt, alloc, &mut outbox, 1, 2, 1);
+    outbox
+}
+
 #[test]
-fn each_tenant_has_a_limit_and_a_front(rt: HostRuntime) {
+fn each_tenant_has_a_limit(rt: HostRuntime) {
     let alloc = rt.alloc();
-    let mut outbox = outbox(&rt, alloc, 2);
+    let mut outbox = outbox(&rt, alloc, 3);
     assert!(rt; !outbox.is_full(0, 1) && !outbox.is_full(1, 1));
-    let first = entry(&rt, alloc, 1);
-    if let Err(fault) = outbox.push(0, &first, 1) {
-        assert_eq!(rt; fault, Fault::OutOfMemory);
-        assert_eq!(rt; seen(&outbox, 1), ((0, 0), (0, 0)));
-        outbox.push(0, &first, 1).expect(&rt, "memory");
-    }
+    push_within(&rt, alloc, &mut outbox, 0, 1, 1);
     assert!(rt; outbox.is_full(0, 1) && !outbox.is_full(1, 1));
-    let second = entry(&rt, alloc, 2);
-    if let Err(fault) = outbox.push(1, &second, 1) {
-        assert_eq!(rt; fault, Fault::OutOfMemory);
-        assert_eq!(rt; seen(&outbox, 1), ((1, 1), (0, 0)));
-        outbox.push(1, &second, 1).expect(&rt, "memory");
-    }
+    push_within(&rt, alloc, &mut outbox, 1, 2, 1);
+    assert!(rt; outbox.is_full(0, 1) && outbox.is_full(1, 1));
+}
+
+#[test]
+fn each_tenant_has_a_front(rt: HostRuntime) {
+    let mut outbox = with_one_each(&rt, rt.alloc());
     assert_eq!(rt; seen(&outbox, 1), ((1, 1), (2, 1)));
-    assert_eq!(rt; outbox.ack(1, 1, version(&rt, 1)), Ack::NotFront);
+    ack(&rt, &mut outbox, 1, 1, 1, Ack::NotFront);
     assert_eq!(rt; seen(&outbox, 1), ((1, 1), (2, 1)));
-    assert_eq!(rt; outbox.ack(0, 1, version(&rt, 1)), Ack::Acked);
+    ack(&rt, &mut outbox, 0, 1, 1, Ack::Acked);
     assert_eq!(rt; seen(&outbox, 1), ((0, 0), (2, 1)));
-    assert_eq!(rt; outbox.ack(0, 1, version(&rt, 1)), Ack::NotFront);
-    assert!(rt; !outbox.is_full(0, 1) && outbox.is_full(1, 1));
+    ack(&rt, &mut outbox, 0, 1, 1, Ack::NotFront);
     assert_eq!(rt; seen(&outbox, 0), ((0, 0), (0, 0)));
+}
+
+/// Three entries of one tenant and two of the other.
+fn with_five(rt: &impl Abort, alloc: Global) -> Outbox
+    ensures tenants { result.tenants ≡ 2 }
+    ensures data_centres { length result.queues ≡ 3 }
+{
+    let mut outbox = outbox(rt, alloc, 3);
+    push(rt, alloc, &mut outbox, 0, 1);
+    push(rt, alloc, &mut outbox, 1, 1);
+    push(rt, alloc, &mut outbox, 0, 2);
+    push(rt, alloc, &mut outbox, 1, 5);
+    push(rt, alloc, &mut outbox, 0, 3);
+    outbox
+}
+
+#[test]
+fn all_data_centres_are_sent_all(rt: HostRuntime) {
+    let outbox = with_five(&rt, rt.alloc());
+    assert_eq!(rt; seen(&outbox, 0), ((0, 0), (0, 0)));
+    assert_eq!(rt; seen(&outbox, 1), ((1, 3), (1, 2)));
+    assert_eq!(rt; seen(&outbox, 2), ((1, 3), (1, 2)));
 }
 
 #[test]
 fn data_centres_acknowledge_at_their_own_pace(rt: HostRuntime) {
-    let alloc = rt.alloc();
-    let mut outbox = outbox(&rt, alloc, 3);
-    push(&rt, alloc, &mut outbox, 0, 1);
-    push(&rt, alloc, &mut outbox, 1, 1);
-    push(&rt, alloc, &mut outbox, 0, 2);
-    push(&rt, alloc, &mut outbox, 1, 5);
-    push(&rt, alloc, &mut outbox, 0, 3);
-    assert_eq!(rt; seen(&outbox, 0), ((0, 0), (0, 0)));
-    assert_eq!(rt; seen(&outbox, 1), ((1, 3), (1, 2)));
-    assert_eq!(rt; seen(&outbox, 2), ((1, 3), (1, 2)));
-    assert_eq!(rt; outbox.ack(0, 1, version(&rt, 2)), Ack::NotFront);
-    assert_eq!(rt; outbox.ack(0, 1, version(&rt, 1)), Ack::Acked);
-    assert_eq!(rt; outbox.ack(0, 1, version(&rt, 2)), Ack::Acked);
+    let mut outbox = with_five(&rt, rt.alloc());
+    ack(&rt, &mut outbox, 0, 1, 2, Ack::NotFront);
+    ack(&rt, &mut outbox, 0, 1, 1, Ack::Acked);
+    ack(&rt, &mut outbox, 0, 1, 2, Ack::Acked);
     assert_eq!(rt; seen(&outbox, 1), ((3, 1), (1, 2)));
     assert_eq!(rt; seen(&outbox, 2), ((1, 3), (1, 2)));
     assert!(rt; outbox.is_full(0, 3) && !outbox.is_full(1, 3));
-    assert_eq!(rt; outbox.ack(0, 2, version(&rt, 1)), Ack::Acked);
+}
+
+#[test]
+fn entries_come_after_what_is_left(rt: HostRuntime) {
+    let alloc = rt.alloc();
+    let mut outbox = with_five(&rt, alloc);
+    ack(&rt, &mut outbox, 0, 1, 1, Ack::Acked);
+    ack(&rt, &mut outbox, 0, 1, 2, Ack::Acked);
+    ack(&rt, &mut outbox, 0, 2, 1, Ack::Acked);
     push(&rt, alloc, &mut outbox, 0, 4);
     assert_eq!(rt; seen(&outbox, 1), ((3, 2), (1, 2)));
     assert_eq!(rt; seen(&outbox, 2), ((2, 3), (1, 2)));
-    assert_eq!(rt; outbox.ack(0, 1, version(&rt, 3)), Ack::Acked);
-    assert_eq!(rt; outbox.ack(0, 1, version(&rt, 4)), Ack::Acked);
-    assert_eq!(rt; seen(&outbox, 1), ((0, 0), (1, 2)));
-    assert_eq!(rt; outbox.ack(0, 2, version(&rt, 2)), Ack::Acked);
-    assert_eq!(rt; outbox.ack(0, 2, version(&rt, 3)), Ack::Acked);
-    assert_eq!(rt; outbox.ack(1, 2, version(&rt, 1)), Ack::Acked);
-    assert_eq!(rt; outbox.ack(1, 0, version(&rt, 1)), Ack::NotFront);
-    assert_eq!(rt; seen(&outbox, 2), ((4, 1), (5, 1)));
+}
+
+#[test]
+fn entries_come_to_an_empty_queue(rt: HostRuntime) {
+    let alloc = rt.alloc();
+    let mut outbox = with_one_each(&rt, alloc);
+    ack(&rt, &mut outbox, 0, 1, 1, Ack::Acked);
+    ack(&rt, &mut outbox, 1, 0, 1, Ack::NotFront);
     push(&rt, alloc, &mut outbox, 0, 6);
-    assert_eq!(rt; seen(&outbox, 1), ((6, 1), (1, 2)));
-    assert_eq!(rt; seen(&outbox, 2), ((4, 2), (5, 1)));
+    assert_eq!(rt; seen(&outbox, 1), ((6, 1), (2, 1)));
+    assert_eq!(rt; seen(&outbox, 2), ((1, 2), (2, 1)));
 }
 
 #[test]
@@ -170,25 +209,28 @@ fn one_full_queue_refuses_for_all(rt: HostRuntime) {
     let alloc = rt.alloc();
     let mut outbox = outbox(&rt, alloc, 3);
     push_within(&rt, alloc, &mut outbox, 0, 1, 1);
-    assert_eq!(rt; outbox.ack(0, 1, version(&rt, 1)), Ack::Acked);
-    assert_eq!(rt; seen(&outbox, 1), ((0, 0), (0, 0)));
-    assert_eq!(rt; seen(&outbox, 2), ((1, 1), (0, 0)));
+    ack(&rt, &mut outbox, 0, 1, 1, Ack::Acked);
     let second = entry(&rt, alloc, 2);
     assert_eq!(rt; outbox.push(0, &second, 1), Err(Fault::OutboxFull));
     assert_eq!(rt; outbox.push(1, &second, 0), Err(Fault::OutboxFull));
     assert_eq!(rt; seen(&outbox, 0), ((0, 0), (0, 0)));
     assert_eq!(rt; seen(&outbox, 1), ((0, 0), (0, 0)));
     assert_eq!(rt; seen(&outbox, 2), ((1, 1), (0, 0)));
-    push_within(&rt, alloc, &mut outbox, 1, 2, 1);
-    push_within(&rt, alloc, &mut outbox, 0, 2, 2);
-    assert_eq!(rt; outbox.push(0, &second, 2), Err(Fault::OutboxFull));
-    assert_eq!(rt; seen(&outbox, 1), ((2, 1), (2, 1)));
-    assert_eq!(rt; seen(&outbox, 2), ((1, 2), (2, 1)));
-    assert_eq!(rt; outbox.ack(0, 2, version(&rt, 1)), Ack::Acked);
-    assert_eq!(rt; outbox.ack(0, 2, version(&rt, 1)), Ack::NotFront);
+}
+
+#[test]
+fn a_full_queue_that_was_acknowledged_takes_more(rt: HostRuntime) {
+    let alloc = rt.alloc();
+    let mut outbox = with_one_each(&rt, alloc);
     push_within(&rt, alloc, &mut outbox, 0, 3, 2);
-    assert_eq!(rt; seen(&outbox, 1), ((2, 2), (2, 1)));
-    assert_eq!(rt; seen(&outbox, 2), ((2, 2), (2, 1)));
+    let over = entry(&rt, alloc, 4);
+    assert_eq!(rt; outbox.push(0, &over, 2), Err(Fault::OutboxFull));
+    ack(&rt, &mut outbox, 0, 1, 1, Ack::Acked);
+    assert_eq!(rt; outbox.push(0, &over, 2), Err(Fault::OutboxFull));
+    ack(&rt, &mut outbox, 0, 2, 1, Ack::Acked);
+    push_within(&rt, alloc, &mut outbox, 0, 4, 2);
+    assert_eq!(rt; seen(&outbox, 1), ((3, 2), (2, 1)));
+    assert_eq!(rt; seen(&outbox, 2), ((3, 2), (2, 1)));
 }
 
 #[test]

@@ -5,7 +5,6 @@ use crate::{InUse, Store};
 use cops_types::{Deps, Entry, EntryParts, Fault, Key, Near, Quota, Record, Value, Version};
 use std::alloc::Global;
 use std::process::Abort;
-use std::test::Fail;
 
 pub(crate) const QUOTA: Quota = Quota {
     versions: 100,
@@ -51,7 +50,7 @@ pub(crate) fn store(rt: &impl Abort, alloc: Global, tenants: usize) -> Store
     Store::new(alloc, tenants).expect(rt, "memory")
 }
 
-/// Inserts directly after a `reserve`.
+/// Inserts within the quota that all tests have.
 fn keep(
     rt: &impl Abort,
     alloc: Global,
@@ -60,13 +59,14 @@ fn keep(
     name: &[u8],
     clock: u64,
     now: u64,
-) -> Result<(), Fault>
+)
     requires { slot < store.old.tenants }
     ensures { store.new.tenants ≡ store.old.tenants }
 {
-    keep_within(rt, alloc, store, slot, name, clock, now, &QUOTA)
+    keep_within(rt, alloc, store, slot, name, clock, now, &QUOTA).expect(rt, "room");
 }
 
+/// Inserts directly after a `reserve`.
 fn keep_within(
     rt: &impl Abort,
     alloc: Global,
@@ -121,127 +121,181 @@ fn a_new_store_is_empty(rt: HostRuntime) {
     assert_in_use(&rt, store.in_use(1), 0, 0);
 }
 
+/// Collects and asserts how many records go.
+fn collect(rt: &impl Abort, store: &mut Store, slot: usize, now: u64, time: u64, count: u64)
+    requires { slot < store.old.tenants }
+    ensures { store.new.tenants ≡ store.old.tenants }
+{
+    assert_eq!(rt; store.collect(slot, now, time), count);
+}
+
+/// Versions 1 and 2 of x, the first stale since moment 9.
+fn with_a_smaller_version(rt: &impl Abort, alloc: Global) -> Store
+    ensures { result.tenants ≡ 2 }
+{
+    let mut store = store(rt, alloc, 2);
+    keep(rt, alloc, &mut store, 0, b"x", 2, 5);
+    keep(rt, alloc, &mut store, 0, b"x", 1, 9);
+    store
+}
+
 #[test]
-fn a_smaller_version_that_comes_later(rt: HostRuntime) -> Result<(), Fail> {
-    let alloc = rt.alloc();
-    let mut store = store(&rt, alloc, 2);
-    let x = key(&rt, b"x");
-    keep(&rt, alloc, &mut store, 0, b"x", 2, 5)?;
-    keep(&rt, alloc, &mut store, 0, b"x", 1, 9)?;
-    assert_eq!(rt; clock(store.latest(0, &x)), 2);
+fn a_smaller_version_that_comes_later(rt: HostRuntime) {
+    let store = with_a_smaller_version(&rt, rt.alloc());
+    assert_eq!(rt; clock(store.latest(0, &key(&rt, b"x"))), 2);
+    assert_eq!(rt; clock(store.latest(1, &key(&rt, b"x"))), 0);
     assert_clocks(&rt, &store, 0, b"x", &[1, 2]);
     assert_in_use(&rt, store.in_use(0), 2, 6);
-    assert_eq!(rt; store.collect(0, 109, 100), 0);
+}
+
+#[test]
+fn a_smaller_version_is_stale_from_then_on(rt: HostRuntime) {
+    let mut store = with_a_smaller_version(&rt, rt.alloc());
+    collect(&rt, &mut store, 0, 109, 100, 0);
     assert_clocks(&rt, &store, 0, b"x", &[1, 2]);
-    assert_eq!(rt; store.collect(0, 110, 100), 1);
+    collect(&rt, &mut store, 0, 110, 100, 1);
     assert_clocks(&rt, &store, 0, b"x", &[2]);
-    assert_eq!(rt; clock(store.latest(0, &x)), 2);
     assert_in_use(&rt, store.in_use(0), 1, 3);
-    assert_eq!(rt; clock(store.latest(1, &x)), 0);
-    Ok(())
 }
 
 #[test]
-fn two_slots_with_one_key(rt: HostRuntime) -> Result<(), Fail> {
+fn two_slots_with_one_key(rt: HostRuntime) {
     let alloc = rt.alloc();
     let mut store = store(&rt, alloc, 2);
-    keep(&rt, alloc, &mut store, 0, b"x", 1, 500)?;
-    keep(&rt, alloc, &mut store, 0, b"x", 2, 500)?;
-    keep(&rt, alloc, &mut store, 1, b"x", 1, 1)?;
-    keep(&rt, alloc, &mut store, 1, b"x", 2, 1)?;
-    assert_eq!(rt; store.collect(1, 101, 100), 0);
-    assert_eq!(rt; store.collect(1, 102, 100), 1);
+    keep(&rt, alloc, &mut store, 0, b"x", 1, 500);
+    keep(&rt, alloc, &mut store, 0, b"x", 2, 500);
+    keep(&rt, alloc, &mut store, 1, b"x", 1, 1);
+    keep(&rt, alloc, &mut store, 1, b"x", 2, 1);
+    collect(&rt, &mut store, 1, 102, 100, 1);
     assert_clocks(&rt, &store, 0, b"x", &[1, 2]);
     assert_clocks(&rt, &store, 1, b"x", &[2]);
-    assert_eq!(rt; store.collect(0, 600, 100), 0);
-    assert_eq!(rt; store.collect(0, 601, 100), 1);
+    collect(&rt, &mut store, 0, 601, 100, 1);
     assert_clocks(&rt, &store, 0, b"x", &[2]);
     assert_clocks(&rt, &store, 1, b"x", &[2]);
-    Ok(())
 }
 
 #[test]
-fn stale_for_longer_than_the_time(rt: HostRuntime) -> Result<(), Fail> {
+fn stale_for_longer_than_the_time(rt: HostRuntime) {
     let alloc = rt.alloc();
     let mut store = store(&rt, alloc, 2);
-    keep(&rt, alloc, &mut store, 0, b"x", 1, 0)?;
-    assert_eq!(rt; store.collect(0, 999999, 5000), 0);
-    keep(&rt, alloc, &mut store, 0, b"x", 2, 100)?;
-    assert_eq!(rt; store.collect(1, 990000, 5000), 0);
-    assert_eq!(rt; store.collect(0, 5100, 5000), 0);
-    assert_eq!(rt; store.collect(0, 5101, 5000), 1);
-    assert_eq!(rt; store.collect(0, 5101, 5000), 0);
+    keep(&rt, alloc, &mut store, 0, b"x", 1, 0);
+    collect(&rt, &mut store, 0, 999999, 5000, 0);
+    keep(&rt, alloc, &mut store, 0, b"x", 2, 100);
+    collect(&rt, &mut store, 1, 990000, 5000, 0);
+    collect(&rt, &mut store, 0, 5100, 5000, 0);
+    collect(&rt, &mut store, 0, 5101, 5000, 1);
+    collect(&rt, &mut store, 0, 5101, 5000, 0);
     assert_clocks(&rt, &store, 0, b"x", &[2]);
-    Ok(())
+}
+
+/// Five versions of x, of which 4 is stale since 30 and 3 since 40, and one of y.
+fn with_a_chain(rt: &impl Abort, alloc: Global) -> Store
+    ensures { result.tenants ≡ 1 }
+{
+    let mut store = store(rt, alloc, 1);
+    keep(rt, alloc, &mut store, 0, b"x", 2, 10);
+    keep(rt, alloc, &mut store, 0, b"x", 4, 20);
+    keep(rt, alloc, &mut store, 0, b"x", 8, 30);
+    keep(rt, alloc, &mut store, 0, b"x", 3, 40);
+    keep(rt, alloc, &mut store, 0, b"x", 9, 50);
+    keep(rt, alloc, &mut store, 0, b"y", 1, 50);
+    store
 }
 
 #[test]
-fn some_of_a_chain_go(rt: HostRuntime) -> Result<(), Fail> {
-    let alloc = rt.alloc();
-    let mut store = store(&rt, alloc, 1);
-    keep(&rt, alloc, &mut store, 0, b"x", 2, 10)?;
-    keep(&rt, alloc, &mut store, 0, b"x", 4, 20)?;
-    keep(&rt, alloc, &mut store, 0, b"x", 8, 30)?;
-    keep(&rt, alloc, &mut store, 0, b"x", 3, 40)?;
-    keep(&rt, alloc, &mut store, 0, b"x", 9, 50)?;
-    keep(&rt, alloc, &mut store, 0, b"y", 1, 50)?;
+fn some_of_a_chain_go(rt: HostRuntime) {
+    let mut store = with_a_chain(&rt, rt.alloc());
     assert_clocks(&rt, &store, 0, b"x", &[2, 3, 4, 8, 9]);
     assert_in_use(&rt, store.in_use(0), 6, 18);
-    assert_eq!(rt; store.collect(0, 30, 10), 0);
-    assert_eq!(rt; store.collect(0, 31, 10), 1);
+    collect(&rt, &mut store, 0, 30, 10, 0);
+    collect(&rt, &mut store, 0, 31, 10, 1);
     assert_clocks(&rt, &store, 0, b"x", &[3, 4, 8, 9]);
-    assert_eq!(rt; store.collect(0, 41, 10), 1);
+    collect(&rt, &mut store, 0, 41, 10, 1);
     assert_clocks(&rt, &store, 0, b"x", &[3, 8, 9]);
-    keep(&rt, alloc, &mut store, 0, b"x", 1, 60)?;
-    assert_eq!(rt; store.collect(0, 61, 10), 2);
-    assert_clocks(&rt, &store, 0, b"x", &[1, 9]);
-    assert_eq!(rt; store.collect(0, 70, 10), 0);
-    assert_eq!(rt; store.collect(0, 71, 10), 1);
-    assert_clocks(&rt, &store, 0, b"x", &[9]);
-    assert_eq!(rt; store.collect(0, 99999, 0), 0);
-    assert_clocks(&rt, &store, 0, b"y", &[1]);
-    assert_in_use(&rt, store.in_use(0), 2, 6);
-    Ok(())
 }
 
-fn is_refused(kept: Result<(), Fault>, fault: Fault) -> bool {
-    match kept {
-        Ok(()) => false,
-        Err(given) => given == fault,
+#[test]
+fn all_of_a_chain_but_the_latest_go(rt: HostRuntime) {
+    let alloc = rt.alloc();
+    let mut store = with_a_chain(&rt, alloc);
+    keep(&rt, alloc, &mut store, 0, b"x", 1, 60);
+    collect(&rt, &mut store, 0, 61, 10, 4);
+    assert_clocks(&rt, &store, 0, b"x", &[1, 9]);
+    collect(&rt, &mut store, 0, 71, 10, 1);
+    collect(&rt, &mut store, 0, 99999, 0, 0);
+    assert_clocks(&rt, &store, 0, b"x", &[9]);
+    assert_clocks(&rt, &store, 0, b"y", &[1]);
+    assert_in_use(&rt, store.in_use(0), 2, 6);
+}
+
+/// Asserts that the version is refused where it would be put, and where the store is asked before.
+fn assert_refused(
+    rt: &impl Abort,
+    alloc: Global,
+    store: &mut Store,
+    name: &[u8],
+    quota: &Quota,
+    fault: Fault,
+)
+    requires { 0 < store.old.tenants }
+    ensures { store.new.tenants ≡ store.old.tenants }
+{
+    let value = Value::new(alloc, b"10").expect(rt, "a value");
+    let refused = store.refused(0, &key(rt, name), &value, quota);
+    assert!(rt; matches!(refused, Some(given) if given == fault));
+    match keep_within(rt, alloc, store, 0, name, 9, 0, quota) {
+        Ok(()) => panic!(rt; "a refusal"),
+        Err(given) => assert_eq!(rt; given, fault),
     }
 }
 
+/// One version of x in each slot.
+fn with_one_each(rt: &impl Abort, alloc: Global) -> Store
+    ensures { result.tenants ≡ 2 }
+{
+    let mut store = store(rt, alloc, 2);
+    keep(rt, alloc, &mut store, 0, b"x", 1, 0);
+    keep(rt, alloc, &mut store, 1, b"x", 1, 0);
+    store
+}
+
 #[test]
-fn quotas_are_of_the_slot(rt: HostRuntime) -> Result<(), Fail> {
+fn quotas_are_of_the_slot(rt: HostRuntime) {
     let alloc = rt.alloc();
-    let mut store = store(&rt, alloc, 2);
     let few = Quota {
         versions: 1,
         ..QUOTA
     };
-    let small = Quota { bytes: 5, ..QUOTA };
-    let (x, y) = (key(&rt, b"x"), key(&rt, b"y"));
-    let value = Value::new(alloc, b"10")?;
-    keep(&rt, alloc, &mut store, 1, b"x", 1, 0)?;
-    assert!(rt; store.refused(0, &x, &value, &few).is_none());
-    keep_within(&rt, alloc, &mut store, 0, b"x", 1, 0, &few)?;
-    let over = keep_within(&rt, alloc, &mut store, 0, b"x", 2, 0, &few);
-    assert!(rt; is_refused(over, Fault::VersionQuota));
-    assert!(rt; store.refused(0, &x, &value, &few) == Some(Fault::VersionQuota));
-    assert_eq!(rt; store.collect(0, 999999, 5000), 0);
-    let again = keep_within(&rt, alloc, &mut store, 0, b"x", 3, 0, &few);
-    assert!(rt; is_refused(again, Fault::VersionQuota));
-    let large = keep_within(&rt, alloc, &mut store, 0, b"y", 2, 0, &small);
-    assert!(rt; is_refused(large, Fault::ByteQuota));
-    assert!(rt; store.refused(0, &y, &value, &small) == Some(Fault::ByteQuota));
-    let both = Quota {
-        versions: 1,
-        ..small
-    };
-    assert!(rt; store.refused(0, &y, &value, &both) == Some(Fault::VersionQuota));
-    assert_clocks(&rt, &store, 0, b"x", &[1]);
-    assert_clocks(&rt, &store, 0, b"y", &[]);
+    let mut store = store(&rt, alloc, 2);
+    keep(&rt, alloc, &mut store, 1, b"x", 1, 0);
+    let value = Value::new(alloc, b"10").expect(&rt, "a value");
+    assert!(rt; store.refused(0, &key(&rt, b"x"), &value, &few).is_none());
+    keep_within(&rt, alloc, &mut store, 0, b"x", 1, 0, &few).expect(&rt, "room");
     assert_in_use(&rt, store.in_use(0), 1, 3);
     assert_in_use(&rt, store.in_use(1), 1, 3);
-    Ok(())
+}
+
+#[test]
+fn a_version_too_many_changes_nothing(rt: HostRuntime) {
+    let alloc = rt.alloc();
+    let few = Quota {
+        versions: 1,
+        bytes: 5,
+        ..QUOTA
+    };
+    let mut store = with_one_each(&rt, alloc);
+    assert_refused(&rt, alloc, &mut store, b"x", &few, Fault::VersionQuota);
+    collect(&rt, &mut store, 0, 999999, 5000, 0);
+    assert_clocks(&rt, &store, 0, b"x", &[1]);
+    assert_in_use(&rt, store.in_use(0), 1, 3);
+}
+
+#[test]
+fn a_byte_too_many_changes_nothing(rt: HostRuntime) {
+    let alloc = rt.alloc();
+    let small = Quota { bytes: 5, ..QUOTA };
+    let mut store = with_one_each(&rt, alloc);
+    assert_refused(&rt, alloc, &mut store, b"y", &small, Fault::ByteQuota);
+    assert_clocks(&rt, &store, 0, b"y", &[]);
+    assert_in_use(&rt, store.in_use(0), 1, 3);
 }
