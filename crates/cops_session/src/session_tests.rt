@@ -166,34 +166,64 @@ fn assert_lists(
     }
 }
 
+/// Puts x in the context, which gives version 1.0. The number of the request.
+fn put_x(
+    rt: &impl Abort,
+    alloc: Global,
+    session: &mut Session,
+    handle: Handle<Contexts>,
+) -> Handle<Running>
+    requires { IsOfSizes 1 2 1 session.old.setting }
+    ensures { IsOfSizes 1 2 1 session.new.setting }
+{
+    let request = put(rt, alloc, session, handle, b"x");
+    let reply = NodeReply::Stored(Version::of(1, 0));
+    let stored = step(rt, alloc, session, request, 0, reply);
+    assert!(rt; has_stored(&stored, Version::of(1, 0)));
+    request
+}
+
 #[test]
-fn a_put_and_a_get(rt: HostRuntime) {
+fn a_put_is_in_the_context(rt: HostRuntime) {
     let mut session = session(rt.alloc(), 20, 1);
     let handle = context(&rt, &mut session);
     assert_eq!(rt; handle.number(), 1);
-    let request = put(&rt, rt.alloc(), &mut session, handle, b"x");
+    let request = put_x(&rt, rt.alloc(), &mut session, handle);
     assert_eq!(rt; request.number(), 1);
+    assert!(rt; session.running().is_none());
+    let all = [pair(&rt, b"x", Version::of(1, 0))];
+    assert_lists(&rt, &session, handle, &all, &all);
+    assert_idle(&rt, rt.alloc(), &mut session, request);
+}
+
+#[test]
+fn a_session_is_busy_with_a_put(rt: HostRuntime) {
+    let mut session = session(rt.alloc(), 20, 1);
+    let handle = context(&rt, &mut session);
+    let request = put(&rt, rt.alloc(), &mut session, handle, b"x");
     assert!(rt; matches!(session.running(), Some(running) if running.number() == 1));
     assert!(rt; matches!(session.create_context(), Err(Fault::Busy)));
     assert!(rt; matches!(session.delete_context(handle), Err(Fault::Busy)));
-    let stored = step(
-        &rt,
-        rt.alloc(),
-        &mut session,
-        request,
-        0,
-        NodeReply::Stored(Version::of(1, 0)),
-    );
-    assert!(rt; has_stored(&stored, Version::of(1, 0)));
-    assert!(rt; session.running().is_none());
-    let x = pair(&rt, b"x", Version::of(1, 0));
-    assert_lists(&rt, &session, handle, &[x], &[x]);
-    assert_idle(&rt, rt.alloc(), &mut session, request);
-    let again = get(&rt, &mut session, handle, &[key(&rt, b"x")]);
-    assert_eq!(rt; again.number(), 2);
+    let again = session.begin_get_trans(handle, &[key(&rt, b"x")]);
+    assert!(rt; matches!(again, Err(Fault::Busy)));
+}
+
+#[test]
+fn a_get_has_the_next_number(rt: HostRuntime) {
+    let mut session = session(rt.alloc(), 20, 1);
+    let handle = context(&rt, &mut session);
+    put_x(&rt, rt.alloc(), &mut session, handle);
+    let request = get(&rt, &mut session, handle, &[key(&rt, b"x")]);
+    assert_eq!(rt; request.number(), 2);
     let reply = found(&rt, rt.alloc(), Version::of(1, 0), Deps::empty(rt.alloc()));
-    let read = step(&rt, rt.alloc(), &mut session, again, 0, reply);
+    let read = step(&rt, rt.alloc(), &mut session, request, 0, reply);
     assert!(rt; has_read(&read, 1));
+}
+
+#[test]
+fn a_context_is_deleted(rt: HostRuntime) {
+    let mut session = session(rt.alloc(), 20, 1);
+    let handle = context(&rt, &mut session);
     assert!(rt; session.delete_context(handle).is_ok());
     assert!(rt; matches!(session.context(handle), Err(Fault::NoContext)));
 }
@@ -234,51 +264,54 @@ fn both_rounds(rt: HostRuntime) {
     assert_lists(&rt, &session, handle, &[x, y], &[nearest]);
 }
 
+/// Asserts why a request ended.
+fn assert_refused(rt: &impl Abort, shown: Progress, fault: Fault) {
+    match shown {
+        Progress::Done(Answer::Refused(given)) => assert_eq!(rt; given, fault),
+        _ => panic!(rt; "a refusal"),
+    }
+}
+
 #[test]
-fn replies_not_asked_for(rt: HostRuntime) {
+fn a_version_that_is_not_yet_there_is_torn(rt: HostRuntime) {
     let mut session = session(rt.alloc(), 20, 1);
     let handle = context(&rt, &mut session);
     let request = in_second_round(&rt, rt.alloc(), &mut session, handle);
-    let not_yet = step(
-        &rt,
-        rt.alloc(),
-        &mut session,
-        request,
-        12,
-        NodeReply::NotYet,
-    );
-    assert!(rt; matches!(not_yet, Progress::Done(Answer::Refused(Fault::Torn))));
+    let reply = NodeReply::NotYet;
+    let torn = step(&rt, rt.alloc(), &mut session, request, 12, reply);
+    assert_refused(&rt, torn, Fault::Torn);
     assert_lists(&rt, &session, handle, &[], &[]);
     assert_idle(&rt, rt.alloc(), &mut session, request);
+}
+
+#[test]
+fn another_version_is_torn(rt: HostRuntime) {
+    let mut session = session(rt.alloc(), 20, 1);
+    let handle = context(&rt, &mut session);
     let request = in_second_round(&rt, rt.alloc(), &mut session, handle);
-    let other = found(&rt, rt.alloc(), Version::of(3, 0), Deps::empty(rt.alloc()));
-    let torn = step(&rt, rt.alloc(), &mut session, request, 12, other);
-    assert!(rt; matches!(torn, Progress::Done(Answer::Refused(Fault::Torn))));
+    let reply = found(&rt, rt.alloc(), Version::of(3, 0), Deps::empty(rt.alloc()));
+    let torn = step(&rt, rt.alloc(), &mut session, request, 12, reply);
+    assert_refused(&rt, torn, Fault::Torn);
+}
+
+#[test]
+fn a_put_that_is_not_stored_is_torn(rt: HostRuntime) {
+    let mut session = session(rt.alloc(), 20, 1);
+    let handle = context(&rt, &mut session);
     let request = put(&rt, rt.alloc(), &mut session, handle, b"x");
-    let torn = step(
-        &rt,
-        rt.alloc(),
-        &mut session,
-        request,
-        12,
-        NodeReply::Absent,
-    );
-    assert!(rt; matches!(torn, Progress::Done(Answer::Refused(Fault::Torn))));
+    let reply = NodeReply::Absent;
+    let torn = step(&rt, rt.alloc(), &mut session, request, 12, reply);
+    assert_refused(&rt, torn, Fault::Torn);
+}
+
+#[test]
+fn a_put_that_a_node_refuses(rt: HostRuntime) {
+    let mut session = session(rt.alloc(), 20, 1);
+    let handle = context(&rt, &mut session);
     let request = put(&rt, rt.alloc(), &mut session, handle, b"x");
-    let refused = step(
-        &rt,
-        rt.alloc(),
-        &mut session,
-        request,
-        12,
-        NodeReply::Refused(Fault::VersionQuota),
-    );
-    assert!(rt;
-        matches!(
-            refused,
-            Progress::Done(Answer::Refused(Fault::VersionQuota))
-        )
-    );
+    let reply = NodeReply::Refused(Fault::VersionQuota);
+    let refused = step(&rt, rt.alloc(), &mut session, request, 12, reply);
+    assert_refused(&rt, refused, Fault::VersionQuota);
     assert_lists(&rt, &session, handle, &[], &[]);
 }
 
@@ -323,17 +356,12 @@ fn late_steps(rt: HostRuntime) {
     let request = get(&rt, &mut session, handle, &[key(&rt, b"x"), key(&rt, b"y")]);
     let x = step(&rt, rt.alloc(), &mut session, request, 3, NodeReply::Absent);
     assert!(rt; matches!(x, Progress::Working));
-    assert!(rt;
-        matches!(
-            late(&rt, rt.alloc(), &mut session, request, 5004),
-            Progress::Restarted(1)
-        )
-    );
+    let again = late(&rt, rt.alloc(), &mut session, request, 5004);
+    assert!(rt; matches!(again, Progress::Restarted(1)));
     let x = step(&rt, rt.alloc(), &mut session, request, 0, NodeReply::Absent);
     assert!(rt; matches!(x, Progress::Working));
     let overrun = late(&rt, rt.alloc(), &mut session, request, 10005);
-    assert!(rt; matches!(overrun, Progress::Done(Answer::Refused(Fault::Overrun))));
-    assert_idle(&rt, rt.alloc(), &mut session, request);
+    assert_refused(&rt, overrun, Fault::Overrun);
     assert_lists(&rt, &session, handle, &[], &[]);
 }
 
@@ -343,105 +371,96 @@ fn no_room_for_all_results(rt: HostRuntime) {
     let handle = context(&rt, &mut session);
     let request = get(&rt, &mut session, handle, &[key(&rt, b"x"), key(&rt, b"y")]);
     let x = found(&rt, rt.alloc(), Version::of(1, 0), Deps::empty(rt.alloc()));
-    assert!(rt;
-        matches!(
-            step(&rt, rt.alloc(), &mut session, request, 0, x),
-            Progress::Working
-        )
-    );
+    let working = step(&rt, rt.alloc(), &mut session, request, 0, x);
+    assert!(rt; matches!(working, Progress::Working));
     let y = found(&rt, rt.alloc(), Version::of(1, 1), Deps::empty(rt.alloc()));
     let full = step(&rt, rt.alloc(), &mut session, request, 0, y);
-    assert!(rt;
-        matches!(
-            full,
-            Progress::Done(Answer::Refused(Fault::DependenciesFull))
-        )
-    );
+    assert_refused(&rt, full, Fault::DependenciesFull);
     assert_lists(&rt, &session, handle, &[], &[]);
 }
 
+/// Asserts why a transaction does not begin.
+fn assert_no_get(
+    rt: &impl Abort,
+    session: &mut Session,
+    handle: Handle<Contexts>,
+    keys: &[Key],
+    fault: Fault,
+) {
+    match session.begin_get_trans(handle, keys) {
+        Ok(_) => panic!(rt; "a refusal"),
+        Err(given) => assert_eq!(rt; given, fault),
+    }
+}
+
+/// Asserts why a put of y does not begin.
+fn assert_no_put(
+    rt: &impl Abort,
+    alloc: Global,
+    session: &mut Session,
+    handle: Handle<Contexts>,
+    fault: Fault,
+) {
+    let value = Value::new(alloc, b"1").expect(rt, "a value");
+    match session.begin_put(handle, key(rt, b"y"), value) {
+        Ok(_) => panic!(rt; "a refusal"),
+        Err(given) => assert_eq!(rt; given, fault),
+    }
+}
+
 #[test]
-fn refused_begins(rt: HostRuntime) {
+fn refused_gets(rt: HostRuntime) {
     let mut session = session(rt.alloc(), 1, 1);
     let handle = context(&rt, &mut session);
-    let x = key(&rt, b"x");
     let missing = Handle::of_number(7);
-    assert!(rt; matches!(session.begin_get_trans(missing, &[]), Err(Fault::Syntax)));
-    assert!(rt;
-        matches!(
-            session.begin_get_trans(missing, &[x]),
-            Err(Fault::NoContext)
-        )
-    );
-    assert!(rt;
-        matches!(
-            session.begin_get_trans(handle, &[x; 33]),
-            Err(Fault::TooManyKeys)
-        )
-    );
-    assert!(rt;
-        matches!(
-            session.begin_get_trans(handle, &[x, key(&rt, b"y"), x]),
-            Err(Fault::RepeatedKey)
-        )
-    );
-    let request = put(&rt, rt.alloc(), &mut session, handle, b"x");
-    assert!(rt; matches!(session.begin_get_trans(handle, &[x]), Err(Fault::Busy)));
-    let stored = step(
-        &rt,
-        rt.alloc(),
-        &mut session,
-        request,
-        0,
-        NodeReply::Stored(Version::of(1, 0)),
-    );
-    assert!(rt; matches!(stored, Progress::Done(Answer::Stored(_))));
-    let value = Value::new(rt.alloc(), b"1").expect(&rt, "a value");
-    assert!(rt;
-        matches!(
-            session.begin_put(handle, key(&rt, b"y"), value),
-            Err(Fault::DependenciesFull)
-        )
-    );
-    let value = Value::new(rt.alloc(), b"1").expect(&rt, "a value");
-    assert!(rt;
-        matches!(
-            session.begin_put(missing, key(&rt, b"y"), value),
-            Err(Fault::NoContext)
-        )
-    );
+    let x = key(&rt, b"x");
+    assert_no_get(&rt, &mut session, missing, &[], Fault::Syntax);
+    assert_no_get(&rt, &mut session, missing, &[x], Fault::NoContext);
+    assert_no_get(&rt, &mut session, handle, &[x; 33], Fault::TooManyKeys);
+    let twice = [x, key(&rt, b"y"), x];
+    assert_no_get(&rt, &mut session, handle, &twice, Fault::RepeatedKey);
+}
+
+#[test]
+fn refused_puts(rt: HostRuntime) {
+    let alloc = rt.alloc();
+    let mut session = session(alloc, 1, 1);
+    let handle = context(&rt, &mut session);
+    put_x(&rt, alloc, &mut session, handle);
+    assert_no_put(&rt, alloc, &mut session, handle, Fault::DependenciesFull);
+    let missing = Handle::of_number(7);
+    assert_no_put(&rt, alloc, &mut session, missing, Fault::NoContext);
+}
+
+#[test]
+fn contexts_have_a_limit(rt: HostRuntime) {
+    let mut session = session(rt.alloc(), 1, 1);
+    assert!(rt; session.create_context().is_ok());
     assert!(rt; session.create_context().is_ok());
     assert!(rt; matches!(session.create_context(), Err(Fault::TooManyContexts)));
 }
 
 #[test]
-fn the_last_numbers(rt: HostRuntime) {
+fn the_last_context(rt: HostRuntime) {
     let mut session = session(rt.alloc(), 20, 18446744073709551614);
     let handle = context(&rt, &mut session);
     assert_eq!(rt; handle.number(), 18446744073709551614);
     assert!(rt; matches!(session.create_context(), Err(Fault::IdsSpent)));
-    let request = put(&rt, rt.alloc(), &mut session, handle, b"x");
+}
+
+#[test]
+fn the_last_request(rt: HostRuntime) {
+    let alloc = rt.alloc();
+    let mut session = session(alloc, 20, 18446744073709551614);
+    let handle = context(&rt, &mut session);
+    let request = put_x(&rt, alloc, &mut session, handle);
     assert_eq!(rt; request.number(), 18446744073709551614);
-    let stored = step(
+    assert_no_put(&rt, alloc, &mut session, handle, Fault::IdsSpent);
+    assert_no_get(
         &rt,
-        rt.alloc(),
         &mut session,
-        request,
-        0,
-        NodeReply::Stored(Version::of(1, 0)),
-    );
-    assert!(rt; matches!(stored, Progress::Done(Answer::Stored(_))));
-    let value = Value::new(rt.alloc(), b"1").expect(&rt, "a value");
-    assert!(rt;
-        matches!(
-            session.begin_put(handle, key(&rt, b"y"), value),
-            Err(Fault::IdsSpent)
-        )
-    );
-    assert!(rt;
-        matches!(
-            session.begin_get_trans(handle, &[key(&rt, b"x")]),
-            Err(Fault::IdsSpent)
-        )
+        handle,
+        &[key(&rt, b"x")],
+        Fault::IdsSpent,
     );
 }
