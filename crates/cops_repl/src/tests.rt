@@ -8,7 +8,6 @@ use cops_types::{
 };
 use std::alloc::Global;
 use std::process::Abort;
-use std::test::Fail;
 
 /// A call that came, with its node and its moment.
 #[derive(Drop)]
@@ -118,238 +117,237 @@ fn carry(rt: &impl Abort, nodes: &mut Script, mut carrier: Carrier) -> Delivery
     panic!(rt; "it goes on")
 }
 
-/// How the carrier of y ends over nodes with these answers, all of which it asks for.
-fn ending(rt: &impl Abort, alloc: Global, replies: Vec<NodeReply>) -> Delivery {
-    let mut nodes = nodes_with(alloc, replies);
+/// Answers that carry y on, up to so many of them, and one more.
+fn answers(rt: &impl Abort, alloc: Global, count: usize, last: NodeReply) -> Vec<NodeReply> {
+    let mut replies = vec![in alloc;
+        NodeReply::Pulled(y_entry(rt, alloc)),
+        NodeReply::Checked(true),
+        NodeReply::Committed,
+    ]
+    .expect(rt, "memory");
+    replies.truncate(count);
+    replies.push(last).expect(rt, "memory");
+    replies
+}
+
+/// How the carrier of y ends where its call after so many good answers is answered so.
+fn ending(rt: &impl Abort, alloc: Global, count: usize, last: NodeReply) -> Delivery {
+    let mut nodes = nodes_with(alloc, answers(rt, alloc, count, last));
     let ending = carry(rt, &mut nodes, y_carrier(alloc));
     assert!(rt; nodes.replies.is_empty());
     ending
 }
 
-#[test]
-fn each_call_goes_to_its_node(rt: HostRuntime) -> Result<(), Fail> {
-    let replies = vec![in rt.alloc();
-        NodeReply::Pulled(y_entry(&rt, rt.alloc())),
-        NodeReply::Checked(true),
-        NodeReply::Committed,
-        NodeReply::Acked,
-    ]?;
-    let mut nodes = nodes_with(rt.alloc(), replies);
-    let mut carrier = y_carrier(rt.alloc());
+/// The nodes after a step of the carrier of y at each of the moments 5, 3, 7 and 7.
+fn after_carrying(rt: &impl Abort, alloc: Global) -> Script {
+    let mut nodes = nodes_with(alloc, answers(rt, alloc, 3, NodeReply::Acked));
+    let mut carrier = y_carrier(alloc);
     for moment in [5, 3, 7] {
         assert!(rt; !carrier.ended());
         assert!(rt; matches!(carrier.step(&mut nodes, 0, moment), Progress::Working));
     }
     assert!(rt; !carrier.ended());
-    match carrier.step(&mut nodes, 0, 7) {
-        Progress::Done(
-            Delivery::Carried {
-                pair: p,
-                fresh,
-                acked,
-            },
-        ) => {
-            assert!(rt; p == pair(&rt, b"y", 2, 1) && fresh && acked);
-        }
-        _ => panic!(rt; "y is carried"),
-    }
+    assert!(rt; matches!(carrier.step(&mut nodes, 0, 7), Progress::Done(_)));
     assert!(rt; carrier.ended());
-    let asked = nodes.asked.as_slice();
+    nodes
+}
+
+#[test]
+fn each_call_goes_to_its_node(rt: HostRuntime) {
+    let nodes = after_carrying(&rt, rt.alloc());
     let places = [(0, 1, 5), (1, 0, 5), (1, 1, 7), (0, 1, 7)];
-    assert_eq!(rt; asked.len(), 4);
-    for (at, (dc, shard, moment)) in asked.iter().zip(places) {
+    assert_eq!(rt; nodes.asked.len(), 4);
+    for (at, (dc, shard, moment)) in nodes.asked.iter().zip(places) {
         assert_eq!(rt; at.id.dc, dc);
         assert_eq!(rt; at.id.shard, shard);
         assert_eq!(rt; at.moment, moment);
     }
-    assert!(rt; matches!(asked[0].call, NodeCall::Pull(1)));
-    match &asked[1].call {
+}
+
+/// Whether this asks for x 1.0.
+fn checks_x(call: &NodeCall) -> bool {
+    match call {
         NodeCall::DepCheck(key, version) => {
-            assert!(rt; key.bytes() == b"x".as_slice() && version.to_u64() == 256);
+            key.bytes() == b"x".as_slice() && version.to_u64() == 256
         }
-        _ => panic!(rt; "x is checked"),
+        _ => false,
     }
-    assert!(rt; matches!(asked[2].call, NodeCall::Commit(_)));
-    match &asked[3].call {
-        NodeCall::Ack(dc, version) => assert!(rt; *dc == 1 && version.to_u64() == 513),
-        _ => panic!(rt; "y is acknowledged"),
+}
+
+/// Whether this acknowledges y 2.1 for data centre 1.
+fn acknowledges_y(call: &NodeCall) -> bool {
+    match call {
+        NodeCall::Ack(dc, version) => *dc == 1 && version.to_u64() == 513,
+        _ => false,
     }
-    Ok(())
 }
 
 #[test]
-fn carries_once(rt: HostRuntime) -> Result<(), Fail> {
-    let x = pair(&rt, b"x", 1, 0);
-    let first = vec![in rt.alloc();
-        NodeReply::Pulled(entry(&rt, rt.alloc(), x, &[])),
-        NodeReply::Committed,
-        NodeReply::Acked,
-    ]?;
-    let second = vec![in rt.alloc();
-        NodeReply::Pulled(entry(&rt, rt.alloc(), x, &[])),
+fn the_calls_are_made_in_order(rt: HostRuntime) {
+    let nodes = after_carrying(&rt, rt.alloc());
+    match nodes.asked.as_slice() {
+        [pull, check, commit, ack] => {
+            assert!(rt; matches!(pull.call, NodeCall::Pull(1)));
+            assert!(rt; checks_x(&check.call));
+            assert!(rt; matches!(commit.call, NodeCall::Commit(_)));
+            assert!(rt; acknowledges_y(&ack.call));
+        }
+        _ => panic!(&rt; "four calls"),
+    }
+}
+
+/// Asserts what is told of an entry that was carried.
+fn assert_carried(rt: &impl Abort, ending: Delivery, of: Pair, is_fresh: bool, is_acked: bool) {
+    match ending {
+        Delivery::Carried { pair, fresh, acked } => {
+            assert!(rt; pair == of && fresh == is_fresh && acked == is_acked);
+        }
+        _ => panic!(rt; "the entry is carried"),
+    }
+}
+
+#[test]
+fn an_entry_is_carried(rt: HostRuntime) {
+    let ending = ending(&rt, rt.alloc(), 3, NodeReply::Acked);
+    assert_carried(&rt, ending, pair(&rt, b"y", 2, 1), true, true);
+}
+
+#[test]
+fn an_entry_may_no_longer_be_the_front(rt: HostRuntime) {
+    let ending = ending(&rt, rt.alloc(), 3, NodeReply::NotFront);
+    assert_carried(&rt, ending, pair(&rt, b"y", 2, 1), true, false);
+}
+
+#[test]
+fn an_entry_is_carried_again(rt: HostRuntime) {
+    let x = entry(&rt, rt.alloc(), pair(&rt, b"x", 1, 0), &[]);
+    let replies = vec![in rt.alloc();
+        NodeReply::Pulled(x),
         NodeReply::Already,
         NodeReply::NotFront,
-    ]?;
-    for (replies, now) in [(first, true), (second, false)] {
-        let origin = NodeId { dc: 0, shard: 0 };
-        let carrier = Carrier::new(&config(rt.alloc()), origin, 1);
-        let mut nodes = nodes_with(rt.alloc(), replies);
-        match carry(&rt, &mut nodes, carrier) {
-            Delivery::Carried { pair, fresh, acked } => {
-                assert!(rt; pair == x && fresh == now && acked == now);
-            }
-            _ => panic!(rt; "x is carried"),
-        }
-    }
-    Ok(())
+    ]
+    .expect(&rt, "memory");
+    let origin = NodeId { dc: 0, shard: 0 };
+    let carrier = Carrier::new(&config(rt.alloc()), origin, 1);
+    let mut nodes = nodes_with(rt.alloc(), replies);
+    let ending = carry(&rt, &mut nodes, carrier);
+    assert_carried(&rt, ending, pair(&rt, b"x", 1, 0), false, false);
 }
 
 #[test]
-fn nothing_or_not_yet(rt: HostRuntime) -> Result<(), Fail> {
-    let none = vec![in rt.alloc(); NodeReply::Nothing]?;
-    assert!(rt; matches!(ending(&rt, rt.alloc(), none), Delivery::Nothing));
-    let unchecked = vec![in rt.alloc();
-        NodeReply::Pulled(y_entry(&rt, rt.alloc())),
-        NodeReply::Checked(false),
-    ]?;
-    match ending(&rt, rt.alloc(), unchecked) {
+fn nothing_is_there(rt: HostRuntime) {
+    let ending = ending(&rt, rt.alloc(), 0, NodeReply::Nothing);
+    assert!(rt; matches!(ending, Delivery::Nothing));
+}
+
+#[test]
+fn an_entry_waits_for_what_it_depends_on(rt: HostRuntime) {
+    match ending(&rt, rt.alloc(), 1, NodeReply::Checked(false)) {
         Delivery::Waits(p) => assert!(rt; p == pair(&rt, b"x", 1, 0)),
-        _ => panic!(rt; "x is not there"),
+        _ => panic!(&rt; "x is not there"),
     }
-    let early = vec![in rt.alloc();
-        NodeReply::Pulled(y_entry(&rt, rt.alloc())),
-        NodeReply::Checked(true),
-        NodeReply::OutOfOrder(Version::of(1, 0)),
-    ]?;
-    match ending(&rt, rt.alloc(), early) {
+}
+
+#[test]
+fn an_entry_comes_too_early(rt: HostRuntime) {
+    let early = NodeReply::OutOfOrder(Version::of(1, 0));
+    match ending(&rt, rt.alloc(), 2, early) {
         Delivery::OutOfOrder(mark) => assert_eq!(rt; mark.to_u64(), 256),
-        _ => panic!(rt; "an entry before it is missing"),
+        _ => panic!(&rt; "an entry before it is missing"),
     }
-    Ok(())
+}
+
+/// Asserts that this answer after so many good ones is not what was asked for.
+fn assert_torn(rt: &impl Abort, alloc: Global, count: usize, last: NodeReply) {
+    let ending = ending(rt, alloc, count, last);
+    assert!(rt; matches!(ending, Delivery::Refused(Fault::Torn)));
 }
 
 #[test]
-fn unasked_replies_and_foreign_entries(rt: HostRuntime) -> Result<(), Fail> {
-    let not_pulled = vec![in rt.alloc(); NodeReply::Checked(true)]?;
-    let not_checked = vec![in rt.alloc();
-        NodeReply::Pulled(y_entry(&rt, rt.alloc())),
-        NodeReply::Nothing,
-    ]?;
-    let not_committed = vec![in rt.alloc();
-        NodeReply::Pulled(y_entry(&rt, rt.alloc())),
-        NodeReply::Checked(true),
-        NodeReply::Acked,
-    ]?;
-    let not_acked = vec![in rt.alloc();
-        NodeReply::Pulled(y_entry(&rt, rt.alloc())),
-        NodeReply::Checked(true),
-        NodeReply::Committed,
-        NodeReply::Already,
-    ]?;
+fn replies_not_asked_for(rt: HostRuntime) {
+    assert_torn(&rt, rt.alloc(), 0, NodeReply::Checked(true));
+    assert_torn(&rt, rt.alloc(), 1, NodeReply::Nothing);
+    assert_torn(&rt, rt.alloc(), 2, NodeReply::Acked);
+    assert_torn(&rt, rt.alloc(), 3, NodeReply::Already);
+}
+
+#[test]
+fn foreign_entries(rt: HostRuntime) {
     let of_another_node = entry(&rt, rt.alloc(), pair(&rt, b"y", 2, 3), &[]);
-    let other_node = vec![in rt.alloc(); NodeReply::Pulled(of_another_node)]?;
+    assert_torn(&rt, rt.alloc(), 0, NodeReply::Pulled(of_another_node));
     let of_another_shard = entry(&rt, rt.alloc(), pair(&rt, b"x", 2, 1), &[]);
-    let other_shard = vec![in rt.alloc(); NodeReply::Pulled(of_another_shard)]?;
-    for replies in [
-        not_pulled,
-        not_checked,
-        not_committed,
-        not_acked,
-        other_node,
-        other_shard,
-    ] {
-        assert!(rt;
-            matches!(
-                ending(&rt, rt.alloc(), replies),
-                Delivery::Refused(Fault::Torn)
-            )
-        );
-    }
-    Ok(())
-}
-
-/// Answers that carry y on, and then a refusal of the call after `count` of them.
-fn refused_after(
-    rt: &impl Abort,
-    alloc: Global,
-    count: usize,
-    fault: Fault,
-) -> Result<Vec<NodeReply>, Fail> {
-    let mut replies = vec![in alloc;
-        NodeReply::Pulled(y_entry(rt, alloc)),
-        NodeReply::Checked(true),
-        NodeReply::Committed,
-    ]?;
-    replies.truncate(count);
-    replies.push(NodeReply::Refused(fault))?;
-    Ok(replies)
+    assert_torn(&rt, rt.alloc(), 0, NodeReply::Pulled(of_another_shard));
 }
 
 #[test]
-fn a_node_refuses(rt: HostRuntime) -> Result<(), Fail> {
+fn a_node_refuses(rt: HostRuntime) {
     for fault in [Fault::AuditFull, Fault::OutOfMemory] {
         for count in 0..4 {
-            let replies = refused_after(&rt, rt.alloc(), count, fault)?;
-            match ending(&rt, rt.alloc(), replies) {
+            match ending(&rt, rt.alloc(), count, NodeReply::Refused(fault)) {
                 Delivery::Refused(shown) => assert!(rt; shown == fault),
-                _ => panic!(rt; "the node's refusal ends it"),
+                _ => panic!(&rt; "the node's refusal ends it"),
             }
         }
     }
-    Ok(())
+}
+
+/// Answers to collecting.
+fn removed(rt: &impl Abort, alloc: Global, counts: &[u64]) -> Vec<NodeReply> {
+    let mut replies = Vec::new(alloc);
+    for count in counts {
+        replies
+            .push(NodeReply::Removed(*count))
+            .expect(rt, "memory");
+    }
+    replies
 }
 
 #[test]
-fn collects_on_each_node(rt: HostRuntime) -> Result<(), Fail> {
+fn what_each_node_removes_is_counted(rt: HostRuntime) {
     let config = config(rt.alloc());
-    let counts = vec![in rt.alloc();
-        NodeReply::Removed(1),
-        NodeReply::Removed(0),
-        NodeReply::Removed(2),
-        NodeReply::Removed(0),
-        NodeReply::Removed(0),
-        NodeReply::Removed(0),
-        NodeReply::Removed(0),
-        NodeReply::Removed(0),
-    ]?;
+    let counts = removed(&rt, rt.alloc(), &[1, 0, 2, 0, 0, 0, 0, 0]);
     let mut nodes = nodes_with(rt.alloc(), counts);
     assert!(rt; matches!(collect_all(&mut nodes, &config, 0, 5101), Ok(3)));
     assert!(rt; matches!(collect_all(&mut nodes, &config, 0, 5101), Ok(0)));
     assert_eq!(rt; nodes.asked.len(), 8);
+}
+
+#[test]
+fn collects_on_each_node(rt: HostRuntime) {
+    let config = config(rt.alloc());
+    let counts = removed(&rt, rt.alloc(), &[1, 0, 2, 0]);
+    let mut nodes = nodes_with(rt.alloc(), counts);
+    assert!(rt; collect_all(&mut nodes, &config, 0, 5101).is_ok());
     let places = [(0, 0), (0, 1), (1, 0), (1, 1)];
+    assert_eq!(rt; nodes.asked.len(), 4);
     for (at, (dc, shard)) in nodes.asked.iter().zip(places) {
         assert!(rt; at.id.dc == dc && at.id.shard == shard && at.moment == 5101);
         assert!(rt; matches!(at.call, NodeCall::Collect));
     }
-    Ok(())
 }
 
-/// What `collect_all` answers over nodes of which the second is the last that is asked.
-fn refused_at_second(rt: &impl Abort, alloc: Global, replies: Vec<NodeReply>) -> Option<Fault> {
+/// Asserts what `collect_all` answers where the second of two replies is the last asked for.
+fn assert_stops(rt: &impl Abort, alloc: Global, first: u64, last: NodeReply, fault: Fault) {
+    let mut replies = removed(rt, alloc, &[first]);
+    replies.push(last).expect(rt, "memory");
     let mut nodes = nodes_with(alloc, replies);
-    let answer = collect_all(&mut nodes, &config(alloc), 0, 7);
+    match collect_all(&mut nodes, &config(alloc), 0, 7) {
+        Ok(_) => panic!(rt; "a refusal"),
+        Err(given) => assert_eq!(rt; given, fault),
+    }
     assert_eq!(rt; nodes.asked.len(), 2);
-    answer.err()
 }
 
 #[test]
-fn collecting_stops_at_a_refusal(rt: HostRuntime) -> Result<(), Fail> {
-    let refused = vec![in rt.alloc(); NodeReply::Removed(1), NodeReply::Refused(Fault::AuditFull)]?;
-    let unasked = vec![in rt.alloc(); NodeReply::Removed(1), NodeReply::Nothing]?;
-    let too_many = vec![in rt.alloc(); NodeReply::Removed(u64::MAX), NodeReply::Removed(1)]?;
-    assert!(rt;
-        matches!(
-            refused_at_second(&rt, rt.alloc(), refused),
-            Some(Fault::AuditFull)
-        )
+fn collecting_stops_at_a_refusal(rt: HostRuntime) {
+    let refused = NodeReply::Refused(Fault::AuditFull);
+    assert_stops(&rt, rt.alloc(), 1, refused, Fault::AuditFull);
+    assert_stops(&rt, rt.alloc(), 1, NodeReply::Nothing, Fault::Torn);
+    assert_stops(
+        &rt,
+        rt.alloc(),
+        u64::MAX,
+        NodeReply::Removed(1),
+        Fault::Torn,
     );
-    for replies in [unasked, too_many] {
-        assert!(rt;
-            matches!(
-                refused_at_second(&rt, rt.alloc(), replies),
-                Some(Fault::Torn)
-            )
-        );
-    }
-    Ok(())
 }
