@@ -26,6 +26,8 @@ mod sinks;
 mod sources;
 mod tenants;
 #[cfg(test)]
+mod test_pairs;
+#[cfg(test)]
 mod tests;
 #[cfg(test)]
 mod tests_of_heads;

@@ -1,149 +1,168 @@
+use crate::test_pairs::{assert_deps, assert_near, deps, pair};
 use crate::{
     Deps, Entry, EntryParts, Fault, GrowingDeps, GrowingNear, Key, Near, Pair, Value, Version,
 };
-use std::alloc::{AllocError, Global};
+use std::alloc::Global;
 use std::process::Abort;
 use std::test::Fail;
 use std::thread;
 use std::thread::Threads;
 
-pub(crate) fn pair(rt: &impl Abort, key: &[u8], clock: u64, node: u64) -> Pair {
-    assert!(rt; clock < 1000 && node < 256);
-    let key = Key::new(key).expect(rt, "a key");
-    Pair {
-        key,
-        version: Version::of(clock, node),
-    }
-}
-
-/// The dependencies of these pairs.
-pub(crate) fn deps(rt: &impl Abort, alloc: Global, pairs: &[Pair]) -> Deps {
-    let mut deps = Deps::empty(alloc);
-    for pair in pairs {
-        deps.add(*pair, 100).expect(rt, "room");
-    }
-    deps
-}
-
-/// The pairs of a list.
-pub(crate) fn pairs_of(deps: &Deps, alloc: Global) -> Result<Vec<Pair>, AllocError> {
-    let mut pairs = Vec::new(alloc);
-    for place in 0..deps.len() {
-        pairs.push(deps.pair(place))?;
-    }
-    Ok(pairs)
-}
-
-/// The pairs of a list of nearest ones.
-pub(crate) fn near_pairs_of(near: &Near, alloc: Global) -> Result<Vec<Pair>, AllocError> {
-    let mut pairs = Vec::new(alloc);
-    for place in 0..near.len() {
-        pairs.push(near.pair(place))?;
-    }
-    Ok(pairs)
+#[test]
+fn versions(rt: HostRuntime) {
+    assert!(rt; matches!(Version::next(0, 1, 1), Ok(version) if version.to_u64() == 2 * 256 + 1));
+    assert!(rt; matches!(Version::next(5, 3, 2), Ok(version) if version.to_u64() == 6 * 256 + 2));
+    let last = Version::next(72057594037927935, 0, 0);
+    assert!(rt; matches!(last, Err(Fault::ClockFull)));
 }
 
 #[test]
-fn versions(rt: HostRuntime) {
-    assert_eq!(rt; Version::next(0, 1, 1).map(|v| v.to_u64()), Ok(2 * 256 + 1));
-    assert_eq!(rt; Version::next(5, 3, 2).map(|v| v.to_u64()), Ok(6 * 256 + 2));
-    assert!(rt;
-        matches!(
-            Version::next(72057594037927935, 0, 0),
-            Err(Fault::ClockFull)
-        )
-    );
+fn numbers_of_versions(rt: HostRuntime) {
     assert_eq!(rt; Version::of(1, 0).to_u64(), 256);
     assert_eq!(rt; Version::from_u64(513).clock(), 2);
     assert_eq!(rt; Version::from_u64(513).node(), 1);
 }
 
+/// Asserts whether these bytes are a key.
+fn assert_key(rt: &impl Abort, bytes: &[u8], is_key: bool) {
+    match Key::new(bytes) {
+        Ok(key) => assert!(rt; is_key && key.bytes() == bytes),
+        Err(fault) => assert!(rt; !is_key && fault == Fault::BadKey),
+    }
+}
+
 #[test]
-fn keys_and_values(rt: HostRuntime) -> Result<(), Fail> {
+fn keys(rt: HostRuntime) {
+    assert_key(&rt, b"x_9", true);
+    assert_key(&rt, b"", false);
+    assert_key(&rt, b"X", false);
+    assert_key(&rt, &[97; 64], true);
+    assert_key(&rt, &[97; 65], false);
     let key = Key::new(b"x_9").expect(&rt, "a key");
-    assert_eq!(rt; key.bytes(), b"x_9".as_slice());
     assert_eq!(rt; key.shard(16), (120 + 95 + 57) % 16);
-    assert!(rt; matches!(Key::new(b""), Err(Fault::BadKey)));
-    assert!(rt; matches!(Key::new(b"X"), Err(Fault::BadKey)));
-    assert!(rt; Key::new(&[97; 64]).is_ok());
-    assert!(rt; matches!(Key::new(&[97; 65]), Err(Fault::BadKey)));
+}
+
+#[test]
+fn values(rt: HostRuntime) -> Result<(), Fail> {
     let value = Value::new(rt.alloc(), b"10").expect(&rt, "a value");
     assert_eq!(rt; value.copy(rt.alloc())?.bytes(), b"10".as_slice());
+    Ok(())
+}
+
+#[test]
+fn values_have_at_most_4096_bytes(rt: HostRuntime) {
     assert!(rt; Value::new(rt.alloc(), &[0; 4096]).is_ok());
     assert!(rt; matches!(Value::new(rt.alloc(), &[0; 4097]), Err(Fault::ValueTooLong)));
-    Ok(())
+}
+
+/// Versions 2.1 of x and 1.0 of y.
+fn newer_x_and_y(rt: &impl Abort, alloc: Global) -> Deps {
+    deps(rt, alloc, &[pair(rt, b"x", 2, 1), pair(rt, b"y", 1, 0)])
 }
 
 #[test]
-fn joins(rt: HostRuntime) -> Result<(), Fail> {
-    let x1 = pair(&rt, b"x", 1, 0);
-    let x2 = pair(&rt, b"x", 2, 1);
-    let y1 = pair(&rt, b"y", 1, 0);
-    let more = deps(&rt, rt.alloc(), &[x2, y1]);
-    let mut list = deps(&rt, rt.alloc(), &[x1]);
+fn a_join_over_the_limit_changes_nothing(rt: HostRuntime) {
+    let x = pair(&rt, b"x", 1, 0);
+    let more = newer_x_and_y(&rt, rt.alloc());
+    let mut list = deps(&rt, rt.alloc(), &[x]);
     assert!(rt; matches!(list.join(&more, 1), Err(Fault::DependenciesFull)));
-    assert_eq!(rt; pairs_of(&list, rt.alloc())?.as_slice(), [x1].as_slice());
-    assert!(rt; list.join(&more, 2).is_ok());
-    let copy = list.copy(rt.alloc())?;
-    assert_eq!(rt;
-        pairs_of(&copy, rt.alloc())?.as_slice(),
-        [x2, y1].as_slice()
-    );
-    let mut one = deps(&rt, rt.alloc(), &[x1]);
-    assert!(rt; one.add(pair(&rt, b"x", 2, 0), 1).is_ok());
-    let newer = pair(&rt, b"x", 2, 0);
-    assert_eq!(rt; pairs_of(&one, rt.alloc())?.as_slice(), [newer].as_slice());
-    Ok(())
+    assert_deps(&rt, &list, &[x]);
 }
 
 #[test]
-fn growing_joins(rt: HostRuntime) -> Result<(), Fail> {
-    let x1 = pair(&rt, b"x", 1, 0);
-    let x2 = pair(&rt, b"x", 2, 1);
-    let y1 = pair(&rt, b"y", 1, 0);
-    let more = deps(&rt, rt.alloc(), &[x2, y1]);
-    let mut list = GrowingDeps::empty(rt.alloc()).with_room(1)?;
-    list.add_reserved(x1);
-    assert!(rt; list.add(x1).is_ok());
+fn a_join_keeps_the_greatest_versions(rt: HostRuntime) {
+    let more = newer_x_and_y(&rt, rt.alloc());
+    let mut list = deps(&rt, rt.alloc(), &[pair(&rt, b"x", 1, 0)]);
+    list.join(&more, 2).expect(&rt, "room");
+    assert_deps(&rt, &list, &[pair(&rt, b"x", 2, 1), pair(&rt, b"y", 1, 0)]);
+}
+
+#[test]
+fn a_copy_has_the_same_pairs(rt: HostRuntime) {
+    let list = newer_x_and_y(&rt, rt.alloc());
+    let copy = list.copy(rt.alloc()).expect(&rt, "memory");
+    assert_deps(&rt, &copy, &[pair(&rt, b"x", 2, 1), pair(&rt, b"y", 1, 0)]);
+}
+
+#[test]
+fn a_newer_version_takes_the_place_of_the_older(rt: HostRuntime) {
+    let mut list = deps(&rt, rt.alloc(), &[pair(&rt, b"x", 1, 0)]);
+    list.add(pair(&rt, b"x", 2, 0), 1).expect(&rt, "room");
+    assert_deps(&rt, &list, &[pair(&rt, b"x", 2, 0)]);
+}
+
+#[test]
+fn a_growing_join_over_the_limit_changes_nothing(rt: HostRuntime) {
+    let x = pair(&rt, b"x", 1, 0);
+    let more = newer_x_and_y(&rt, rt.alloc());
+    let mut list = GrowingDeps::empty(rt.alloc());
+    list.add(x).expect(&rt, "memory");
     assert!(rt; matches!(list.join(&more, 1), Err(Fault::DependenciesFull)));
-    assert_eq!(rt; list.pairs(), [x1].as_slice());
-    assert!(rt; list.join(&more, 2).is_ok());
-    let shared = list.to_deps()?;
-    assert_eq!(rt;
-        pairs_of(&shared, rt.alloc())?.as_slice(),
-        [x2, y1].as_slice()
-    );
+    assert_eq!(rt; list.pairs(), [x].as_slice());
+}
+
+#[test]
+fn growing_lists_join(rt: HostRuntime) {
+    let (x1, x2) = (pair(&rt, b"x", 1, 0), pair(&rt, b"x", 2, 1));
+    let more = newer_x_and_y(&rt, rt.alloc());
+    let mut list = GrowingDeps::empty(rt.alloc());
+    list.add(x1).expect(&rt, "memory");
+    list.join(&more, 2).expect(&rt, "room");
+    assert_eq!(rt; list.pairs(), [x2, pair(&rt, b"y", 1, 0)].as_slice());
     assert_eq!(rt; list.len(), 2);
     assert!(rt; list.has_key(&x1.key) && list.holds(&x2) && !list.holds(&x1));
-    Ok(())
 }
 
 #[test]
-fn nearest(rt: HostRuntime) -> Result<(), Fail> {
-    let x1 = pair(&rt, b"x", 1, 0);
-    let x2 = pair(&rt, b"x", 2, 0);
-    let mut near = GrowingNear::empty(rt.alloc());
-    assert!(rt; near.add(x2, 2).is_ok());
-    assert!(rt; near.add(x1, 2).is_ok());
-    assert!(rt; near.add(x1, 2).is_ok());
-    let shared = near.to_near()?;
-    assert_eq!(rt;
-        near_pairs_of(&shared, rt.alloc())?.as_slice(),
-        [x1, x2].as_slice()
-    );
-    assert!(rt;
-        matches!(
-            near.add(pair(&rt, b"y", 1, 0), 2),
-            Err(Fault::DependenciesFull)
-        )
-    );
-    near.drop_held(&deps(&rt, rt.alloc(), &[x2]));
-    assert_eq!(rt; near.pairs(), [x1].as_slice());
-    let mut copy = near.with_room(1)?;
-    assert_eq!(rt; copy.len(), 1);
-    assert!(rt; copy.add(x2, 2).is_ok());
-    assert_eq!(rt; copy.pairs(), [x1, x2].as_slice());
-    Ok(())
+fn a_growing_list_with_room(rt: HostRuntime) {
+    let mut list = GrowingDeps::empty(rt.alloc())
+        .with_room(1)
+        .expect(&rt, "memory");
+    list.add_reserved(pair(&rt, b"x", 1, 0));
+    list.add(pair(&rt, b"x", 1, 0)).expect(&rt, "memory");
+    let kept = list.to_deps().expect(&rt, "memory");
+    assert_deps(&rt, &kept, &[pair(&rt, b"x", 1, 0)]);
+}
+
+/// The nearest pairs: versions 1.0 and 2.0 of x.
+fn two_nearest(rt: &impl Abort, alloc: Global) -> GrowingNear {
+    let mut near = GrowingNear::empty(alloc);
+    near.add(pair(rt, b"x", 2, 0), 2).expect(rt, "room");
+    near.add(pair(rt, b"x", 1, 0), 2).expect(rt, "room");
+    near
+}
+
+#[test]
+fn nearest_pairs_are_in_order(rt: HostRuntime) {
+    let near = two_nearest(&rt, rt.alloc());
+    let kept = near.to_near().expect(&rt, "memory");
+    assert_near(&rt, &kept, &[pair(&rt, b"x", 1, 0), pair(&rt, b"x", 2, 0)]);
+}
+
+#[test]
+fn nearest_pairs_have_a_limit(rt: HostRuntime) {
+    let mut near = two_nearest(&rt, rt.alloc());
+    near.add(pair(&rt, b"x", 1, 0), 2)
+        .expect(&rt, "the pair is there");
+    let refused = near.add(pair(&rt, b"y", 1, 0), 2);
+    assert!(rt; matches!(refused, Err(Fault::DependenciesFull)));
+    assert_eq!(rt; near.len(), 2);
+}
+
+#[test]
+fn nearest_pairs_that_are_held_are_dropped(rt: HostRuntime) {
+    let mut near = two_nearest(&rt, rt.alloc());
+    near.drop_held(&deps(&rt, rt.alloc(), &[pair(&rt, b"x", 2, 0)]));
+    assert_eq!(rt; near.pairs(), [pair(&rt, b"x", 1, 0)].as_slice());
+}
+
+#[test]
+fn a_copy_with_room(rt: HostRuntime) {
+    let near = two_nearest(&rt, rt.alloc());
+    let mut copy = near.with_room(1).expect(&rt, "memory");
+    assert_eq!(rt; copy.pairs(), near.pairs());
+    copy.add(pair(&rt, b"y", 1, 0), 3).expect(&rt, "room");
+    assert_eq!(rt; copy.len(), 3);
 }
 
 /// A thing of this type may be sent to a thread, and be read by several at once.

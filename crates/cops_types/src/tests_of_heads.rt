@@ -1,7 +1,6 @@
 use crate::{Config, ConfigReader, HeadLine, Name, Quota, Tenant, Tenants};
 use std::alloc::Global;
 use std::process::Abort;
-use std::test::Fail;
 use uuid::Uuid;
 
 const CLUSTER: &[u8] = b"cluster 1 1 5000 1";
@@ -17,113 +16,166 @@ fn said(rt: &impl Abort, reader: &mut ConfigReader, alloc: Global, line: &[u8]) 
     }
 }
 
-/// The number of the first bad line, or 0 for a whole head.
-fn first_bad(rt: &impl Abort, alloc: Global, lines: &[&[u8]]) -> usize {
+/// Asserts the number of the first bad line of a head, or 0 for a whole head.
+fn assert_bad(rt: &impl Abort, alloc: Global, head: &str, bad: usize) {
     let mut reader = ConfigReader::new();
     let mut number = 0usize;
-    for line in lines {
+    for line in head.lines() {
         number = number.saturating_add(1);
-        match said(rt, &mut reader, alloc, line) {
+        match said(rt, &mut reader, alloc, line.as_bytes()) {
             0 => {}
-            1 => return number,
-            _ => return 0,
+            1 => {
+                assert_eq!(rt; number, bad, "{head}");
+                return;
+            }
+            _ => {
+                assert_eq!(rt; 0, bad, "{head}");
+                return;
+            }
         }
     }
-    number.saturating_add(1)
+    assert_eq!(rt; number.saturating_add(1), bad, "{head}");
+}
+
+/// Heads, each with the number of its first bad line or 0 before it.
+const HEADS: &str = "0 a tenant
+cluster 1 1 5000 1
+tenant acme 00000000-0000-0000-0000-000000000001 0 100 10000 10 4 20 8 1000
+begin
+
+0 two spellings of tokens
+cluster 1 1 5000 1
+tenant acme 00000000-0000-0000-0000-000000000001 0 100 10000 10 4 20 8 1000
+tenant beta urn:uuid:00000000-0000-0000-0000-0000000000AB 0 100 10000 10 4 20 8 1000
+begin
+
+4 the same token in braces
+cluster 1 1 5000 1
+tenant acme 00000000-0000-0000-0000-000000000001 0 100 10000 10 4 20 8 1000
+tenant beta urn:uuid:00000000-0000-0000-0000-0000000000AB 0 100 10000 10 4 20 8 1000
+tenant acmes {00000000-0000-0000-0000-0000000000ab} 0 100 10000 10 4 20 8 1000
+
+3 the same token without dashes
+cluster 1 1 5000 1
+tenant acme 00000000-0000-0000-0000-000000000001 0 100 10000 10 4 20 8 1000
+tenant beta 00000000000000000000000000000001 0 100 10000 10 4 20 8 1000
+
+3 the same name
+cluster 1 1 5000 1
+tenant acme 00000000-0000-0000-0000-000000000001 0 100 10000 10 4 20 8 1000
+tenant acme 00000000-0000-0000-0000-000000000002 0 100 10000 10 4 20 8 1000
+
+1 too many shards
+cluster 1 17 5000 1
+
+2 a head that ends early
+cluster 1 1 5000 1
+
+2 no tenant
+cluster 1 1 5000 1
+begin
+
+1 no cluster
+tenant acme 00000000-0000-0000-0000-000000000001 0 100 10000 10 4 20 8 1000
+
+2 two clusters
+cluster 1 1 5000 1
+cluster 1 1 5000 1";
+
+/// The digit that a text begins with.
+fn digit(rt: &impl Abort, text: &str) -> usize {
+    match text.as_bytes() {
+        [digit @ b'0'..=b'9', ..] => (*digit - b'0') as usize,
+        _ => panic!(rt; "a digit"),
+    }
 }
 
 #[test]
 fn heads_of_the_worked_examples(rt: HostRuntime) {
-    let alloc = rt.alloc();
-    let again: &[u8] = b"tenant beta 00000000000000000000000000000001 0 100 10000 10 4 20 8 1000";
-    let beta: &[u8] =
-        b"tenant beta urn:uuid:00000000-0000-0000-0000-0000000000AB 0 100 10000 10 4 20 8 1000";
-    let braced: &[u8] =
-        b"tenant acmes {00000000-0000-0000-0000-0000000000ab} 0 100 10000 10 4 20 8 1000";
-    assert_eq!(rt;
-        first_bad(&rt, alloc, &[CLUSTER, ACME, b"begin".as_slice()]),
-        0
-    );
-    assert_eq!(rt;
-        first_bad(&rt, alloc, &[b"cluster 1 17 5000 1".as_slice()]),
-        1
-    );
-    assert_eq!(rt; first_bad(&rt, alloc, &[CLUSTER]), 2);
-    assert_eq!(rt; first_bad(&rt, alloc, &[CLUSTER, ACME, again]), 3);
-    assert_eq!(rt;
-        first_bad(&rt, alloc, &[CLUSTER, ACME, beta, b"begin".as_slice()]),
-        0
-    );
-    assert_eq!(rt; first_bad(&rt, alloc, &[CLUSTER, ACME, beta, braced]), 4);
-    assert_eq!(rt; first_bad(&rt, alloc, &[CLUSTER, ACME, ACME]), 3);
-    assert_eq!(rt; first_bad(&rt, alloc, &[CLUSTER, b"begin".as_slice()]), 2);
-    assert_eq!(rt; first_bad(&rt, alloc, &[ACME]), 1);
-    assert_eq!(rt; first_bad(&rt, alloc, &[CLUSTER, CLUSTER]), 2);
+    for rows in HEADS.split("\n\n") {
+        match rows.split_once('\n') {
+            Some((title, head)) => assert_bad(&rt, rt.alloc(), head, digit(&rt, title)),
+            None => panic!(&rt; "a title and a head"),
+        }
+    }
+}
+
+const CLUSTERS: &str = "cluster 8 16 0 0
+cluster 1 1 18446744073709551615 15
+cluster 2 1 5000 1";
+
+/// The last line but one is empty.
+const BAD_CLUSTERS: &str = "cluster 0 1 5000 1
+cluster 9 1 5000 1
+cluster 1 0 5000 1
+cluster 1 1 18446744073709551616 1
+cluster 1 1 5000 16
+cluster 1 1 5000
+cluster 1 1 5000 1 1
+cluster 1 1 5000 1\x20
+cluster  1 1 5000 1
+ cluster 1 1 5000 1
+cluster 01 1 5000 1
+
+cluster +1 1 5000 1";
+
+/// Asserts that each line alone is a head of one good line, or of none.
+fn assert_alone(rt: &impl Abort, alloc: Global, lines: &str, bad: usize) {
+    for line in lines.lines() {
+        let mut reader = ConfigReader::new();
+        assert_eq!(rt;
+            said(rt, &mut reader, alloc, line.as_bytes()),
+            bad,
+            "{line}"
+        );
+    }
 }
 
 #[test]
 fn limits_of_a_cluster(rt: HostRuntime) {
-    let good: [&[u8]; 4] = [
-        b"cluster 8 16 0 0",
-        b"cluster 1 1 18446744073709551615 15",
-        b"cluster 2 1 5000 1",
-        CLUSTER,
-    ];
-    for line in good {
-        assert_eq!(rt; first_bad(&rt, rt.alloc(), &[line]), 2);
-    }
-    let bad: [&[u8]; 13] = [
-        b"cluster 0 1 5000 1",
-        b"cluster 9 1 5000 1",
-        b"cluster 1 0 5000 1",
-        b"cluster 1 1 18446744073709551616 1",
-        b"cluster 1 1 5000 16",
-        b"cluster 1 1 5000",
-        b"cluster 1 1 5000 1 1",
-        b"cluster 1 1 5000 1 ",
-        b"cluster  1 1 5000 1",
-        b" cluster 1 1 5000 1",
-        b"cluster 01 1 5000 1",
-        b"cluster +1 1 5000 1",
-        b"",
-    ];
-    for line in bad {
-        assert_eq!(rt; first_bad(&rt, rt.alloc(), &[line]), 1);
+    assert_alone(&rt, rt.alloc(), CLUSTERS, 0);
+    assert_alone(&rt, rt.alloc(), BAD_CLUSTERS, 1);
+}
+
+const TENANTS: &str = "tenant a 00000000-0000-0000-0000-000000000001 72057594037927935 0 0 0 0 0 0 0
+tenant abcdefghijklmnop 00000000-0000-0000-0000-000000000001 0 4294967295 4294967295 4294967295 4294967295 1024 4294967295 4294967295
+tenant acme 00000000-0000-0000-0000-000000000001 0 100 10000 10 4 20 8 1000";
+
+const BAD_TENANTS: &str =
+    "tenant a 00000000-0000-0000-0000-000000000001 72057594037927936 0 0 0 0 0 0 0
+tenant a 00000000-0000-0000-0000-000000000001 0 4294967296 0 0 0 0 0 0
+tenant a 00000000-0000-0000-0000-000000000001 0 0 4294967296 0 0 0 0 0
+tenant a 00000000-0000-0000-0000-000000000001 0 0 0 4294967296 0 0 0 0
+tenant a 00000000-0000-0000-0000-000000000001 0 0 0 0 4294967296 0 0 0
+tenant a 00000000-0000-0000-0000-000000000001 0 0 0 0 0 1025 0 0
+tenant a 00000000-0000-0000-0000-000000000001 0 0 0 0 0 0 4294967296 0
+tenant a 00000000-0000-0000-0000-000000000001 0 0 0 0 0 0 0 4294967296
+tenant a 00000000-0000-0000-0000-000000000001 0 0 0 0 0 0 0
+tenant a 00000000-0000-0000-0000-000000000001 0 0 0 0 0 0 0 0 0
+tenant abcdefghijklmnopq 00000000-0000-0000-0000-000000000001 0 0 0 0 0 0 0 0
+tenant A 00000000-0000-0000-0000-000000000001 0 0 0 0 0 0 0 0
+tenant a 0000000000000000000000000000001 0 0 0 0 0 0 0 0
+tenant  00000000-0000-0000-0000-000000000001 0 0 0 0 0 0 0 0";
+
+/// What each line says after a line of a cluster, and whether a head may end there.
+fn assert_first_tenant(rt: &impl Abort, alloc: Global, lines: &str, bad: usize) {
+    for line in lines.lines() {
+        let mut reader = ConfigReader::new();
+        assert_eq!(rt; said(rt, &mut reader, alloc, CLUSTER), 0);
+        assert_eq!(rt;
+            said(rt, &mut reader, alloc, line.as_bytes()),
+            bad,
+            "{line}"
+        );
+        let end = if bad == 0 { 3 } else { 1 };
+        assert_eq!(rt; said(rt, &mut reader, alloc, b"begin"), end);
     }
 }
 
 #[test]
 fn limits_of_a_tenant(rt: HostRuntime) {
-    let good: [&[u8]; 3] = [
-        b"tenant a 00000000-0000-0000-0000-000000000001 72057594037927935 0 0 0 0 0 0 0",
-        b"tenant abcdefghijklmnop 00000000-0000-0000-0000-000000000001 0 4294967295 4294967295 4294967295 4294967295 1024 4294967295 4294967295",
-        ACME,
-    ];
-    for line in good {
-        assert_eq!(rt;
-            first_bad(&rt, rt.alloc(), &[CLUSTER, line, b"begin".as_slice()]),
-            0
-        );
-    }
-    let bad: [&[u8]; 14] = [
-        b"tenant a 00000000-0000-0000-0000-000000000001 72057594037927936 0 0 0 0 0 0 0",
-        b"tenant a 00000000-0000-0000-0000-000000000001 0 4294967296 0 0 0 0 0 0",
-        b"tenant a 00000000-0000-0000-0000-000000000001 0 0 4294967296 0 0 0 0 0",
-        b"tenant a 00000000-0000-0000-0000-000000000001 0 0 0 4294967296 0 0 0 0",
-        b"tenant a 00000000-0000-0000-0000-000000000001 0 0 0 0 4294967296 0 0 0",
-        b"tenant a 00000000-0000-0000-0000-000000000001 0 0 0 0 0 1025 0 0",
-        b"tenant a 00000000-0000-0000-0000-000000000001 0 0 0 0 0 0 4294967296 0",
-        b"tenant a 00000000-0000-0000-0000-000000000001 0 0 0 0 0 0 0 4294967296",
-        b"tenant a 00000000-0000-0000-0000-000000000001 0 0 0 0 0 0 0",
-        b"tenant a 00000000-0000-0000-0000-000000000001 0 0 0 0 0 0 0 0 0",
-        b"tenant abcdefghijklmnopq 00000000-0000-0000-0000-000000000001 0 0 0 0 0 0 0 0",
-        b"tenant A 00000000-0000-0000-0000-000000000001 0 0 0 0 0 0 0 0",
-        b"tenant a 0000000000000000000000000000001 0 0 0 0 0 0 0 0",
-        b"tenant  00000000-0000-0000-0000-000000000001 0 0 0 0 0 0 0 0",
-    ];
-    for line in bad {
-        assert_eq!(rt; first_bad(&rt, rt.alloc(), &[CLUSTER, line]), 2);
-    }
+    assert_first_tenant(&rt, rt.alloc(), TENANTS, 0);
+    assert_first_tenant(&rt, rt.alloc(), BAD_TENANTS, 1);
 }
 
 /// The line of a tenant whose name and token end with these two digits.
@@ -176,26 +228,40 @@ fn config_of(rt: &impl Abort, alloc: Global) -> Option<Config> {
 }
 
 #[test]
-fn the_configuration_is_what_the_lines_say(rt: HostRuntime) -> Result<(), Fail> {
+fn the_configuration_is_what_the_lines_say(rt: HostRuntime) {
     let config = config_of(&rt, rt.alloc()).expect(&rt, "a head");
     assert_eq!(rt; (config.data_centres, config.shards), (1, 1));
     assert_eq!(rt; (config.trans_time, config.restarts), (5000, 1));
-    let tenants = &config.tenants;
-    assert_eq!(rt; tenants.slot_of_name(b"acme"), Some(0));
-    assert_eq!(rt; tenants.slot_of_name(b"acm"), None);
-    assert_eq!(rt; tenants.slot_of_name(b"ACME"), None);
+    match config.tenants.as_slice() {
+        [tenant] => {
+            assert_eq!(rt; tenant.name.bytes(), b"acme".as_slice());
+            assert_eq!(rt; (tenant.first_clock, tenant.quota.audit), (0, 1000));
+        }
+        _ => panic!(&rt; "one tenant"),
+    }
+}
+
+#[test]
+fn tenants_are_found_by_name(rt: HostRuntime) {
+    let config = config_of(&rt, rt.alloc()).expect(&rt, "a head");
+    assert_eq!(rt; config.tenants.slot_of_name(b"acme"), Some(0));
+    assert_eq!(rt; config.tenants.slot_of_name(b"acm"), None);
+    assert_eq!(rt; config.tenants.slot_of_name(b"ACME"), None);
+}
+
+#[test]
+fn tenants_are_found_by_token(rt: HostRuntime) {
+    let config = config_of(&rt, rt.alloc()).expect(&rt, "a head");
     let mut token = [0; 16];
-    assert_eq!(rt; tenants.slot_of_token(&Uuid::from_bytes(token)), None);
+    assert_eq!(rt;
+        config.tenants.slot_of_token(&Uuid::from_bytes(token)),
+        None
+    );
     token[15] = 1;
-    assert_eq!(rt; tenants.slot_of_token(&Uuid::from_bytes(token)), Some(0));
-    assert_eq!(rt; tenants.len(), 1);
-    let Some(tenant) = tenants.as_slice().first() else {
-        assert!(rt; false);
-        return Ok(());
-    };
-    assert_eq!(rt; tenant.name.bytes(), b"acme".as_slice());
-    assert_eq!(rt; (tenant.first_clock, tenant.quota.audit), (0, 1000));
-    Ok(())
+    assert_eq!(rt;
+        config.tenants.slot_of_token(&Uuid::from_bytes(token)),
+        Some(0)
+    );
 }
 
 fn tenant_of(rt: &impl Abort, name: &[u8], last: u8) -> Tenant {
@@ -217,23 +283,31 @@ fn tenant_of(rt: &impl Abort, name: &[u8], last: u8) -> Tenant {
     }
 }
 
-#[test]
-fn tenants_are_found_by_slot(rt: HostRuntime) -> Result<(), Fail> {
-    let mut tenants = Tenants::new(rt.alloc());
+/// Two tenants, whose tokens end with 1 and 2.
+fn acme_and_beta(rt: &impl Abort, alloc: Global) -> Tenants {
+    let mut tenants = Tenants::new(alloc);
     for (name, last) in [(b"acme".as_slice(), 1), (b"beta".as_slice(), 2)] {
-        let tenant = tenant_of(&rt, name, last);
-        if tenants.is_distinct(&tenant) {
-            tenants.push(tenant)?;
-        }
+        let tenant = tenant_of(rt, name, last);
+        assert!(rt; tenants.is_distinct(&tenant));
+        tenants.push(tenant).expect(rt, "memory");
     }
+    tenants
+}
+
+#[test]
+fn names_and_tokens_are_distinct(rt: HostRuntime) {
+    let tenants = acme_and_beta(&rt, rt.alloc());
     assert!(rt; !tenants.is_distinct(&tenant_of(&rt, b"acme", 3)));
     assert!(rt; !tenants.is_distinct(&tenant_of(&rt, b"gamma", 2)));
     assert!(rt; tenants.is_distinct(&tenant_of(&rt, b"gamma", 3)));
+}
+
+#[test]
+fn tenants_are_found_by_slot(rt: HostRuntime) {
+    let tenants = acme_and_beta(&rt, rt.alloc());
     assert_eq!(rt; tenants.slot_of_name(b"beta"), Some(1));
-    if tenants.len() == 2 {
-        assert_eq!(rt; tenants.tenant(1).name.bytes(), b"beta".as_slice());
-    }
-    Ok(())
+    assert!(rt; tenants.len() == 2);
+    assert_eq!(rt; tenants.tenant(1).name.bytes(), b"beta".as_slice());
 }
 
 /// For runs in which one allocation fails: the line is read again, and says the same.

@@ -1,9 +1,8 @@
 //! Lists of short keys, of long ones, and of both.
-use crate::tests::{deps, near_pairs_of, pair, pairs_of};
+use crate::test_pairs::{assert_deps, assert_near, deps, pair};
 use crate::{Deps, Fault, GrowingDeps, GrowingNear, Near, Pair};
 use std::alloc::Global;
 use std::process::Abort;
-use std::test::Fail;
 
 /// 15 bytes, the longest of the short keys.
 const SHORT: &[u8] = b"fifteen_letters";
@@ -21,151 +20,177 @@ fn long(rt: &impl Abort, clock: u64) -> Pair {
     pair(rt, LONG, clock, 2)
 }
 
-/// Asks whether these are the pairs of a list.
-fn are_pairs(rt: &impl Abort, alloc: Global, list: &Deps, pairs: &[Pair]) -> Result<(), Fail> {
-    assert_eq!(rt; pairs_of(list, alloc)?.as_slice(), pairs);
-    Ok(())
-}
-
 /// The first key at a clock.
 fn first(rt: &impl Abort, clock: u64) -> Pair {
     pair(rt, b"a", clock, 0)
 }
 
+/// A list of short keys.
+fn brief(rt: &impl Abort, alloc: Global) -> Deps {
+    deps(rt, alloc, &[first(rt, 2), short(rt, 7)])
+}
+
+/// A list with a long key.
+fn mixed(rt: &impl Abort, alloc: Global) -> Deps {
+    deps(rt, alloc, &[first(rt, 1), long(rt, 3), short(rt, 8)])
+}
+
 #[test]
-fn keys_of_either_length_are_added(rt: HostRuntime) -> Result<(), Fail> {
-    let (a, x) = (pair(&rt, b"a", 1, 0), pair(&rt, b"x", 2, 0));
-    let mut list = deps(&rt, rt.alloc(), &[x, short(&rt, 5), a]);
-    are_pairs(&rt, rt.alloc(), &list, &[a, short(&rt, 5), x])?;
+fn short_keys_are_added(rt: HostRuntime) {
+    let mut list = deps(&rt, rt.alloc(), &[short(&rt, 5), first(&rt, 1)]);
+    assert_deps(&rt, &list, &[first(&rt, 1), short(&rt, 5)]);
+    list.add(short(&rt, 4), 2).expect(&rt, "room");
     assert_eq!(rt; list.greatest_clock(), 5);
-    list.add(long(&rt, 4), 4).expect(&rt, "room");
-    are_pairs(&rt, rt.alloc(), &list, &[a, short(&rt, 5), long(&rt, 4), x])?;
-    list.add(short(&rt, 4), 4).expect(&rt, "room");
-    list.add(long(&rt, 9), 4).expect(&rt, "room");
+    assert_deps(&rt, &list, &[first(&rt, 1), short(&rt, 5)]);
+}
+
+#[test]
+fn a_long_key_is_added_to_short_ones(rt: HostRuntime) {
+    let mut list = brief(&rt, rt.alloc());
+    assert!(rt; matches!(list.add(long(&rt, 9), 2), Err(Fault::DependenciesFull)));
+    list.add(long(&rt, 9), 3).expect(&rt, "room");
     assert_eq!(rt; list.greatest_clock(), 9);
-    let copy = list.copy(rt.alloc())?;
+    assert_deps(&rt, &list, &[first(&rt, 2), short(&rt, 7), long(&rt, 9)]);
+}
+
+#[test]
+fn keys_are_added_to_a_list_with_a_long_one(rt: HostRuntime) {
     let longest = pair(&rt, &[122; 64], 3, 0);
-    assert!(rt; matches!(list.add(longest, 4), Err(Fault::DependenciesFull)));
-    list.add(longest, 5).expect(&rt, "room");
-    are_pairs(
-        &rt,
-        rt.alloc(),
-        &list,
-        &[a, short(&rt, 5), long(&rt, 9), x, longest],
-    )?;
-    are_pairs(&rt, rt.alloc(), &copy, &[a, short(&rt, 5), long(&rt, 9), x])
+    let mut list = mixed(&rt, rt.alloc());
+    list.add(long(&rt, 9), 3).expect(&rt, "room");
+    assert!(rt; matches!(list.add(longest, 3), Err(Fault::DependenciesFull)));
+    list.add(longest, 4).expect(&rt, "room");
+    let all = [first(&rt, 1), short(&rt, 8), long(&rt, 9), longest];
+    assert_deps(&rt, &list, &all);
+}
+
+#[test]
+fn a_copy_keeps_what_it_had(rt: HostRuntime) {
+    let mut list = brief(&rt, rt.alloc());
+    let copy = list.copy(rt.alloc()).expect(&rt, "memory");
+    list.add(long(&rt, 9), 3).expect(&rt, "room");
+    assert_deps(&rt, &copy, &[first(&rt, 2), short(&rt, 7)]);
+}
+
+/// Asserts the number of the version of a key, at whatever clock the pair has.
+fn assert_version(rt: &impl Abort, list: &Deps, pair: Pair, number: u64) {
+    assert_eq!(rt; list.version_of(&pair.key).to_u64(), number);
 }
 
 #[test]
 fn versions_of_keys_of_either_length(rt: HostRuntime) {
-    let x = pair(&rt, b"x", 2, 0);
-    let mut list = deps(&rt, rt.alloc(), &[x, short(&rt, 5)]);
-    assert_eq!(rt; list.version_of(&short(&rt, 1).key).to_u64(), 5 * 256 + 1);
-    assert_eq!(rt; list.version_of(&long(&rt, 1).key).to_u64(), 0);
-    list.add(long(&rt, 4), 4).expect(&rt, "room");
-    assert_eq!(rt; list.version_of(&short(&rt, 1).key).to_u64(), 5 * 256 + 1);
-    assert_eq!(rt; list.version_of(&long(&rt, 1).key).to_u64(), 4 * 256 + 2);
-    assert_eq!(rt; list.version_of(&pair(&rt, b"y", 1, 0).key).to_u64(), 0);
-    assert_eq!(rt; list.version_of(&x.key).to_u64(), 2 * 256);
+    let mut list = brief(&rt, rt.alloc());
+    assert_version(&rt, &list, short(&rt, 1), 7 * 256 + 1);
+    assert_version(&rt, &list, long(&rt, 1), 0);
+    list.add(long(&rt, 4), 3).expect(&rt, "room");
+    assert_version(&rt, &list, short(&rt, 1), 7 * 256 + 1);
+    assert_version(&rt, &list, long(&rt, 1), 4 * 256 + 2);
+    assert_version(&rt, &list, first(&rt, 1), 2 * 256);
+    assert_version(&rt, &list, pair(&rt, b"y", 1, 0), 0);
 }
 
 #[test]
-fn lists_of_either_form_join(rt: HostRuntime) -> Result<(), Fail> {
-    let brief = deps(&rt, rt.alloc(), &[first(&rt, 1), short(&rt, 7)]);
-    let mixed = deps(
-        &rt,
-        rt.alloc(),
-        &[first(&rt, 2), long(&rt, 3), short(&rt, 6)],
-    );
-    let both = [first(&rt, 2), short(&rt, 7), long(&rt, 3)];
-    let mut one = brief.copy(rt.alloc())?;
-    assert!(rt; matches!(one.join(&mixed, 2), Err(Fault::DependenciesFull)));
-    are_pairs(&rt, rt.alloc(), &one, &[first(&rt, 1), short(&rt, 7)])?;
-    one.join(&mixed, 3).expect(&rt, "room");
-    are_pairs(&rt, rt.alloc(), &one, &both)?;
-    let mut other = mixed.copy(rt.alloc())?;
-    other.join(&brief, 3).expect(&rt, "room");
-    are_pairs(&rt, rt.alloc(), &other, &both)
+fn a_join_of_either_form_has_a_limit(rt: HostRuntime) {
+    let mut list = brief(&rt, rt.alloc());
+    let other = mixed(&rt, rt.alloc());
+    assert!(rt; matches!(list.join(&other, 2), Err(Fault::DependenciesFull)));
+    assert_deps(&rt, &list, &[first(&rt, 2), short(&rt, 7)]);
 }
 
 #[test]
-fn a_long_list_joins(rt: HostRuntime) -> Result<(), Fail> {
-    let only_long = deps(&rt, rt.alloc(), &[long(&rt, 4)]);
+fn a_list_of_short_keys_joins_one_with_a_long_key(rt: HostRuntime) {
+    let mut list = brief(&rt, rt.alloc());
+    list.join(&mixed(&rt, rt.alloc()), 3).expect(&rt, "room");
+    assert_deps(&rt, &list, &[first(&rt, 2), short(&rt, 8), long(&rt, 3)]);
+}
+
+#[test]
+fn a_list_with_a_long_key_joins_one_of_short_keys(rt: HostRuntime) {
+    let mut list = mixed(&rt, rt.alloc());
+    list.join(&brief(&rt, rt.alloc()), 3).expect(&rt, "room");
+    assert_deps(&rt, &list, &[first(&rt, 2), short(&rt, 8), long(&rt, 3)]);
+}
+
+#[test]
+fn an_empty_list_joins(rt: HostRuntime) {
     let mut list = Deps::empty(rt.alloc());
     assert_eq!(rt; list.greatest_clock(), 0);
-    list.join(&deps(&rt, rt.alloc(), &[first(&rt, 1)]), 3)
-        .expect(&rt, "room");
-    are_pairs(&rt, rt.alloc(), &list, &[first(&rt, 1)])?;
-    list.join(&only_long, 3).expect(&rt, "room");
-    are_pairs(&rt, rt.alloc(), &list, &[first(&rt, 1), long(&rt, 4)])?;
-    let mut other = only_long.copy(rt.alloc())?;
-    other.join(&list, 2).expect(&rt, "room");
-    are_pairs(&rt, rt.alloc(), &other, &[first(&rt, 1), long(&rt, 4)])
+    list.join(&brief(&rt, rt.alloc()), 3).expect(&rt, "room");
+    assert_deps(&rt, &list, &[first(&rt, 2), short(&rt, 7)]);
 }
 
 #[test]
-fn growing_lists_take_either_form(rt: HostRuntime) -> Result<(), Fail> {
-    let brief = deps(&rt, rt.alloc(), &[first(&rt, 2), short(&rt, 7)]);
-    let mixed = deps(
-        &rt,
-        rt.alloc(),
-        &[first(&rt, 1), long(&rt, 3), short(&rt, 8)],
-    );
+fn a_list_of_one_long_key_joins(rt: HostRuntime) {
+    let mut list = deps(&rt, rt.alloc(), &[long(&rt, 4)]);
+    list.join(&brief(&rt, rt.alloc()), 3).expect(&rt, "room");
+    assert_deps(&rt, &list, &[first(&rt, 2), short(&rt, 7), long(&rt, 4)]);
+}
+
+#[test]
+fn growing_lists_take_short_keys(rt: HostRuntime) {
     let mut list = GrowingDeps::empty(rt.alloc());
-    list.join(&brief, 2).expect(&rt, "room");
+    list.join(&brief(&rt, rt.alloc()), 2).expect(&rt, "room");
     assert_eq!(rt; list.pairs(), [first(&rt, 2), short(&rt, 7)].as_slice());
-    are_pairs(&rt, rt.alloc(), &list.to_deps()?, list.pairs())?;
-    list.join(&mixed, 3).expect(&rt, "room");
-    assert_eq!(rt;
-        list.pairs(),
-        [first(&rt, 2), short(&rt, 8), long(&rt, 3)].as_slice()
-    );
-    are_pairs(&rt, rt.alloc(), &list.to_deps()?, list.pairs())
+    let kept = list.to_deps().expect(&rt, "memory");
+    assert_deps(&rt, &kept, list.pairs());
 }
 
 #[test]
-fn what_lists_of_either_form_hold_is_dropped(rt: HostRuntime) {
-    let brief = deps(&rt, rt.alloc(), &[first(&rt, 2), short(&rt, 7)]);
-    let mixed = deps(
-        &rt,
-        rt.alloc(),
-        &[first(&rt, 1), long(&rt, 3), short(&rt, 8)],
-    );
-    let mut near = GrowingNear::empty(rt.alloc());
-    for pair in [
-        first(&rt, 1),
-        first(&rt, 2),
-        short(&rt, 8),
-        long(&rt, 2),
-        long(&rt, 3),
-    ] {
-        near.add(pair, 5).expect(&rt, "room");
+fn growing_lists_take_long_keys(rt: HostRuntime) {
+    let mut list = GrowingDeps::empty(rt.alloc());
+    list.add(first(&rt, 2)).expect(&rt, "memory");
+    list.join(&mixed(&rt, rt.alloc()), 3).expect(&rt, "room");
+    let all = [first(&rt, 2), short(&rt, 8), long(&rt, 3)];
+    assert_eq!(rt; list.pairs(), all.as_slice());
+    let kept = list.to_deps().expect(&rt, "memory");
+    assert_deps(&rt, &kept, &all);
+}
+
+/// Two of the pairs of `mixed`, one of `brief`, and one of neither.
+fn nearest(rt: &impl Abort, alloc: Global) -> GrowingNear {
+    let mut near = GrowingNear::empty(alloc);
+    for pair in [first(rt, 2), short(rt, 8), long(rt, 2), long(rt, 3)] {
+        near.add(pair, 4).expect(rt, "room");
     }
-    near.drop_held(&brief);
-    assert_eq!(rt;
-        near.pairs(),
-        [first(&rt, 1), short(&rt, 8), long(&rt, 2), long(&rt, 3)].as_slice()
-    );
-    near.drop_held(&mixed);
-    assert_eq!(rt; near.pairs(), [long(&rt, 2)].as_slice());
+    near
 }
 
 #[test]
-fn near_lists_of_either_form(rt: HostRuntime) -> Result<(), Fail> {
-    let mut near = Near::empty(rt.alloc());
-    near.add(short(&rt, 2), 4).expect(&rt, "room");
-    near.add(short(&rt, 1), 4).expect(&rt, "room");
-    let brief = near.copy(rt.alloc())?;
-    near.add(long(&rt, 1), 4).expect(&rt, "room");
+fn what_a_list_of_short_keys_holds_is_dropped(rt: HostRuntime) {
+    let mut near = nearest(&rt, rt.alloc());
+    near.drop_held(&brief(&rt, rt.alloc()));
+    let left = [short(&rt, 8), long(&rt, 2), long(&rt, 3)];
+    assert_eq!(rt; near.pairs(), left.as_slice());
+}
+
+#[test]
+fn what_a_list_with_a_long_key_holds_is_dropped(rt: HostRuntime) {
+    let mut near = nearest(&rt, rt.alloc());
+    near.drop_held(&mixed(&rt, rt.alloc()));
+    assert_eq!(rt; near.pairs(), [first(&rt, 2), long(&rt, 2)].as_slice());
+}
+
+/// Two versions of the short key.
+fn brief_near(rt: &impl Abort, alloc: Global) -> Near {
+    let mut near = Near::empty(alloc);
+    near.add(short(rt, 2), 4).expect(rt, "room");
+    near.add(short(rt, 1), 4).expect(rt, "room");
+    near
+}
+
+#[test]
+fn near_lists_take_a_long_key(rt: HostRuntime) {
+    let mut near = brief_near(&rt, rt.alloc());
     near.add(long(&rt, 1), 3).expect(&rt, "room");
+    near.add(long(&rt, 1), 3).expect(&rt, "the pair is there");
     assert!(rt; matches!(near.add(long(&rt, 2), 3), Err(Fault::DependenciesFull)));
-    assert_eq!(rt;
-        near_pairs_of(&near, rt.alloc())?.as_slice(),
-        [short(&rt, 1), short(&rt, 2), long(&rt, 1)].as_slice()
-    );
-    assert_eq!(rt;
-        near_pairs_of(&brief, rt.alloc())?.as_slice(),
-        [short(&rt, 1), short(&rt, 2)].as_slice()
-    );
-    Ok(())
+    assert_near(&rt, &near, &[short(&rt, 1), short(&rt, 2), long(&rt, 1)]);
+}
+
+#[test]
+fn a_copy_of_a_near_list_keeps_what_it_had(rt: HostRuntime) {
+    let mut near = brief_near(&rt, rt.alloc());
+    let copy = near.copy(rt.alloc()).expect(&rt, "memory");
+    near.add(long(&rt, 1), 3).expect(&rt, "room");
+    assert_near(&rt, &copy, &[short(&rt, 1), short(&rt, 2)]);
 }

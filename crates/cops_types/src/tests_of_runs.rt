@@ -113,6 +113,36 @@ impl Read for Endless {
     }
 }
 
+/// Takes all bytes. It is flushed once, and fails from then on.
+#[derive(Drop)]
+struct FlushedOnce {
+    is_flushed: bool,
+}
+
+impl Write for FlushedOnce {
+    fn write(&mut self, buf: &[u8]) -> io::Result<usize> {
+        Ok(buf.len())
+    }
+
+    fn flush(&mut self) -> io::Result<()> {
+        if self.is_flushed {
+            return Err(io::Error::from(ErrorKind::Other));
+        }
+        self.is_flushed = true;
+        Ok(())
+    }
+}
+
+#[test]
+fn flushes_go_to_the_writer(rt: HostRuntime) {
+    let mut sink = Sink::new(FlushedOnce { is_flushed: false });
+    assert!(rt; sink.flush().is_ok());
+    assert_eq!(rt; sink.failures(), 0);
+    assert!(rt; sink.flush().is_err());
+    assert_eq!(rt; sink.failures(), 1);
+    assert!(rt; sink.into_inner().is_flushed);
+}
+
 const TEXT: &[u8] = b"a comment\n\nhello, world\nend";
 
 const ANSWER: &[u8] = b"9\n0\n12\n3\n";

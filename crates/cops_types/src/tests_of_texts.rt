@@ -1,55 +1,65 @@
-use crate::tests::{deps, pair};
+use crate::test_pairs::{deps, pair};
 use crate::texts::{push_deps, push_fault, push_near, push_number, push_pair, push_version};
 use crate::words::{Words, parse_number, split_word};
-use crate::{ByteLists, Bytes, Fault, Key, Name, Near, Pair, Version};
+use crate::{ByteLists, Bytes, Fault, Name, Near, Pair, Version};
 use std::alloc::Global;
 use std::process::Abort;
 use std::test::Fail;
 
 #[test]
-fn faults_and_their_numbers(rt: HostRuntime) -> Result<(), Fail> {
+fn faults_and_their_numbers(rt: HostRuntime) {
     for number in 1..28 {
         match Fault::from_number(number) {
             Some(fault) => assert_eq!(rt; fault.number(), number),
-            None => assert!(rt; false, "no fault {number}"),
+            None => panic!(&rt; "no fault {number}"),
         }
     }
     assert!(rt; Fault::from_number(0).is_none());
     assert!(rt; Fault::from_number(28).is_none());
     assert!(rt; Fault::from_number(255).is_none());
-    let texts = [
-        (Fault::Syntax, "E01"),
-        (Fault::BadKey, "E10"),
-        (Fault::OutOfMemory, "E23"),
-        (Fault::WriteFault, "E27"),
-    ];
-    for (fault, text) in texts {
-        assert_eq!(rt; format!(in rt.alloc(); "{fault}")?.as_str(), text);
-        assert_eq!(rt; fault.text().as_slice(), text.as_bytes());
-        let mut out = Vec::new(rt.alloc());
-        push_fault(&mut out, fault)?;
-        assert_eq!(rt; out.as_slice(), text.as_bytes());
-    }
+}
+
+/// Asserts how a fault is written.
+fn assert_fault(rt: &impl Abort, alloc: Global, fault: Fault, text: &str) -> Result<(), Fail> {
+    assert_eq!(rt; fault.text().as_slice(), text.as_bytes());
+    assert_eq!(rt; format!(in alloc; "{fault}")?.as_str(), text);
+    let mut out = Vec::new(alloc);
+    push_fault(&mut out, fault)?;
+    assert_eq!(rt; out.as_slice(), text.as_bytes());
     Ok(())
 }
 
 #[test]
-fn texts_of_numbers_and_lists(rt: HostRuntime) -> Result<(), Fail> {
+fn texts_of_faults(rt: HostRuntime) -> Result<(), Fail> {
+    assert_fault(&rt, rt.alloc(), Fault::Syntax, "E01")?;
+    assert_fault(&rt, rt.alloc(), Fault::BadKey, "E10")?;
+    assert_fault(&rt, rt.alloc(), Fault::OutOfMemory, "E23")?;
+    assert_fault(&rt, rt.alloc(), Fault::WriteFault, "E27")
+}
+
+#[test]
+fn texts_of_numbers(rt: HostRuntime) -> Result<(), Fail> {
     let mut out = Vec::new(rt.alloc());
     push_number(&mut out, 0)?;
     push_number(&mut out, 18446744073709551615)?;
     assert_eq!(rt; out.as_slice(), b"018446744073709551615".as_slice());
+    Ok(())
+}
+
+#[test]
+fn texts_of_versions(rt: HostRuntime) -> Result<(), Fail> {
     let version = Version::from_u64(513);
     assert_eq!(rt; format!(in rt.alloc(); "{version}")?.as_str(), "2.1");
-    out.clear();
+    let mut out = Vec::new(rt.alloc());
     push_version(&mut out, version)?;
     assert_eq!(rt; out.as_slice(), b"2.1".as_slice());
-    let x = Pair {
-        key: Key::new(b"x").expect(&rt, "a key"),
-        version,
-    };
-    out.clear();
-    push_pair(&mut out, &x)?;
+    Ok(())
+}
+
+#[test]
+fn texts_of_pairs(rt: HostRuntime) -> Result<(), Fail> {
+    let mut out = Vec::new(rt.alloc());
+    push_pair(&mut out, &pair(&rt, b"x", 2, 1))?;
     assert_eq!(rt; out.as_slice(), b"x:2.1".as_slice());
     Ok(())
 }
@@ -96,6 +106,10 @@ fn words_of_a_line(rt: HostRuntime) {
     assert!(rt; words.is_empty());
     assert_eq!(rt; words.next_word(), None);
     assert_eq!(rt; words.next_word(), None);
+}
+
+#[test]
+fn the_first_word_of_a_line(rt: HostRuntime) {
     assert_eq!(rt; split_word(b"").0, b"".as_slice());
     assert!(rt; split_word(b"ab").1.is_none());
     assert_eq!(rt; split_word(b"ab c d").1, Some(b"c d".as_slice()));
@@ -128,29 +142,49 @@ fn numbers_of_words(rt: HostRuntime) {
     }
 }
 
+/// Asserts whether these bytes are a name.
+fn assert_name(rt: &impl Abort, bytes: &[u8], is_name: bool) {
+    match Name::new(bytes) {
+        Ok(name) => {
+            assert!(rt; is_name);
+            assert_eq!(rt; (name.bytes(), name.len()), (bytes, bytes.len()));
+        }
+        Err(fault) => assert!(rt; !is_name && fault == Fault::Syntax),
+    }
+}
+
 #[test]
-fn names_and_bytes(rt: HostRuntime) -> Result<(), Fail> {
+fn names(rt: HostRuntime) {
+    assert_name(&rt, b"a_9", true);
+    assert_name(&rt, &[97; 16], true);
+    assert_name(&rt, &[97; 17], false);
+    assert_name(&rt, b"", false);
+    assert_name(&rt, b"A", false);
+}
+
+#[test]
+fn names_have_an_order(rt: HostRuntime) {
     let name = Name::new(b"a_9").expect(&rt, "a name");
-    assert_eq!(rt; (name.bytes(), name.len()), (b"a_9".as_slice(), 3));
-    assert!(rt; Name::new(&[97; 16]).is_ok());
-    assert!(rt; matches!(Name::new(&[97; 17]), Err(Fault::Syntax)));
-    assert!(rt; matches!(Name::new(b""), Err(Fault::Syntax)));
-    assert!(rt; matches!(Name::new(b"A"), Err(Fault::Syntax)));
     assert!(rt; name < Name::new(b"b").expect(&rt, "a name"));
     assert!(rt; name == Name::new(b"a_9").expect(&rt, "a name"));
+}
+
+#[test]
+fn bytes_are_kept(rt: HostRuntime) -> Result<(), Fail> {
     let bytes = Bytes::new(rt.alloc(), b"\x00\xff")?;
-    assert_eq!(rt;
-        (bytes.as_slice(), bytes.len()),
-        (b"\x00\xff".as_slice(), 2)
-    );
+    assert_eq!(rt; bytes.as_slice(), b"\x00\xff".as_slice());
+    assert_eq!(rt; bytes.len(), 2);
+    Ok(())
+}
+
+#[test]
+fn lists_of_bytes(rt: HostRuntime) -> Result<(), Fail> {
     let mut lists = ByteLists::new(rt.alloc());
     lists.push(rt.alloc(), b"x")?;
     lists.push(rt.alloc(), b"")?;
-    assert_eq!(rt; lists.len(), 2);
-    if lists.len() == 2 {
-        assert_eq!(rt; lists.bytes(0), b"x".as_slice());
-        assert_eq!(rt; lists.bytes(1), b"".as_slice());
-    }
+    assert!(rt; lists.len() == 2);
+    assert_eq!(rt; lists.bytes(0), b"x".as_slice());
+    assert_eq!(rt; lists.bytes(1), b"".as_slice());
     assert_eq!(rt; lists.as_slice().len(), 2);
     Ok(())
 }
