@@ -97,17 +97,30 @@ fn a_tenant_between_the_rounds_is_not_noticed(rt: HostRuntime) -> Result<(), Fai
     let alloc = rt.alloc();
     let config = config_of(&rt, alloc, TWO_SHARDS);
     let events = events_of(&rt, alloc, &config.tenants, BOTH, "")?;
+    let told = run(alloc, config, &events)?;
+    assert_told(&rt, alloc, &told, BOTH, "");
+    Ok(())
+}
+
+#[test]
+fn a_tenant_alone_is_told_the_same(rt: HostRuntime) -> Result<(), Fail> {
+    let alloc = rt.alloc();
+    let config = config_of(&rt, alloc, TWO_SHARDS);
+    let events = events_of(&rt, alloc, &config.tenants, BOTH, "")?;
     assert!(rt; config.tenants.len() == 2);
     for (slot, begin) in [(0, "acme "), (1, "beta ")] {
         let alone = solo(alloc, &config, slot, &events)?;
         assert_told(&rt, alloc, &alone, BOTH, begin);
     }
+    Ok(())
+}
+
+#[test]
+fn a_run_of_a_tenants_own_events(rt: HostRuntime) -> Result<(), Fail> {
+    let alloc = rt.alloc();
+    let config = config_of(&rt, alloc, TWO_SHARDS);
     let own = events_of(&rt, alloc, &config.tenants, BOTH, "acme ")?;
-    let told = run(alloc, config, &events)?;
-    assert_told(&rt, alloc, &told, BOTH, "");
-    let again = config_of(&rt, alloc, TWO_SHARDS);
-    assert!(rt; again.tenants.len() == 2);
-    let told = run(alloc, again, &own)?;
+    let told = run(alloc, config, &own)?;
     assert_told(&rt, alloc, &told, BOTH, "acme ");
     Ok(())
 }
@@ -167,11 +180,15 @@ fn code(ran: Result<(), RunFault<BadConfig>>) -> u64 {
 }
 
 #[test]
-fn scripts_are_answered(rt: HostRuntime) -> Result<(), Fail> {
+fn scripts_are_answered(rt: HostRuntime) {
     let mut source = Source::new(SCRIPT);
     let mut sink = Sink::new(Vec::new(rt.alloc()));
     assert_eq!(rt; code(run_script(rt.alloc(), &mut source, &mut sink)), 0);
     assert!(rt; sink.into_inner().as_slice() == ANSWER);
+}
+
+#[test]
+fn scripts_are_answered_however_they_are_cut(rt: HostRuntime) {
     for len in [1, 7, 64] {
         let mut source = Source::new(Pieces {
             bytes: SCRIPT,
@@ -186,30 +203,29 @@ fn scripts_are_answered(rt: HostRuntime) -> Result<(), Fail> {
         assert_eq!(rt; (source.failures(), sink.failures()), (0, 0));
         assert!(rt; sink.into_inner().taken.as_slice() == ANSWER);
     }
-    Ok(())
+}
+
+/// Asserts the number of the first bad line of a script, and 100 more, and that nothing is written.
+fn assert_bad(rt: &impl Abort, alloc: Global, script: &[u8], want: u64) {
+    let mut source = Source::new(script);
+    let mut sink = Sink::new(Vec::new(alloc));
+    assert_eq!(rt; code(run_script(alloc, &mut source, &mut sink)), want);
+    assert!(rt; sink.into_inner().is_empty());
 }
 
 #[test]
-fn heads_that_are_bad_write_nothing(rt: HostRuntime) -> Result<(), Fail> {
-    let heads: [(&[u8], u64); 6] = [
-        (b"", 101),
-        (b"cluster 1 17 5000 1\nbegin\n", 101),
-        (b"cluster 1 1 5000 1", 102),
-        (b"cluster 1 1 5000 1\nbegin\nacme open a 0\n", 102),
-        (&SCRIPT[..94], 103),
-        (&SCRIPT[..95], 103),
-    ];
-    for (head, want) in heads {
-        let mut source = Source::new(head);
-        let mut sink = Sink::new(Vec::new(rt.alloc()));
-        assert_eq!(rt; code(run_script(rt.alloc(), &mut source, &mut sink)), want);
-        assert!(rt; sink.into_inner().is_empty());
-    }
-    Ok(())
+fn heads_that_are_bad_write_nothing(rt: HostRuntime) {
+    assert_bad(&rt, rt.alloc(), b"", 101);
+    assert_bad(&rt, rt.alloc(), b"cluster 1 17 5000 1\nbegin\n", 101);
+    assert_bad(&rt, rt.alloc(), b"cluster 1 1 5000 1", 102);
+    let early = b"cluster 1 1 5000 1\nbegin\nacme open a 0\n";
+    assert_bad(&rt, rt.alloc(), early, 102);
+    assert_bad(&rt, rt.alloc(), &SCRIPT[..94], 103);
+    assert_bad(&rt, rt.alloc(), &SCRIPT[..95], 103);
 }
 
 #[test]
-fn failing_readers_and_writers_leave_a_front(rt: HostRuntime) -> Result<(), Fail> {
+fn failing_readers_leave_a_front(rt: HostRuntime) {
     for reads in 0..SCRIPT.len() as u64 {
         let mut source = Source::new(Pieces {
             bytes: SCRIPT,
@@ -224,6 +240,10 @@ fn failing_readers_and_writers_leave_a_front(rt: HostRuntime) -> Result<(), Fail
             "after {reads} reads"
         );
     }
+}
+
+#[test]
+fn failing_writers_leave_a_front(rt: HostRuntime) {
     let mut source = Source::new(SCRIPT);
     let mut sink = Sink::new(Trickle {
         taken: Vec::new(rt.alloc()),
@@ -232,18 +252,20 @@ fn failing_readers_and_writers_leave_a_front(rt: HostRuntime) -> Result<(), Fail
     assert_eq!(rt; code(run_script(rt.alloc(), &mut source, &mut sink)), 27);
     assert_eq!(rt; sink.failures(), 1);
     assert!(rt; sink.into_inner().taken.as_slice() == b"-".as_slice());
-    Ok(())
+}
+
+/// Asserts what is written of a script whose last line never ends, in 100 turns.
+fn assert_endless(rt: &impl Abort, alloc: Global, bytes: &[u8], answer: &[u8]) {
+    let mut source = Source::new(Endless { bytes });
+    let mut sink = Sink::new(Vec::new(alloc));
+    let ran = run_script_in::<World, Endless, Vec<u8>>(alloc, 100, &mut source, &mut sink);
+    assert_eq!(rt; code(ran), 26);
+    assert_eq!(rt; (source.reads(), source.failures()), (100, 0));
+    assert!(rt; sink.into_inner().as_slice() == answer);
 }
 
 #[test]
-fn a_line_that_never_ends_meets_the_bound_on_turns(rt: HostRuntime) -> Result<(), Fail> {
-    for (bytes, answer) in [(SCRIPT, &ANSWER[..ANSWER.len() - 9]), (&SCRIPT[..7], b"")] {
-        let mut source = Source::new(Endless { bytes });
-        let mut sink = Sink::new(Vec::new(rt.alloc()));
-        let ran = run_script_in::<World, Endless, Vec<u8>>(rt.alloc(), 100, &mut source, &mut sink);
-        assert_eq!(rt; code(ran), 26);
-        assert_eq!(rt; (source.reads(), source.failures()), (100, 0));
-        assert!(rt; sink.into_inner().as_slice() == answer);
-    }
-    Ok(())
+fn a_line_that_never_ends_meets_the_bound_on_turns(rt: HostRuntime) {
+    assert_endless(&rt, rt.alloc(), SCRIPT, &ANSWER[..ANSWER.len() - 9]);
+    assert_endless(&rt, rt.alloc(), &SCRIPT[..7], b"");
 }

@@ -2,10 +2,10 @@
 //! refused memory is as if the act had not been. Run with the Nth request refused, for each N.
 use crate::test_worlds::{check, new_world};
 use crate::{Act, Event, Reply, World};
-use cops_node::{AuditEntry, NodeCall, NodeId, NodeReply};
+use cops_node::{AuditEntry, Node, NodeCall, NodeId, NodeReply};
 use cops_types::{ByteLists, Fault, Name};
+use std::alloc::Global;
 use std::process::Abort;
-use std::test::Fail;
 
 const TWO_BY_TWO: &str = "cluster 2 2 5000 1
 tenant acme 00000000-0000-0000-0000-000000000001 0 100 10000 10 4 20 8 1000
@@ -45,6 +45,7 @@ acme collect 1 1 9 > removed 0
 beta get a 1 x > started
 beta done a 8 > x=99@1.2";
 
+/// What the audit of a node has of a tenant at some place.
 fn audited<'a>(
     rt: &impl Abort,
     world: &'a World,
@@ -59,45 +60,66 @@ fn audited<'a>(
     world.audit(id, slot, place)
 }
 
+fn after_carrying(rt: &impl Abort, alloc: Global) -> World {
+    let mut world = new_world(rt, alloc, TWO_BY_TWO);
+    check(rt, alloc, &mut world, CARRIED);
+    world
+}
+
+/// Asserts how many calls of each of two tenants a node has in its audit.
+fn assert_calls(rt: &impl Abort, node: &Node, acme: u64, beta: u64) {
+    assert!(rt; node.slots() == 2);
+    assert_eq!(rt; (node.audit_len(0), node.audit_len(1)), (acme, beta));
+}
+
 #[test]
 fn tenants_act_in_one_world(rt: HostRuntime) {
-    let mut world = new_world(&rt, rt.alloc(), TWO_BY_TWO);
-    check(&rt, rt.alloc(), &mut world, CARRIED);
+    let world = after_carrying(&rt, rt.alloc());
+    match world.nodes() {
+        [x, y, other_x, other_y] => {
+            assert_calls(&rt, x, 3, 1);
+            assert_calls(&rt, y, 5, 0);
+            assert_calls(&rt, other_x, 4, 4);
+            assert_calls(&rt, other_y, 3, 0);
+        }
+        _ => panic!(&rt; "four nodes"),
+    }
+}
+
+#[test]
+fn a_world_keeps_its_configuration(rt: HostRuntime) {
+    let world = new_world(&rt, rt.alloc(), TWO_BY_TWO);
     let config = world.config();
     assert!(rt; config.data_centres == 2 && config.shards == 2);
     assert!(rt; config.trans_time == 5000 && config.restarts == 1);
     assert_eq!(rt; config.tenants.slot_of_name(b"beta"), Some(1));
-    assert!(rt; config.tenants.len() == 2);
-    let calls = [(3, 1), (5, 0), (4, 4), (3, 0)];
-    assert_eq!(rt; world.nodes().len(), calls.len());
-    for (node, (acme, beta)) in world.nodes().iter().zip(calls) {
-        assert!(rt; node.slots() == 2);
-        assert_eq!(rt; (node.audit_len(0), node.audit_len(1)), (acme, beta));
-    }
+    assert_eq!(rt; config.tenants.len(), 2);
+}
+
+/// Whether this is the acknowledgement that the carrier made.
+fn is_acknowledged(entry: &AuditEntry) -> bool {
+    matches!(entry.call, NodeCall::Ack(1, _))
+        && matches!(entry.reply, NodeReply::Acked)
+        && entry.moment == 5
+}
+
+#[test]
+fn the_audit_has_the_calls_of_carriers(rt: HostRuntime) {
+    let world = after_carrying(&rt, rt.alloc());
     let y = NodeId { dc: 0, shard: 1 };
-    assert!(rt;
-        matches!(
-            audited(&rt, &world, y, 0, 3),
-            Some(AuditEntry {
-                moment: 5,
-                call: NodeCall::Ack(1, _),
-                reply: NodeReply::Acked
-            })
-        )
-    );
+    let entry = audited(&rt, &world, y, 0, 3).expect(&rt, "an entry");
+    assert!(rt; is_acknowledged(entry));
     assert!(rt; audited(&rt, &world, y, 0, 5).is_none());
     assert!(rt; audited(&rt, &world, y, 1, 0).is_none());
+}
+
+#[test]
+fn the_audit_has_the_puts_of_each_tenant(rt: HostRuntime) {
+    let world = after_carrying(&rt, rt.alloc());
     let other_x = NodeId { dc: 1, shard: 0 };
-    assert!(rt;
-        matches!(
-            audited(&rt, &world, other_x, 1, 0),
-            Some(AuditEntry {
-                moment: 7,
-                call: NodeCall::Put(..),
-                ..
-            })
-        )
-    );
+    let entry = audited(&rt, &world, other_x, 1, 0).expect(&rt, "an entry");
+    assert_eq!(rt; entry.moment, 7);
+    assert!(rt; matches!(entry.call, NodeCall::Put(..)));
 }
 
 /// One context, two dependencies and two actors.
@@ -152,17 +174,24 @@ beta done a 0 > nothing
 acme get a 1 a b c d e f g h i j k l m n o p q r s t u v w x y z a b c d e f a > E09";
 
 #[test]
-fn refusals_come_in_their_order(rt: HostRuntime) -> Result<(), Fail> {
+fn refusals_come_in_their_order(rt: HostRuntime) {
     let mut world = new_world(&rt, rt.alloc(), NARROW);
     check(&rt, rt.alloc(), &mut world, REFUSED);
-    let name = Name::new(b"z").expect(&rt, "a name");
+}
+
+#[test]
+fn a_get_of_no_keys_has_no_form(rt: HostRuntime) {
+    let mut world = new_world(&rt, rt.alloc(), NARROW);
     let event = Event {
         slot: 1,
-        act: Act::Get(name, 9, ByteLists::new(rt.alloc())),
+        act: Act::Get(
+            Name::new(b"z").expect(&rt, "a name"),
+            9,
+            ByteLists::new(rt.alloc()),
+        ),
     };
     assert!(rt; event.slot < world.config().tenants.len() as u64);
     assert!(rt; matches!(world.apply(&event), Reply::Refused(Fault::Syntax)));
-    Ok(())
 }
 
 /// Each part may be begun anew: a request or a carrier that met refused memory has ended.
