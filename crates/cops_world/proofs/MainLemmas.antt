@@ -13,7 +13,7 @@ use Rattle.cops_world.specs.declared.acts.Event.{Event}
 use Rattle.cops_world.specs.declared.replies.Reply.{Reply}
 use Rattle.cops_world.specs.Events.{config_at, own, solo_replies}
 use Rattle.cops_world.specs.GoodHeads.{is_good}
-use Rattle.cops_world.specs.MainTheorem.{HoldsFor, IsToldAlone, KeepsCausality, with_tenant_alone}
+use Rattle.cops_world.specs.MainTheorem.{HoldsFor, IsToldAlone, IsToldAloneAtFirst, KeepsCausality, with_tenant_alone}
 use Rattle.cops_world.proofs.Committed.{has_committed_pasts}
 use Rattle.cops_world.proofs.Consistent.{is_consistent}
 use Rattle.cops_world.proofs.Convergence.{is_convergent}
@@ -56,9 +56,11 @@ keeps_causality config acts some = record {
   restarts = restarts_only_late config some acts;
 }
 
-pub holds_for : (config : Config) (events : List Event) (told : List Reply) (slot : ℕ) → IsTrue (is_good config) → slot < length config.tenants → IsToldAlone config events told slot → HoldsFor config events told slot
-holds_for config events told slot good within alone = record {
+pub holds_for : (config : Config) (events : List Event) (told : List Reply) (slot : ℕ) → IsTrue (is_good config) → slot < length config.tenants → IsToldAlone config events told slot → IsToldAloneAtFirst config events told slot →
+    HoldsFor config events told slot
+holds_for config events told slot good within alone at_first = record {
   alone = alone;
+  at_first = at_first;
   same = λ other more heard place there concern agree spared too.
       there spared ∙ (λ i. solo_replies (concern i) (agree i)) ∙ sym (alone too);
   causal = keeps_causality (config_at config slot) (own slot events) (subst (λ n. 0 < n) (sym (sizes_at config slot within).shards) (some_shard config good));

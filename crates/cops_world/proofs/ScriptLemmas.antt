@@ -24,17 +24,21 @@ use Rattle.cops_world.specs.declared.scripts.BadConfig.{BadConfig}
 use Rattle.cops_world.specs.declared.scripts.Script.{Script}
 use Rattle.cops_world.specs.declared.scripts.Script.TheVariants.{Head, Running}
 use Rattle.cops_world.specs.Cluster.{SoloCluster, cluster_step}
-use Rattle.cops_world.specs.Events.{config_at, is_out_of_memory, with_cluster}
+use Rattle.cops_world.specs.Events.{IsFrontOf, before_lack, config_at, is_out_of_memory, with_cluster}
 use Rattle.cops_world.specs.Script.{Said, OfNobody, Unformed, Acts, AreNamed, said_in, answer_line, answers_to, script_after, script_out}
 use Rattle.cops_world.specs.Acting.{IsNew, HasActed}
 use Rattle.cops_world.specs.declared.scripts.HeadSoFar.{HeadSoFar}
 use Rattle.cops_world.specs.HeadRules.{HeadAnswers, IsHeadAt}
 use Rattle.cops_world.specs.ScriptRules.{IsAnswered, line_answers, line_refuses, end_answers, end_refuses, script_rules}
-use Rattle.cops_world.specs.ScriptRuns.{Answers, is_lack, AreSpared, text_of, text_in, WritesScript, WritesFront}
+use Rattle.cops_world.specs.ScriptRuns.{Answers, AreAnswered, acts_in, addressee, is_lack, named_in, replies_to, AreSpared, text_of, text_in, WritesScript, WritesFront}
 use Rattle.cops_world.proofs.AnswersTo.{IsThere, said_in-there, new_at, answers_to-from}
 use Rattle.cops_world.proofs.CutLemmas.{said_in-cut}
+use Rattle.cops_world.proofs.Fronts.{KeepsFronts, act_keeps, answers_to-along, named_by, no_replies, nobody_keeps, replies_along, said_in-named, unformed_keeps}
 use Rattle.cops_world.proofs.HeadRuns.{HeadRun, InHead, PastHead, bad_end, bad_first, cut_in_head, counted-small, heads, named_of, real_lines, start, refused_line as refused_in_head}
+use Rattle.cops_world.proofs.MainLemmas.{keeps_causality}
 use Rattle.cops_world.proofs.Sequence.{answers_from}
+use Rattle.cops_world.proofs.WholeHeads.{shards_of}
+use Rattle.cops_world.proofs.WorldKeeps.{sizes_at}
 
 by_test : {C : Type 0} (b : Bool) → (b ≡ true → C) → (b ≡ false → C) → C
 by_test {C} true holds fails = holds refl
@@ -53,6 +57,9 @@ module _ {W : Type 0} (setup : W → Config) (StandsFor : W → ℕ → SoloClus
     pub each : length told ≡ length lines
     pub whole : text ≡ text_of config.tenants told
     pub same : setup new ≡ config
+    pub addressed : map addressee told ≡ map (named_in config.tenants) lines
+    pub fronts : (slot : ℕ) → slot < length config.tenants → (cluster : SoloCluster) → StandsFor old slot cluster →
+        IsFrontOf (before_lack (replies_to slot told)) (replies_along (config_at config slot) slot (map (said_in config.tenants) lines) cluster)
     pub right : AreSpared told → (clusters : ℕ → SoloCluster) → AllStand old clusters →
         (later : ℕ → SoloCluster) × AllStand new later
         × ((others : List (List ℕ)) → answers_from (config_at config) (map (said_in config.tenants) (lines ++ others)) clusters
@@ -67,15 +74,33 @@ module _ {W : Type 0} (setup : W → Config) (StandsFor : W → ℕ → SoloClus
   later_spared false b e = e
 
   module _ (config : Config) (line : List ℕ) (lines : List (List ℕ)) (later : List ℕ) (mid new : W) (p : AreGiven config mid lines later new) where
+    -- the first answer is to the tenant that the line names
+    addressed_first : (answer : Option (ℕ × Reply)) (said : Said) → said_in config.tenants line ≡ said → addressee answer ≡ named_by said →
+        map addressee (answer ∷ p.told) ≡ map (named_in config.tenants) (line ∷ lines)
+    addressed_first answer said says names =
+        let first : addressee answer ≡ named_in config.tenants line = names ∙ ap named_by (sym says) ∙ said_in-named config.tenants line in
+        λ i. first i ∷ p.addressed i
+
+    fronts_first : (answer : Option (ℕ × Reply)) (said : Said) → said_in config.tenants line ≡ said → (slot : ℕ) (cluster : SoloCluster) →
+        IsFrontOf (before_lack (replies_to slot (answer ∷ p.told))) (replies_along (config_at config slot) slot (said ∷ map (said_in config.tenants) lines) cluster) →
+        IsFrontOf (before_lack (replies_to slot (answer ∷ p.told))) (replies_along (config_at config slot) slot (map (said_in config.tenants) (line ∷ lines)) cluster)
+    fronts_first answer said says slot cluster h =
+        let Is : Said → Type 0 = λ s. IsFrontOf (before_lack (replies_to slot (answer ∷ p.told))) (replies_along (config_at config slot) slot (s ∷ map (said_in config.tenants) lines) cluster) in
+        subst Is (sym says) h
+
     -- a line that acts on nothing
-    given_idle : (old : W) (answer : Option (ℕ × Reply)) (said : Said) (first text : List ℕ) → said_in config.tenants line ≡ said → mid ≡ old → first ≡ answer_line config.tenants answer → text ≡ first ++ later → is_lack answer ≡ false →
+    given_idle : (old : W) (answer : Option (ℕ × Reply)) (said : Said) (first text : List ℕ) → said_in config.tenants line ≡ said → mid ≡ old → first ≡ answer_line config.tenants answer → text ≡ first ++ later → is_lack answer ≡ false → addressee answer ≡ named_by said → KeepsFronts answer said →
         ((more : List Said) (clusters : ℕ → SoloCluster) → answers_from (config_at config) (said ∷ more) clusters ≡ answer ∷ answers_from (config_at config) more clusters) →
         AreGiven config old (line ∷ lines) text new
-    given_idle old answer said first text says stays is whole fine step = record {
+    given_idle old answer said first text says stays is whole fine names keeps step = record {
       told = answer ∷ p.told;
       each = ap suc p.each;
       whole = whole ∙ (λ i. is i ++ p.whole i);
       same = p.same;
+      addressed = addressed_first answer said says names;
+      fronts = λ slot below cluster stood.
+          fronts_first answer said says slot cluster
+          (keeps (config_at config slot) slot p.told (map (said_in config.tenants) lines) cluster (p.fronts slot below cluster (subst (λ w. StandsFor w slot cluster) (sym stays) stood)));
       right = λ spared clusters stand.
           let rest = p.right (later_spared (is_lack answer) (list_any is_lack p.told) spared) clusters (subst (λ w. AllStand w clusters) (sym stays) stand) in (
             rest.0,
@@ -95,6 +120,16 @@ module _ {W : Type 0} (setup : W → Config) (StandsFor : W → ℕ → SoloClus
       each = ap suc p.each;
       whole = whole ∙ (λ i. is i ++ p.whole i);
       same = p.same;
+      addressed = addressed_first (Some (event.slot, reply)) (Acts event) says refl;
+      fronts = λ slot below cluster stood.
+          let One : Config → ℕ → Type 0 = λ c s. (k : SoloCluster) → StandsFor old s k →
+          (reply ≡ (cluster_step (config_at c s) event.act k).reply) × StandsFor mid s (cluster_step (config_at c s) event.act k).after in
+          let own : event.slot ≡ slot → is_out_of_memory reply ≡ false → One config slot =
+          λ same spared. subst (One config) same (subst (λ c. One c event.slot) is_of (acted.own spared)) in
+          fronts_first (Some (event.slot, reply)) (Acts event) says slot cluster
+          (act_keeps (config_at config slot) slot event reply p.told (map (said_in config.tenants) lines) cluster
+          (λ same spared. let turn = own same spared cluster stood in (turn.0, p.fronts slot below (cluster_step (config_at config slot) event.act cluster).after turn.1))
+          (λ apart. p.fronts slot below cluster (acted.others slot apart cluster stood)));
       right = λ spared clusters stand.
           let turn = cluster_step (config_at config event.slot) event.act (clusters event.slot) in
           let mine = acted.own (first_spared (is_out_of_memory reply) (list_any is_lack p.told) spared) (clusters event.slot)
@@ -124,9 +159,9 @@ module _ {W : Type 0} (setup : W → Config) (StandsFor : W → ℕ → SoloClus
   pub given_line : (config : Config) (line : List ℕ) (lines : List (List ℕ)) (first later text : List ℕ) (old after new : W) (said : Said) → said_in config.tenants line ≡ said → IsThere config.tenants said →
       setup old ≡ config → IsAnswered setup StandsFor old said first after → text ≡ first ++ later → AreGiven config after lines later new → AreGiven config old (line ∷ lines) text new
   given_line config line lines first later text old after new OfNobody says there is_of h whole p =
-      given_idle config line lines later after new p old None OfNobody first text says h.1 (h.0 ∙ ap (λ c. answer_line c.tenants None) is_of) whole refl (λ more clusters. refl)
+      given_idle config line lines later after new p old None OfNobody first text says h.1 (h.0 ∙ ap (λ c. answer_line c.tenants None) is_of) whole refl refl nobody_keeps (λ more clusters. refl)
   given_line config line lines first later text old after new (Unformed slot) says there is_of h whole p =
-      given_idle config line lines later after new p old (Some (slot, Refused Syntax)) (Unformed slot) first text says h.1 (h.0 ∙ ap (λ c. answer_line c.tenants (Some (slot, Refused Syntax))) is_of) whole refl (λ more clusters. refl)
+      given_idle config line lines later after new p old (Some (slot, Refused Syntax)) (Unformed slot) first text says h.1 (h.0 ∙ ap (λ c. answer_line c.tenants (Some (slot, Refused Syntax))) is_of) whole refl refl (unformed_keeps slot) (λ more clusters. refl)
   given_line config line lines first later text old after new (Acts event) says there is_of (reply, acted, is) whole p =
       given_act config line lines later after new p old event reply first text says is_of there acted (is ∙ ap (λ c. answer_line c.tenants (Some (event.slot, reply))) is_of) whole
 
@@ -134,7 +169,7 @@ module _ {W : Type 0} (setup : W → Config) (StandsFor : W → ℕ → SoloClus
   running : (config : Config) → AreNamed config.tenants → (lines : List (List ℕ)) (old : W) (text : List ℕ) (state : Script W) → setup old ≡ config →
       Run (script_rules setup StandsFor) (Running old) (map (cut_line longest_line) lines) text state → (new : W) × (state ≡ Running new) × AreGiven config old lines text new
   running config named [] old text state is_of h =
-      (old, h.1, record { told = []; each = refl; whole = h.0; same = is_of; right = λ spared clusters stand. (clusters, stand, λ others. refl) })
+      (old, h.1, record { told = []; each = refl; whole = h.0; same = is_of; addressed = refl; fronts = λ slot below cluster stood. no_replies []; right = λ spared clusters stand. (clusters, stand, λ others. refl) })
   running config named (line ∷ lines) old text state is_of (first, mid, later, (after, answered, mid_is), run, whole) =
       let cut = said_in-cut config.tenants line named in
       let said = subst (λ s. IsAnswered setup StandsFor old s first after) (ap (λ c. said_in c.tenants (cut_line longest_line line)) is_of ∙ cut) answered in
@@ -165,6 +200,15 @@ module _ {W : Type 0} (setup : W → Config) (StandsFor : W → ℕ → SoloClus
       let found = p.right spared (new_at config) (stands_new config world fresh) in
       (answers_from (config_at config) (map (said_in config.tenants) others) found.0, answers_to-from config (rest ++ others) ∙ found.2 others)
 
+  -- each answer is to whom its line names, and right until memory is refused him
+  pub given_answered : (config : Config) (world : W) (rest : List (List ℕ)) (text : List ℕ) (new : W) → 0 < config.shards → IsNew setup StandsFor config world → (p : AreGiven config world rest text new) → AreAnswered config rest p.told
+  given_answered config world rest text new some fresh p = record {
+    addressed = p.addressed;
+    right = λ slot below.
+        subst (IsFrontOf (before_lack (replies_to slot p.told))) (sym (answers_to-along config rest slot)) (p.fronts slot below (new_at config slot) (fresh.empty slot below));
+    causal = λ slot below. keeps_causality (config_at config slot) (acts_in config rest slot) (subst (λ n. 0 < n) (sym (sizes_at config slot below).shards) some);
+  }
+
   pub given_whole : (config : Config) (world : W) (rest : List (List ℕ)) (text : List ℕ) (new : W) → IsNew setup StandsFor config world → (p : AreGiven config world rest text new) → AreSpared p.told → p.told ≡ answers_to config rest
   given_whole config world rest text new fresh p spared =
       let found = p.right spared (new_at config) (stands_new config world fresh) in
@@ -193,12 +237,14 @@ module _ {W : Type 0} (setup : W → Config) (StandsFor : W → ℕ → SoloClus
         let done = running config (named_of config good) rest world text machine fresh.setup_is (subst (λ (m : Script W). Run (script_rules setup StandsFor) m (map (cut_line longest_line) rest) text machine) at run) in
         let p = done.2 in
         let last_is : last ≡ [] = (subst (λ m. end_answers setup StandsFor m last new) done.1 ends).0 in
+        let head : head_of (lines_of bytes) ≡ Whole config rest = ap head_of (sym (append-nil (lines_of bytes))) ∙ reads [] ∙ ap (Whole config) (append-nil rest) in
         record {
           config = config;
           lines = rest;
-          head = ap head_of (sym (append-nil (lines_of bytes))) ∙ reads [] ∙ ap (Whole config) (append-nil rest);
+          head = head;
           told = p.told;
           each = p.each;
+          answered = given_answered config world rest text done.0 (shards_of (lines_of bytes) config rest head) fresh p;
           right = given_whole config world rest text done.0 fresh p;
           written = subst (Appends old_contents new_contents) (ap (λ l. text ++ l) last_is ∙ append-nil text ∙ p.whole) written;
         }
@@ -234,14 +280,7 @@ module _ {W : Type 0} (setup : W → Config) (StandsFor : W → ℕ → SoloClus
         }
 
     nothing_written : (bytes : List ℕ) (text : List ℕ) → text ≡ [] → AppendsFront old_contents new_contents text → WritesFront bytes old_contents new_contents
-    nothing_written bytes text none written =
-        let kept = subst (AppendsFront old_contents new_contents) none written in
-        record {
-          tenants = [];
-          told = [];
-          written = kept;
-          right = λ spared. AppendsFront-more old_contents new_contents [] (text_in (script_out bytes)) kept;
-        }
+    nothing_written bytes text none written = inl (AppendsFront-nil old_contents new_contents (subst (AppendsFront old_contents new_contents) none written))
 
     front_of_run : (bytes : List ℕ) (lines others : List (List ℕ)) (text : List ℕ) (machine : Script W) → Stopped bytes lines others text machine → AppendsFront old_contents new_contents text → WritesFront bytes old_contents new_contents
     front_of_run bytes lines others text machine s written = by_run s.ran
@@ -252,9 +291,14 @@ module _ {W : Type 0} (setup : W → Config) (StandsFor : W → ℕ → SoloClus
             let done = running config (named_of config good) rest world text machine fresh.setup_is (subst (λ (m : Script W). Run (script_rules setup StandsFor) m (map (cut_line longest_line) rest) text machine) at run) in
             let p = done.2 in
             let kept = subst (AppendsFront old_contents new_contents) p.whole written in
-            record {
-              tenants = config.tenants;
+            let head : head_of (lines_of bytes) ≡ Whole config (rest ++ s.rest) = ap head_of s.whole ∙ reads s.rest in
+            inr (record {
+              config = config;
+              lines = rest;
+              others = s.rest;
+              head = head;
               told = p.told;
+              answered = given_answered config world rest text done.0 (shards_of (lines_of bytes) config (rest ++ s.rest) head) fresh p;
               written = kept;
               right = λ spared.
                   let more = given_right config world rest text done.0 fresh p spared s.rest in
@@ -262,7 +306,7 @@ module _ {W : Type 0} (setup : W → Config) (StandsFor : W → ℕ → SoloClus
                   ap (λ ls. text_in (script_after (head_of ls))) s.whole ∙ ap (λ r. text_in (script_after r)) (reads s.rest)
                   ∙ ap (flat_map (answer_line config.tenants)) more.1 ∙ flat_map-append (answer_line config.tenants) p.told more.0 in
                   subst (AppendsFront old_contents new_contents) (sym out) (AppendsFront-more old_contents new_contents (text_of config.tenants p.told) (text_of config.tenants more.0) kept);
-            }
+            })
 
     last_is_nothing : (machine : Script W) (last : List ℕ) (new : Script W) → end_answers setup StandsFor machine last new → last ≡ []
     last_is_nothing (Head head) last new h = absurd h

@@ -42,7 +42,9 @@ use Rattle.cops_world.proofs.AnswersTo.{said_in-there}
 use Rattle.cops_world.proofs.ApartTenants.{AreApart, found_at, only_one}
 use Rattle.cops_world.proofs.CutLemmas.{said_in-cut, same_first}
 use Rattle.cops_world.proofs.HeadRuns.{HeadRun, InHead, IsCounted, PastHead, bad_end, bad_first, counted-small, cut_in_head, heads, named_of, read_once, real_lines, start, refused_line as refused_in_head}
-use Rattle.cops_world.proofs.ScriptLemmas.{AreGiven, given_line, given_right, given_whole, setup_after}
+use Rattle.cops_world.proofs.Fronts.{no_replies}
+use Rattle.cops_world.proofs.ScriptLemmas.{AreGiven, given_answered, given_line, given_right, given_whole, setup_after}
+use Rattle.cops_world.proofs.WholeHeads.{shards_of}
 
 -- a tenant of a whole head has a name
 name_of : (tenants : List Tenant) (slot : ℕ) (tenant : Tenant) → AreNamed tenants → slice_get tenants slot ≡ Some tenant → IsTrue (is_name tenant.name)
@@ -78,7 +80,7 @@ module _ {W : Type 0} (setup : W → Config) (StandsFor : W → ℕ → SoloClus
   running : (config : Config) → AreNamed config.tenants → length name ≤ 16 → (lines : List (List ℕ)) (old : W) (text : List ℕ) (s state : SoloScript W) → setup old ≡ config → s.script ≡ Running old → s.name ≡ name →
       Run (solo_rules setup StandsFor) s (map (cut_line longest_line) lines) text state → (new : W) × (state.script ≡ Running new) × AreGiven setup StandsFor config old (alone_lines name lines) text new
   running config named short [] old text s state is_of at same h =
-      (old, ap (λ (x : SoloScript W). x.script) h.1 ∙ at, record { told = []; each = refl; whole = h.0; same = is_of; right = λ spared clusters stand. (clusters, stand, λ others. refl) })
+      (old, ap (λ (x : SoloScript W). x.script) h.1 ∙ at, record { told = []; each = refl; whole = h.0; same = is_of; addressed = refl; fronts = λ slot below cluster stood. no_replies []; right = λ spared clusters stand. (clusters, stand, λ others. refl) })
   running config named short (line ∷ lines) old text s state is_of at same (first, mid, later, (kept, answered), run, whole) =
       let here = subst (λ (st : Script W). solo_answers_in setup StandsFor s.name st (cut_line longest_line line) first mid.script) at answered in
       let own_is = ap (bytes_eq (first_word (cut_line longest_line line))) same ∙ same_first name line short in
@@ -140,14 +142,16 @@ module _ {W : Type 0} (setup : W → Config) (StandsFor : W → ℕ → SoloClus
     ended bytes new text last machine (PastHead config rest s world good apart at same starts run reads) ends written =
         let a = is_alone config rest s world text machine good apart at same starts run in
         let last_is : last ≡ [] = (subst (λ (st : Script W). solo_end_answers_in setup StandsFor st last new.script) a.at ends).0 in
+        let head : head_of (lines_of bytes) ≡ Whole config rest = ap head_of (sym (append-nil (lines_of bytes))) ∙ reads [] ∙ ap (Whole config) (append-nil rest) in
         record {
           config = config;
           lines = rest;
           slot = a.slot;
-          head = ap head_of (sym (append-nil (lines_of bytes))) ∙ reads [] ∙ ap (Whole config) (append-nil rest);
+          head = head;
           there = a.there;
           told = a.given.told;
           each = a.given.each;
+          answered = given_answered setup StandsFor (alone_config config name) a.world (alone_lines name rest) text a.new (shards_of (lines_of bytes) config rest head) a.fresh a.given;
           right = given_whole setup StandsFor (alone_config config name) a.world (alone_lines name rest) text a.new a.fresh a.given;
           written = subst (Appends old_contents new_contents) (ap (λ l. text ++ l) last_is ∙ append-nil text ∙ a.given.whole) written;
         }
@@ -185,25 +189,30 @@ module _ {W : Type 0} (setup : W → Config) (StandsFor : W → ℕ → SoloClus
       where
         by_run : RunFromHead p.front text machine → WritesSoloFront name bytes old_contents new_contents
         by_run (InHead next later n still is same silent reads) =
-            let kept = subst (AppendsFront old_contents new_contents) silent written in
-            record { tenants = []; told = []; written = kept; right = λ spared. AppendsFront-more old_contents new_contents [] (text_in (solo_out name bytes)) kept }
+            inl (AppendsFront-nil old_contents new_contents (subst (AppendsFront old_contents new_contents) silent written))
         by_run (PastHead config rest s world good apart at same starts run reads) =
             let a = is_alone config rest s world text machine good apart at same starts run in
             let alone = alone_config config name in
             let kept = subst (AppendsFront old_contents new_contents) a.given.whole written in
-            record {
-              tenants = alone.tenants;
+            let head : head_of (lines_of bytes) ≡ Whole config (rest ++ p.rest) = ap head_of p.whole ∙ reads p.rest in
+            inr (record {
+              config = config;
+              lines = rest;
+              others = p.rest;
+              slot = a.slot;
+              head = head;
+              there = a.there;
               told = a.given.told;
+              answered = given_answered setup StandsFor alone a.world (alone_lines name rest) text a.new (shards_of (lines_of bytes) config (rest ++ p.rest) head) a.fresh a.given;
               written = kept;
               right = λ spared.
                   let more = given_right setup StandsFor alone a.world (alone_lines name rest) text a.new a.fresh a.given spared (alone_lines name p.rest) in
-                  let head = ap head_of p.whole ∙ reads p.rest in
                   let lines_are = filter-append (λ line. bytes_eq (first_word line) name) rest p.rest in
                   let out : text_in (solo_out name bytes) ≡ text_of alone.tenants a.given.told ++ text_of alone.tenants more.0 =
                   ap text_in (alone_out bytes config (rest ++ p.rest) a.slot head a.there) ∙ ap (script_text alone) lines_are
                   ∙ ap (flat_map (answer_line alone.tenants)) more.1 ∙ flat_map-append (answer_line alone.tenants) a.given.told more.0 in
                   subst (AppendsFront old_contents new_contents) (sym out) (AppendsFront-more old_contents new_contents (text_of alone.tenants a.given.told) (text_of alone.tenants more.0) kept);
-            }
+            })
 
     last_is_nothing : (machine : Script W) (last : List ℕ) (new : Script W) → solo_end_answers_in setup StandsFor machine last new → last ≡ []
     last_is_nothing (Head head) last new h = absurd h
@@ -329,12 +338,10 @@ module _ {W : Type 0} (setup : W → Config) (StandsFor : W → ℕ → SoloClus
 
 -- ---- nothing is done
 
-grows_by_nothing : (contents : Option (List ℕ)) → Appends contents contents []
-grows_by_nothing None = tt
-grows_by_nothing (Some bytes) = sym (append-nil bytes)
+stays_as_it_is : (contents : Option (List ℕ)) → Keeps contents contents
+stays_as_it_is None = tt
+stays_as_it_is (Some bytes) = refl
 
 pub nothing_done : (name : List ℕ) (known contents : Option (List ℕ)) → IfSome known (λ bytes. WritesSoloFront name bytes contents contents)
 nothing_done name None contents = tt
-nothing_done name (Some bytes) contents =
-    let kept : AppendsFront contents contents [] = ([], record { written = []; whole = refl; appended = grows_by_nothing contents }) in
-    record { tenants = []; told = []; written = kept; right = λ spared. AppendsFront-more contents contents [] (text_in (solo_out name bytes)) kept }
+nothing_done name (Some bytes) contents = inl (stays_as_it_is contents)

@@ -1,15 +1,19 @@
 -- What a whole head says of its tenants, and the lines of one of them.
-use Rattle.std.proofs.Common.{◌≡◌, ℕ, ◌+◌, List, [], ◌∷◌, inl, inr, refl, sym, subst, ap, ◌∙◌}
-use Rattle.std.specs.Prelude.{Option, Some, None, filter, flat_map, nat_lt, length}
+use Rattle.std.proofs.Common.{◌≡◌, ℕ, ◌+◌, ◌<◌, List, [], ◌∷◌, inl, inr, refl, sym, subst, ap, ◌∙◌}
+use Rattle.std.specs.Prelude.{IsTrue, Option, Some, None, filter, flat_map, nat_lt, length}
 use Rattle.cops_types.specs.declared.configs.Config.{Config}
 use Rattle.cops_types.specs.Head.{Front, AtStart, Within, Begun, Follows, Whole, BadAt, front_after, head_of, reading_from}
 use Rattle.cops_types.specs.HeadLines.{is_distinct}
+use Rattle.cops_types.specs.HeadReader.{front_with}
 use Rattle.cops_types.specs.Lines.{lines_of}
 use Rattle.cops_types.proofs.FrontLemmas.{front_after-is}
 use Rattle.cops_types.proofs.WordLemmas.{both, bytes_from_test}
+use Rattle.cops_world.specs.GoodHeads.{is_good, is_front_good}
 use Rattle.cops_world.specs.Script.{NoTenant, Written, answer_line, answers_to, is_to, slot_of_name, solo_after, solo_out, solo_text}
 use Rattle.cops_world.proofs.ApartTenants.{AreApart, apart_push, found_at, none_apart, only_one}
+use Rattle.cops_world.proofs.GoodFronts.{front_with_good}
 use Rattle.cops_world.proofs.HeadRuns.{tenants_in}
+use Rattle.cops_world.proofs.MainLemmas.{some_shard}
 use Rattle.cops_world.proofs.SoloLines.{solo_text-is}
 
 follows_apart : (front : Front) (line : List ℕ) (next : Front) → AreApart (tenants_in front) → Follows front line next → AreApart (tenants_in next)
@@ -43,3 +47,25 @@ lines_alone bytes name config lines slot head there =
     let only = only_one name config.tenants slot found.0 found.1 found.2 (whole_apart (lines_of bytes) 1 AtStart config lines none_apart head name) in
     ap (solo_after name) head ∙ ap (λ o. elim o [ None ↦ NoTenant | Some slot ↦ Written (solo_text config name lines) ]) there
     ∙ ap Written (solo_text-is config name slot found.0 lines there found.1 only (bytes_from_test found.0.name name found.2))
+
+-- a whole head is within the limits
+whole_good : (lines : List (List ℕ)) (number : ℕ) (front : Front) (config : Config) (rest : List (List ℕ)) → IsTrue (is_front_good (Some front)) → reading_from lines number front ≡ Whole config rest → IsTrue (is_good config)
+whole_good [] number AtStart config rest good e = cc
+whole_good [] number (Within old) config rest good e = cc
+whole_good lines number (Begun old) config rest good e = subst (λ k. IsTrue (is_good k)) (let same : old ≡ config = cc in same) good
+whole_good (line ∷ lines) number AtStart config rest good e = by (front_with (Some AtStart) line) (front_with_good (Some AtStart) line good) (λ next. whole_good lines (number + 1) next config rest) e
+  where
+    by : (found : Option Front) → IsTrue (is_front_good found) → ((next : Front) → IsTrue (is_front_good (Some next)) → reading_from lines (number + 1) next ≡ Whole config rest → IsTrue (is_good config)) →
+        elim found [ None ↦ BadAt number | Some next ↦ reading_from lines (number + 1) next ] ≡ Whole config rest → IsTrue (is_good config)
+    by None h on e = cc
+    by (Some next) h on e = on next h e
+whole_good (line ∷ lines) number (Within old) config rest good e = by (front_with (Some (Within old)) line) (front_with_good (Some (Within old)) line good) (λ next. whole_good lines (number + 1) next config rest) e
+  where
+    by : (found : Option Front) → IsTrue (is_front_good found) → ((next : Front) → IsTrue (is_front_good (Some next)) → reading_from lines (number + 1) next ≡ Whole config rest → IsTrue (is_good config)) →
+        elim found [ None ↦ BadAt number | Some next ↦ reading_from lines (number + 1) next ] ≡ Whole config rest → IsTrue (is_good config)
+    by None h on e = cc
+    by (Some next) h on e = on next h e
+
+-- so it has a shard
+pub shards_of : (lines : List (List ℕ)) (config : Config) (rest : List (List ℕ)) → head_of lines ≡ Whole config rest → 0 < config.shards
+shards_of lines config rest head = some_shard config (whole_good lines 1 AtStart config rest refl head)

@@ -6,7 +6,7 @@ use Rattle.cops_types.specs.TenantConfig.{TenantConfig}
 use Rattle.cops_world.specs.declared.acts.Act.{Act}
 use Rattle.cops_world.specs.declared.acts.Event.{Event}
 use Rattle.cops_world.specs.declared.replies.Reply.{Reply}
-use Rattle.cops_world.specs.Events.{config_at, own, replies, solo_replies, IsSpared}
+use Rattle.cops_world.specs.Events.{config_at, own, replies, solo_replies, before_lack, IsFrontOf, IsSpared}
 use Rattle.cops_world.specs.Laws.{HasExactDeps, HasCommittedPasts, IsConsistent, IsAsExpected, IsConvergent, IsSettled, HasEndingSteps}
 use Rattle.cops_world.specs.Precedence.{HasLeastPasts}
 use Rattle.cops_world.specs.Restarts.{RestartsOnlyLate}
@@ -14,6 +14,10 @@ use Rattle.cops_world.specs.Restarts.{RestartsOnlyLate}
 -- unless a reply to him was for want of memory, the tenant of the slot was told what a cluster of his own tells him
 abbrev pub IsToldAlone : Config → List Event → List Reply → ℕ → Type 0
 IsToldAlone config events told slot = IsSpared (replies slot events told) → replies slot events told ≡ solo_replies (config_at config slot) (own slot events)
+
+-- up to the first reply to him that memory was refused, the tenant of the slot was told what a cluster of his own tells him
+abbrev pub IsToldAloneAtFirst : Config → List Event → List Reply → ℕ → Type 0
+IsToldAloneAtFirst config events told slot = IsFrontOf (before_lack (replies slot events told)) (solo_replies (config_at config slot) (own slot events))
 
 -- the causal laws, of a tenant's acts in a cluster of his own
 pub record KeepsCausality (config : TenantConfig) (acts : List Act) : Type 0 where
@@ -38,6 +42,7 @@ pub record KeepsCausality (config : TenantConfig) (acts : List Act) : Type 0 whe
 -- configuration as it concerns him, he is told the same; and what he is told keeps the causal laws
 pub record HoldsFor (config : Config) (events : List Event) (told : List Reply) (slot : ℕ) : Type 0 where
   pub alone : IsToldAlone config events told slot
+  pub at_first : IsToldAloneAtFirst config events told slot
   pub same : (other : Config) (more : List Event) (heard : List Reply) (place : ℕ) → IsToldAlone other more heard place →
       config_at other place ≡ config_at config slot → own place more ≡ own slot events →
       IsSpared (replies place more heard) → IsSpared (replies slot events told) → replies place more heard ≡ replies slot events told

@@ -1,15 +1,14 @@
 -- What a run of a script for one of its tenants alone writes, where the bytes of its reader are known.
-use Rattle.std.specs.Prelude.{◌≡◌, ℕ, List, length, Option, Some}
-use Rattle.std.specs.Io.KnownBytes.{Appends}
+use Rattle.std.specs.Prelude.{◌≡◌, ℕ, List, ◌++◌, ◌⊎◌, length, Option, Some}
+use Rattle.std.specs.Io.KnownBytes.{Appends, Keeps}
 use Rattle.cops_types.specs.declared.configs.Config.{Config}
-use Rattle.cops_types.specs.declared.configs.Tenant.{Tenant}
 use Rattle.cops_types.specs.Head.{Whole, BadAt, head_of}
 use Rattle.cops_types.specs.Lines.{lines_of}
 use Rattle.cops_types.specs.Sink.{AppendsFront}
 use Rattle.cops_world.specs.declared.solo_machine.SoloRefusal.{SoloRefusal}
 use Rattle.cops_world.specs.declared.solo_machine.SoloRefusal.TheVariants.{BadConfig, UnknownTenant}
 use Rattle.cops_world.specs.Script.{NoTenant, alone_config, alone_lines, answers_to, slot_of_name, solo_out}
-use Rattle.cops_world.specs.ScriptRuns.{Answers, AreSpared, text_of, text_in}
+use Rattle.cops_world.specs.ScriptRuns.{Answers, AreAnswered, AreSpared, text_of, text_in}
 
 -- the bytes are a script with a tenant of this name, each of his lines is answered, and the answers are written;
 -- where none is for want of memory they are those of the definition
@@ -21,16 +20,27 @@ pub record WritesSolo (name bytes : List ℕ) (old_contents new_contents : Optio
   pub there : slot_of_name config.tenants name ≡ Some slot
   pub told : Answers
   pub each : length told ≡ length (alone_lines name lines)
+  pub answered : AreAnswered (alone_config config name) (alone_lines name lines) told
   pub right : AreSpared told → told ≡ answers_to (alone_config config name) (alone_lines name lines)
   pub written : Appends old_contents new_contents (text_of (alone_config config name).tenants told)
 
--- the first of his lines are answered, and a front of the answers is written;
--- where none is for want of memory it is a front of the definition's
-pub record WritesSoloFront (name bytes : List ℕ) (old_contents new_contents : Option (List ℕ)) : Type 0 where
-  pub tenants : List Tenant
+-- The bytes are a script with a tenant of this name, the first of his lines are answered, and a front of the answers is written;
+-- where none is for want of memory it is a front of the definition's.
+pub record WritesSomeSolo (name bytes : List ℕ) (old_contents new_contents : Option (List ℕ)) : Type 0 where
+  pub config : Config
+  pub lines : List (List ℕ)
+  pub others : List (List ℕ)
+  pub slot : ℕ
+  pub head : head_of (lines_of bytes) ≡ Whole config (lines ++ others)
+  pub there : slot_of_name config.tenants name ≡ Some slot
   pub told : Answers
-  pub written : AppendsFront old_contents new_contents (text_of tenants told)
+  pub answered : AreAnswered (alone_config config name) (alone_lines name lines) told
   pub right : AreSpared told → AppendsFront old_contents new_contents (text_in (solo_out name bytes))
+  pub written : AppendsFront old_contents new_contents (text_of (alone_config config name).tenants told)
+
+-- nothing is written, or a front of the answers
+abbrev pub WritesSoloFront : List ℕ → List ℕ → Option (List ℕ) → Option (List ℕ) → Type 0
+WritesSoloFront name bytes old_contents new_contents = Keeps old_contents new_contents ⊎ WritesSomeSolo name bytes old_contents new_contents
 
 -- the head is bad first at this line, or it is whole and has no tenant of the name
 abbrev pub IsRefusedFor : List ℕ → List ℕ → SoloRefusal → Type 0

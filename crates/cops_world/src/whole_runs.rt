@@ -1,7 +1,7 @@
 //! Runs of events in a new world: of all tenants, and of one alone.
 ghost use Rattle.std.specs.Prelude.{◌≡◌, ◌<◌, ℕ, All, IfOk, IsTrue, length, slice_get, Some};
 ghost use Rattle.cops_types.specs.declared.configs.Tenant.{Tenant};
-ghost use Rattle.cops_world.specs.Events.{config_at, own, replies, solo_replies, IsSpared};
+ghost use Rattle.cops_world.specs.Events.{config_at, own, replies, solo_replies, before_lack, IsFrontOf, IsSpared};
 ghost use Rattle.cops_world.specs.GoodHeads.{is_good};
 ghost use Rattle.cops_world.specs.Laws.{cluster_of};
 ghost use Rattle.cops_world.specs.Worlds.{HasCluster, setup_of};
@@ -73,6 +73,7 @@ pub fn solo(
     requires slot { slot < length config.now.tenants }
     ensures length { IfOk result (λ told. length told.items ≡ length (own slot events.now)) }
     ensures alone { IfOk result (λ told. IsSpared told.items → told.items ≡ solo_replies (config_at config.now slot) (own slot events.now)) }
+    ensures at_first { IfOk result (λ told. IsFrontOf (before_lack told.items) (solo_replies (config_at config.now slot) (own slot events.now))) }
 {
     let mut world = World::new(alloc, with_tenant_alone(alloc, config, slot)?)?;
     let mut told = Vec::new(alloc);

@@ -4,8 +4,8 @@ use Rattle.cops_types.specs.declared.configs.Config.{Config}
 use Rattle.cops_world.specs.declared.acts.Event.{Event}
 use Rattle.cops_world.specs.declared.replies.Reply.{Reply}
 use Rattle.cops_world.specs.Cluster.{SoloCluster, cluster_step}
-use Rattle.cops_world.specs.Events.{own, replies, config_at, IsSpared, ToldAlone}
-use Rattle.cops_world.proofs.RunLaws.{told_step}
+use Rattle.cops_world.specs.Events.{own, replies, replies_from, config_at, before_lack, IsFrontOf, IsSpared, ToldAlone}
+use Rattle.cops_world.proofs.RunLaws.{front_step, told_step}
 use Rattle.cops_world.proofs.runs.run_all.Goals as goal
 
 pub loop-event-preserved : goal.loop-event-preserved
@@ -38,4 +38,16 @@ loop-event-preserved g c =
           subst (One (setup c.args.world.now)) same_slot (subst (λ config. One config e.slot) invariant.same (acted.own spared)))
           (λ differ. acted.others slot differ)
           (invariant.alone slot cluster stood)));
+      front = λ slot cluster stood.
+          let config = config_at (setup c.args.world.now) slot in
+          let Told : List Event → List Reply → Type 0 = λ es rs. IsFrontOf (before_lack (replies slot es rs)) (replies_from config (own slot es) cluster) in
+          subst (λ es. Told es c.push.new.self.items) (sym takes)
+          (subst (λ rs. Told (take i xs ++ e ∷ []) rs) (sym items)
+          (front_step config slot cluster (take i xs) e told reply (Before slot)
+          (let taken = length-take i xs in omega arith)
+          (λ same_slot spared cluster_now stood_now.
+          let One : Config → ℕ → Type 0 = λ config s. (c : SoloCluster) → Before s c → reply ≡ (cluster_step (config_at config s) e.act c).reply in
+          let own_reply : One (setup c.loop-event.world) e.slot = λ k stands. (acted.own spared k stands).0 in
+          subst (One (setup c.args.world.now)) same_slot (subst (λ config. One config e.slot) invariant.same own_reply) cluster_now stood_now)
+          (invariant.alone slot cluster stood) (invariant.front slot cluster stood)));
     }

@@ -1,6 +1,6 @@
 use Rattle.std.proofs.Common.{◌≡◌, ℕ, length, take}
 use Rattle.cops_world.specs.Cluster.{SoloCluster}
-use Rattle.cops_world.specs.Events.{own, replies, config_at, IsSpared, ToldAlone}
+use Rattle.cops_world.specs.Events.{own, replies, replies_from, config_at, before_lack, IsFrontOf, IsSpared, ToldAlone}
 use Rattle.cops_world.proofs.runs.run_all.Given as goal
 
 -- each tenant was told so far what he is told alone, and his part of the world is as it is then
@@ -13,4 +13,6 @@ invariant-loop-event g l =
       as_long : length l.told.items ≡ l.event-index;
       alone : (slot : ℕ) (cluster : SoloCluster) → g.W.Tenancy.StandsFor l.fn.world slot cluster → IsSpared (replies slot past l.told.items) →
           ToldAlone (config_at (setup l.fn.world) slot) cluster (own slot past) (replies slot past l.told.items) (g.W.Tenancy.StandsFor l.world slot);
+      front : (slot : ℕ) (cluster : SoloCluster) → g.W.Tenancy.StandsFor l.fn.world slot cluster →
+          IsFrontOf (before_lack (replies slot past l.told.items)) (replies_from (config_at (setup l.fn.world) slot) (own slot past) cluster);
     }

@@ -1,7 +1,7 @@
-use Rattle.std.proofs.Common.{◌≡◌, ap, subst, ◌∙◌}
+use Rattle.std.proofs.Common.{ap, subst, ◌∙◌}
 use Rattle.cops_types.specs.declared.configs.Config.{Config}
 use Rattle.cops_world.specs.Cluster.{new_cluster}
-use Rattle.cops_world.specs.Events.{cluster_after, config_at, own, replies_from}
+use Rattle.cops_world.specs.Events.{before_lack, cluster_after, config_at, own, replies, replies_from, IsFrontOf}
 use Rattle.cops_world.specs.Worlds.{HasCluster}
 use Rattle.cops_world.proofs.MainLemmas.{holds_for}
 use Rattle.cops_world.proofs.whole_runs.run_world.Goals as goal
@@ -15,6 +15,8 @@ returns-clause-theorem c = λ slot within.
     (λ spared.
     (c.in_ok-told.ensures.alone slot (new_cluster (config_at config slot)) (new.empty slot within) spared).same
     ∙ ap (λ k. replies_from (config_at k slot) (own slot events) (new_cluster (config_at config slot))) new.setup_is)
+    (subst (λ (k : Config). IsFrontOf (before_lack (replies slot events c.in_ok-told.told.items)) (replies_from (config_at k slot) (own slot events) (new_cluster (config_at config slot)))) new.setup_is
+    (c.in_ok-told.ensures.front slot (new_cluster (config_at config slot)) (new.empty slot within)))
 
 pub returns-clause-clusters : goal.returns-clause-clusters
 returns-clause-clusters c = λ slot within spared.

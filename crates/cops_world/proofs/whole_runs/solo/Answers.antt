@@ -1,4 +1,4 @@
-use Rattle.std.proofs.Common.{◌≡◌, ◌+◌, ◌<◌, length, length-append, take, List, [], ◌∷◌, ◌++◌, sym, ◌∙◌, ap, subst, arith}
+use Rattle.std.proofs.Common.{◌≡◌, ◌+◌, ◌<◌, length, length-append, take, List, [], ◌∷◌, ◌++◌, sym, ◌∙◌, ap, subst, arith, refl}
 use Rattle.std.specs.Prelude.{IsTrue}
 use Rattle.std.proofs.lemmas.List.{take_more}
 use Rattle.cops_types.specs.declared.configs.Config.{Config}
@@ -7,11 +7,11 @@ use Rattle.cops_world.specs.declared.acts.Act.{Act}
 use Rattle.cops_world.specs.declared.acts.Event.{Event}
 use Rattle.cops_world.specs.declared.replies.Reply.{Reply}
 use Rattle.cops_world.specs.Cluster.{SoloCluster, cluster_step, new_cluster}
-use Rattle.cops_world.specs.Events.{own, config_at, solo_replies, IsSpared, ToldAlone}
+use Rattle.cops_world.specs.Events.{own, config_at, solo_replies, before_lack, IsFrontOf, IsSpared, ToldAlone}
 use Rattle.cops_world.specs.GoodHeads.{is_good}
 use Rattle.cops_world.specs.Worlds.{KeptWorld, HasCluster}
 use Rattle.cops_world.proofs.MainLemmas.{alone_config, alone_good}
-use Rattle.cops_world.proofs.RunLaws.{taken_whole, own_stays, own_too, solo_step}
+use Rattle.cops_world.proofs.RunLaws.{taken_whole, own_stays, own_too, solo_front, solo_step}
 use Rattle.cops_world.proofs.WorldKeeps.{tenant_at}
 use Rattle.cops_world.proofs.whole_runs.solo.Goals as goal
 use Rattle.cops_world.proofs.whole_runs.solo.Goals.{then-event-slot+in_ok-push, else-event-slot}
@@ -39,6 +39,7 @@ loop-event-init c =
         same = c.new-told.ensures.items;
         stands = subst (λ (k : TenantConfig). HasCluster c.in_ok-world.world 0 (new_cluster k)) same (new.empty 0 there);
       };
+      at_first = subst (λ rs. IsFrontOf (before_lack rs) []) (sym c.new-told.ensures.items) ([], refl);
     }
 
 pub loop-event-preserved : goal.loop-event-preserved
@@ -57,6 +58,7 @@ loop-event-preserved c =
           let items = ap (λ t. t.items) w.told-is ∙ w.in_ok-push.ensures.items in
           let After = HasCluster w.act_for.new.self 0 in
           let Told : List Event → List Reply → (SoloCluster → Type 0) → Type 0 = λ es rs Stands. IsSpared rs → ToldAlone config (new_cluster config) (own slot es) rs Stands in
+          let First : List Event → List Reply → Type 0 = λ es rs. IsFrontOf (before_lack rs) (solo_replies config (own slot es)) in
           record {
             there = subst (λ (k : KeptWorld). 0 < length k.setup.tenants) (sym w.world-is) (subst (λ (k : Config). 0 < length k.tenants) (sym moves.same) l.invariant.there);
             same = ap (λ (k : KeptWorld). config_at k.setup 0) w.world-is ∙ ap (λ (k : Config). config_at k 0) moves.same ∙ l.invariant.same;
@@ -68,6 +70,11 @@ loop-event-preserved c =
                 (solo_step config slot (new_cluster config) (take i xs) e l.told.items reply (HasCluster l.world 0) After w.if-event-slot.true
                 (λ spared. subst (λ (k : TenantConfig). (cluster : SoloCluster) → HasCluster l.world 0 cluster → (reply ≡ (cluster_step k e.act cluster).reply) × After (cluster_step k e.act cluster).after) l.invariant.same (moves.own spared))
                 l.invariant.alone)));
+            at_first = subst (λ es. First es c.if-event-slot.told.items) (sym takes)
+                (subst (First (take i xs ++ e ∷ [])) (sym items)
+                (solo_front config slot (new_cluster config) (take i xs) e l.told.items reply (HasCluster l.world 0) w.if-event-slot.true
+                (λ spared. subst (λ (k : TenantConfig). (cluster : SoloCluster) → HasCluster l.world 0 cluster → reply ≡ (cluster_step k e.act cluster).reply) l.invariant.same (λ cluster stands. (moves.own spared cluster stands).0))
+                l.invariant.alone l.invariant.at_first));
           }
       | else-event-slot w ↦
           let items = ap (λ t. t.items) w.told-is in
@@ -80,6 +87,8 @@ loop-event-preserved c =
             alone = subst (λ acts. Told acts c.if-event-slot.told.items (HasCluster c.if-event-slot.world 0)) (sym (ap (own slot) takes ∙ stays))
                 (subst (λ rs. Told (own slot (take i xs)) rs (HasCluster c.if-event-slot.world 0)) (sym items)
                 (subst (λ (k : KeptWorld). Told (own slot (take i xs)) l.told.items (HasCluster k 0)) (sym w.world-is) l.invariant.alone));
+            at_first = subst (λ acts. IsFrontOf (before_lack c.if-event-slot.told.items) (solo_replies config acts)) (sym (ap (own slot) takes ∙ stays))
+                (subst (λ rs. IsFrontOf (before_lack rs) (solo_replies config (own slot (take i xs)))) (sym items) l.invariant.at_first);
           }
     ]
 
@@ -87,3 +96,8 @@ pub returns-clause-alone : goal.returns-clause-alone
 returns-clause-alone c = λ spared.
     let whole = taken_whole c.loop-event.event-index c.args.events.now c.loop-event-test.false in
     subst (λ es. c.loop-event.told.items ≡ solo_replies (config_at c.args.config.now c.args.slot) (own c.args.slot es)) whole (c.loop-event.invariant.alone spared).same
+
+pub returns-clause-at_first : goal.returns-clause-at_first
+returns-clause-at_first c =
+    let whole = taken_whole c.loop-event.event-index c.args.events.now c.loop-event-test.false in
+    subst (λ es. IsFrontOf (before_lack c.loop-event.told.items) (solo_replies (config_at c.args.config.now c.args.slot) (own c.args.slot es))) whole c.loop-event.invariant.at_first

@@ -1,6 +1,6 @@
 use Rattle.std.proofs.Common.{◌≡◌, ◌<◌, take, length}
 use Rattle.cops_world.specs.Cluster.{new_cluster}
-use Rattle.cops_world.specs.Events.{config_at, own, IsSpared, ToldAlone}
+use Rattle.cops_world.specs.Events.{config_at, own, solo_replies, before_lack, IsFrontOf, IsSpared, ToldAlone}
 use Rattle.cops_world.specs.Worlds.{HasCluster}
 use Rattle.cops_world.proofs.whole_runs.solo.Given as goal
 
@@ -14,4 +14,5 @@ invariant-loop-event l =
       same : config_at l.world.setup 0 ≡ config;
       as_long : length l.told.items ≡ length (own l.slot past);
       alone : IsSpared l.told.items → ToldAlone config (new_cluster config) (own l.slot past) l.told.items (HasCluster l.world 0);
+      at_first : IsFrontOf (before_lack l.told.items) (solo_replies config (own l.slot past));
     }

@@ -1,0 +1,124 @@
+-- What a tenant is told before memory is refused him is what he is told alone.
+use Rattle.std.proofs.Common.{◌≡◌, ℕ, Bool, true, false, cond, ◌==◌, List, [], ◌∷◌, map, refl, sym, ap, ◌∙◌, true≢false}
+use Rattle.std.specs.Prelude.{Option, Some, None}
+use Rattle.std.proofs.lemmas.Bool.Decides.{Decides-eqb}
+use Rattle.cops_types.specs.declared.configs.Config.{Config}
+use Rattle.cops_types.specs.declared.configs.Tenant.{Tenant}
+use Rattle.cops_types.specs.declared.faults.Fault.TheVariants.{Syntax}
+use Rattle.cops_types.specs.TenantConfig.{TenantConfig}
+use Rattle.cops_types.specs.Words.{first_word}
+use Rattle.cops_world.specs.declared.acts.Act.{Act}
+use Rattle.cops_world.specs.declared.acts.Event.{Event}
+use Rattle.cops_world.specs.declared.replies.Reply.{Reply}
+use Rattle.cops_world.specs.declared.replies.Reply.TheVariants.{Refused}
+use Rattle.cops_world.specs.ActLines.{act_in}
+use Rattle.cops_world.specs.Cluster.{SoloCluster, cluster_step}
+use Rattle.cops_world.specs.Events.{IsFrontOf, before_lack, config_at, is_out_of_memory, with_cluster}
+use Rattle.cops_world.specs.Script.{Said, OfNobody, Unformed, Acts, answers_to, said_by, said_in, slot_of_name}
+use Rattle.cops_world.specs.ScriptRuns.{Answers, named_in, replies_to}
+use Rattle.cops_world.proofs.AnswersTo.{answers_to-from, new_at}
+use Rattle.cops_world.proofs.Sequence.{answers_from}
+
+by_test : {C : Type 0} (b : Bool) → (b ≡ true → C) → (b ≡ false → C) → C
+by_test {C} true holds fails = holds refl
+by_test {C} false holds fails = fails refl
+
+-- ---- the replies to one tenant, along the lines
+
+-- the replies to the tenant of a slot, where his cluster is kept
+abbrev pub replies_along : TenantConfig → ℕ → List Said → SoloCluster → List Reply
+replies_along config slot [] cluster = []
+replies_along config slot (OfNobody ∷ said) cluster = replies_along config slot said cluster
+replies_along config slot (Unformed other ∷ said) cluster = cond (other == slot) (Refused Syntax ∷ replies_along config slot said cluster) (replies_along config slot said cluster)
+replies_along config slot (Acts event ∷ said) cluster =
+    cond (event.slot == slot)
+    ((cluster_step config event.act cluster).reply ∷ replies_along config slot said (cluster_step config event.act cluster).after)
+    (replies_along config slot said cluster)
+
+-- of the answers to all lines they are those to this tenant
+pub along : (configs : ℕ → TenantConfig) (slot : ℕ) (said : List Said) (clusters : ℕ → SoloCluster) →
+    replies_to slot (answers_from configs said clusters) ≡ replies_along (configs slot) slot said (clusters slot)
+along configs slot [] clusters = refl
+along configs slot (OfNobody ∷ said) clusters = along configs slot said clusters
+along configs slot (Unformed other ∷ said) clusters =
+    let rest = along configs slot said clusters in
+    λ i. cond (other == slot) (Refused Syntax ∷ rest i) (rest i)
+along configs slot (Acts e ∷ said) clusters =
+    let turn = cluster_step (configs e.slot) e.act (clusters e.slot) in
+    let rest = along configs slot said (with_cluster e.slot turn.after clusters) in
+    let Is : List Reply → List Reply → Type 0 = λ one others. cond (e.slot == slot) one others ≡ replies_along (configs slot) slot (Acts e ∷ said) (clusters slot) in
+    by_test (e.slot == slot)
+    (λ is.
+    let same = (Decides-eqb e.slot slot).0 is in
+    let own = ap (λ s. cluster_step (configs s) e.act (clusters s)) same in
+    rw is ((λ i. turn.reply ∷ rest i)
+    ∙ (λ i. turn.reply ∷ replies_along (configs slot) slot said (cond (is i) turn.after (clusters slot)))
+    ∙ ap (λ t. t.reply ∷ replies_along (configs slot) slot said t.after) own))
+    (λ apart. rw apart (rest ∙ (λ i. replies_along (configs slot) slot said (cond (apart i) turn.after (clusters slot)))))
+
+-- to each tenant the definition's answers are the replies in a cluster of his own
+pub answers_to-along : (config : Config) (lines : List (List ℕ)) (slot : ℕ) →
+    replies_to slot (answers_to config lines) ≡ replies_along (config_at config slot) slot (map (said_in config.tenants) lines) (new_at config slot)
+answers_to-along config lines slot = ap (replies_to slot) (answers_to-from config lines) ∙ along (config_at config) slot (map (said_in config.tenants) lines) (new_at config)
+
+-- ---- whom a line names
+
+abbrev pub named_by : Said → Option ℕ
+named_by OfNobody = None
+named_by (Unformed slot) = Some slot
+named_by (Acts event) = Some event.slot
+
+pub said_in-named : (tenants : List Tenant) (line : List ℕ) → named_by (said_in tenants line) ≡ named_in tenants line
+said_in-named tenants line = by_slot (slot_of_name tenants (first_word line))
+  where
+    by_act : (slot : ℕ) (act : Option Act) → named_by (said_by slot act) ≡ Some slot
+    by_act slot None = refl
+    by_act slot (Some act) = refl
+
+    by_slot : (found : Option ℕ) → named_by (elim found [ None ↦ OfNobody | Some slot ↦ said_by slot (act_in (first_word line) line) ]) ≡ found
+    by_slot None = refl
+    by_slot (Some slot) = by_act slot (act_in (first_word line) line)
+
+-- ---- fronts
+
+pub no_replies : {A : Type 0} (whole : List A) → IsFrontOf [] whole
+no_replies whole = (whole, refl)
+
+pub one_more : {A : Type 0} (x y : A) (front whole : List A) → x ≡ y → IsFrontOf front whole → IsFrontOf (x ∷ front) (y ∷ whole)
+one_more x y front whole same (rest, is) = (rest, λ i. sym same i ∷ is i)
+
+-- one more reply before those that were told
+pub one_reply : (r s : Reply) (told whole : List Reply) → (is_out_of_memory r ≡ false → (r ≡ s) × IsFrontOf (before_lack told) whole) → IsFrontOf (before_lack (r ∷ told)) (s ∷ whole)
+one_reply r s told whole right =
+    by_test (is_out_of_memory r)
+    (λ lack. rw lack (no_replies (s ∷ whole)))
+    (λ spared. rw spared (let one = right spared in one_more r s (before_lack told) whole one.0 one.1))
+
+-- ---- one more line
+
+-- a line that acts on nothing
+abbrev pub KeepsFronts : Option (ℕ × Reply) → Said → Type 0
+KeepsFronts answer said = (config : TenantConfig) (slot : ℕ) (told : Answers) (more : List Said) (cluster : SoloCluster) →
+    IsFrontOf (before_lack (replies_to slot told)) (replies_along config slot more cluster) →
+    IsFrontOf (before_lack (replies_to slot (answer ∷ told))) (replies_along config slot (said ∷ more) cluster)
+
+pub nobody_keeps : KeepsFronts None OfNobody
+nobody_keeps config slot told more cluster h = h
+
+pub unformed_keeps : (other : ℕ) → KeepsFronts (Some (other, Refused Syntax)) (Unformed other)
+unformed_keeps other config slot told more cluster h =
+    by_test (other == slot)
+    (λ is. rw is (one_reply (Refused Syntax) (Refused Syntax) (replies_to slot told) (replies_along config slot more cluster) (λ spared. (refl, h))))
+    (λ apart. rw apart h)
+
+-- a line that acts
+pub act_keeps : (config : TenantConfig) (slot : ℕ) (e : Event) (reply : Reply) (told : Answers) (more : List Said) (cluster : SoloCluster) →
+    (e.slot ≡ slot → is_out_of_memory reply ≡ false → (reply ≡ (cluster_step config e.act cluster).reply)
+    × IsFrontOf (before_lack (replies_to slot told)) (replies_along config slot more (cluster_step config e.act cluster).after)) →
+    ((e.slot ≡ slot → ⊥) → IsFrontOf (before_lack (replies_to slot told)) (replies_along config slot more cluster)) →
+    IsFrontOf (before_lack (replies_to slot (Some (e.slot, reply) ∷ told))) (replies_along config slot (Acts e ∷ more) cluster)
+act_keeps config slot e reply told more cluster mine others =
+    let turn = cluster_step config e.act cluster in
+    by_test (e.slot == slot)
+    (λ is. rw is (one_reply reply turn.reply (replies_to slot told) (replies_along config slot more turn.after) (mine ((Decides-eqb e.slot slot).0 is))))
+    (λ apart. rw apart (others (λ same. true≢false (sym ((Decides-eqb e.slot slot).1 same) ∙ apart))))
