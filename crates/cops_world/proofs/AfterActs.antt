@@ -36,10 +36,10 @@ use Rattle.cops_world.proofs.ActorsKeep.{find_actor-with_actor}
 use Rattle.cops_world.proofs.Moves.{IsKept, with_operation, history_after, Holds, plainly, new_actor, session_act, passes, head_passes, flipped, not_busy, stream_of, plain_collect, actor_step_keeps}
 
 -- the context of the request that the session of this name runs
-abbrev context_run : List ℕ → SoloCluster → Option ℕ
+abbrev pub context_run : List ℕ → SoloCluster → Option ℕ
 context_run name c = option_map (λ (r : Running). r.context) (option_and_then (λ (s : Session). s.running) (find_session name c))
 
-operation_by-context : (c : SoloCluster) (effect : Effect) (name : List ℕ) →
+pub operation_by-context : (c : SoloCluster) (effect : Effect) (name : List ℕ) →
     operation_by c effect name ≡ option_map (λ n. record { session = name; context = n; effect = effect }) (context_run name c)
 operation_by-context c effect name = go (option_and_then (λ (s : Session). s.running) (find_session name c))
   where
@@ -117,7 +117,7 @@ module _ (config : TenantConfig) (c : SoloCluster) (name : List ℕ) where
   step_of_context moment (Some (OfCarrier k)) found goes = carrier_does_context k (max k.moment moment) (carrier.next config.shards k.stream k.log) found goes
   step_of_context moment None found goes = cc
 
-  actor_step_context : (moment : ℕ) → KeepsContext (actor_step config name moment c)
+  pub actor_step_context : (moment : ℕ) → KeepsContext (actor_step config name moment c)
   actor_step_context moment goes = step_of_context moment (find_actor name c) refl goes
 
 -- ---- acts

@@ -23,6 +23,7 @@ use Rattle.cops_world.proofs.Never.{is_as_expected}
 use Rattle.cops_world.proofs.Past.{has_exact_deps}
 use Rattle.cops_world.proofs.Restarting.{restarts_only_late}
 use Rattle.cops_world.proofs.Settled.{is_settled}
+use Rattle.cops_world.proofs.ToldOperations.{has_told_operations}
 use Rattle.cops_world.proofs.WorldJoins.{quota_at}
 use Rattle.cops_world.proofs.WorldKeeps.{sizes_at, tenant_within}
 
@@ -45,6 +46,7 @@ some_shard config good =
 
 pub keeps_causality : (config : TenantConfig) (acts : List Act) → 0 < config.shards → KeepsCausality config acts
 keeps_causality config acts some = record {
+  told = has_told_operations config acts;
   consistent = is_consistent config some acts;
   least_pasts = has_least_pasts config some acts;
   exact_deps = has_exact_deps config some acts;

@@ -1,5 +1,5 @@
 -- What holds of every run of a tenant's acts in a cluster of its own.
-use Rattle.std.specs.Prelude.{◌≡◌, ◌≢◌, ℕ, ◌<◌, ◌+◌, ◌*◌, List, [], map, IsPermutation, IsTrue, Bool, true, false, slice_index_or, Option}
+use Rattle.std.specs.Prelude.{◌≡◌, ◌≢◌, ℕ, ◌<◌, ◌+◌, ◌*◌, List, [], map, filter_map, IsPermutation, IsTrue, Bool, true, false, slice_index_or, Option}
 use Rattle.std.specs.Option.{option_map}
 use Rattle.std.specs.List.{list_all, list_any}
 use Rattle.cops_types.specs.declared.faults.Fault.TheVariants.{Torn}
@@ -19,7 +19,7 @@ use Rattle.cops_world.specs.declared.acts.Act.{Act}
 use Rattle.cops_world.specs.declared.acts.Act.TheVariants.{Done}
 use Rattle.cops_world.specs.declared.replies.Reply.{Reply}
 use Rattle.cops_world.specs.declared.replies.Reply.TheVariants.{OutOfOrder, Refused}
-use Rattle.cops_world.specs.Causal.{Traced, put_by, operations, traced, past_of_put, deps_of, answers_consistently}
+use Rattle.cops_world.specs.Causal.{Traced, effect_of, put_by, operations, traced, past_of_put, deps_of, answers_consistently}
 use Rattle.cops_world.specs.Cluster.{SoloCluster, new_cluster, cluster_step, goes_on}
 use Rattle.cops_world.specs.Events.{solo_replies, cluster_after}
 
@@ -41,6 +41,10 @@ AtEachNode config P = (dc shard : ℕ) → dc < config.data_centres → shard < 
 -- the operations of the run, each with its past
 abbrev pub history_of : TenantConfig → List Act → List Traced
 history_of config acts = traced (operations config acts)
+
+-- what the tenant was told was stored or returned is, in order, what the operations of the run put or returned
+abbrev pub HasToldOperations : TenantConfig → List Act → Type 0
+HasToldOperations config acts = filter_map effect_of (solo_replies config acts) ≡ map (λ o. o.effect) (operations config acts)
 
 -- some operation put the pair
 abbrev pub was_put : List Traced → Pair → Bool

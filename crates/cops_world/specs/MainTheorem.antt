@@ -7,7 +7,7 @@ use Rattle.cops_world.specs.declared.acts.Act.{Act}
 use Rattle.cops_world.specs.declared.acts.Event.{Event}
 use Rattle.cops_world.specs.declared.replies.Reply.{Reply}
 use Rattle.cops_world.specs.Events.{config_at, own, replies, solo_replies, before_lack, IsFrontOf, IsSpared}
-use Rattle.cops_world.specs.Laws.{HasExactDeps, HasCommittedPasts, IsConsistent, IsAsExpected, IsConvergent, IsSettled, HasEndingSteps}
+use Rattle.cops_world.specs.Laws.{HasToldOperations, HasExactDeps, HasCommittedPasts, IsConsistent, IsAsExpected, IsConvergent, IsSettled, HasEndingSteps}
 use Rattle.cops_world.specs.Precedence.{HasLeastPasts}
 use Rattle.cops_world.specs.Restarts.{RestartsOnlyLate}
 
@@ -21,6 +21,8 @@ IsToldAloneAtFirst config events told slot = IsFrontOf (before_lack (replies slo
 
 -- the causal laws, of a tenant's acts in a cluster of his own
 pub record KeepsCausality (config : TenantConfig) (acts : List Act) : Type 0 where
+  -- the history that the laws speak of has just the operations that the tenant was told the end of
+  pub told : HasToldOperations config acts
   -- of no key that a transaction returned is there a newer version in the past of what it returned
   pub consistent : IsConsistent config acts
   -- the past is the least relation that the words say, and what is stored of it is exact
