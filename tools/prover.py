@@ -1,0 +1,323 @@
+"""What ./test and more_edits/run share: crates that are proved once, and checks over what those proofs left.
+
+All work is done on copies in a folder of its own. A crate is proved there once. Its tests and its edits are then
+checked over what that check kept, so a check costs little more than what is new in it. Each such check has a tree of
+its own, with the crate and those below it, so that several go on side by side: `rt` lets one at a time into a tree.
+"""
+import os
+import re
+import shutil
+import subprocess
+import sys
+import tempfile
+import threading
+from concurrent.futures import FIRST_COMPLETED, ThreadPoolExecutor, wait
+
+ROOT = os.path.dirname(os.path.dirname(os.path.realpath(__file__)))
+SOURCES = ("src", "specs", "proofs")
+# The words that the last line of a proof may have: any other says what the proof leaves out.
+PROVED = re.compile(r"logic=proved(?: (\w[\w-]*=\S+))+")
+PLAIN_WORDS = set("functions tests sum native logic-built libraries-built statements incremental target cpu threads axioms main may-wait".split())
+PRINTING = threading.Lock()
+
+
+def say(text):
+    with PRINTING:
+        print(text, flush=True)
+
+
+class Crate:
+    """A line of crates.txt."""
+
+    def __init__(self, line, above):
+        head, _, libraries = line.partition(":")
+        self.line, (self.name, *counts) = line, head.split()
+        self.counts = dict(it.split("=") for it in counts)
+        self.folder = f"{ROOT}/crates/{self.name}"
+        own = [above[it] for it in libraries.split() if it in above]
+        self.below = list(dict.fromkeys(it for dep in own for it in (*dep.below, dep)))
+        self.is_program = os.path.isfile(f"{self.folder}/src/main.rt")
+
+    def text(self):
+        """All that it is proved from: how long that is tells roughly how long the proof takes."""
+        files = [f"{at}/{it}" for part in SOURCES for at, _, its in os.walk(f"{self.folder}/{part}") for it in its]
+        return "".join(open(it, encoding="utf-8").read() for it in files if it.endswith((".rt", ".antt")))
+
+    def has_tests(self):
+        return "#[test]" in self.text()
+
+
+def crates_of_the_repository():
+    """The crates by name, each after those that it stands on."""
+    with open(f"{ROOT}/crates.txt", encoding="utf-8") as file:
+        lines = [it.strip() for it in file if it.strip() and not it.startswith("#")]
+    crates = {}
+    while lines:
+        names = {it.partition(":")[0].split()[0] for it in lines}
+        ready = [it for it in lines if not names & {*it.partition(":")[2].split()}]
+        if not ready:
+            sys.exit("crates.txt: some crates stand on each other")
+        for line in ready:
+            crate = Crate(line, crates)
+            crates[crate.name] = crate
+        lines = [it for it in lines if it not in ready]
+    return crates
+
+
+class Outcome:
+    """How a command ended, what it said, and the seconds that processors worked for it."""
+
+    def __init__(self, status, text, seconds):
+        self.status, self.text, self.seconds = status, text, seconds
+
+    def last_line(self, *starts):
+        return next((it for it in reversed(self.text.splitlines()) if it.startswith(starts)), "")
+
+
+def call(words, folder, given=subprocess.DEVNULL, errors=subprocess.STDOUT):
+    started = subprocess.Popen(words, cwd=folder, stdin=given, stdout=subprocess.PIPE, stderr=errors)
+    text = started.stdout.read().decode(errors="replace")
+    _, status, used = os.wait4(started.pid, 0)
+    started.returncode = os.waitstatus_to_exitcode(status)
+    return Outcome(started.returncode, text, used.ru_utime + used.ru_stime)
+
+
+def rt(folder, *words, **how):
+    return call(["rt", *words], folder, **how)
+
+
+def copy(path, to, *flags):
+    os.makedirs(to, exist_ok=True)
+    subprocess.run(["cp", "-a", *flags, path, to], check=True)
+
+
+class Room:
+    """The folder for all copies. What is proved stands in `proved`, a folder for each crate with its `out`."""
+
+    def __init__(self):
+        self.held = tempfile.TemporaryDirectory(prefix="cops-")
+        self.folder = self.held.name
+        os.mkdir(f"{self.folder}/proved")
+
+    def tree(self, crate):
+        """A tree of the crates below this one, which nothing writes to, so that their files are links. The crate is not in it."""
+        tree = tempfile.mkdtemp(prefix=f"{crate.name}-", dir=self.folder)
+        os.mkdir(f"{tree}/crates")
+        with open(f"{tree}/crates.txt", "w", encoding="utf-8") as file:
+            file.write("".join(f"{it.line}\n" for it in (*crate.below, crate)))
+        shutil.copy(f"{ROOT}/HANDLES", tree)
+        for dep in crate.below:
+            for part in SOURCES:
+                if os.path.isdir(f"{self.proved(dep)}/{part}"):
+                    copy(f"{self.proved(dep)}/{part}", f"{tree}/crates/{dep.name}", "-l")
+            copy(f"{self.proved(dep)}/out/rlib", f"{tree}/crates/{dep.name}/out", "-l")
+        return tree
+
+    def proved(self, crate):
+        return f"{self.folder}/proved/{crate.name}"
+
+    def copy_of(self, crate):
+        """The folder of a copy of a proved crate with what its proof kept, in a tree of its own."""
+        tree = self.tree(crate)
+        copy(self.proved(crate), f"{tree}/crates", "--reflink=auto")
+        return f"{tree}/crates/{crate.name}"
+
+    def drop(self, folder):
+        shutil.rmtree(os.path.dirname(os.path.dirname(folder)))
+
+    def prove(self, crate, is_verdict):
+        """Proves a crate, over what the repository kept or from nothing; a verdict holds it to more. Returns the seconds and what is wrong, if anything."""
+        tree = self.tree(crate)
+        folder = f"{tree}/crates/{crate.name}"
+        for part in SOURCES:
+            if os.path.isdir(f"{crate.folder}/{part}"):
+                copy(f"{crate.folder}/{part}", folder)
+        kept = [] if is_verdict else ["incremental", "rlib"]
+        for part in kept:
+            if os.path.isdir(f"{crate.folder}/out/{part}"):
+                copy(f"{crate.folder}/out/{part}", f"{folder}/out", "--reflink=auto")
+        calls = []
+        if is_verdict:
+            calls.append(("rt fmt", rt(folder, "fmt"), changed_layout))
+        checks = ["--empty-contracts"] if is_verdict else []
+        calls.append(("rt check", rt(folder, "check", "--jobs", "1", *checks), lambda it: refusal(it, crate, is_verdict)))
+        if not crate.is_program and not calls[-1][1].status:
+            calls.append(("rt lib", rt(folder, "lib", "--jobs", "1"), lambda it: ""))
+        seconds = sum(it.seconds for _, it, _ in calls)
+        for name, outcome, judge in calls:
+            why = judge(outcome) or (outcome.status and f"{name} ended with status {outcome.status}")
+            if why:
+                return seconds, f"{why}\n{outcome.text[-6000:]}"
+        os.rename(folder, self.proved(crate))
+        shutil.rmtree(tree)
+        return seconds, ""
+
+
+def changed_layout(outcome):
+    return "rt fmt lays it out otherwise" if "rt: formatted" in outcome.text else ""
+
+
+def refusal(outcome, crate, is_verdict):
+    """What a verdict refuses of a crate that is proved."""
+    line = outcome.last_line("logic=")
+    if outcome.status or not line.startswith("logic=proved "):
+        return "NOT PROVED"
+    if not is_verdict:
+        return ""
+    said = dict(it.split("=", 1) for it in line.split()[1:])
+    if "rt verdict refuses this" in outcome.text:
+        return "rt verdict refuses its text"
+    if re.search(r"^warning: no call of `(?![^`]*::fn::)|^note: the search for empty contracts did not end", outcome.text, re.M):
+        return "no call can meet one of its contracts"
+    if re.search(r"^warning: calls of a tactic that chose a term|warning: this pattern binds a variable spelled like a constructor", outcome.text, re.M):
+        return "a contract means something else than it seems to"
+    if {*said} - PLAIN_WORDS:
+        return f"its proof leaves out what this says: {' '.join(sorted({*said} - PLAIN_WORDS))}"
+    if said.get("may-wait", "0") != crate.counts.get("may_wait", "0"):
+        return f"{said.get('may-wait', '0')} of its functions may wait, and crates.txt has another number"
+    return ""
+
+
+# --- edits ---
+
+
+def edits_in(folder):
+    return sorted(f"{folder}/{it}" for it in os.listdir(folder) if it.endswith(".edit")) if os.path.isdir(folder) else []
+
+
+def name_of(edit):
+    return f"{os.path.basename(os.path.dirname(edit.replace('/must-fail', '')))}/{os.path.basename(edit)[: -len('.edit')]}"
+
+
+def edited(edit, folder):
+    """The texts of the files that an edit changes, by their path in the crate. Each 'old:' stands once in what the pairs before it made."""
+    path, old, texts = "", None, {}
+    with open(edit, encoding="utf-8") as file:
+        lines = file.read().splitlines()
+    for line in lines:
+        word, _, rest = line.partition(":")
+        rest = rest[1:] if rest.startswith(" ") else rest
+        if word == "file":
+            path = rest.strip()
+        elif word == "old":
+            old = rest
+        elif word == "new":
+            if path not in texts:
+                with open(f"{folder}/{path}", encoding="utf-8") as file:
+                    texts[path] = file.read()
+            if not old or texts[path].count(old) != 1:
+                raise ValueError(f"an 'old:' text stands in {path} {texts[path].count(old) if old else 0} times, and not once")
+            texts[path], old = texts[path].replace(old, rest), None
+    if not texts:
+        raise ValueError("it has no 'old:' and 'new:'")
+    return texts
+
+
+def module_of(path):
+    """The module that a file of src/ holds, or nothing for a crate's root."""
+    inside = re.fullmatch(r"src/(.*?)(/mod)?\.rt", path)
+    return inside[1].replace("/", "::") if inside and inside[1] not in ("lib", "main") else ""
+
+
+# What the prover says where a proof file names a step, a goal or a field that the edit took away.
+IS_GONE = re.compile(r"(\./)?proofs/.*(has no field|is not in scope|has no `|was not admitted)")
+
+
+def judge(outcome, texts):
+    """Whether the prover refused an edited crate for what it means, and the line that shows it, or why this doesn't count."""
+    lines = outcome.text.splitlines()
+    last = outcome.last_line("logic=", "only=")
+    counts = re.match(r"only=(\d+) proved=(\d+)$", last)
+    if outcome.status == 0 or counts and counts[1] == counts[2]:
+        return False, "NOT REFUSED: it is still proved"
+    if outcome.status != 1 or not (counts or last == "logic=not-proved"):
+        return False, f"BAD EDIT: it did not reach the prover: {next((it for it in lines if 'error' in it), lines[-1] if lines else '')[:300]}"
+    unread = next((it for it in lines if is_unread(it, texts)), "")
+    if unread:
+        return False, f"BAD EDIT: the prover can't read it: {unread[:300]}"
+    if re.search(r"module .Rattle-\w+-.*Run the lower steps again", outcome.text):
+        return False, "BAD EDIT: the proof of a crate below could not be used"
+    # (a long message goes on in lines that begin with two spaces)
+    goes_on = [*lines[1:], ""]
+    told = [line + more[1:] * more.startswith("  ") for line, more in zip(lines, goes_on) if re.match(r"(note: )?\S+:\d+:\d+:", line)]
+    errors = [it for it in told if ": error" in it]
+    gone = [it for it in errors if IS_GONE.match(it)]
+    # (a goal that is left open beside a name that is gone may be open for that alone)
+    shown = [it for it in errors if it not in gone] or ([] if gone else [it for it in told if it.startswith("note: ")])
+    if gone and not shown:
+        return False, f"ONLY A NAME IS GONE, so the contract was not tried: keep the names that proof files cite, and turn a value: {gone[0][:300]}"
+    return True, f"refused: {shown[0][:300] if shown else last}"
+
+
+def is_unread(line, texts):
+    """Whether an error is that a text of src/, specs/ or an edited file can't be read, where a wrong meaning reads well."""
+    at = re.match(r"(?:\./)?(\S+?):\d+:\d+: error: (?:(`[^`]*`): )?(.*)", line)
+    if not at or at[1] not in texts and not at[1].startswith(("src/", "specs/")):
+        return False
+    return not at[2] or bool(re.search(r"is not in scope|has no field|is no name|operand is missing|expected the end|cannot continue", re.sub(r"`[^`]*`", "", at[3])))
+
+
+def try_edit(edit, folder):
+    """Tries an edit in the folder of a proved copy, which it leaves as it was. Returns whether it was refused, what to say, and the seconds."""
+    try:
+        texts = edited(edit, folder)
+    except (OSError, ValueError) as error:
+        return False, f"{name_of(edit)}: BAD EDIT: {error}", 0.0
+    before = {}
+    for path, text in texts.items():
+        with open(f"{folder}/{path}", encoding="utf-8") as file:
+            before[path] = file.read()
+        with open(f"{folder}/{path}", "w", encoding="utf-8") as file:
+            file.write(text)
+    try:
+        # The functions of the edited modules first: where one of them is refused, so is the crate. Only then all.
+        modules = [module_of(it) for it in texts]
+        only = [it for module in modules for it in ("--only", module)] if all(modules) else []
+        outcome = rt(folder, "check", "--jobs", "1", *only)
+        seconds = outcome.seconds
+        is_refused, why = judge(outcome, texts)
+        if only and not is_refused:
+            outcome = rt(folder, "check", "--jobs", "1")
+            seconds += outcome.seconds
+            is_refused, why = judge(outcome, texts)
+    finally:
+        for path, text in before.items():
+            with open(f"{folder}/{path}", "w", encoding="utf-8") as file:
+                file.write(text)
+    return is_refused, f"{name_of(edit)}: {why} ({seconds:.0f} s)", seconds
+
+
+# --- side by side ---
+
+
+def side_by_side():
+    """How many proofs go on at once: one a processor, as long as each has 5 GB of memory."""
+    if os.environ.get("RT_JOBS", "").isdigit():
+        return max(int(os.environ["RT_JOBS"]), 1)
+    with open("/proc/meminfo", encoding="utf-8") as file:
+        free = 1024 * int(re.search(r"MemAvailable:\s+(\d+)", file.read())[1])
+    try:
+        with open("/sys/fs/cgroup/memory.max", encoding="utf-8") as file:
+            limit = file.read().strip()
+        free = min(free, int(limit)) if limit.isdigit() else free
+    except OSError:
+        pass
+    return max(min(free // 5_000_000_000, len(os.sched_getaffinity(0))), 1)
+
+
+def in_lanes(tasks, lanes):
+    """Runs tasks side by side, each once those that it waits for have ended, and first those with most work behind them.
+    A task is what it waits for, its weight and its call, and may add tasks by what the call returns."""
+    behind = {key: weight for key, (_, weight, _) in tasks.items()}
+    for key in reversed([*tasks]):
+        for below in tasks[key][0]:
+            behind[below] = max(behind[below], tasks[below][1] + behind[key])
+    left, ended, running = sorted(tasks, key=lambda it: -behind[it]), set(), {}
+    with ThreadPoolExecutor(lanes) as pool:
+        while left or running:
+            for key in [it for it in left if {*tasks[it][0]} <= ended][: lanes - len(running)]:
+                left.remove(key)
+                running[pool.submit(tasks[key][2])] = key
+            for done in wait(running, return_when=FIRST_COMPLETED).done:
+                done.result()
+                ended.add(running.pop(done))
