@@ -13,6 +13,7 @@ use crate::solo_machine::{SoloRefusal, SoloScript, new_solo_script};
 use cops_types::{RunFault, Sink, Source, run_lines};
 use std::alloc::Global;
 use std::io::{Read, Write};
+use std::mem;
 
 /// Answers the lines of one tenant of a script, in a cluster that he has to himself: reads the whole
 /// head, and writes one line for each line that names him.
@@ -47,5 +48,8 @@ pub fn solo_script<R: Read, O: Write>(
         return Err(RunFault::OutOfMemory);
     };
     let mut solo: SoloScript<World> = solo;
-    run_lines(&mut solo, alloc, TURNS, LONGEST_LINE, source, sink)
+    let ended = run_lines(&mut solo, alloc, TURNS, LONGEST_LINE, source, sink);
+    // As in `run_script`: the process gives back the memory of the world at its end.
+    mem::forget(solo);
+    ended
 }
