@@ -1,18 +1,23 @@
 -- Facts about the line of one slot.
-use Rattle.std.proofs.Common.{◌≡◌, ◌≢◌, inl, inr, ℕ, zero, suc, ◌+◌, ◌-◌, ◌^◌, ◌<◌, ◌≤◌, Bool, true, false, not, ◌&&◌, ◌||◌, List, [], ◌∷◌, ◌++◌, length, refl, sym, ap, ◌∙◌, subst, arith, get_or, set, eq-eqb, true≢false}
+use Rattle.std.proofs.Common.{◌≡◌, ◌≢◌, inl, inr, ℕ, zero, suc, ◌+◌, ◌-◌, ◌^◌, ◌<◌, ◌≤◌, Bool, true, false, not, ◌&&◌, ◌||◌, List, [], ◌∷◌, ◌++◌, length, refl, sym, ap, ◌∙◌, subst, arith, get_or, set, take, eq-eqb, true≢false}
 use Rattle.std.specs.Prelude.{Option, Some, None, IsSome, ◌==◌, nat_le, if◌then◌else◌, drop, count_by, is_some}
 use Rattle.std.specs.List.{list_any, range_with_len}
 use Rattle.std.proofs.lemmas.Bool.{cases_eq, cases_lt}
 use Rattle.std.proofs.lemmas.Bool.Decides.{nat_tests}
 use Rattle.std.proofs.lemmas.List.{get_or_past, get_or_default, get_or-set_same, get_or-set_other, length-set}
+use Rattle.std.proofs.Math.Seq.{take-append_seam}
 use Rattle.std.proofs.lemmas.List.Folds.{list_any_at, Any-from_list_any}
 use Rattle.cops_types.specs.declared.records.EntryParts.{EntryParts as Entry}
 use Rattle.cops_outbox.specs.declared.rows.Row.{Row}
 use Rattle.cops_outbox.specs.declared.rows.Span.{Span}
 use Rattle.cops_outbox.specs.declared.rows.Line.{Line}
 use Rattle.cops_outbox.specs.Queues.{front}
-use Rattle.cops_outbox.specs.Lines.{row_at, entry_in, next_in, entries_from, entries_in, IsRowOf, IsChain, IsLine, IsNeeded, IsAdded, IsGone, IsLonger, IsShorter, extended, nowhere, span_at}
+use Rattle.cops_outbox.specs.Lines.{row_at, entry_in, next_in, entries_from, entries_in, IsRowOf, IsChain, IsLine, IsNeeded, IsAdded, IsGone, IsTurn, IsLonger, IsShorter, extended, nowhere, span_at}
 use Rattle.cops_outbox.proofs.Chains.{apart, chain_head, chain_last, chain_rest, chain_front, span_longer, added_elsewhere, gone_behind, gone_elsewhere}
+
+-- spans written over all of a vector
+pub refilled : (n : ℕ) (new old : List Span) → length new ≡ n → take n (new ++ drop (length new) old) ≡ new
+refilled n new old long = ap (λ m. take m (new ++ drop (length new) old)) (sym long) ∙ take-append_seam new (drop (length new) old)
 
 -- ---- where rows are
 
@@ -252,6 +257,60 @@ module _ (rows rows' : List (Option Row)) (own slot dc : ℕ) (line line1 line2 
       by : (n : ℕ) → line1.kept.count ≡ n → IsShorter rows rows' own slot dc line line2
       by zero e = absurd (omega arith)
       by (suc n) e = released_by n e
+
+-- ---- no row any more
+
+-- no data centre waits for a row of the line
+pub none_waited : (line : Line) → ((dc : ℕ) (d : Span) → dc < length line.waits.items → get_or line.waits.items dc d ≡ nowhere) → (dc : ℕ) → (span_at dc line).count ≡ 0
+none_waited line none dc = elim (cases_lt dc (length line.waits.items)) [
+  | inl lt ↦ ap (λ (s : Span). s.count) (none dc nowhere lt)
+  | inr past ↦ ap (λ (s : Span). s.count) (get_or_past line.waits.items dc nowhere past)
+]
+
+pub line_forgotten : (rows : List (Option Row)) (own slot : ℕ) (line line' : Line) → IsLine rows own (length line.waits.items) slot line → line'.last ≡ line.last → line'.kept ≡ line.kept → length line'.waits.items ≡ length line.waits.items → ((dc : ℕ) → (span_at dc line').count ≡ 0)
+    → IsTurn rows rows own slot line line'
+line_forgotten rows own slot line line' h last_is kept_is long none = record {
+  stays = record {
+    kept = subst (λ m. IsChain rows slot m line'.kept.count line'.kept.first) (sym last_is) (subst (λ (s : Span). IsChain rows slot line.last s.count s.first) (sym kept_is) h.kept);
+    all = long;
+    waits = λ dc. empty_chain rows slot line'.last (span_at dc line') (none dc);
+    within = λ dc. let zero_is = none dc in omega arith;
+    itself = none own;
+  };
+  others = λ other last n at differ c. (c, refl);
+  counted = let same_count : line'.kept.count ≡ line.kept.count = ap (λ (s : Span). s.count) kept_is in omega arith;
+}
+
+-- the first row of a line that nothing waits for leaves the table
+pub turn_released : (rows0 rows rows' : List (Option Row)) (own slot : ℕ) (line line1 line2 : Line) → IsTurn rows0 rows own slot line line1 → ((dc : ℕ) → (span_at dc line1).count ≡ 0) → 0 < line1.kept.count → IsGone rows rows' line1.kept.first → count_by is_some rows' + 1 ≡ count_by is_some rows
+    → line2.last ≡ line1.last → line2.kept ≡ record { first = next_in (row_at rows line1.kept.first); count = line1.kept.count - 1 } → line2.waits.items ≡ line1.waits.items → IsTurn rows0 rows' own slot line line2
+turn_released rows0 rows rows' own slot line line1 line2 turn none some is counted last_is kept_is waits_are = by line1.kept.count refl
+  where
+    still : (dc : ℕ) → (span_at dc line2).count ≡ 0
+    still dc = ap (λ (ss : List Span). (get_or ss dc nowhere).count) waits_are ∙ none dc
+
+    by : (n : ℕ) → line1.kept.count ≡ n → IsTurn rows0 rows' own slot line line2
+    by zero e = absurd (omega arith)
+    by (suc n) e =
+        let whole : IsChain rows slot line1.last (suc n) line1.kept.first = subst (λ m. IsChain rows slot line1.last m line1.kept.first) e turn.stays.kept in
+        let less : line1.kept.count - 1 ≡ n = omega arith in
+        let kept_as : line2.kept ≡ record { first = next_in (row_at rows line1.kept.first); count = n } = kept_is ∙ ap (λ m. record { first = next_in (row_at rows line1.kept.first); count = m }) less in
+        let count_is : line2.kept.count ≡ n = ap (λ (s : Span). s.count) kept_as in
+        let rest = gone_behind rows rows' slot line1.last n line1.kept.first n (next_in (row_at rows line1.kept.first)) is whole (omega arith) (chain_rest rows slot line1.last n line1.kept.first whole) in
+        record {
+          stays = record {
+            kept = subst (λ m. IsChain rows' slot m line2.kept.count line2.kept.first) (sym last_is) (subst (λ (s : Span). IsChain rows' slot line1.last s.count s.first) (sym kept_as) rest.0);
+            all = ap (λ (ss : List Span). length ss) waits_are ∙ turn.stays.all;
+            waits = λ dc. empty_chain rows' slot line2.last (span_at dc line2) (still dc);
+            within = λ dc. let zero_is = still dc in omega arith;
+            itself = still own;
+          };
+          others = λ other last m x differ c.
+              let before = turn.others other last m x differ c in
+              let now = gone_elsewhere rows rows' slot line1.last n line1.kept.first other last m x is whole differ before.0 in
+              (now.0, now.1 ∙ before.1);
+          counted = let before = turn.counted in omega arith;
+        }
 
 -- no data centre waits for that many
 pub none_waits : (spans : List Span) (count : ℕ) → list_any (λ (s : Span). s.count == count) spans ≡ false → 0 < count → (at : ℕ) → (get_or spans at nowhere).count ≢ count

@@ -9,8 +9,8 @@ use Rattle.cops_types.specs.declared.records.EntryParts.{EntryParts as Entry}
 use Rattle.cops_outbox.specs.declared.rows.Row.{Row}
 use Rattle.cops_outbox.specs.declared.rows.Span.{Span}
 use Rattle.cops_outbox.specs.declared.rows.Line.{Line}
-use Rattle.cops_outbox.specs.Queues.{Queues, Waiting, queue_of, is_full, with_last, without_front, pushed}
-use Rattle.cops_outbox.specs.Lines.{entries_in, IsLine, AreLines, IsNeeded, IsEmpty, IsTurn, IsLonger, IsShorter, span_at, slots_at, queues_in}
+use Rattle.cops_outbox.specs.Queues.{Queues, Waiting, queue_of, is_full, with_last, without_front, pushed, without_slot}
+use Rattle.cops_outbox.specs.Lines.{entries_in, IsLine, AreLines, IsNeeded, IsEmpty, IsTurn, IsLonger, IsShorter, IsCleared, span_at, slots_at, queues_in}
 use Rattle.cops_outbox.proofs.Chains.{chain_length}
 use Rattle.cops_outbox.proofs.Lines.{empty_chain, empty_entries, test_false}
 
@@ -65,6 +65,10 @@ range_any p q a (suc n) same =
 range_replicate : {X : Type 0} (f : ℕ → X) (a n : ℕ) (x : X) → ((k : ℕ) → f k ≡ x) → map f (range_with_len a n) ≡ replicate n x
 range_replicate f a zero x same = refl
 range_replicate f a (suc n) x same = ap (λ y. y ∷ map f (range_with_len (a + 1) n)) (same a) ∙ ap (λ xs. x ∷ xs) (range_replicate f (a + 1) n x same)
+
+range_without : (f : ℕ → List (List Entry)) (slot a n : ℕ) → map (λ dc. set (f dc) slot []) (range_with_len a n) ≡ without_slot slot (map f (range_with_len a n))
+range_without f slot a zero = refl
+range_without f slot a (suc n) = ap (λ (qs : List (List (List Entry))). set (f a) slot [] ∷ qs) (range_without f slot (a + 1) n)
 
 -- ---- a function of each line
 
@@ -184,6 +188,12 @@ module _ (rows rows' : List (Option Row)) (own tenants data_centres slot : ℕ) 
       (ap (slots_at rows' (set lines slot line')) e ∙ slots_after shorter.turn dc ∙ ap (set (slots_at rows lines dc) slot) (shorter.entries ∙ ap (drop 1) (sym (slot_read rows lines dc slot line there is))) ∙ ap (without_front slot) (sym read))
       (λ k inside differ. slots_after shorter.turn (0 + k) ∙ same_slots (0 + k) (entries_in rows' (span_at (0 + k) line')) (shorter.elsewhere (0 + k) (omega arith)))
 
+  pub cleared_is : IsCleared rows rows' own slot line line' → queues_in rows' (set lines slot line') data_centres ≡ without_slot slot (queues_in rows lines data_centres)
+  cleared_is cleared =
+      range_same (slots_at rows' (set lines slot line')) (λ dc. set (slots_at rows lines dc) slot []) 0 data_centres
+      (λ k within. slots_after cleared.turn (0 + k) ∙ ap (set (slots_at rows lines (0 + k)) slot) (empty_entries rows' (span_at (0 + k) line') (cleared.waits (0 + k))))
+      ∙ range_without (slots_at rows lines) slot 0 data_centres
+
 -- ---- what joins all queues
 
 pushed_at : (dc own : ℕ) (w : Waiting) (queues : List (List (List Entry))) (at : ℕ) → at < length queues → get_or (pushed dc own w queues) at [] ≡ (if dc + at == own then get_or queues at [] else with_last w (get_or queues at []))
@@ -239,6 +249,27 @@ acked_other slot dc queues other at lt differ = elim (cases_eq at dc) [
       ∙ get_or-set_other (get_or queues dc []) slot other (drop 1 (get_or (get_or queues dc []) slot [])) [] differ)
   | inr away ↦ acked_elsewhere other dc (without_front slot (get_or queues dc [])) queues at away
 ]
+
+-- ---- what leaves all queues
+
+none_of_slot : (slots : List (List Entry)) (slot : ℕ) → get_or (set slots slot []) slot [] ≡ []
+none_of_slot [] slot = refl
+none_of_slot (es ∷ slots) zero = refl
+none_of_slot (es ∷ slots) (suc slot) = none_of_slot slots slot
+
+pub dropped_entries : (slot : ℕ) (queues : List (List (List Entry))) (dc : ℕ) → get_or (get_or (without_slot slot queues) dc []) slot [] ≡ []
+dropped_entries slot [] dc = refl
+dropped_entries slot (slots ∷ queues) zero = none_of_slot slots slot
+dropped_entries slot (slots ∷ queues) (suc dc) = dropped_entries slot queues dc
+
+pub without_slot_len : (slot : ℕ) (queues : List (List (List Entry))) → length (without_slot slot queues) ≡ length queues
+without_slot_len slot [] = refl
+without_slot_len slot (slots ∷ queues) = ap suc (without_slot_len slot queues)
+
+pub dropped_other : (slot : ℕ) (queues : List (List (List Entry))) (other dc : ℕ) → other ≢ slot → get_or (get_or (without_slot slot queues) dc []) other [] ≡ get_or (get_or queues dc []) other []
+dropped_other slot [] other dc differ = refl
+dropped_other slot (slots ∷ queues) other zero differ = get_or-set_other slots slot other [] [] differ
+dropped_other slot (slots ∷ queues) other (suc dc) differ = dropped_other slot queues other dc differ
 
 -- ---- a new outbox
 
@@ -322,6 +353,12 @@ module _ (rows : List (Option Row)) (own tenants data_centres : ℕ) (lines : Li
   ack_shown rows' slot dc line line' lt within read shorter =
       subst (λ (w : Queues). shown rows' own tenants data_centres (set lines slot line') ≡ record w { queues = set w.queues dc (without_front slot (get_or w.queues dc [])) }) is
       (ap (λ qs. record { own = own; tenants = tenants; queues = qs }) (acked_is rows rows' own tenants data_centres slot lines line line' h (slot_within slot lt) read dc (dc_within dc within) shorter))
+
+  pub drop_shown : (rows' : List (Option Row)) (slot : ℕ) (line line' : Line) → slot < v.tenants → line ≡ get_or lines slot line → IsCleared rows rows' own slot line line'
+      → shown rows' own tenants data_centres (set lines slot line') ≡ record v { queues = without_slot slot v.queues }
+  drop_shown rows' slot line line' lt read cleared =
+      subst (λ (w : Queues). shown rows' own tenants data_centres (set lines slot line') ≡ record w { queues = without_slot slot w.queues }) is
+      (ap (λ qs. record { own = own; tenants = tenants; queues = qs }) (cleared_is rows rows' own tenants data_centres slot lines line line' h (slot_within slot lt) read cleared))
 
   pub line_needed : (slot : ℕ) (line : Line) → slot < v.tenants → line ≡ get_or lines slot line → IsNeeded line
   line_needed slot line lt read = h.needed slot line (slot_within slot lt) read

@@ -114,3 +114,9 @@ pub record IsShorter (rows rows' : List (Option Row)) (own slot dc : ℕ) (line 
   pub turn : IsTurn rows rows' own slot line line'
   pub entries : entries_in rows' (span_at dc line') ≡ drop 1 (entries_in rows (span_at dc line))
   pub elsewhere : (at : ℕ) → at ≢ dc → entries_in rows' (span_at at line') ≡ entries_in rows (span_at at line)
+
+-- all rows of the line left the table
+pub record IsCleared (rows rows' : List (Option Row)) (own slot : ℕ) (line line' : Line) : Type 0 where
+  pub turn : IsTurn rows rows' own slot line line'
+  pub kept : line'.kept.count ≡ 0
+  pub waits : (dc : ℕ) → (span_at dc line').count ≡ 0

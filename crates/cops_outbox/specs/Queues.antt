@@ -1,5 +1,5 @@
 -- What waits in an outbox: for each data centre and slot a queue.
-use Rattle.std.specs.Prelude.{ℕ, ◌+◌, ◌++◌, ◌==◌, ◌&&◌, not, Bool, false, nat_le, List, [], ◌∷◌, length, drop, slice_index_or, slice_set, Option, Some, None, if◌then◌else◌}
+use Rattle.std.specs.Prelude.{ℕ, ◌+◌, ◌++◌, ◌==◌, ◌&&◌, not, Bool, false, nat_le, List, [], ◌∷◌, length, map, drop, slice_index_or, slice_set, Option, Some, None, if◌then◌else◌}
 use Rattle.std.specs.List.{list_any, range_with_len}
 use Rattle.cops_types.specs.declared.records.EntryParts.{EntryParts as Entry}
 use Rattle.cops_types.specs.Version.{Timestamp, version_eq}
@@ -44,3 +44,7 @@ without_front slot slots = slice_set slots slot (drop 1 (slice_index_or slots sl
 abbrev pub pushed : ℕ → ℕ → Waiting → List (List (List Entry)) → List (List (List Entry))
 pushed dc own w [] = []
 pushed dc own w (slots ∷ queues) = (if dc == own then slots else with_last w slots) ∷ pushed (dc + 1) own w queues
+
+-- the queues with none of the slot's entries
+abbrev pub without_slot : ℕ → List (List (List Entry)) → List (List (List Entry))
+without_slot slot queues = map (λ (slots : List (List Entry)). slice_set slots slot []) queues

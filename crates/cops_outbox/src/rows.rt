@@ -4,7 +4,7 @@ ghost use Rattle.std.specs.Option.{option_copied};
 ghost use Rattle.std.specs.List.{list_any, range_with_len};
 ghost use Rattle.slab.specs.Slab.{HasRoomFor, slab_len};
 ghost use Rattle.cops_outbox.specs.Queues.{front, is_front};
-ghost use Rattle.cops_outbox.specs.Lines.{row_at, next_in, entries_in, IsRowOf, IsChain, IsLine, IsNeeded, IsEmpty, IsAdded, IsGone, IsLonger, IsShorter, span_at, nowhere, extended as span_with};
+ghost use Rattle.cops_outbox.specs.Lines.{row_at, next_in, entries_in, IsRowOf, IsChain, IsLine, IsNeeded, IsEmpty, IsAdded, IsGone, IsLonger, IsShorter, IsCleared, span_at, nowhere, extended as span_with};
 
 use cops_types::{Entry, Version};
 use slab::Slab;
@@ -152,6 +152,26 @@ pub(crate) fn pass(rows: &mut Slab<Row>, line: &mut Line, dc: usize)
 {
     line.waits[dc] = shortened(rows, line.waits[dc]);
     if !is_waited_for(&line.waits, line.kept.count) {
+        line.kept = release(rows, line.kept);
+    }
+}
+
+// No data centre waits for a row.
+fn forget_all(waits: &mut [Span])
+    ensures { (dc : ℕ) (d : Span) → dc < length waits.old → slice_index_or waits.new dc d ≡ nowhere }
+{
+    for dc in 0..waits.len() {
+        waits[dc] = Span { first: 0, count: 0 };
+    }
+}
+
+// Takes all rows of a line out of the table.
+pub(crate) fn clear(rows: &mut Slab<Row>, line: &mut Line)
+    requires line { (own slot : ℕ) × IsLine rows.old.slots own (length line.old.waits.items) slot line.old }
+    ensures cleared { (own slot : ℕ) → IsLine rows.old.slots own (length line.old.waits.items) slot line.old → IsCleared rows.old.slots rows.new.slots own slot line.old line.new }
+{
+    forget_all(&mut line.waits);
+    for _row in 0..line.kept.count {
         line.kept = release(rows, line.kept);
     }
 }

@@ -1,14 +1,10 @@
-use Rattle.std.proofs.Common.{◌≡◌, ℕ, ◌+◌, ◌^◌, ◌<◌, arith, ◌∙◌, ◌++◌, refl, ap, sym, subst, length, List, get_or, take, drop}
+use Rattle.std.proofs.Common.{◌≡◌, ℕ, ◌+◌, ◌^◌, ◌<◌, arith, ◌∙◌, refl, ap, sym, subst, length, List, get_or}
 use Rattle.std.specs.Prelude.{◌==◌, if◌then◌else◌}
 use Rattle.std.specs.Vec.{with_items}
-use Rattle.std.proofs.Math.Seq.{take-append_seam}
 use Rattle.cops_outbox.specs.declared.rows.Span.{Span}
 use Rattle.cops_outbox.specs.Lines.{extended}
-use Rattle.cops_outbox.proofs.Lines.{line_longer, needed_longer, counts_fit}
+use Rattle.cops_outbox.proofs.Lines.{line_longer, needed_longer, counts_fit, refilled}
 use Rattle.cops_outbox.proofs.rows.add.Goals as goal
-
-refilled : (n : ℕ) (new old : List Span) → length new ≡ n → take n (new ++ drop (length new) old) ≡ new
-refilled n new old long = ap (λ m. take m (new ++ drop (length new) old)) (sym long) ∙ take-append_seam new (drop (length new) old)
 
 written : (c : goal.After-line-3-1) → (with_items c.args.line.now.waits c.extend_all.new.waits).items ≡ c.extend_all.new.waits
 written c = refilled c.args.line.now.waits.len c.extend_all.new.waits c.args.line.now.waits.items (c.extend_all.auto.waits ∙ c.deref_mut.ensures.len)
