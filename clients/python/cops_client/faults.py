@@ -41,12 +41,18 @@ def _numbered(number: int):
 
 @_numbered(1)
 class Syntax(Fault):
-    """Bytes of no form, or a get of no keys. The server ends the connection after the first of these."""
+    """Bytes of no form, or a get of no keys.
+
+    After bytes of no form the server ends the connection.
+    """
 
 
 @_numbered(2)
 class UnknownTenant(Fault):
-    """No tenant has that token. The server ends the connection."""
+    """No tenant has that token.
+
+    The server ends the connection.
+    """
 
 
 @_numbered(3)
@@ -146,7 +152,10 @@ class GateSpent(Fault):
 
 @_numbered(22)
 class NoSuchPlace(Fault):
-    """No such data centre. The server ends the connection."""
+    """No such data centre.
+
+    The server ends the connection.
+    """
 
 
 @_numbered(23)

@@ -1,0 +1,194 @@
+"""A running service of the program under test, and raw connections to it."""
+
+from __future__ import annotations
+
+import socket
+import subprocess
+import tempfile
+import time
+from dataclasses import dataclass
+
+from cops_client.client import Connection
+from cops_client.frames import Decoder, Hello, Message, Ready, encode
+
+#: The program under test, with the words that come before those of a command.
+PROGRAM: list[str] = []
+
+#: Longest waits, in seconds: for one reply, and for the service to begin or end.
+REPLY_TIME = 10.0
+SERVICE_TIME = 20.0
+
+MOST = 4_294_967_295
+
+
+@dataclass(frozen=True)
+class Tenant:
+    """A tenant's line of the head."""
+
+    name: str
+    number: int
+    first_clock: int = 0
+    versions: int = MOST
+    bytes: int = MOST
+    outbox: int = MOST
+    contexts: int = 64
+    dependencies: int = 1024
+    actors: int = MOST
+    audit: int = MOST
+
+    @property
+    def token(self) -> bytes:
+        return self.number.to_bytes(16, "big")
+
+    def line(self) -> str:
+        token = self.token.hex()
+        quotas = [self.versions, self.bytes, self.outbox, self.contexts, self.dependencies, self.actors, self.audit]
+        return f"tenant {self.name} {token} {self.first_clock} {' '.join(map(str, quotas))}"
+
+
+def head(tenants: list[Tenant], data_centres: int = 1, shards: int = 1, trans_time: int = 5000, restarts: int = 1) -> str:
+    lines = [f"cluster {data_centres} {shards} {trans_time} {restarts}", *(tenant.line() for tenant in tenants), "begin"]
+    return "\n".join(lines) + "\n"
+
+
+def call(words: list[str], text: str, seconds: float = SERVICE_TIME) -> subprocess.CompletedProcess[str]:
+    """A command of the program over some input, to its end."""
+    return subprocess.run([*PROGRAM, *words], input=text, capture_output=True, text=True, timeout=seconds)
+
+
+def _free_port() -> int:
+    with socket.socket() as probe:
+        probe.bind(("127.0.0.1", 0))
+        return probe.getsockname()[1]
+
+
+class Service:
+    """The program serving so many connections, and then ending by itself. At the end of a `with` it is gone in any case."""
+
+    def __init__(self, text: str, workers: int, connections: int) -> None:
+        self._head = text
+        self._numbers = ["--workers", str(workers), "--connections", str(connections)]
+        self._connections = connections
+        self._connected = 0
+
+    def __enter__(self) -> Service:
+        self._start()
+        return self
+
+    def __exit__(self, *error: object) -> None:
+        if self._process.poll() is None:
+            self._process.kill()
+        self._process.wait()
+        self._files.close()
+
+    def _start(self) -> None:
+        self.port = _free_port()
+        self._files = tempfile.TemporaryFile()
+        self._faults = tempfile.TemporaryFile()
+        self._process = subprocess.Popen(
+            [*PROGRAM, "serve", f"127.0.0.1:{self.port}", *self._numbers],
+            stdin=subprocess.PIPE,
+            stdout=self._files,
+            stderr=self._faults,
+        )
+        assert self._process.stdin is not None
+        self._process.stdin.write(self._head.encode())
+        self._process.stdin.close()
+
+    def _said(self) -> str:
+        self._faults.seek(0)
+        return self._faults.read().decode(errors="replace")
+
+    def stream(self) -> socket.socket:
+        """A connection to the service, which is waited for where it doesn't listen yet."""
+        until = time.monotonic() + SERVICE_TIME
+        while True:
+            try:
+                stream = socket.create_connection(("127.0.0.1", self.port), REPLY_TIME)
+                # Where nobody listens, a connection may find itself.
+                if stream.getsockname() != stream.getpeername():
+                    self._connected += 1
+                    stream.setsockopt(socket.IPPROTO_TCP, socket.TCP_NODELAY, 1)
+                    return stream
+                stream.close()
+            except ConnectionRefusedError:
+                pass
+            if self._process.poll() is not None:
+                if self._connected > 0 or time.monotonic() > until or "E26" not in self._said():
+                    raise AssertionError(f"the service has ended: {self._said()}")
+                # The port was taken meanwhile.
+                self._start()
+            if time.monotonic() > until:
+                raise AssertionError("the service doesn't listen")
+            time.sleep(0.01)
+
+    def greeted(self, tenant: Tenant, data_centre: int = 0) -> Connection:
+        """A client's connection, greeted."""
+        connection = Connection(self.stream())
+        connection.send(Hello(tenant.token, data_centre))
+        reply = connection.receive()
+        assert reply == Ready(), reply
+        return connection
+
+    def made_by_others(self, connections: int) -> None:
+        """Counts connections that weren't made by `stream`."""
+        self._connected += connections
+
+    def audit(self) -> str:
+        """Waits for the end and gives what was written then. All connections have to be made and ended before."""
+        assert self._connected == self._connections, f"{self._connected} of {self._connections} connections were made"
+        status = self._process.wait(SERVICE_TIME)
+        assert (status, self._said()) == (0, ""), (status, self._said())
+        self._files.seek(0)
+        return self._files.read().decode()
+
+
+def read_to_end(stream: socket.socket) -> bytes:
+    """All that comes until the other side ends or resets the connection."""
+    read = b""
+    while True:
+        try:
+            piece = stream.recv(65_536)
+        except ConnectionResetError:
+            return read
+        if not piece:
+            return read
+        read += piece
+
+
+def read_some(stream: socket.socket, count: int) -> bytes:
+    """So many bytes, or less where the other side ends."""
+    read = b""
+    while len(read) < count:
+        piece = stream.recv(count - len(read))
+        if not piece:
+            break
+        read += piece
+    return read
+
+
+def talk(stream: socket.socket, pieces: list[bytes], pause: float = 0.0) -> bytes:
+    """Sends the pieces and then the end, and gives all that is answered. The other side may end before."""
+    try:
+        for place, piece in enumerate(pieces):
+            if place > 0 and pause > 0:
+                time.sleep(pause)
+            stream.sendall(piece)
+        stream.shutdown(socket.SHUT_WR)
+    except (BrokenPipeError, ConnectionResetError, OSError) as error:
+        if isinstance(error, TimeoutError):
+            raise
+    with stream:
+        return read_to_end(stream)
+
+
+def messages(stream: bytes) -> list[Message]:
+    """The messages of a whole stream."""
+    decoder = Decoder()
+    given = decoder.feed(stream)
+    assert not decoder.broken and not decoder.pending, stream
+    return given
+
+
+def frames(sent: list[Message]) -> bytes:
+    return b"".join(map(encode, sent))
