@@ -65,7 +65,8 @@ def _free_port() -> int:
 class Service:
     """The program serving so many connections, and then ending by itself. At the end of a `with` it is gone in any case."""
 
-    def __init__(self, text: str, workers: int, connections: int) -> None:
+    def __init__(self, text: str, workers: int, connections: int, program: list[str] = PROGRAM) -> None:
+        self._program = program
         self._head = text
         self._numbers = ["--workers", str(workers), "--connections", str(connections)]
         self._connections = connections
@@ -86,7 +87,7 @@ class Service:
         self._files = tempfile.TemporaryFile()
         self._faults = tempfile.TemporaryFile()
         self._process = subprocess.Popen(
-            [*PROGRAM, "serve", f"127.0.0.1:{self.port}", *self._numbers],
+            [*self._program, "serve", f"127.0.0.1:{self.port}", *self._numbers],
             stdin=subprocess.PIPE,
             stdout=self._files,
             stderr=self._faults,

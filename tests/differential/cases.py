@@ -1,0 +1,161 @@
+"""One random case: a script with what its commands answer, or a service with what its connections are answered."""
+
+from __future__ import annotations
+
+import pathlib
+from collections import Counter
+from dataclasses import dataclass
+from random import Random
+
+import audits
+from programs import Outcome, Programs
+from scripts import ScriptMaker
+from services import converse
+from streams import StreamMaker
+
+COMMANDS = ["run", "solo", "audit", "replay", "serve"]
+
+#: Every kind of reply and every refusal that a script can meet.
+SCRIPT_REPLIES = {
+    *(f"E{number:02}" for number in [1, *range(3, 19), 22, 24, 25]),
+    *"opened context dropped started all working restarted stored values removed nothing waits".split(),
+    "committed acked", "already notfront", "- E02",
+}  # fmt: skip
+#: Every kind of reply and every refusal that a stream can meet where replies don't depend on time.
+STREAM_REPLIES = {
+    *"81 82 83 84 85".split(),
+    *(f"ff{number:02x}" for number in [1, 2, 7, 8, 9, 10, 11, 12, 13, 15, 16, 22, 24]),
+}
+
+
+class Difference(Exception):
+    """The two programs answer otherwise, or one contradicts itself."""
+
+    def __init__(self, what: str, files: dict[str, bytes]) -> None:
+        super().__init__(what)
+        self.files = files
+
+
+@dataclass
+class Pair:
+    """The program under test, and the plain one."""
+
+    program: list[str]
+    plain: list[str]
+    commands: list[str]
+    runner: Programs
+
+    def both(self, words: list[str], text: bytes) -> Outcome:
+        """The outcome of both, which has to be one."""
+        ours = self.runner.run([*self.program, *words], text)
+        theirs = self.runner.run([*self.plain, *words], text)
+        if ours != theirs:
+            files = {"input": text}
+            for name, outcome in (("program", ours), ("plain", theirs)):
+                files[name] = outcome.output + outcome.faults + b"status %d\n" % outcome.status
+            raise Difference(" ".join(words), files)
+        return ours
+
+
+def kinds(output: bytes) -> Counter[str]:
+    """How often each kind of reply stands in the output of a run."""
+    seen: Counter[str] = Counter()
+    for line in output.decode("latin-1").splitlines():
+        name, word, *rest = line.split(" ")
+        if name == "-":
+            seen[f"- {word}"] += 1
+        elif word in ("committed", "already"):
+            seen[f"{word} {rest[-1]}"] += 1
+        else:
+            seen["values" if "=" in word else word] += 1
+    return seen
+
+
+def hold_script(pair: Pair, numbers: Random) -> Counter[str]:
+    """A script: what is run, what each tenant is told alone, the audit, and its replays. The kinds of replies."""
+    maker = ScriptMaker(numbers)
+    return compare_script(pair, numbers, maker.text(), [tenant.name for tenant in maker.tenants])
+
+
+def compare_script(pair: Pair, numbers: Random, text: bytes, names: list[str]) -> Counter[str]:
+    run = pair.both(["run"], text) if "run" in pair.commands else None
+    if "solo" in pair.commands:
+        name = numbers.choice(names)
+        if numbers.random() < 0.03:
+            name = numbers.choice(["zeta", "Acme", "", "name_of_17_bytes_"])
+        alone = pair.both(["solo", name], text)
+        if run is not None and alone.status == 0:
+            own = b"".join(line for line in run.output.splitlines(True) if line.startswith(name.encode() + b" "))
+            if own != alone.output:
+                raise Difference(f"solo {name} isn't his part of run", {"input": text, "run": own, "solo": alone.output})
+    if "audit" in pair.commands:
+        audit = pair.both(["audit"], text)
+        if audit.status == 0 and "replay" in pair.commands:
+            compare_replays(pair, numbers, audit.output)
+    return kinds(run.output) if run is not None else Counter()
+
+
+def compare_replays(pair: Pair, numbers: Random, audit: bytes) -> None:
+    name = numbers.choice([line.split(b" ")[1] for line in audit.splitlines() if line.startswith(b"tenant ")]).decode()
+    count = sum(line.startswith(name.encode() + b" ") for line in audit.splitlines())
+    replayed = pair.both(["replay", name], audit)
+    if replayed != Outcome(0, b"same %d\n" % count, b""):
+        raise Difference(f"replay {name} of its own audit", {"input": audit, "output": replayed.output})
+    pair.both(["replay", name], audits.changed(numbers, audit))
+
+
+def hold_service(pair: Pair, numbers: Random) -> Counter[str]:
+    """A service: what each connection is answered, and both audits, each replayed by both programs."""
+    maker = StreamMaker(numbers)
+    ours, our_audit = converse(pair.program, maker.head, maker.connections)
+    theirs, their_audit = converse(pair.plain, maker.head, maker.connections)
+    seen: Counter[str] = Counter()
+    for pieces, our, their in zip(maker.connections, ours, theirs):
+        if our != their:
+            files = {"head": maker.head.encode(), "sent": b"|".join(piece.hex().encode() for piece in pieces)}
+            raise Difference("serve", {**files, "program": our.hex().encode(), "plain": their.hex().encode()})
+        while their:
+            size = int.from_bytes(their[:4], "big") + 4
+            seen[their[4 : 6 if their[4] == 0xFF else 5].hex()] += 1
+            their = their[size:]
+    for audit in (our_audit, their_audit):
+        for name in maker.names:
+            count = sum(line.startswith(name.encode() + b" ") for line in audit.splitlines())
+            if "replay" in pair.commands:
+                replayed = pair.both(["replay", name], audit)
+            else:
+                replayed = pair.runner.run([*pair.plain, "replay", name], audit)
+            if replayed != Outcome(0, b"same %d\n" % count, b""):
+                raise Difference(f"replay {name} of a service", {"input": audit, "output": replayed.output})
+    return seen
+
+
+def smaller(pair: Pair, text: bytes, words: list[str], tries: int = 400) -> bytes:
+    """A script with lines left out for which the two programs still answer otherwise."""
+
+    def differs(lines: list[bytes]) -> bool:
+        try:
+            pair.both(words, b"".join(lines))
+        except Difference:
+            return True
+        return False
+
+    lines = text.splitlines(True)
+    size = max(1, len(lines) // 2)
+    while size > 0 and tries > 0:
+        place = 0
+        while place < len(lines) and tries > 0:
+            fewer = lines[:place] + lines[place + size :]
+            tries -= 1
+            if differs(fewer):
+                lines = fewer
+            else:
+                place += size
+        size //= 2
+    return b"".join(lines)
+
+
+def keep(folder: pathlib.Path, difference: Difference) -> None:
+    folder.mkdir(parents=True, exist_ok=True)
+    for name, content in difference.files.items():
+        (folder / name).write_bytes(content)
