@@ -2,6 +2,7 @@
 
 from __future__ import annotations
 
+import os
 import socket
 import subprocess
 import tempfile
@@ -130,6 +131,11 @@ class Service:
         reply = connection.receive()
         assert reply == Ready(), reply
         return connection
+
+    def memory(self) -> int:
+        """Resident bytes."""
+        with open(f"/proc/{self._process.pid}/statm") as file:
+            return int(file.read().split()[1]) * os.sysconf("SC_PAGESIZE")
 
     def made_by_others(self, connections: int) -> None:
         """Counts connections that weren't made by `stream`."""
