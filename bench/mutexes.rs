@@ -1,0 +1,112 @@
+//! Turns per second through the seats of a cluster, beside a `std::sync::Mutex` for each node.
+//! Arguments: the program of seats, and how often each is measured. It prints medians and their ratio.
+use std::hint::black_box;
+use std::process::Command;
+use std::sync::Mutex;
+use std::thread;
+use std::time::Instant;
+
+struct Worker {
+    turns: u64,
+    mixed: u64,
+}
+
+impl Worker {
+    fn turn(&mut self, rounds: u64) -> u64 {
+        let mut mixed = self.mixed;
+        for _ in 0..rounds {
+            mixed = mixed
+                .wrapping_mul(6364136223846793005)
+                .wrapping_add(1442695040888963407);
+        }
+        self.mixed = mixed;
+        self.turns = self.turns.wrapping_add(1);
+        self.turns
+    }
+}
+
+#[derive(Clone, Copy)]
+struct Load {
+    threads: u64,
+    nodes: u64,
+    turns: u64,
+    rounds: u64,
+    stride: u64,
+}
+
+impl Load {
+    /// Million turns per second.
+    fn speed(self, nanos: f64) -> f64 {
+        (self.threads * self.turns) as f64 * 1e3 / nanos
+    }
+}
+
+fn mutexes(load: Load) -> f64 {
+    let node = |_| Mutex::new(Worker { turns: 0, mixed: 1 });
+    let nodes: Vec<Mutex<Worker>> = (0..load.nodes).map(node).collect();
+    let start = Instant::now();
+    thread::scope(|scope| {
+        for first in 0..load.threads {
+            let nodes = &nodes;
+            scope.spawn(move || {
+                for turn in 0..load.turns {
+                    let node = (first + turn * load.stride) % load.nodes;
+                    black_box(nodes[node as usize].lock().unwrap().turn(load.rounds));
+                }
+            });
+        }
+    });
+    load.speed(start.elapsed().as_nanos() as f64)
+}
+
+fn seats(program: &str, load: Load) -> f64 {
+    let words = [load.threads, load.nodes, load.turns, load.rounds, load.stride];
+    let told = Command::new(program)
+        .args(words.map(|word| word.to_string()))
+        .output()
+        .expect("the program of seats");
+    let text = String::from_utf8(told.stdout).expect("text");
+    load.speed(text.trim().parse().expect("nanoseconds"))
+}
+
+/// How many rounds of work take a microsecond.
+fn microsecond() -> u64 {
+    let mut worker = Worker { turns: 0, mixed: 1 };
+    let best = (0..20)
+        .map(|_| {
+            let start = Instant::now();
+            black_box(worker.turn(black_box(1_000_000)));
+            black_box(worker.mixed);
+            start.elapsed().as_nanos() as u64
+        })
+        .min()
+        .unwrap();
+    1_000_000_000 / best.max(1)
+}
+
+fn median(mut speeds: Vec<f64>) -> f64 {
+    speeds.sort_by(f64::total_cmp);
+    speeds[speeds.len() / 2]
+}
+
+fn main() {
+    let words: Vec<String> = std::env::args().collect();
+    let times: usize = words[2].parse().expect("a number");
+    let work = microsecond();
+    println!("| Nodes | Each thread | Threads | Work of a turn | Seats | Mutexes | Ratio |");
+    println!("|---|---|---|---|---|---|---|");
+    for (nodes, stride, way) in [(1, 0, "at the node"), (4, 0, "at one node"), (4, 1, "goes round"), (16, 0, "at one node"), (16, 1, "goes round")] {
+        for threads in [1, 2, 4, 8] {
+            for (name, rounds, total) in [("none", 0, 1_600_000), ("1 microsecond", work, 160_000)] {
+                let load = Load { threads, nodes, turns: total / threads, rounds, stride };
+                let (mut of_seats, mut of_mutexes) = (Vec::new(), Vec::new());
+                for _ in 0..times {
+                    of_seats.push(seats(&words[1], load));
+                    of_mutexes.push(mutexes(load));
+                }
+                let (seats, mutexes) = (median(of_seats), median(of_mutexes));
+                println!("| {nodes} | {way} | {threads} | {name} | {seats:.2} | {mutexes:.2} | {:.2} |", seats / mutexes);
+            }
+        }
+    }
+}

@@ -1,0 +1,6 @@
+use Rattle.std.proofs.Common.{◌≡◌}
+use Rattle.cops_node.specs.Clusters.{shape_of}
+use Rattle.cops_service.proofs.carrying.collect_at.Given as goal
+
+abbrev pub invariant-loop-place : goal.invariant-loop-place
+invariant-loop-place g l = g.N.Nodes.shape l.nodes ≡ shape_of l.config

@@ -1,0 +1,65 @@
+//! Sessions and carriers at a desk: a step of theirs is at most one turn of one node's gate.
+ghost use Rattle.std.specs.Prelude.{◌≡◌, ◌<◌, ℕ, Some, max, false, MatchResult, OnErr};
+ghost use Rattle.cops_types.specs.TenantConfig.{TenantConfig};
+ghost use Rattle.cops_node.specs.declared.NodeReply.{NodeReply};
+ghost use Rattle.cops_node.specs.Log.{Directed, Replied};
+ghost use Rattle.cops_repl.specs.Carrier.{Carrier as SoloCarrier};
+ghost use Rattle.cops_repl.specs.Stands.{CarrierStandsFor, IsStepOf, RunsIn, has_ended, is_done};
+ghost use Rattle.cops_session.specs.Request.{next};
+ghost use Rattle.cops_session.specs.Session.{Session as SoloSession, Running as SoloRunning, moment_at, request_of};
+ghost use Rattle.cops_session.specs.SessionStands.{SessionStandsFor};
+ghost use Rattle.cops_session.specs.Stepping.{DoesNext};
+ghost use Rattle.cops_service.specs.Desks.{IsDeskCall, MakesOneTurnAtMost, shape_in};
+
+use crate::desk::Desk;
+use cops_handles::Handle;
+use cops_repl::Carrier;
+use cops_session::{Running, Session};
+use cops_types::Fault;
+use std::sync::Wait;
+
+impl<R: Wait> Desk<'_, R> {
+    /// Takes a step of a session's request. The reply that the session goes on with is the one that the seat was told.
+    pub fn step_session(
+        &mut self,
+        session: &mut Session,
+        handle: Handle<Running>,
+        moment: u64,
+    ) -> Result<cops_session::Progress, Fault>
+        requires data_centres { session.old.setting.data_centres ≡ (shape_in self.old.cluster.now).data_centres }
+        requires shards { session.old.setting.shards ≡ (shape_in self.old.cluster.now).shards }
+        requires slot { session.old.setting.slot < (shape_in self.old.cluster.now).slots }
+        ensures cluster { self.new.cluster.now ≡ self.old.cluster.now }
+        ensures turn { MakesOneTurnAtMost self.old.cluster.now self.old.seat.now session.old.setting.slot self.new.seat.now }
+        ensures stepped { (config : TenantConfig) (solo : SoloSession) → SessionStandsFor config session.old solo → MatchResult result
+            (λ shown. (running : SoloRunning) × (solo.running ≡ Some running) × (running.number ≡ handle)
+            × DoesNext (λ id call reply. IsDeskCall self.old.cluster.now self.old.seat.now id session.old.setting.slot (moment_at moment solo) call reply self.new.seat.now) (self.new.seat.now ≡ self.old.seat.now)
+            config solo running (moment_at moment solo) shown session.new (next config (request_of solo running) running.log (moment_at moment solo)))
+            (λ fault. fault ≡ Fault.Idle) }
+        ensures setting { session.new.setting ≡ session.old.setting }
+        ensures idle { OnErr result ((session.new ≡ session.old) × (self.new.seat.now ≡ self.old.seat.now)) }
+    {
+        session.step(self, handle, moment)
+    }
+
+    /// Takes a step of a carrier: one turn. The reply that the carrier goes on with is the one that the seat was told.
+    pub fn step_carrier(
+        &mut self,
+        carrier: &mut Carrier,
+        slot: u64,
+        moment: u64,
+    ) -> cops_repl::Progress
+        requires goes_on { has_ended carrier.old ≡ false }
+        requires stream { RunsIn (shape_in self.old.cluster.now) carrier.old.shards carrier.old.stream }
+        requires slot { slot < (shape_in self.old.cluster.now).slots }
+        ensures cluster { self.new.cluster.now ≡ self.old.cluster.now }
+        ensures called { (directed : Directed) × (reply : NodeReply)
+            × IsDeskCall self.old.cluster.now self.old.seat.now directed.node slot (max carrier.old.moment moment) directed.call reply self.new.seat.now
+            × ((shards : ℕ) (solo : SoloCarrier) → CarrierStandsFor shards carrier.old solo →
+            IsStepOf shards solo directed (record { moment = max solo.moment moment; outcome = Replied reply }) result carrier.new) }
+        ensures stream { (carrier.new.stream ≡ carrier.old.stream) × (carrier.new.shards ≡ carrier.old.shards) }
+        ensures ended { has_ended carrier.new ≡ is_done result }
+    {
+        carrier.step(self, slot, moment)
+    }
+}
