@@ -1,0 +1,33 @@
+-- Which nodes are a configuration's.
+use Rattle.std.proofs.Common.{◌≡◌, ℕ, zero, suc, ◌*◌, ◌<◌, ◌≤◌, List, [], ◌∷◌, length, get_or, refl, sym, subst, ap, ◌∙◌, arith}
+use Rattle.std.specs.Prelude.{Some, option_map, slice_get}
+use Rattle.std.specs.List.{AllByRecursion}
+use Rattle.std.proofs.lemmas.Option.{slice_get-map}
+use Rattle.cops_types.specs.declared.configs.Config.{Config}
+use Rattle.cops_types.specs.declared.configs.Tenant.{Tenant}
+use Rattle.cops_types.specs.Layout.{NODES}
+use Rattle.cops_types.specs.TenantConfig.{tenant_config}
+use Rattle.cops_node.specs.Clusters.{id_of}
+use Rattle.cops_node.specs.Parts.{Home, Shared, home_of}
+use Rattle.cops_node.specs.Place.{place_of}
+use Rattle.cops_replay.specs.AuditText.{AreNodesOf}
+
+all_from : (P : Shared → Type 0) (nodes : List Shared) → ((i : ℕ) (node : Shared) → i < length nodes → node ≡ get_or nodes i node → P node) → AllByRecursion P nodes
+all_from P [] h = tt
+all_from P (node ∷ nodes) h = (h 0 node (omega arith) refl, all_from P nodes (λ i n below is. h (suc i) n (omega arith) is))
+
+-- nodes with the homes of a configuration's nodes, by number
+pub nodes_with_homes : (config : Config) (nodes : List Shared) → config.data_centres * config.shards ≤ NODES → length nodes ≡ config.data_centres * config.shards →
+    ((number : ℕ) (node : Shared) → number < length nodes → node ≡ get_or nodes number node → node.home ≡ home_of config (id_of config.shards number)) → AreNodesOf config nodes
+nodes_with_homes config nodes fit all each = record {
+  by_number = record {
+    numbers_fit = fit;
+    all = all;
+    each = λ number node below is. (ap (λ (h : Home). h.id) (each number node below is), ap (λ (h : Home). h.shape) (each number node below is));
+  };
+  each_tenant = λ slot tenant e. all_from (λ (n : Shared). slice_get n.home.places slot ≡ Some (place_of (tenant_config config tenant) n.home.id)) nodes (λ number node below is.
+      let home = each number node below is in
+      ap (λ (h : Home). slice_get h.places slot) home ∙ slice_get-map (λ (t : Tenant). place_of (tenant_config config t) (id_of config.shards number)) config.tenants slot
+      ∙ ap (option_map (λ (t : Tenant). place_of (tenant_config config t) (id_of config.shards number))) e
+      ∙ ap (λ (h : Home). Some (place_of (tenant_config config tenant) h.id)) (sym home));
+}

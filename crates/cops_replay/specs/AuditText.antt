@@ -1,0 +1,55 @@
+-- The text of an audit: the head, and then each tenant's records.
+use Rattle.std.specs.Prelude.{◌≡◌, ℕ, ◌+◌, List, [], ◌∷◌, ◌++◌, flat_map, slice_get, Some}
+use Rattle.uuid.specs.Text.{hyphenated_text, lower}
+use Rattle.cops_types.specs.declared.configs.Config.{Config}
+use Rattle.cops_types.specs.declared.configs.Tenant.{Tenant}
+use Rattle.cops_types.specs.HeadLines.{begin_line, cluster_line, tenant_line}
+use Rattle.cops_types.specs.TenantConfig.{TenantConfig, tenant_config}
+use Rattle.cops_types.specs.Words.{newline}
+use Rattle.cops_node.specs.Clusters.{HasTenant, IsCluster, nodes_of, shape_of}
+use Rattle.cops_node.specs.Parts.{Shared}
+use Rattle.cops_node.specs.SoloNode.{SoloNode}
+use Rattle.cops_replay.specs.declared.Record.{Record}
+use Rattle.cops_replay.specs.Audits.{records_of}
+use Rattle.cops_replay.specs.RecordText.{record_line}
+
+-- with the newline that ends it
+abbrev pub ended : List ℕ → List ℕ
+ended line = line ++ newline ∷ []
+
+-- ---- the head, in its one form: the tokens in lower case, with hyphens
+
+abbrev pub tenant_text : Tenant → List ℕ
+tenant_text tenant = ended (tenant_line (hyphenated_text lower tenant.token) tenant)
+
+abbrev pub head_text : Config → List ℕ
+head_text config = ended (cluster_line config) ++ flat_map tenant_text config.tenants ++ ended begin_line
+
+-- ---- the records: by tenant, then by node, then by place in the audit
+
+abbrev pub records_text : List ℕ → List Record → List ℕ
+records_text name records = flat_map (λ told. ended (record_line name told)) records
+
+-- of the tenants from this slot on, each with his nodes
+abbrev pub tenants_text : Config → (TenantConfig → ℕ → List SoloNode) → ℕ → List Tenant → List ℕ
+tenants_text config nodes slot [] = []
+tenants_text config nodes slot (tenant ∷ tenants) =
+    records_text tenant.name (records_of (tenant_config config tenant) (nodes (tenant_config config tenant) slot)) ++ tenants_text config nodes (slot + 1) tenants
+
+-- where this gives each tenant's nodes
+abbrev pub audit_text : Config → (TenantConfig → ℕ → List SoloNode) → List ℕ
+audit_text config nodes = head_text config ++ tenants_text config nodes 0 config.tenants
+
+-- ---- of nodes that tenants share
+
+-- a tenant's nodes among them
+abbrev pub his_nodes : Config → List Shared → TenantConfig → ℕ → List SoloNode
+his_nodes config nodes tenant slot = nodes_of tenant slot (record { shape = shape_of config; nodes = nodes })
+
+abbrev pub audit_of : Config → List Shared → List ℕ
+audit_of config nodes = audit_text config (his_nodes config nodes)
+
+-- these are the configuration's nodes, by number, and each slot of them is that of its tenant
+pub record AreNodesOf (config : Config) (nodes : List Shared) : Type 0 where
+  pub by_number : IsCluster (shape_of config) nodes
+  pub each_tenant : (slot : ℕ) (tenant : Tenant) → slice_get config.tenants slot ≡ Some tenant → HasTenant (tenant_config config tenant) slot (record { shape = shape_of config; nodes = nodes })

@@ -1,0 +1,221 @@
+//! Audits as text.
+ghost use Rattle.std.specs.Prelude.{◌≡◌, ◌<◌, ◌++◌, ◌⊎◌, map, slice_get, flat_map, OnOk, IfErr, IsErrOf, IsTrue, Some};
+ghost use Rattle.std.specs.Io.KnownBytes.{Appends};
+ghost use Rattle.cops_types.specs.declared.faults.Fault.TheVariants.{OutOfMemory, WriteFault};
+ghost use Rattle.cops_types.specs.Counts.{HasRisen};
+ghost use Rattle.cops_types.specs.HeadLines.{are_sizes};
+ghost use Rattle.cops_types.specs.Sink.{AppendsFront, sink_failures, sink_writer};
+ghost use Rattle.cops_types.specs.TenantConfig.{tenant_config};
+ghost use Rattle.cops_node.specs.Parts.{solo_of};
+ghost use Rattle.cops_node.specs.Place.{place_of};
+ghost use Rattle.cops_replay.specs.Audits.{record_of, records_of};
+ghost use Rattle.cops_replay.specs.AuditText.{AreNodesOf, audit_of, ended, head_text, his_nodes, records_text, tenants_text, tenant_text};
+ghost use Rattle.cops_replay.specs.Pages.{Puts, page};
+ghost use Rattle.cops_replay.specs.RecordText.{record_line};
+
+use crate::heads::{push_begin, push_cluster, push_tenant};
+use crate::pages::{drain, drain_full};
+use crate::writing::push_told;
+use cops_node::{AuditEntry, Node, NodeId};
+use cops_types::{Config, Fault, Name, Sink, Tenant};
+use std::alloc::{AllocError, Global};
+use std::io::Write;
+
+/// Puts the line of a call in the audit of a node at the end, with its newline.
+fn push_entry(
+    out: &mut Vec<u8>,
+    name: &Name,
+    id: NodeId,
+    entry: &AuditEntry,
+) -> Result<(), AllocError>
+    ensures { OnOk result (out.new.items ≡ out.old.items ++ ended (record_line name.now (record_of id entry.now))) }
+{
+    push_told(out, name, id, entry.moment, &entry.call, &entry.reply)?;
+    out.push(b'\n')?;
+    Ok(())
+}
+
+/// Puts the line of a call in the audit of a node.
+fn put_entry<W: Write>(
+    out: &mut Vec<u8>,
+    sink: &mut Sink<W>,
+    name: &Name,
+    id: NodeId,
+    entry: &AuditEntry,
+) -> Result<(), Fault>
+    ensures { Puts (ended (record_line name.now (record_of id entry.now)))
+        (page out.old.items (W.contents (sink_writer sink.old)) (sink_failures sink.old)) result
+        (page out.new.items (W.contents (sink_writer sink.new)) (sink_failures sink.new)) }
+{
+    if push_entry(out, name, id, entry).is_err() {
+        return Err(Fault::OutOfMemory);
+    }
+    drain_full(out, sink)
+}
+
+/// Puts the lines of a tenant's calls in the audit of a node.
+fn put_node<W: Write>(
+    out: &mut Vec<u8>,
+    sink: &mut Sink<W>,
+    config: &Config,
+    tenant: &Tenant,
+    slot: u64,
+    id: NodeId,
+    node: &Node,
+) -> Result<(), Fault>
+    requires slot { slot < node.now.home.shape.slots }
+    requires place { slice_get node.now.home.places slot ≡ Some (place_of (tenant_config config.now tenant.now) id) }
+    ensures { Puts (records_text tenant.now.name (map (record_of id) (solo_of slot (place_of (tenant_config config.now tenant.now) id) node.now).trail))
+        (page out.old.items (W.contents (sink_writer sink.old)) (sink_failures sink.old)) result
+        (page out.new.items (W.contents (sink_writer sink.new)) (sink_failures sink.new)) }
+{
+    let name = tenant.name;
+    for place in 0..node.audit_len(slot) {
+        let Some(entry) = node.audit(slot, place) else {
+            unreachable!()
+        };
+        if let Err(fault) = put_entry(out, sink, &name, id, entry) {
+            return Err(fault);
+        }
+    }
+    Ok(())
+}
+
+/// Puts the lines of a tenant's calls, by node.
+fn put_tenant<W: Write>(
+    out: &mut Vec<u8>,
+    sink: &mut Sink<W>,
+    config: &Config,
+    tenant: &Tenant,
+    slot: u64,
+    nodes: &[Node],
+) -> Result<(), Fault>
+    requires sizes { IsTrue (are_sizes config.now) }
+    requires tenant { slice_get config.now.tenants slot ≡ Some tenant.now }
+    requires nodes { AreNodesOf config.now nodes.now }
+    ensures { Puts (records_text tenant.now.name (records_of (tenant_config config.now tenant.now) (his_nodes config.now nodes.now (tenant_config config.now tenant.now) slot)))
+        (page out.old.items (W.contents (sink_writer sink.old)) (sink_failures sink.old)) result
+        (page out.new.items (W.contents (sink_writer sink.new)) (sink_failures sink.new)) }
+{
+    let shards = config.shards;
+    for place in 0..nodes.len() {
+        let number = place as u64;
+        let id = NodeId {
+            dc: number / shards,
+            shard: number % shards,
+        };
+        let node = &nodes[place];
+        if let Err(fault) = put_node(out, sink, config, tenant, slot, id, node) {
+            return Err(fault);
+        }
+    }
+    Ok(())
+}
+
+/// Puts the lines of all tenants' calls, by tenant.
+fn put_records<W: Write>(
+    out: &mut Vec<u8>,
+    sink: &mut Sink<W>,
+    config: &Config,
+    nodes: &[Node],
+) -> Result<(), Fault>
+    requires sizes { IsTrue (are_sizes config.now) }
+    requires nodes { AreNodesOf config.now nodes.now }
+    ensures { Puts (tenants_text config.now (his_nodes config.now nodes.now) 0 config.now.tenants)
+        (page out.old.items (W.contents (sink_writer sink.old)) (sink_failures sink.old)) result
+        (page out.new.items (W.contents (sink_writer sink.new)) (sink_failures sink.new)) }
+{
+    let tenants = config.tenants.as_slice();
+    for slot in 0..tenants.len() {
+        let tenant = &tenants[slot];
+        if let Err(fault) = put_tenant(out, sink, config, tenant, slot as u64, nodes) {
+            return Err(fault);
+        }
+    }
+    Ok(())
+}
+
+/// Puts the line of a tenant.
+fn put_tenant_line<W: Write>(
+    out: &mut Vec<u8>,
+    sink: &mut Sink<W>,
+    tenant: &Tenant,
+) -> Result<(), Fault>
+    ensures { Puts (tenant_text tenant.now)
+        (page out.old.items (W.contents (sink_writer sink.old)) (sink_failures sink.old)) result
+        (page out.new.items (W.contents (sink_writer sink.new)) (sink_failures sink.new)) }
+{
+    if push_tenant(out, tenant).is_err() {
+        return Err(Fault::OutOfMemory);
+    }
+    drain_full(out, sink)
+}
+
+/// Puts the lines of all tenants.
+fn put_tenant_lines<W: Write>(
+    out: &mut Vec<u8>,
+    sink: &mut Sink<W>,
+    tenants: &[Tenant],
+) -> Result<(), Fault>
+    ensures { Puts (flat_map tenant_text tenants.now)
+        (page out.old.items (W.contents (sink_writer sink.old)) (sink_failures sink.old)) result
+        (page out.new.items (W.contents (sink_writer sink.new)) (sink_failures sink.new)) }
+{
+    for tenant in tenants {
+        if let Err(fault) = put_tenant_line(out, sink, tenant) {
+            return Err(fault);
+        }
+    }
+    Ok(())
+}
+
+/// Puts the head.
+fn put_head<W: Write>(out: &mut Vec<u8>, sink: &mut Sink<W>, config: &Config) -> Result<(), Fault>
+    ensures { Puts (head_text config.now)
+        (page out.old.items (W.contents (sink_writer sink.old)) (sink_failures sink.old)) result
+        (page out.new.items (W.contents (sink_writer sink.new)) (sink_failures sink.new)) }
+{
+    if push_cluster(out, config).is_err() {
+        return Err(Fault::OutOfMemory);
+    }
+    if let Err(fault) = put_tenant_lines(out, sink, config.tenants.as_slice()) {
+        return Err(fault);
+    }
+    if push_begin(out).is_err() {
+        return Err(Fault::OutOfMemory);
+    }
+    Ok(())
+}
+
+/// Writes the audit of a configuration's nodes, which come by number: the head in its one form, and
+/// then a line for each call, by tenant, then by node, then by place in the audit.
+///
+/// A few kilobytes of it wait at most, beside one line. At an `Err` a front of it is written. The
+/// writer is not flushed.
+pub fn write_audit<W: Write>(
+    alloc: Global,
+    sink: &mut Sink<W>,
+    config: &Config,
+    nodes: &[Node],
+) -> Result<(), Fault>
+    requires sizes { IsTrue (are_sizes config.now) }
+    requires nodes { AreNodesOf config.now nodes.now }
+
+    // All is written, or a front of it.
+    ensures ok { OnOk result (Appends (W.contents (sink_writer sink.old)) (W.contents (sink_writer sink.new)) (audit_of config.now nodes.now)) }
+    ensures front { AppendsFront (W.contents (sink_writer sink.old)) (W.contents (sink_writer sink.new)) (audit_of config.now nodes.now) }
+
+    // Memory was refused, or the writer failed in this call.
+    ensures fault { IfErr result (λ fault. (fault ≡ OutOfMemory) ⊎ (fault ≡ WriteFault)) }
+    ensures same { OnOk result (sink_failures sink.new ≡ sink_failures sink.old) }
+    ensures write_fault { IsErrOf result Fault.WriteFault → HasRisen (sink_failures sink.old) (sink_failures sink.new) }
+{
+    let mut out = Vec::new(alloc);
+    if let Err(fault) = put_head(&mut out, sink, config) {
+        return Err(fault);
+    }
+    if let Err(fault) = put_records(&mut out, sink, config, nodes) {
+        return Err(fault);
+    }
+    drain(&mut out, sink)
+}
