@@ -23,7 +23,7 @@ name_there : (tenants : List Tenant) (slot : ℕ) (tenant : Tenant) → slice_ge
 name_there tenants slot tenant e = get_or_from_slice_get (map (λ (t : Tenant). t.name) tenants) slot tenant.name [] (slice_get-map (λ (t : Tenant). t.name) tenants slot ∙ ap (option_map (λ (t : Tenant). t.name)) e)
 
 -- what a line says, once its slot is found
-said_at_slot : (tenants : List Tenant) (line : List ℕ) (found : Option ℕ) → slot_of_name tenants (first_word line) ≡ found →
+pub said_at_slot : (tenants : List Tenant) (line : List ℕ) (found : Option ℕ) → slot_of_name tenants (first_word line) ≡ found →
     said_in tenants line ≡ elim found [ None ↦ OfNobody | Some slot ↦ said_by slot (act_in (first_word line) line) ]
 said_at_slot tenants line found e = ap (λ found. elim found [ None ↦ OfNobody | Some slot ↦ said_by slot (act_in (first_word line) line) ]) e
 

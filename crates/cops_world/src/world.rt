@@ -1,7 +1,7 @@
 //! All tenants of a cluster in one process.
 ghost use Rattle.std.specs.Prelude.{◌≡◌, ◌<◌, ◌-◌, ℕ, true, false, not, IfOk, IfSome, IfNone, IsTrue, IsFalse, None, length, nat_le, slice_index, slice_set, if◌then◌else◌};
 ghost use Rattle.cops_types.specs.TenantConfig.{TenantConfig};
-ghost use Rattle.cops_node.specs.Clusters.{shape_of};
+ghost use Rattle.cops_node.specs.Clusters.{IsCluster, shape_of};
 ghost use Rattle.cops_session.specs.Session.{new_session};
 ghost use Rattle.cops_repl.specs.Carrier.{new_carrier};
 ghost use Rattle.cops_repl.specs.Stands.{RunsIn};
@@ -388,14 +388,16 @@ impl World {
 
     /// The configuration.
     pub fn config(&self) -> &Config
-        ensures { result.now ≡ setup_of self.now }
+        ensures value { result.now ≡ setup_of self.now }
+        ensures good { IsTrue (is_good (setup_of self.now)) }
     {
         &self.config
     }
 
     /// The nodes, by number.
     pub fn nodes(&self) -> &[Node]
-        ensures { result.now ≡ self.now.nodes.nodes }
+        ensures value { result.now ≡ self.now.nodes.nodes }
+        ensures in_order { IsCluster (shape_of (setup_of self.now)) self.now.nodes.nodes }
     {
         self.nodes.nodes()
     }
