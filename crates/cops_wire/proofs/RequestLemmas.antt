@@ -1,0 +1,165 @@
+-- Requests that were begun or refused are answered as the definition says.
+use Rattle.std.proofs.Common.{◌≡◌, ◌⊎◌, ℕ, ◌≤◌, Bool, true, false, cond, List, [], ◌∷◌, ◌++◌, length, inl, inr, refl, sym, ap, subst, ◌∙◌, arith}
+use Rattle.std.specs.Prelude.{Option, Some, None, Result, Ok, Err, OnErr, OnOk, not, nat_lt}
+use Rattle.std.specs.Option.{option_or}
+use Rattle.std.proofs.lemmas.Bool.Decides.{nat_tests}
+use Rattle.cops_types.specs.declared.faults.Fault.{Fault}
+use Rattle.cops_types.specs.declared.faults.Fault.TheVariants.{BadKey, Busy, IdsSpent, NoContext, OutOfMemory, RepeatedKey, Syntax, TooManyKeys, ValueTooLong}
+use Rattle.cops_types.specs.Key.{is_key}
+use Rattle.cops_types.specs.Refusal.{IsAnswer, refused_if}
+use Rattle.cops_types.specs.Search.{first_refusal}
+use Rattle.cops_types.specs.TenantConfig.{TenantConfig}
+use Rattle.cops_types.specs.Value.{is_too_long}
+use Rattle.cops_node.specs.declared.NodeCall.{NodeCall}
+use Rattle.cops_node.specs.declared.NodeId.{NodeId}
+use Rattle.cops_node.specs.declared.NodeReply.{NodeReply}
+use Rattle.cops_session.specs.declared.Answer.{Answer}
+use Rattle.cops_session.specs.Kept.{Kept}
+use Rattle.cops_session.specs.Request.{Action, Write, Fetch}
+use Rattle.cops_session.specs.Session.{Session, Running, get_refusal, has_repeats, is_busy, is_open, is_spent, put_refusal, request_begun}
+use Rattle.cops_session.specs.SessionStands.{SessionStandsFor}
+use Rattle.cops_wire.specs.declared.messages.Message.{Message}
+use Rattle.cops_wire.specs.declared.messages.Message.TheVariants.{Refused}
+use Rattle.cops_wire.specs.Requests.{Backend, backend, Answers, AnswersSo, Becomes, Ends, HasAnswered, HasFewRestarts, Runs, UnlessRefused, naming_refusal, number_in, reading_refusal, reply_to, writing_refusal}
+use Rattle.cops_wire.specs.Running.{HasEnded, HasFewKeys, HasRun, IsDone, IsTold, Puts}
+
+-- ---- refusals
+
+ok_if : {A E : Type 0} (b : Bool) (x y : A) (e : E) → Ok x ≡ cond b (Ok y) (Err e) → b ≡ true
+ok_if true x y e is = refl
+ok_if false x y e is = cc
+
+ok_same : {A E : Type 0} (b : Bool) (x y : A) (e : E) → Ok x ≡ cond b (Ok y) (Err e) → x ≡ y
+ok_same true x y e is = cc
+ok_same false x y e is = cc
+
+-- a put is refused as the session refuses it, where nothing else does
+writing_refused_so : (config : TenantConfig) (handle key value : List ℕ) (session : Session) (fault : Fault) → is_key key ≡ true → refused_if (is_too_long value) ValueTooLong ≡ None
+    → naming_refusal handle session ≡ None → (fault ≡ OutOfMemory) ⊎ (put_refusal config (number_in handle) key session ≡ Some fault)
+    → (fault ≡ OutOfMemory) ⊎ (writing_refusal config handle key value session ≡ Some fault)
+writing_refused_so config handle key value session fault is short named refused = by_cause refused
+  where
+    first : first_refusal ((not (is_key key), BadKey) ∷ (is_too_long value, ValueTooLong) ∷ []) ≡ None
+    first = ap (λ b. first_refusal ((not b, BadKey) ∷ (is_too_long value, ValueTooLong) ∷ [])) is ∙ short
+
+    same : writing_refusal config handle key value session ≡ put_refusal config (number_in handle) key session
+    same =
+        ap (λ o. option_or o (option_or (naming_refusal handle session) (put_refusal config (number_in handle) key session))) first
+        ∙ ap (λ o. option_or o (put_refusal config (number_in handle) key session)) named
+
+    by_cause : (fault ≡ OutOfMemory) ⊎ (put_refusal config (number_in handle) key session ≡ Some fault) → (fault ≡ OutOfMemory) ⊎ (writing_refusal config handle key value session ≡ Some fault)
+    by_cause (inl e) = inl e
+    by_cause (inr e) = inr (same ∙ e)
+
+-- that is so of what was made of the message
+pub writing_refused : (config : TenantConfig) (handle key value : List ℕ) (session : Session) (fault : Fault) (key_text value_text made : List ℕ) (context : ℕ) → key_text ≡ key → value_text ≡ value
+    → Ok made ≡ cond (is_key key_text) (Ok key_text) (Err BadKey) → refused_if (is_too_long value_text) ValueTooLong ≡ None → naming_refusal handle session ≡ None → context ≡ number_in handle
+    → (fault ≡ OutOfMemory) ⊎ (put_refusal config context made session ≡ Some fault)
+    → (fault ≡ OutOfMemory) ⊎ (writing_refusal config handle key value session ≡ Some fault)
+writing_refused config handle key value session fault key_text value_text made context k v is short named number refused =
+    let same : made ≡ key = ok_same (is_key key_text) made key_text BadKey is ∙ k in
+    writing_refused_so config handle key value session fault (sym (ap is_key k) ∙ ok_if (is_key key_text) made key_text BadKey is) (sym (ap (λ t. refused_if (is_too_long t) ValueTooLong) v) ∙ short) named
+    (subst (λ n. (fault ≡ OutOfMemory) ⊎ (put_refusal config n key session ≡ Some fault)) number
+    (subst (λ t. (fault ≡ OutOfMemory) ⊎ (put_refusal config context t session ≡ Some fault)) same refused))
+
+-- no refusal comes from either
+or_none : {A : Type 0} (a b : Option A) → option_or a b ≡ None → (a ≡ None) × (b ≡ None)
+or_none None b e = (refl, e)
+or_none (Some x) b e = cc
+
+-- a transaction that is not refused asks for at most 32 keys
+pub few_read : (config : TenantConfig) (handle : List ℕ) (keys : List (List ℕ)) (session : Session) → reading_refusal config handle keys session ≡ None → length keys ≤ 32
+few_read config handle keys session none =
+    let other = or_none _ _ none in
+    let own = or_none _ _ other.1 in
+    by_count (nat_lt (length keys) 1) (is_busy session) (not (is_open (number_in handle) session)) (nat_lt 32 (length keys)) refl own.1
+  where
+    by_count : (a b c d : Bool) → nat_lt 32 (length keys) ≡ d
+        → first_refusal ((a, Syntax) ∷ (b, Busy) ∷ (c, NoContext) ∷ (d, TooManyKeys) ∷ (has_repeats keys, RepeatedKey) ∷ (is_spent session.next_request, IdsSpent) ∷ []) ≡ None → length keys ≤ 32
+    by_count true b c d is e = cc
+    by_count false true c d is e = cc
+    by_count false false true d is e = cc
+    by_count false false false true is e = cc
+    by_count false false false false is e = grind (arith, nat_tests)
+
+-- ---- answers
+
+module _ {N M : Type 0} (Calls : N → NodeId → ℕ → ℕ → NodeCall → NodeReply → N → Type 0) (GivesMoment : M → ℕ → M → Type 0) where
+  told_so : (config : TenantConfig) (slot : ℕ) (refusal : Option Fault) (old then_be after : Session) (nodes : N) (moments : M) (told reply : Message) → IsTold refusal old then_be told after reply
+      → UnlessRefused Calls GivesMoment config slot refusal (backend old nodes moments) reply (backend after nodes moments) (Becomes Calls GivesMoment config slot (backend old nodes moments) then_be told reply (backend after nodes moments))
+  told_so config slot (Some fault) old then_be after nodes moments told reply is = (is.0, ap (λ (s : Session). backend s nodes moments) is.1)
+  told_so config slot None old then_be after nodes moments told reply is = (is.0, ap (λ (s : Session). backend s nodes moments) is.1)
+
+  -- a request that has its effect at once
+  pub answered_at_once : (request : Message) (refusal : TenantConfig → Session → Option Fault) (then_be : Session → Session) (tells : Session → Message)
+      → ((config : TenantConfig) (slot : ℕ) (old new : Backend Session N M) (reply : Message)
+      → UnlessRefused Calls GivesMoment config slot (refusal config old.session) old reply new (Becomes Calls GivesMoment config slot old (then_be old.session) (tells old.session) reply new)
+      → AnswersSo Calls GivesMoment config slot old request reply new)
+      → (old new : Kept) (nodes : N) (moments : M) (reply : Message) → new.setting ≡ old.setting
+      → ((config : TenantConfig) (session : Session) → SessionStandsFor config old session → IsDone config (refusal config session) session (then_be session) (tells session) new reply)
+      → HasAnswered Calls GivesMoment (backend old nodes moments) request reply (backend new nodes moments)
+  answered_at_once request refusal then_be tells so old new nodes moments reply same done = record {
+    setting = same;
+    answers = λ config session restarts stands.
+        let d = done config session stands in (
+          d.after,
+          d.stands,
+          elim d.told_is [
+            | inl lack ↦ inl (lack.0, ap (λ (s : Session). backend s nodes moments) lack.1)
+            | inr is ↦
+                inr (so config old.setting.slot (backend session nodes moments) (backend d.after nodes moments) reply
+                (told_so config old.setting.slot (refusal config session) session (then_be session) d.after nodes moments (tells session) reply is))
+          ],
+        );
+  }
+
+  -- a request that runs
+  pub answered_by_steps : (request : Message) (refusal : TenantConfig → Session → Option Fault) (context : ℕ) (action : Action)
+      → ((config : TenantConfig) (slot : ℕ) (old new : Backend Session N M) (reply : Message)
+      → UnlessRefused Calls GivesMoment config slot (refusal config old.session) old reply new (Runs Calls GivesMoment config slot old context action reply new)
+      → AnswersSo Calls GivesMoment config slot old request reply new)
+      → ((config : TenantConfig) (session : Session) → refusal config session ≡ None → HasFewKeys action)
+      → (old mid : Kept) (new : Backend Kept N M) (nodes : N) (moments : M) (begun : Result Unit Fault) (IsPut : Message → Type 0)
+      → mid.setting ≡ old.setting → new.session.setting ≡ mid.setting
+      → ((config : TenantConfig) (session : Session) → SessionStandsFor config old session → IsAnswer (refusal config session) begun)
+      → ((config : TenantConfig) (session : Session) → SessionStandsFor config old session → OnOk begun (SessionStandsFor config mid (request_begun context action session)))
+      → OnErr begun (mid ≡ old)
+      → HasRun Calls GivesMoment (backend mid nodes moments) begun new IsPut
+      → (reply : Message) × HasAnswered Calls GivesMoment (backend old nodes moments) request reply new × IsPut reply
+  answered_by_steps request refusal context action so few old mid new nodes moments (Ok done) IsPut same later refused begins err ran =
+      (reply_to ran.0, record { setting = later ∙ same; answers = answers }, ran.1)
+    where
+      answers : (config : TenantConfig) (session : Session) → HasFewRestarts config → SessionStandsFor config old session → (after : Session) × SessionStandsFor config new.session after
+          × Answers Calls GivesMoment config old.setting.slot (backend session nodes moments) request (reply_to ran.0) (backend after new.nodes new.moments)
+      answers config session restarts stands =
+          let none = refused config session stands in
+          let from = backend (request_begun context action session) nodes moments in
+          let ended = ran.2 config (request_begun context action session) _ restarts (begins config session stands) refl refl (few config session none) in
+          let ends : Ends Calls GivesMoment config old.setting.slot from ran.0 (backend ended.after new.nodes new.moments) =
+          subst (λ slot. Ends Calls GivesMoment config slot from ran.0 (backend ended.after new.nodes new.moments)) (ap (λ s. s.slot) same) ended.ends in (
+            ended.after,
+            ended.stands,
+            inr (so config old.setting.slot (backend session nodes moments) (backend ended.after new.nodes new.moments) (reply_to ran.0)
+                (subst (λ o. UnlessRefused Calls GivesMoment config old.setting.slot o (backend session nodes moments) (reply_to ran.0) (backend ended.after new.nodes new.moments)
+                (Runs Calls GivesMoment config old.setting.slot (backend session nodes moments) context action (reply_to ran.0) (backend ended.after new.nodes new.moments))) (sym none) (ran.0, refl, ends))),
+          )
+  answered_by_steps request refusal context action so few old mid new nodes moments (Err fault) IsPut same later refused begins err ran =
+      (Refused fault, record { setting = ap (λ (b : Backend Kept N M). b.session.setting) ran.1 ∙ same; answers = answers }, ran.0)
+    where
+      stays : new ≡ backend old nodes moments
+      stays = ran.1 ∙ ap (λ (k : Kept). backend k nodes moments) err
+
+      answers : (config : TenantConfig) (session : Session) → HasFewRestarts config → SessionStandsFor config old session → (after : Session) × SessionStandsFor config new.session after
+          × Answers Calls GivesMoment config old.setting.slot (backend session nodes moments) request (Refused fault) (backend after new.nodes new.moments)
+      answers config session restarts stands =
+          let same_backend : backend session new.nodes new.moments ≡ backend session nodes moments = ap (λ (b : Backend Kept N M). backend session b.nodes b.moments) stays in (
+            session,
+            subst (λ (b : Backend Kept N M). SessionStandsFor config b.session session) (sym stays) stands,
+            elim (refused config session stands) [
+              | inl lack ↦ inl (ap Refused lack, same_backend)
+              | inr is ↦
+                  inr (so config old.setting.slot (backend session nodes moments) (backend session new.nodes new.moments) (Refused fault)
+                  (subst (λ o. UnlessRefused Calls GivesMoment config old.setting.slot o (backend session nodes moments) (Refused fault) (backend session new.nodes new.moments)
+                  (Runs Calls GivesMoment config old.setting.slot (backend session nodes moments) context action (Refused fault) (backend session new.nodes new.moments))) (sym is) (refl, same_backend)))
+            ],
+          )

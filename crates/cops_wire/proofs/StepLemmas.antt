@@ -1,0 +1,220 @@
+-- Steps of a session that is kept are steps of each session of the definition that it stands for.
+use Rattle.std.proofs.Common.{◌≡◌, ℕ, ◌+◌, ◌*◌, ◌-◌, ◌^◌, ◌≤◌, ◌<◌, Bool, true, false, cond, List, [], ◌∷◌, ◌++◌, length, drop, map, filter, zero, suc, refl, sym, ap, subst, ◌∙◌, arith, length-append, length-drop}
+use Rattle.std.specs.Prelude.{Option, Some, None, nat_lt}
+use Rattle.std.proofs.lemmas.Bool.Decides.{nat_tests}
+use Rattle.std.proofs.lemmas.List.{length-map}
+use Rattle.cops_types.specs.TenantConfig.{TenantConfig}
+use Rattle.cops_types.specs.Version.{version_lt}
+use Rattle.cops_types.proofs.Elements.{fold-push}
+use Rattle.cops_node.specs.declared.NodeCall.{NodeCall}
+use Rattle.cops_node.specs.declared.NodeId.{NodeId}
+use Rattle.cops_node.specs.declared.NodeReply.{NodeReply}
+use Rattle.cops_node.specs.Log.{LogStep, Late, Replied, Next, Call, Restart, Ended}
+use Rattle.cops_session.specs.declared.Answer.{Answer}
+use Rattle.cops_session.specs.declared.Progress.{Progress}
+use Rattle.cops_session.specs.declared.Progress.TheVariants.{Working, Restarted, Done}
+use Rattle.cops_session.specs.declared.ongoing.Ongoing.{Ongoing}
+use Rattle.cops_session.specs.declared.ongoing.Reading.{Reading}
+use Rattle.cops_session.specs.declared.ongoing.Round.{Round}
+use Rattle.cops_session.specs.declared.ongoing.Round.TheVariants.{First, Second}
+use Rattle.cops_session.specs.declared.ongoing.Work.{Work}
+use Rattle.cops_session.specs.declared.ongoing.Work.TheVariants.{Put, Get}
+use Rattle.cops_session.specs.Kept.{Kept}
+use Rattle.cops_session.specs.Reading.{IsReading, RoundStandsFor}
+use Rattle.cops_session.specs.Request.{Action, Write, Fetch, Attempt, attempt_after, attempt_of, begins_again, next, replies_of}
+use Rattle.cops_session.specs.Rounds.{wishes_of}
+use Rattle.cops_session.specs.Session.{Running, Session, moment_at, request_of, session_after}
+use Rattle.cops_session.specs.SessionStands.{RunningStandsFor, SessionStandsFor, WorkStandsFor}
+use Rattle.cops_session.specs.Stepping as stepping
+use Rattle.cops_session.specs.Transaction.{outdated, reads_of, wanted_version}
+use Rattle.cops_wire.specs.Requests.{Backend, backend, DoesNext, Ends, EndsAfter, GoesOn, HasFewRestarts, HasShown, Steps}
+use Rattle.cops_wire.specs.Running.{Gives, HasEnded, HasFewKeys, HasStepped}
+
+-- ---- one step
+
+module _ {N M : Type 0} (Calls : N → NodeId → ℕ → ℕ → NodeCall → NodeReply → N → Type 0) (GivesMoment : M → ℕ → M → Type 0) (config : TenantConfig) (slot : ℕ) where
+  does_next : (session : Session) (running : Running) (moment : ℕ) (old new : N) (shown : Progress) (kept : Kept) (n : Next Answer)
+      → stepping.DoesNext (λ id call reply. Calls old id slot moment call reply new) (new ≡ old) config session running moment shown kept n
+      → (after : Session) × SessionStandsFor config kept after × DoesNext Calls GivesMoment config slot session running moment old n shown after new
+  does_next session running moment old new shown kept (Call directed) d =
+      (session_after session running (record { moment = moment; outcome = Replied d.0 }) shown, d.2.stands, (d.0, d.1, record { shown_is = d.2.shown_is; after_is = refl }))
+  does_next session running moment old new shown kept Restart d =
+      (session_after session running (record { moment = moment; outcome = Late }) shown, d.1.stands, (d.0, record { shown_is = d.1.shown_is; after_is = refl }))
+  does_next session running moment old new shown kept (Ended answer) d = absurd d
+
+  pub stepped : (session : Session) (running : Running) (old new : N) (old_moments new_moments : M) (given : ℕ) (shown : Progress) (kept : Kept) (answer : Option Answer)
+      → session.running ≡ Some running → GivesMoment old_moments given new_moments
+      → stepping.DoesNext (λ id call reply. Calls old id slot (moment_at given session) call reply new) (new ≡ old) config session running (moment_at given session) shown kept (next config (request_of session running) running.log (moment_at given session))
+      → Gives shown answer → HasStepped Calls GivesMoment config slot (backend session old old_moments) kept new new_moments answer
+  stepped session running old new old_moments new_moments given shown kept answer runs gives does is =
+      let d = does_next session running (moment_at given session) old new shown kept (next config (request_of session running) running.log (moment_at given session)) does in
+      record {
+        after = d.0;
+        stands = d.1;
+        shown = shown;
+        steps = record { running = running; runs = runs; given = given; gives = gives; does = d.2 };
+        gives = is;
+      }
+
+  -- a step with which the request goes on is in its log
+  logged : (session : Session) (running : Running) (moment : ℕ) (old new : N) (shown : Progress) (after : Session) (n : Next Answer) → GoesOn shown
+      → DoesNext Calls GivesMoment config slot session running moment old n shown after new → (step : LogStep) × (after.running ≡ Some (record running { log = running.log ++ step ∷ [] }))
+  logged session running moment old new shown after (Call directed) goes d =
+      let step : LogStep = record { moment = moment; outcome = Replied d.0 } in (step, ap (λ (s : Session). s.running) d.2.after_is ∙ still shown goes step)
+    where
+      still : (p : Progress) → GoesOn p → (step : LogStep) → (session_after session running step p).running ≡ Some (record running { log = running.log ++ step ∷ [] })
+      still Working goes step = refl
+      still (Restarted times) goes step = refl
+      still (Done answer) goes step = absurd goes
+  logged session running moment old new shown after Restart goes d =
+      let step : LogStep = record { moment = moment; outcome = Late } in (step, ap (λ (s : Session). s.running) d.1.after_is ∙ still shown goes step)
+    where
+      still : (p : Progress) → GoesOn p → (step : LogStep) → (session_after session running step p).running ≡ Some (record running { log = running.log ++ step ∷ [] })
+      still Working goes step = refl
+      still (Restarted times) goes step = refl
+      still (Done answer) goes step = absurd goes
+  logged session running moment old new shown after (Ended answer) goes d = absurd d
+
+-- ---- how many steps there may be
+
+-- the steps so far, at least: those of the attempt, and 65 for each restart
+pub spent : Action → List LogStep → ℕ
+spent action log = (attempt_of action log).restarts * 65 + length (attempt_of action log).steps
+
+pub spent-none : (action : Action) → spent action [] ≡ 0
+unfolding spent
+spent-none action = refl
+
+spent-push : (action : Action) (log : List LogStep) (step : LogStep) → length (attempt_of action log).steps ≤ 64 → spent action log + 1 ≤ spent action (log ++ step ∷ [])
+unfolding spent
+spent-push action log step few =
+    let attempt = attempt_of action log in
+    let same = fold-push (attempt_after action) (record { restarts = 0; steps = [] }) log step in
+    let P : Attempt → Type 0 = λ a. attempt.restarts * 65 + length attempt.steps + 1 ≤ a.restarts * 65 + length a.steps in
+    subst P (sym same) (by_again attempt few (begins_again action (length attempt.steps) step.outcome))
+  where
+    by_again : (attempt : Attempt) → length attempt.steps ≤ 64 → (b : Bool) →
+        let after = cond {A = Attempt} b (record { restarts = attempt.restarts + 1; steps = [] }) (record { restarts = attempt.restarts; steps = attempt.steps ++ step ∷ [] }) in
+        attempt.restarts * 65 + length attempt.steps + 1 ≤ after.restarts * 65 + length after.steps
+    by_again attempt few true = omega arith
+    by_again attempt few false = let more = length-append attempt.steps (step ∷ []) in omega arith
+
+-- the attempt of a request that has no answer yet
+pub record IsWithin (config : TenantConfig) (action : Action) (log : List LogStep) : Type 0 where
+  pub restarts : (attempt_of action log).restarts ≤ config.restarts
+  pub steps : length (attempt_of action log).steps ≤ 64
+
+filter-shorter : {A : Type 0} (test : A → Bool) (xs : List A) → length (filter test xs) ≤ length xs
+filter-shorter test [] = omega arith
+filter-shorter test (x ∷ xs) =
+    let later = filter-shorter test xs in
+    elim (test x) as (λ b. length (cond b (x ∷ filter test xs) (filter test xs)) ≤ length (x ∷ xs)) [ true ↦ omega arith | false ↦ omega arith ]
+
+reads-shorter : (keys : List (List ℕ)) (rs : List NodeReply) → length (reads_of keys rs) ≤ length keys
+reads-shorter [] rs = omega arith
+reads-shorter (key ∷ keys) [] = omega arith
+reads-shorter (key ∷ keys) (r ∷ rs) = let later = reads-shorter keys rs in omega arith
+
+wishes-few : (keys : List (List ℕ)) (rs : List NodeReply) → length (wishes_of (reads_of keys rs)) ≤ length keys
+wishes-few keys rs =
+    let reads = reads_of keys rs in
+    let all : length (wishes_of reads) ≡ length (outdated reads) = length-map (outdated reads) (λ read. record { key = read.key; version = wanted_version reads read }) in
+    let some = filter-shorter (λ read. version_lt read.version (wanted_version reads read)) reads in
+    let few = reads-shorter keys rs in
+    omega arith
+
+replies-few : (keys : List (List ℕ)) (rs : List NodeReply) (round : Round) → length keys ≤ 32 → RoundStandsFor keys rs round → length rs ≤ 64
+replies-few keys rs (First round) few is = let more = is.unfinished in omega arith
+replies-few keys rs (Second round) few is =
+    let left = ap length is.left_is in
+    let dropped = length-drop (length rs - length keys) (wishes_of (reads_of keys rs)) in
+    let most = wishes-few keys rs in
+    let more = is.unfinished in
+    let past = is.past_first in
+    omega arith
+
+module _ (config : TenantConfig) where
+  work_within : (session : Session) (running : Running) (work : Work) → HasFewKeys running.action → WorkStandsFor config (request_of session running) running.log work → IsWithin config running.action running.log
+  work_within session running (Put writing) few is =
+      let none : attempt_of running.action running.log ≡ record { restarts = 0; steps = [] } = ap (attempt_of running.action) is.no_step in
+      let P : Attempt → Type 0 = λ a. (a.restarts ≤ config.restarts) × (length a.steps ≤ 64) in
+      let both : P (attempt_of running.action running.log) = subst P (sym none) (omega arith, omega arith) in
+      record { restarts = both.0; steps = both.1 }
+  work_within session running (Get reading) few is =
+      let P : Action → Type 0 = λ a. IsWithin config a running.log in
+      subst P (sym is.1) (reads_within is.0 (subst HasFewKeys is.1 few) is.2)
+    where
+      reads_within : (keys : List (List ℕ)) → length keys ≤ 32 → IsReading config (request_of session running) keys running.log reading → IsWithin config (Fetch keys) running.log
+      reads_within keys few is =
+          let replied = is.all_replied in
+          let most = replies-few keys (replies_of (attempt_of (Fetch keys) running.log).steps) reading.round few is.round_is in
+          record { restarts = (let within = is.few_restarts in grind (arith, nat_tests)); steps = omega arith }
+
+  pub is_within : (kept : Kept) (session : Session) (running : Running) → SessionStandsFor config kept session → session.running ≡ Some running → HasFewKeys running.action → IsWithin config running.action running.log
+  is_within kept session running stands runs few =
+      by_kept kept.running (subst (λ (r : Option Running). RunningStandsFor config session kept.running r) runs stands.running_is)
+    where
+      by_kept : (o : Option Ongoing) → RunningStandsFor config session o (Some running) → IsWithin config running.action running.log
+      by_kept (Some ongoing) is = work_within session running ongoing.work few is.2
+      by_kept None is = absurd is
+
+-- ---- a request that goes on
+
+module _ {N M : Type 0} (Calls : N → NodeId → ℕ → ℕ → NodeCall → NodeReply → N → Type 0) (GivesMoment : M → ℕ → M → Type 0) (config : TenantConfig) (slot : ℕ) where
+  -- after so many steps it is at this session, and what ends it from there ends it from the first one
+  pub record IsOngoing (old : Backend Session N M) (action : Action) (kept : Kept) (nodes : N) (moments : M) (count : ℕ) : Type 0 where
+    pub now : Session
+    pub stands : SessionStandsFor config kept now
+    pub running : Running
+    pub runs : now.running ≡ Some running
+    pub action_is : running.action ≡ action
+    pub counted : count ≤ spent running.action running.log
+    pub rest : (answer : Answer) (new : Backend Session N M) → Ends Calls GivesMoment config slot (backend now nodes moments) answer new → Ends Calls GivesMoment config slot old answer new
+
+  pub begins : (session : Session) (running : Running) (kept : Kept) (nodes : N) (moments : M) → SessionStandsFor config kept session → session.running ≡ Some running → running.log ≡ [] → IsOngoing (backend session nodes moments) running.action kept nodes moments 0
+  begins session running kept nodes moments stands runs none = record {
+    now = session;
+    stands = stands;
+    running = running;
+    runs = runs;
+    action_is = refl;
+    counted = omega arith;
+    rest = λ answer new ends. ends;
+  }
+
+  same_running : (a b : Running) (o : Option Running) → o ≡ Some a → o ≡ Some b → a ≡ b
+  same_running a b o p q = let both : Some a ≡ Some b = sym p ∙ q in cc
+
+  pub goes_on : (old : Backend Session N M) (action : Action) (kept later : Kept) (nodes new_nodes : N) (moments new_moments : M) (count : ℕ) → HasFewKeys action
+      → (h : IsOngoing old action kept nodes moments count) → HasStepped Calls GivesMoment config slot (backend h.now nodes moments) later new_nodes new_moments None → IsOngoing old action later new_nodes new_moments (count + 1)
+  goes_on old action kept later nodes new_nodes moments new_moments count few h s =
+      let same : s.steps.running ≡ h.running = same_running s.steps.running h.running h.now.running s.steps.runs h.runs in
+      let in_log = logged Calls GivesMoment config slot h.now s.steps.running (moment_at s.steps.given h.now) nodes new_nodes s.shown s.after (next config (request_of h.now s.steps.running) s.steps.running.log (moment_at s.steps.given h.now)) s.gives s.steps.does in
+      let within = is_within config kept h.now h.running h.stands h.runs (subst HasFewKeys (sym h.action_is) few) in
+      let more = spent-push h.running.action h.running.log in_log.0 within.steps in
+      record {
+        now = s.after;
+        stands = s.stands;
+        running = record h.running { log = h.running.log ++ in_log.0 ∷ [] };
+        runs = in_log.1 ∙ ap (λ (r : Running). Some (record r { log = r.log ++ in_log.0 ∷ [] })) same;
+        action_is = h.action_is;
+        counted = (let counted = h.counted in omega arith);
+        rest = λ answer new ends. h.rest answer new (suc ends.0, (s.shown, backend s.after new_nodes new_moments, s.steps, s.gives, ends.1));
+      }
+
+  pub ends_so : (old : Backend Session N M) (action : Action) (kept later : Kept) (nodes new_nodes : N) (moments new_moments : M) (count : ℕ) (answer : Answer)
+      → (h : IsOngoing old action kept nodes moments count) → HasStepped Calls GivesMoment config slot (backend h.now nodes moments) later new_nodes new_moments (Some answer) → HasEnded Calls GivesMoment config slot old later new_nodes new_moments answer
+  ends_so old action kept later nodes new_nodes moments new_moments count answer h s =
+      let last : Steps Calls GivesMoment config slot (backend h.now nodes moments) (Done answer) (backend s.after new_nodes new_moments) =
+      subst (λ p. Steps Calls GivesMoment config slot (backend h.now nodes moments) p (backend s.after new_nodes new_moments)) s.gives s.steps in
+      record { after = s.after; stands = s.stands; ends = h.rest answer (backend s.after new_nodes new_moments) (zero, last) }
+
+  -- no request has so many steps
+  pub too_many : (old : Backend Session N M) (action : Action) (kept : Kept) (nodes : N) (moments : M) → HasFewRestarts config → HasFewKeys action → IsOngoing old action kept nodes moments (2 ^ 64 - 1) → ⊥
+  unfolding spent
+  too_many old action kept nodes moments restarts few h =
+      let within = is_within config kept h.now h.running h.stands h.runs (subst HasFewKeys (sym h.action_is) few) in
+      let counted = h.counted in
+      let a = within.restarts in
+      let b = within.steps in
+      omega arith

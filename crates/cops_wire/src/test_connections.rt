@@ -1,0 +1,172 @@
+//! Connections to a cluster of one node, in hexadecimal digits.
+ghost use Rattle.std.specs.Prelude.{◌≡◌, ◌<◌, length, IsTrue};
+ghost use Rattle.cops_types.specs.HeadLines.{are_sizes};
+ghost use Rattle.cops_node.specs.Parts.{are_clocks};
+ghost use Rattle.cops_session.specs.Kept.{IsOfSizes};
+
+use crate::{Connection, Ended, Moments};
+use cops_node::Cluster0;
+use cops_session::Session;
+use cops_types::{Config, Fault, Name, Quota, Sink, Source, Tenant, Tenants};
+use std::alloc::Global;
+use std::io::{Read, Write};
+use std::process::Abort;
+use uuid::Uuid;
+
+/// A clock that stands still.
+#[derive(Drop)]
+pub(crate) struct Still {
+    pub moment: u64,
+}
+
+impl Moments for Still {
+    ghost Gives = { λ old given new. (given ≡ old.moment) × (new ≡ old) };
+
+    fn now(&mut self) -> u64 {
+        self.moment
+    }
+}
+
+/// The value of a hexadecimal digit.
+fn digit_of(byte: u8) -> Option<u8> {
+    match byte {
+        b'0'..=b'9' => Some(byte - b'0'),
+        b'a'..=b'f' => Some(byte - b'a' + 10),
+        _ => None,
+    }
+}
+
+/// The bytes that pairs of hexadecimal digits write. What is no digit stands between them.
+pub(crate) fn bytes_of(rt: &impl Abort, alloc: Global, text: &str) -> Vec<u8> {
+    let mut bytes = Vec::new(alloc);
+    let mut high = None;
+    for byte in text.as_bytes() {
+        if let Some(digit) = digit_of(*byte) {
+            match high {
+                None => high = Some(digit),
+                Some(first) => {
+                    bytes.push((first << 4) | digit).expect(rt, "memory");
+                    high = None;
+                }
+            }
+        }
+    }
+    bytes
+}
+
+/// One tenant, whose token ends in 1.
+fn acme(rt: &impl Abort) -> Tenant
+    ensures { result.first_clock ≡ 0 }
+{
+    let mut token = [0; 16];
+    token[15] = 1;
+    Tenant {
+        name: Name::new(b"acme").expect(rt, "a name"),
+        token: Uuid::from_bytes(token),
+        first_clock: 0,
+        quota: Quota {
+            versions: 100,
+            bytes: 10000,
+            outbox: 10,
+            contexts: 4,
+            deps: 20,
+            actors: 8,
+            audit: 1000,
+        },
+    }
+}
+
+/// One data centre of one shard, and one tenant.
+pub(crate) fn one_node(rt: &impl Abort, alloc: Global) -> Config
+    ensures sizes { IsTrue (are_sizes result) }
+    ensures clocks { IsTrue (are_clocks result) }
+    ensures tenant { length result.tenants ≡ 1 }
+    ensures data_centre { result.data_centres ≡ 1 }
+{
+    let mut tenants = Tenants::new(alloc);
+    let tenant = acme(rt);
+    assert!(rt; tenants.is_distinct(&tenant));
+    tenants.push(tenant).expect(rt, "memory");
+    Config {
+        data_centres: 1,
+        shards: 1,
+        trans_time: 5000,
+        restarts: 1,
+        tenants,
+    }
+}
+
+/// A session at the only data centre.
+fn session(alloc: Global, config: &Config) -> Session
+    requires sizes { IsTrue (are_sizes config.now) }
+    requires tenant { length config.now.tenants ≡ 1 }
+    ensures { IsOfSizes config.now.data_centres config.now.shards (length config.now.tenants) result.setting }
+{
+    Session::new(alloc, config, 0, 0)
+}
+
+/// The bytes are those that the digits write.
+fn assert_bytes(rt: &impl Abort, alloc: Global, bytes: &[u8], digits: &str) {
+    assert_eq!(rt; bytes, bytes_of(rt, alloc, digits).as_slice());
+}
+
+/// Serves what a client sends, and gives how that ended and the writer.
+pub(crate) fn exchange<R: Read + Drop, W: Write>(
+    rt: &impl Abort,
+    alloc: Global,
+    reader: R,
+    writer: W,
+) -> (Result<Ended, Fault>, W) {
+    let config = one_node(rt, alloc);
+    let mut nodes = Cluster0::new(alloc, &config).expect(rt, "memory");
+    let mut session = session(alloc, &config);
+    let mut moments = Still { moment: 0 };
+    let mut connection = Connection::new(alloc, Source::new(reader), Sink::new(writer));
+    let ended = match connection.greet(&config.tenants, config.data_centres) {
+        Ok(_) => connection.serve(&mut session, &mut nodes, &mut moments),
+        Err(fault) => Err(fault),
+    };
+    let (_, sink) = connection.into_inner();
+    (ended, sink.into_inner())
+}
+
+/// Serves what a client sends, and gives how that ended and what it was answered.
+pub(crate) fn serve(
+    rt: &impl Abort,
+    alloc: Global,
+    client: &[u8],
+) -> (Result<Ended, Fault>, Vec<u8>) {
+    exchange(rt, alloc, client, Vec::new(alloc))
+}
+
+/// A connection on which the client sends these bytes is answered by those, and ends so.
+pub(crate) fn assert_served(
+    rt: &impl Abort,
+    alloc: Global,
+    client: &str,
+    ended: Ended,
+    server: &str,
+) {
+    let (end, replies) = serve(rt, alloc, bytes_of(rt, alloc, client).as_slice());
+    match end {
+        Ok(end) => assert!(rt; end == ended),
+        Err(_) => panic!(rt; "serving"),
+    }
+    assert_bytes(rt, alloc, replies.as_slice(), server);
+}
+
+/// A greeting of these bytes is refused with the fault, and answered by those.
+pub(crate) fn assert_refused(
+    rt: &impl Abort,
+    alloc: Global,
+    client: &str,
+    fault: Fault,
+    server: &str,
+) {
+    let (end, replies) = serve(rt, alloc, bytes_of(rt, alloc, client).as_slice());
+    match end {
+        Ok(_) => panic!(rt; "the greeting was taken"),
+        Err(other) => assert!(rt; other == fault),
+    }
+    assert_bytes(rt, alloc, replies.as_slice(), server);
+}
