@@ -1,6 +1,7 @@
 pub mod ContextRule
 pub mod Examples
 pub mod FaultLemmas
+pub mod WordOrder
 pub mod FrontLemmas
 pub mod GreatestLists
 pub mod Merging

@@ -1,3 +1,4 @@
+pub mod BigEndian
 pub mod Context
 pub mod Counts
 pub mod FaultText
@@ -8,6 +9,7 @@ pub mod HeadProgress
 pub mod HeadReader
 pub mod HeadWords
 pub mod Key
+pub mod KeyHashes
 pub mod Layout
 pub mod LineAnswers
 pub mod LineRules

@@ -6,6 +6,7 @@ mod configs;
 mod contexts;
 mod deps;
 mod faults;
+mod fronts;
 mod growing_deps;
 mod growing_near;
 mod head_lines;

@@ -8,6 +8,7 @@ ghost use Rattle.cops_types.specs.Packed.{SHORT, has_short_key};
 ghost use Rattle.cops_types.specs.Pairs.{IsDeps, holds, version_of, greatest_clock as greatest_clock_of};
 ghost use Rattle.cops_types.specs.Version.{last_clock};
 
+use crate::fronts::order_of_fronts;
 use crate::keys::Key;
 use crate::pair_lists::place_of;
 use crate::pairs::Pair;
@@ -74,10 +75,19 @@ impl ShortPair {
     }
 
     /// How the key stands to another.
+    #[inline(always)]
     fn key_order(&self, key: &Key) -> Ordering
         ensures { result ≡ key_cmp self.now.key key.now }
     {
-        self.bytes[..usize::from(self.len)].cmp(key.bytes())
+        let order = order_of_fronts(&self.bytes, key.front(), 7);
+        if order != Ordering::Equal {
+            return order;
+        }
+        if key.len() <= 15 {
+            Ordering::Equal
+        } else {
+            Ordering::Less
+        }
     }
 }
 

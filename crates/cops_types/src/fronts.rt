@@ -1,0 +1,33 @@
+//! The first bytes of texts, compared eight at a time.
+ghost use Rattle.std.specs.Prelude.{◌≡◌, ◌+◌, ◌≤◌, length, take, drop};
+ghost use Rattle.std.specs.Cmp.Lexicographic.{slice_cmp};
+ghost use Rattle.std.specs.Ordering.{nat_cmp};
+ghost use Rattle.cops_types.specs.BigEndian.{big_endian};
+
+use std::cmp::Ordering;
+
+/// The eight bytes from a place on as one number, the first of them highest.
+#[inline(always)]
+fn word_at(cells: &[u8], at: usize) -> u64
+    requires { at + 8 ≤ length cells.now }
+    ensures { result ≡ big_endian 0 (take 8 (drop at cells.now)) }
+{
+    let mut word = [0; 8];
+    word.copy_from_slice(&cells[at..at + 8]);
+    u64::from_be_bytes(word)
+}
+
+/// How the first bytes of two texts are ordered: the first eight, and eight from `second` on. Each
+/// eight are compared as one number.
+#[inline(always)]
+pub(crate) fn order_of_fronts(cells: &[u8], others: &[u8], second: usize) -> Ordering
+    requires second { second ≤ 8 }
+    requires cells { second + 8 ≤ length cells.now }
+    requires others { second + 8 ≤ length others.now }
+    ensures { result ≡ slice_cmp nat_cmp (take (second + 8) cells.now) (take (second + 8) others.now) }
+{
+    match word_at(cells, 0).cmp(&word_at(others, 0)) {
+        Ordering::Equal => word_at(cells, second).cmp(&word_at(others, second)),
+        order => order,
+    }
+}
