@@ -23,6 +23,7 @@ pub mod Pairs
 pub mod Records
 pub mod Refusal
 pub mod RunFaults
+pub mod Same
 pub mod Search
 pub mod Sink
 pub mod Slots

@@ -1,7 +1,9 @@
-ghost use Rattle.std.specs.Prelude.{◌≡◌, ◌<◌, ◌≤◌, [], ◌∷◌, length, slice_index_or, IfOk, OnOk, OnErr};
-ghost use Rattle.cops_types.specs.Pairs.{holds, version_of, joined, is_over, greatest_clock as greatest_clock_of};
+ghost use Rattle.std.specs.Prelude.{◌≡◌, ◌<◌, ◌≤◌, [], ◌∷◌, length, slice_index_or, IfOk, IsTrue, OnOk, OnErr, ◌↔◌};
+ghost use Rattle.cops_types.specs.Pairs.{holds, pairs_eq, version_of, joined, is_over, greatest_clock as greatest_clock_of};
+ghost use Rattle.cops_types.specs.Same.{same_pairs, same_equivalence};
 ghost use Rattle.cops_types.specs.Refusal.{IsAnswer, refused_if};
 ghost use Rattle.cops_types.specs.Version.{last_clock};
+ghost use Rattle.std.specs.Cmp.{partial_equiv_from_equiv};
 
 use crate::faults::Fault;
 use crate::keys::Key;
@@ -133,4 +135,21 @@ impl Deps {
         self.pairs = PackedPairs::copy_of(alloc, pairs.as_slice())?;
         Ok(())
     }
+}
+
+impl PartialEq for Deps {
+    ghost eq = { pairs_eq };
+
+    ghost laws = { partial_equiv_from_equiv (same_equivalence same_pairs) };
+
+    fn eq(&self, other: &Deps) -> bool
+        ensures value { result ≡ pairs_eq self.now other.now }
+        ensures exact { IsTrue result ↔ (self.now ≡ other.now) }
+    {
+        self.pairs.is_same(&other.pairs)
+    }
+}
+
+impl Eq for Deps {
+    ghost laws = { same_equivalence same_pairs };
 }

@@ -1,7 +1,9 @@
-ghost use Rattle.std.specs.Prelude.{◌≡◌, ◌<◌, [], length, slice_index_or, IfOk, OnOk, OnErr};
-ghost use Rattle.cops_types.specs.Pairs.{pair_cmp, is_over};
+ghost use Rattle.std.specs.Prelude.{◌≡◌, ◌<◌, [], length, slice_index_or, IfOk, IsTrue, OnOk, OnErr, ◌↔◌};
+ghost use Rattle.cops_types.specs.Pairs.{pair_cmp, pairs_eq, is_over};
+ghost use Rattle.cops_types.specs.Same.{same_pairs, same_equivalence};
 ghost use Rattle.cops_types.specs.Refusal.{IsAnswer, refused_if};
 ghost use Rattle.cops_types.specs.Search.{add_item};
+ghost use Rattle.std.specs.Cmp.{partial_equiv_from_equiv};
 
 use crate::faults::Fault;
 use crate::packed::PackedPairs;
@@ -96,4 +98,21 @@ impl Near {
         self.pairs = PackedPairs::copy_of(alloc, pairs.as_slice())?;
         Ok(())
     }
+}
+
+impl PartialEq for Near {
+    ghost eq = { pairs_eq };
+
+    ghost laws = { partial_equiv_from_equiv (same_equivalence same_pairs) };
+
+    fn eq(&self, other: &Near) -> bool
+        ensures value { result ≡ pairs_eq self.now other.now }
+        ensures exact { IsTrue result ↔ (self.now ≡ other.now) }
+    {
+        self.pairs.is_same(&other.pairs)
+    }
+}
+
+impl Eq for Near {
+    ghost laws = { same_equivalence same_pairs };
 }

@@ -1,12 +1,14 @@
 //! Lists of pairs as they are kept: a list whose keys are all short takes less memory.
-ghost use Rattle.std.specs.Prelude.{◌≡◌, ◌<◌, ◌≤◌, [], length, slice_index_or, MatchResult, IfOk, IsTrue, nat_le};
+ghost use Rattle.std.specs.Prelude.{◌≡◌, ◌<◌, ◌≤◌, [], length, slice_index_or, MatchResult, IfOk, IsTrue, ◌↔◌, nat_le};
 ghost use Rattle.std.specs.List.{HoldsAt, list_all};
 ghost use Rattle.std.specs.List.Sorted.{IsSearchInRange, IsPartitionPoint};
 ghost use Rattle.std.specs.declared.cmp.Ordering.TheVariants.{Less, Equal, Greater};
 ghost use Rattle.cops_types.specs.Key.{key_cmp};
 ghost use Rattle.cops_types.specs.Packed.{SHORT, has_short_key};
-ghost use Rattle.cops_types.specs.Pairs.{IsDeps, holds, version_of, greatest_clock as greatest_clock_of};
+ghost use Rattle.cops_types.specs.Pairs.{IsDeps, holds, pair_eq, pairs_eq, version_of, greatest_clock as greatest_clock_of};
+ghost use Rattle.cops_types.specs.Same.{same_pair, same_equivalence};
 ghost use Rattle.cops_types.specs.Version.{last_clock};
+ghost use Rattle.std.specs.Cmp.{partial_equiv_from_equiv};
 
 use crate::fronts::order_of_fronts;
 use crate::keys::Key;
@@ -91,6 +93,17 @@ impl ShortPair {
     }
 }
 
+impl PartialEq for ShortPair {
+    ghost eq = { pair_eq };
+
+    ghost laws = { partial_equiv_from_equiv (same_equivalence same_pair) };
+
+    fn eq(&self, other: &ShortPair) -> bool {
+        self.bytes[..usize::from(self.len)] == other.bytes[..usize::from(other.len)]
+            && self.version == other.version
+    }
+}
+
 /// Pairs, all with short keys or in full.
 #[derive(Debug, Drop)]
 enum Rows {
@@ -143,6 +156,27 @@ fn place_among_short(pairs: &[ShortPair], key: &Key) -> Result<usize, usize>
         (IsPartitionPoint (λ p. key_cmp p.key key.now ≡ Less) (λ p. key_cmp p.key key.now ≡ Greater) pairs.now) }
 {
     pairs.binary_search_by(|pair| pair.key_order(key))
+}
+
+/// Whether two pairs are the same.
+fn is_same_pair(pair: Pair, other: Pair) -> bool
+    ensures { IsTrue result ↔ (pair ≡ other) }
+{
+    pair == other
+}
+
+/// Whether two lists of short pairs are the same.
+fn are_same_short(pairs: &[ShortPair], others: &[ShortPair]) -> bool
+    ensures { IsTrue result ↔ (pairs.now ≡ others.now) }
+{
+    pairs == others
+}
+
+/// Whether two lists of pairs in full are the same.
+fn are_same_full(pairs: &[Pair], others: &[Pair]) -> bool
+    ensures { IsTrue result ↔ (pairs.now ≡ others.now) }
+{
+    pairs == others
 }
 
 impl PackedPairs {
@@ -216,6 +250,37 @@ impl PackedPairs {
             Rows::Full(pairs) => Rows::Full(pairs.share(alloc)?),
         };
         Ok(PackedPairs { rows })
+    }
+
+    /// Whether both have the same pairs.
+    pub(crate) fn is_same(&self, other: &PackedPairs) -> bool
+        ensures { IsTrue result ↔ (self.now ≡ other.now) }
+    {
+        match &self.rows {
+            Rows::Short(pairs) => match &other.rows {
+                Rows::Short(others) => are_same_short(pairs.as_slice(), others.as_slice()),
+                Rows::Full(_) => self.is_same_by_pair(other),
+            },
+            Rows::Full(pairs) => match &other.rows {
+                Rows::Short(_) => self.is_same_by_pair(other),
+                Rows::Full(others) => are_same_full(pairs.as_slice(), others.as_slice()),
+            },
+        }
+    }
+
+    /// The same of lists that are kept in different forms.
+    fn is_same_by_pair(&self, other: &PackedPairs) -> bool
+        ensures { IsTrue result ↔ (self.now ≡ other.now) }
+    {
+        if self.len() != other.len() {
+            return false;
+        }
+        for place in 0..self.len() {
+            if !is_same_pair(self.pair(place), other.pair(place)) {
+                return false;
+            }
+        }
+        true
     }
 
     /// Where the key is, or its place.

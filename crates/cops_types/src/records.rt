@@ -1,4 +1,5 @@
-ghost use Rattle.std.specs.Prelude.{◌≡◌, IfOk};
+ghost use Rattle.std.specs.Prelude.{◌≡◌, ◌↔◌, IfOk, IsTrue};
+ghost use Rattle.std.specs.Cmp.{partial_equiv_from_equiv};
 
 use crate::deps::Deps;
 use crate::keys::Key;
@@ -104,6 +105,34 @@ impl Entry {
             Err(_) => Entry::new(alloc, self.parts().copy(alloc)?),
         }
     }
+}
+
+impl PartialEq for Entry {
+    ghost use Rattle.cops_types.specs.Same.{entry_eq, same_entries, same_equivalence};
+
+    ghost eq = { entry_eq };
+
+    ghost laws = { partial_equiv_from_equiv (same_equivalence same_entries) };
+
+    fn eq(&self, other: &Entry) -> bool
+        ensures value { result ≡ entry_eq self.now other.now }
+        ensures exact { IsTrue result ↔ (self.now ≡ other.now) }
+    {
+        let parts = self.parts();
+        let others = other.parts();
+        parts.version == others.version
+            && parts.key == others.key
+            && parts.prev == others.prev
+            && parts.value == others.value
+            && parts.near == others.near
+            && parts.deps == others.deps
+    }
+}
+
+impl Eq for Entry {
+    ghost use Rattle.cops_types.specs.Same.{same_entries, same_equivalence};
+
+    ghost laws = { same_equivalence same_entries };
 }
 
 impl Record {

@@ -194,3 +194,12 @@ fn a_copy_of_a_near_list_keeps_what_it_had(rt: HostRuntime) {
     near.add(long(&rt, 1), 3).expect(&rt, "room");
     assert_near(&rt, &copy, &[short(&rt, 1), short(&rt, 2)]);
 }
+
+#[test]
+fn lists_of_the_same_pairs_are_equal(rt: HostRuntime) {
+    let alloc = rt.alloc();
+    let list = brief(&rt, alloc);
+    assert!(rt; list == brief(&rt, alloc) && list != mixed(&rt, alloc));
+    assert!(rt; mixed(&rt, alloc) == mixed(&rt, alloc));
+    assert!(rt; list != deps(&rt, alloc, &[first(&rt, 2), short(&rt, 8)]));
+}
