@@ -1,6 +1,7 @@
 pub mod Log
 pub mod Place
 pub mod Run
+pub mod Same
 pub mod Shape
 pub mod SoloNode
 pub mod Step

@@ -4,6 +4,7 @@
 mod calls;
 mod cluster;
 mod commits;
+mod comparing;
 mod copies;
 mod gets;
 mod laws;
