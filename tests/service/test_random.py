@@ -74,6 +74,10 @@ class Talk(threading.Thread):
         self.connection, self.count, self.ahead = connection, count, ahead
         self.error: BaseException | None = None
 
+    def wanted(self) -> int:
+        """How many requests are sent in all."""
+        return self.count
+
     def next_request(self) -> Message:
         raise NotImplementedError
 
@@ -90,8 +94,8 @@ class Talk(threading.Thread):
     def talk(self) -> None:
         asked: deque[Message] = deque()
         sent = 0
-        while sent < self.count or asked:
-            batch = [self.next_request() for _ in range(min(self.ahead - len(asked), self.count - sent))]
+        while sent < self.wanted() or asked:
+            batch = [self.next_request() for _ in range(min(self.ahead - len(asked), self.wanted() - sent))]
             self.connection.send(*batch)
             sent += len(batch)
             asked.extend(batch)
