@@ -2,12 +2,14 @@
 
 from __future__ import annotations
 
+import subprocess
 import unittest
 
-from service import Tenant, call
+import service
+from service import Tenant
 
-#: Whether audits are replayed; not so where the program can't do it yet.
-REPLAYS = True
+#: The command that replays audits, where it isn't the program under test.
+REPLAY: list[str] = []
 
 
 def records(audit: str, tenant: Tenant) -> list[str]:
@@ -17,13 +19,16 @@ def records(audit: str, tenant: Tenant) -> list[str]:
     return [f"{node} {rest}" for _, node, _, rest in own]
 
 
+def replay(audit: str, name: str) -> subprocess.CompletedProcess[str]:
+    command = [*(REPLAY or service.PROGRAM), "replay", name]
+    return subprocess.run(command, input=audit, capture_output=True, text=True, timeout=service.SERVICE_TIME)
+
+
 def check_replays(test: unittest.TestCase, audit: str, tenants: list[Tenant]) -> None:
     """Each tenant's records are replayed alike, all of them; and a changed one isn't."""
-    if not REPLAYS:
-        return
     for tenant in tenants:
         count = len(records(audit, tenant))
-        replayed = call(["replay", tenant.name], audit)
+        replayed = replay(audit, tenant.name)
         test.assertEqual((replayed.returncode, replayed.stdout, replayed.stderr), (0, f"same {count}\n", ""))
     lines = audit.splitlines()
     stored = next((place for place, line in enumerate(lines) if " = stored " in line), None)
@@ -31,5 +36,5 @@ def check_replays(test: unittest.TestCase, audit: str, tenants: list[Tenant]) ->
         name = lines[stored].split(" ")[0]
         before = sum(line.startswith(name + " ") for line in lines[lines.index("begin") + 1 : stored])
         lines[stored] = lines[stored].rsplit(" ", 1)[0] + " 77.0"
-        replayed = call(["replay", name], "\n".join(lines) + "\n")
+        replayed = replay("\n".join(lines) + "\n", name)
         test.assertEqual((replayed.returncode, replayed.stdout), (0, f"differs {before + 1}\n"))

@@ -3,6 +3,7 @@
 from __future__ import annotations
 
 import pathlib
+import shlex
 import sys
 import time
 import unittest
@@ -28,12 +29,11 @@ class Timed(unittest.TextTestResult):
 
 def main() -> int:
     words = sys.argv[1:]
-    if words[:1] == ["--without-replay"]:
-        print("audits are not replayed")
-        audits.REPLAYS = False
-        del words[0]
-    if not words:
-        print("usage: run [--without-replay] PROGRAM [WORD ..]", file=sys.stderr)
+    if words[:1] == ["--replay-by"] and len(words) > 2:
+        audits.REPLAY[:] = shlex.split(words[1])
+        del words[:2]
+    if not words or words[0].startswith("-"):
+        print("usage: run [--replay-by COMMAND] PROGRAM [WORD ..]", file=sys.stderr)
         return 2
     program = pathlib.Path(words[0])
     service.PROGRAM[:] = [str(program.resolve()) if program.exists() else str(program), *words[1:]]

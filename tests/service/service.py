@@ -52,11 +52,6 @@ def head(tenants: list[Tenant], data_centres: int = 1, shards: int = 1, trans_ti
     return "\n".join(lines) + "\n"
 
 
-def call(words: list[str], text: str, seconds: float = SERVICE_TIME) -> subprocess.CompletedProcess[str]:
-    """A command of the program over some input, to its end."""
-    return subprocess.run([*PROGRAM, *words], input=text, capture_output=True, text=True, timeout=seconds)
-
-
 def _free_port() -> int:
     with socket.socket() as probe:
         probe.bind(("127.0.0.1", 0))
