@@ -43,14 +43,18 @@ tenants_in (Begun config) = config.tenants
 
 -- ---- lines of a head, as they are cut
 
+-- a script's lines are read as far as a head's may go
+pub wide : 8192 ≤ longest_line
+wide = omega arith
+
 -- a long line is no line of a head, cut or not
-pub cut_in_head : (front : Front) (line : List ℕ) → front_after front (cut_line longest_line line) ≡ front_after front line
-cut_in_head front line = by_test (nat_lt 8193 (length line))
+pub cut_in_head : (limit : ℕ) → 8192 ≤ limit → (front : Front) (line : List ℕ) → front_after front (cut_line limit line) ≡ front_after front line
+cut_in_head limit wide front line = by_test (nat_lt (limit + 1) (length line))
     (λ is.
-    let long : 8193 < length line = grind (arith, nat_tests) in
-    let size : length (take 8193 line) ≡ 8193 = length-take 8193 line ∙ omega arith in
-    none_of (take 8193 line) (λ short. omega (arith, size, short)) ∙ sym (none_of line (λ short. omega (arith, short))))
-    (λ is. let short : length line ≤ 8193 = grind (arith, nat_tests) in ap (front_after front) (take_all 8193 line short))
+    let long : limit + 1 < length line = grind (arith, nat_tests) in
+    let size : length (take (limit + 1) line) ≡ limit + 1 = length-take (limit + 1) line ∙ omega arith in
+    none_of (take (limit + 1) line) (λ short. omega (arith, size, short)) ∙ sym (none_of line (λ short. omega (arith, short))))
+    (λ is. let short : length line ≤ limit + 1 = grind (arith, nat_tests) in ap (front_after front) (take_all (limit + 1) line short))
   where
     none_of : (l : List ℕ) → (length l ≤ 8192 → ⊥) → front_after front l ≡ None
     none_of l long = by_found (front_after front l) refl
@@ -60,13 +64,13 @@ cut_in_head front line = by_test (nat_lt 8193 (length line))
         by_found (Some next) e = absurd (long (front_after-short front l next e))
 
 -- lines that a machine has seen are cut from the real ones
-pub real_lines : (lines cut others : List (List ℕ)) → map (cut_line longest_line) lines ≡ cut ++ others → (front : List (List ℕ)) × (rest : List (List ℕ)) × (lines ≡ front ++ rest) × (cut ≡ map (cut_line longest_line) front) × (others ≡ map (cut_line longest_line) rest)
-real_lines lines [] others e = ([], lines, refl, refl, sym e)
-real_lines [] (c ∷ cut) others e = cc
-real_lines (line ∷ lines) (c ∷ cut) others e =
-    let first : cut_line longest_line line ≡ c = cc in
-    let later : map (cut_line longest_line) lines ≡ cut ++ others = cc in
-    let rest = real_lines lines cut others later in
+pub real_lines : (limit : ℕ) (lines cut others : List (List ℕ)) → map (cut_line limit) lines ≡ cut ++ others → (front : List (List ℕ)) × (rest : List (List ℕ)) × (lines ≡ front ++ rest) × (cut ≡ map (cut_line limit) front) × (others ≡ map (cut_line limit) rest)
+real_lines limit lines [] others e = ([], lines, refl, refl, sym e)
+real_lines limit [] (c ∷ cut) others e = cc
+real_lines limit (line ∷ lines) (c ∷ cut) others e =
+    let first : cut_line limit line ≡ c = cc in
+    let later : map (cut_line limit) lines ≡ cut ++ others = cc in
+    let rest = real_lines limit lines cut others later in
     (line ∷ rest.0, rest.1, ap (λ l. line ∷ l) rest.2, (λ i. sym first i ∷ rest.3 i), rest.4)
 
 -- ---- how many lines the head has
@@ -157,27 +161,27 @@ refused_line W front count head line bad here refused = (sym (ap (λ r. front_wi
 
 -- ---- runs
 
-module _ {S W F : Type 0} (rules : Rules S F) (stage : S → Script W) (Same : S → Type 0) (Starts : Config → W → Type 0)
+module _ {S W F : Type 0} (limit : ℕ) (wide : 8192 ≤ limit) (rules : Rules S F) (stage : S → Script W) (Same : S → Type 0) (Starts : Config → W → Type 0)
     (steps : (s : S) (head : HeadSoFar) → stage s ≡ Head head → Same s → (line text : List ℕ) (new : S) → rules.answers s line text new → Same new × HeadAnswers Starts head line text (stage new)) where
   -- a run that begins in the head ends in it, or past it
   pub data HeadRun (front : Front) (count : ℕ) (lines : List (List ℕ)) (text : List ℕ) (state : S) : Type 0 where
     InHead : (next : Front) (later : ℕ) → IsCounted next later → is_begun next ≡ false → IsHeadAt next later (stage state) → Same state → text ≡ []
         → ((others : List (List ℕ)) → reading_from (lines ++ others) (count + 1) front ≡ reading_from others (later + 1) next) → HeadRun front count lines text state
     PastHead : (config : Config) (rest : List (List ℕ)) (s : S) (world : W) → AreGood (Begun config) → AreApart config.tenants → stage s ≡ Running world → Same s → Starts config world
-        → Run rules s (map (cut_line longest_line) rest) text state
+        → Run rules s (map (cut_line limit) rest) text state
         → ((others : List (List ℕ)) → reading_from (lines ++ others) (count + 1) front ≡ Whole config (rest ++ others)) → HeadRun front count lines text state
 
   -- one line of the head, and what the run does from there
   head_line : (line : List ℕ) (lines : List (List ℕ)) (front : Front) (count : ℕ) (text : List ℕ) (state : S) (first later : List ℕ) (mid : S) (next : Front) →
       IsCounted front count → is_begun front ≡ false → front_after front line ≡ Some next → first ≡ [] → Same mid → GoesOn Starts count next (stage mid) →
-      Run rules mid (map (cut_line longest_line) lines) later state → text ≡ first ++ later →
-      ((on : Front) (n : ℕ) (m : S) → IsCounted on n → is_begun on ≡ false → Same m → IsHeadAt on n (stage m) → Run rules m (map (cut_line longest_line) lines) text state → HeadRun on n lines text state) →
+      Run rules mid (map (cut_line limit) lines) later state → text ≡ first ++ later →
+      ((on : Front) (n : ℕ) (m : S) → IsCounted on n → is_begun on ≡ false → Same m → IsHeadAt on n (stage m) → Run rules m (map (cut_line limit) lines) text state → HeadRun on n lines text state) →
       HeadRun front count (line ∷ lines) text state
   head_line line lines front count text state first later mid AtStart c still e silent same goes run whole on_from = absurd goes
   head_line line lines front count text state first later mid (Within config) c still e silent same goes run whole on_from =
       let n = counted_next front count line config c e in
       let text_is : later ≡ text = sym (whole ∙ ap (λ t. t ++ later) silent) in
-      let run_on = subst (λ t. Run rules mid (map (cut_line longest_line) lines) t state) text_is run in
+      let run_on = subst (λ t. Run rules mid (map (cut_line limit) lines) t state) text_is run in
       one_more (on_from (Within config) (counted count) mid n refl same goes run_on)
     where
       number : counted count + 1 ≡ count + 1 + 1
@@ -193,22 +197,22 @@ module _ {S W F : Type 0} (rules : Rules S F) (stage : S → Script W) (Same : S
       let text_is : later ≡ text = sym (whole ∙ ap (λ t. t ++ later) silent) in
       let follows = front_after-is front line (Begun config) e in
       PastHead config lines mid world (follows-good front line (Begun config) c.good follows) (apart_of_begun front line config c.apart follows) is same fresh
-      (subst (λ t. Run rules mid (map (cut_line longest_line) lines) t state) text_is run)
+      (subst (λ t. Run rules mid (map (cut_line limit) lines) t state) text_is run)
       (λ others. read_once front (count + 1) line (lines ++ others) (Begun config) still e)
 
   pub heads : (lines : List (List ℕ)) (front : Front) (count : ℕ) (m : S) (text : List ℕ) (state : S) → IsCounted front count → is_begun front ≡ false → Same m → IsHeadAt front count (stage m) →
-      Run rules m (map (cut_line longest_line) lines) text state → HeadRun front count lines text state
+      Run rules m (map (cut_line limit) lines) text state → HeadRun front count lines text state
   heads [] front count m text state c still same here h =
       InHead front count c still (subst (λ s. IsHeadAt front count (stage s)) (sym h.1) here) (subst Same (sym h.1) same) h.0 (λ others. refl)
   heads (line ∷ lines) front count m text state c still same here (first, mid, later, answered, run, whole) = by (stage m) refl (λ n k s. heads lines n k s text state)
     where
       by : (st : Script W) → stage m ≡ st →
-          ((n : Front) (k : ℕ) (s : S) → IsCounted n k → is_begun n ≡ false → Same s → IsHeadAt n k (stage s) → Run rules s (map (cut_line longest_line) lines) text state → HeadRun n k lines text state) →
+          ((n : Front) (k : ℕ) (s : S) → IsCounted n k → is_begun n ≡ false → Same s → IsHeadAt n k (stage s) → Run rules s (map (cut_line limit) lines) text state → HeadRun n k lines text state) →
           HeadRun front count (line ∷ lines) text state
       by (Running world) e on = absurd (subst (IsHeadAt front count) e here)
       by (Head head) e on =
           let at = subst (IsHeadAt front count) e here in
-          let step = steps m head e same (cut_line longest_line line) first mid answered in
+          let step = steps m head e same (cut_line limit line) first mid answered in
           let next = step.1.0 in
-          let found : front_after front line ≡ Some next = sym (cut_in_head front line) ∙ sym (ap (λ r. front_with r (cut_line longest_line line)) at.0) ∙ step.1.1 in
+          let found : front_after front line ≡ Some next = sym (cut_in_head limit wide front line) ∙ sym (ap (λ r. front_with r (cut_line limit line)) at.0) ∙ step.1.1 in
           head_line line lines front count text state first later mid next c still found step.1.2 step.0 (subst (λ n. GoesOn Starts n next (stage mid)) at.1 step.1.3) run whole on

@@ -34,7 +34,7 @@ use Rattle.cops_world.specs.ScriptRuns.{Answers, AreAnswered, acts_in, addressee
 use Rattle.cops_world.proofs.AnswersTo.{IsThere, said_in-there, new_at, answers_to-from}
 use Rattle.cops_world.proofs.CutLemmas.{said_in-cut}
 use Rattle.cops_world.proofs.Fronts.{KeepsFronts, act_keeps, answers_to-along, named_by, no_replies, nobody_keeps, replies_along, said_in-named, unformed_keeps}
-use Rattle.cops_world.proofs.HeadRuns.{HeadRun, InHead, PastHead, bad_end, bad_first, cut_in_head, counted-small, heads, named_of, real_lines, start, refused_line as refused_in_head}
+use Rattle.cops_world.proofs.HeadRuns.{HeadRun, InHead, PastHead, bad_end, bad_first, cut_in_head, counted-small, heads, named_of, real_lines, start, refused_line as refused_in_head, wide}
 use Rattle.cops_world.proofs.MainLemmas.{keeps_causality}
 use Rattle.cops_world.proofs.Sequence.{answers_from}
 use Rattle.cops_world.proofs.WholeHeads.{shards_of}
@@ -184,10 +184,10 @@ module _ {W : Type 0} (setup : W → Config) (StandsFor : W → ℕ → SoloClus
 
   -- a run of the script that begins in its head
   abbrev RunFromHead : List (List ℕ) → List ℕ → Script W → Type 0
-  RunFromHead lines text state = HeadRun (script_rules setup StandsFor) (λ s. s) (λ s. Unit {0}) (IsNew setup StandsFor) steps AtStart 0 lines text state
+  RunFromHead lines text state = HeadRun longest_line wide (script_rules setup StandsFor) (λ s. s) (λ s. Unit {0}) (IsNew setup StandsFor) steps AtStart 0 lines text state
 
   from_head : (lines : List (List ℕ)) (m : Script W) (text : List ℕ) (state : Script W) → IsHeadAt AtStart 0 m → Run (script_rules setup StandsFor) m (map (cut_line longest_line) lines) text state → RunFromHead lines text state
-  from_head lines m text state here = heads (script_rules setup StandsFor) (λ s. s) (λ s. Unit {0}) (IsNew setup StandsFor) steps lines AtStart 0 m text state start refl tt here
+  from_head lines m text state here = heads longest_line wide (script_rules setup StandsFor) (λ s. s) (λ s. Unit {0}) (IsNew setup StandsFor) steps lines AtStart 0 m text state start refl tt here
 
   -- a new world's clusters are new
   stands_new : (config : Config) (world : W) → IsNew setup StandsFor config world → AllStand world (new_at config)
@@ -270,7 +270,7 @@ module _ {W : Type 0} (setup : W → Config) (StandsFor : W → ℕ → SoloClus
     stopped : (bytes : List ℕ) (lines others : List (List ℕ)) (text : List ℕ) (machine : Script W) → cut_lines longest_line bytes ≡ lines ++ others → Run (script_rules setup StandsFor) begins lines text machine →
         Stopped bytes lines others text machine
     stopped bytes lines others text machine e run =
-        let real = real_lines (lines_of bytes) lines others e in
+        let real = real_lines longest_line (lines_of bytes) lines others e in
         record {
           front = real.0;
           rest = real.1;
@@ -351,7 +351,7 @@ module _ {W : Type 0} (setup : W → Config) (StandsFor : W → ℕ → SoloClus
             by_run (InHead next later n still is tied silent reads) (real ∷ rest) whole same =
                 let cut : line ≡ cut_line longest_line real = cc in
                 let none = refused_line next later p.machine line bad is refused in
-                let stuck : front_after next real ≡ None = sym (cut_in_head next real) ∙ ap (front_after next) (sym cut) ∙ none.0 in
+                let stuck : front_after next real ≡ None = sym (cut_in_head longest_line wide next real) ∙ ap (front_after next) (sym cut) ∙ none.0 in
                 (ap head_of whole ∙ reads (real ∷ rest) ∙ bad_first next (later + 1) real rest still stuck ∙ ap BadAt (sym (none.1 ∙ counted-small next later n)), silent)
 
         at_end : end_refuses setup StandsFor p.machine bad → Stopped bytes p.lines [] p.text p.machine → Bad

@@ -31,7 +31,7 @@ use Rattle.cops_world.specs.ScriptWorlds.{IsLeftBy, IsLeftByRead, IsRunning}
 use Rattle.cops_world.specs.SilentRules.{IsDone, silent_answers, silent_answers_in, silent_end_answers, silent_end_answers_in, silent_end_refuses_in, silent_refuses_in, silent_rules}
 use Rattle.cops_world.proofs.AnswersTo.{IsThere, said_in-there, new_at}
 use Rattle.cops_world.proofs.CutLemmas.{said_in-cut}
-use Rattle.cops_world.proofs.HeadRuns.{HeadRun, InHead, PastHead, bad_end, bad_first, cut_in_head, counted-small, heads, named_of, real_lines, start, refused_line as refused_in_head}
+use Rattle.cops_world.proofs.HeadRuns.{HeadRun, InHead, PastHead, bad_end, bad_first, cut_in_head, counted-small, heads, named_of, real_lines, start, refused_line as refused_in_head, wide}
 
 by_test : {C : Type 0} (b : Bool) → (b ≡ true → C) → (b ≡ false → C) → C
 by_test {C} true holds fails = holds refl
@@ -117,10 +117,10 @@ module _ {W : Type 0} (setup : W → Config) (StandsFor : W → ℕ → SoloClus
   steps s head is same line text new h = (tt, subst (λ (st : Script W). silent_answers_in setup StandsFor st line text new.script) is h)
 
   abbrev RunFromHead : List (List ℕ) → List ℕ → SilentScript W → Type 0
-  RunFromHead lines text state = HeadRun (silent_rules setup StandsFor) (λ s. s.script) (λ s. Unit {0}) (IsNew setup StandsFor) steps AtStart 0 lines text state
+  RunFromHead lines text state = HeadRun longest_line wide (silent_rules setup StandsFor) (λ s. s.script) (λ s. Unit {0}) (IsNew setup StandsFor) steps AtStart 0 lines text state
 
   from_head : (lines : List (List ℕ)) (m : SilentScript W) (text : List ℕ) (state : SilentScript W) → IsHeadAt AtStart 0 m.script → Run (silent_rules setup StandsFor) m (map (cut_line longest_line) lines) text state → RunFromHead lines text state
-  from_head lines m text state here = heads (silent_rules setup StandsFor) (λ s. s.script) (λ s. Unit {0}) (IsNew setup StandsFor) steps lines AtStart 0 m text state start refl tt here
+  from_head lines m text state here = heads longest_line wide (silent_rules setup StandsFor) (λ s. s.script) (λ s. Unit {0}) (IsNew setup StandsFor) steps lines AtStart 0 m text state start refl tt here
 
   stands_new : (config : Config) (world : W) → IsNew setup StandsFor config world → Stand config world (new_at config)
   stands_new config world fresh = λ slot below. fresh.empty slot below
@@ -193,7 +193,7 @@ module _ {W : Type 0} (setup : W → Config) (StandsFor : W → ℕ → SoloClus
     stopped : (bytes : List ℕ) (lines others : List (List ℕ)) (text : List ℕ) (machine : SilentScript W) → cut_lines longest_line bytes ≡ lines ++ others → Run (silent_rules setup StandsFor) begins lines text machine →
         Stopped bytes others text machine
     stopped bytes lines others text machine e run =
-        let real = real_lines (lines_of bytes) lines others e in
+        let real = real_lines longest_line (lines_of bytes) lines others e in
         record {
           front = real.0;
           rest = real.1;
@@ -229,7 +229,7 @@ module _ {W : Type 0} (setup : W → Config) (StandsFor : W → ℕ → SoloClus
             by_run (InHead next later n still is tied silent reads) (real ∷ rest) whole same =
                 let cut : line ≡ cut_line longest_line real = cc in
                 let none = refused_line next later p.machine.script line bad is refused in
-                let stuck : front_after next real ≡ None = sym (cut_in_head next real) ∙ ap (front_after next) (sym cut) ∙ none.0 in
+                let stuck : front_after next real ≡ None = sym (cut_in_head longest_line wide next real) ∙ ap (front_after next) (sym cut) ∙ none.0 in
                 ap head_of whole ∙ reads (real ∷ rest) ∙ bad_first next (later + 1) real rest still stuck ∙ ap BadAt (sym (none.1 ∙ counted-small next later n))
 
         at_end : silent_end_refuses_in setup StandsFor p.machine.script bad → Stopped bytes [] p.text p.machine → Bad

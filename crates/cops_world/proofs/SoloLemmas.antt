@@ -41,7 +41,7 @@ use Rattle.cops_world.specs.SoloRuns.{IsRefusedFor, WritesSolo, WritesSoloFront}
 use Rattle.cops_world.proofs.AnswersTo.{said_in-there}
 use Rattle.cops_world.proofs.ApartTenants.{AreApart, found_at, only_one}
 use Rattle.cops_world.proofs.CutLemmas.{said_in-cut, same_first}
-use Rattle.cops_world.proofs.HeadRuns.{HeadRun, InHead, IsCounted, PastHead, bad_end, bad_first, counted-small, cut_in_head, heads, named_of, read_once, real_lines, start, refused_line as refused_in_head}
+use Rattle.cops_world.proofs.HeadRuns.{HeadRun, InHead, IsCounted, PastHead, bad_end, bad_first, counted-small, cut_in_head, heads, named_of, read_once, real_lines, start, refused_line as refused_in_head, wide}
 use Rattle.cops_world.proofs.Fronts.{no_replies}
 use Rattle.cops_world.proofs.ScriptLemmas.{AreGiven, given_answered, given_line, given_right, given_whole, setup_after}
 use Rattle.cops_world.proofs.WholeHeads.{shards_of}
@@ -97,10 +97,10 @@ module _ {W : Type 0} (setup : W → Config) (StandsFor : W → ℕ → SoloClus
       (h.0 ∙ same, subst (λ n. HeadAnswers (StartsAlone setup StandsFor n) head line text new.script) same (subst (λ (st : Script W). solo_answers_in setup StandsFor s.name st line text new.script) is h.1))
 
   abbrev RunFromHead : List (List ℕ) → List ℕ → SoloScript W → Type 0
-  RunFromHead lines text state = HeadRun (solo_rules setup StandsFor) (λ s. s.script) (λ s. s.name ≡ name) (StartsAlone setup StandsFor name) steps AtStart 0 lines text state
+  RunFromHead lines text state = HeadRun longest_line wide (solo_rules setup StandsFor) (λ s. s.script) (λ s. s.name ≡ name) (StartsAlone setup StandsFor name) steps AtStart 0 lines text state
 
   from_head : (lines : List (List ℕ)) (s : SoloScript W) (text : List ℕ) (state : SoloScript W) → s.name ≡ name → IsHeadAt AtStart 0 s.script → Run (solo_rules setup StandsFor) s (map (cut_line longest_line) lines) text state → RunFromHead lines text state
-  from_head lines s text state same here = heads (solo_rules setup StandsFor) (λ s. s.script) (λ s. s.name ≡ name) (StartsAlone setup StandsFor name) steps lines AtStart 0 s text state start refl same here
+  from_head lines s text state same here = heads longest_line wide (solo_rules setup StandsFor) (λ s. s.script) (λ s. s.name ≡ name) (StartsAlone setup StandsFor name) steps lines AtStart 0 s text state start refl same here
 
   -- ---- the tenant alone
 
@@ -175,7 +175,7 @@ module _ {W : Type 0} (setup : W → Config) (StandsFor : W → ℕ → SoloClus
 
     stopped : (bytes : List ℕ) (lines others : List (List ℕ)) (text : List ℕ) (machine : SoloScript W) → cut_lines longest_line bytes ≡ lines ++ others → Run (solo_rules setup StandsFor) begins lines text machine → Stopped bytes others text machine
     stopped bytes lines others text machine e run =
-        let real = real_lines (lines_of bytes) lines others e in
+        let real = real_lines longest_line (lines_of bytes) lines others e in
         record {
           front = real.0;
           rest = real.1;
@@ -244,10 +244,10 @@ module _ {W : Type 0} (setup : W → Config) (StandsFor : W → ℕ → SoloClus
     read_to : (bytes : List ℕ) (front : List (List ℕ)) (real : List ℕ) (rest : List (List ℕ)) (next : Front) (later : ℕ) (line : List ℕ) (refusal : SoloRefusal) → IsCounted next later → is_begun next ≡ false → lines_of bytes ≡ front ++ real ∷ rest →
         line ≡ cut_line longest_line real → ((others : List (List ℕ)) → reading_from (front ++ others) 1 AtStart ≡ reading_from others (later + 1) next) → RefusesNext next later line refusal → IsRefusedFor name bytes refusal
     read_to bytes front real rest next later line (BadConfig bad) n still whole cut reads (none, number) =
-        let stuck : front_after next real ≡ None = sym (cut_in_head next real) ∙ ap (front_after next) (sym cut) ∙ none in
+        let stuck : front_after next real ≡ None = sym (cut_in_head longest_line wide next real) ∙ ap (front_after next) (sym cut) ∙ none in
         ap head_of whole ∙ reads (real ∷ rest) ∙ bad_first next (later + 1) real rest still stuck ∙ ap BadAt (sym (number ∙ counted-small next later n))
     read_to bytes front real rest next later line UnknownTenant n still whole cut reads (config, found, none) =
-        let last : front_after next real ≡ Some (Begun config) = sym (cut_in_head next real) ∙ ap (front_after next) (sym cut) ∙ found in
+        let last : front_after next real ≡ Some (Begun config) = sym (cut_in_head longest_line wide next real) ∙ ap (front_after next) (sym cut) ∙ found in
         let head : head_of (lines_of bytes) ≡ Whole config rest = ap head_of whole ∙ reads (real ∷ rest) ∙ read_once next (later + 1) real rest (Begun config) still last in
         ap (solo_after name) head ∙ ap (λ o. elim o [ None ↦ NoTenant | Some slot ↦ Written (solo_text config name rest) ]) none
 

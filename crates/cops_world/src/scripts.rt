@@ -32,7 +32,7 @@ pub enum Script<W> {
 
 /// Reads one more line of a head, and gives the configuration where the line ends it. After want of
 /// memory the line may be read again.
-pub(crate) fn read_head(
+pub fn read_head(
     alloc: Global,
     head: &mut HeadSoFar,
     line: &[u8],
