@@ -2,7 +2,7 @@ use Rattle.std.proofs.Common.{◌≡◌, ◌∙◌, ℕ, ◌<◌, ap, refl, subs
 use Rattle.std.specs.Vec.{with_items}
 use Rattle.cops_outbox.specs.declared.rows.Span.{Span}
 use Rattle.cops_outbox.specs.declared.rows.Line.{Line}
-use Rattle.cops_outbox.specs.Lines.{nowhere, span_at}
+use Rattle.cops_outbox.specs.Lines.{span_at}
 use Rattle.cops_outbox.proofs.Lines.{kept_there, refilled, none_waited, line_forgotten, turn_released}
 use Rattle.cops_outbox.proofs.rows.clear.Goals as goal
 
