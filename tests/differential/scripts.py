@@ -6,9 +6,11 @@ import uuid
 from dataclasses import dataclass, field
 from random import Random
 
+from cops_client.layout import CLOCK_BITS
+
 MOST = (1 << 64) - 1
 MOST_QUOTA = 4_294_967_295
-GREATEST_CLOCK = (1 << 56) - 1
+GREATEST_CLOCK = (1 << CLOCK_BITS) - 1
 LONGEST_LINE = 8_192
 
 SESSIONS = ["a", "b", "c", "session_of_16_by"]
