@@ -47,12 +47,12 @@ use Rattle.cops_world.proofs.ScriptLemmas.{AreGiven, given_answered, given_line,
 use Rattle.cops_world.proofs.WholeHeads.{shards_of}
 
 -- a tenant of a whole head has a name
-name_of : (tenants : List Tenant) (slot : ℕ) (tenant : Tenant) → AreNamed tenants → slice_get tenants slot ≡ Some tenant → IsTrue (is_name tenant.name)
+pub name_of : (tenants : List Tenant) (slot : ℕ) (tenant : Tenant) → AreNamed tenants → slice_get tenants slot ≡ Some tenant → IsTrue (is_name tenant.name)
 name_of [] slot tenant named at = cc
 name_of (t ∷ tenants) zero tenant named at = subst (λ (x : Tenant). IsTrue (is_name x.name)) (same_value t tenant at) named.0
 name_of (t ∷ tenants) (suc slot) tenant named at = name_of tenants slot tenant named.1 at
 
-short_name : (name : List ℕ) → IsTrue (is_name name) → length name ≤ 16
+pub short_name : (name : List ℕ) → IsTrue (is_name name) → length name ≤ 16
 short_name name named = grind (arith, nat_tests, (both (is_key name) (nat_le (length name) 16) named).1)
 
 module _ {W : Type 0} (setup : W → Config) (StandsFor : W → ℕ → SoloCluster → Type 0) (name : List ℕ) where

@@ -1,0 +1,24 @@
+use Rattle.std.proofs.lemmas.Result.{on_ok_weaker}
+use Rattle.cops_replay.proofs.AuditRunLemmas.{all_audited, front_audited, never_read, never_refused, none_audited, on_err_any, tenants_read}
+use Rattle.cops_replay.proofs.audit_runs.audit_text.Goals as goal
+
+pub returns-in-Err-clause-err : goal.returns-in-Err-clause-err
+returns-in-Err-clause-err g c = none_audited _ _
+
+pub write_world-result-requires : goal.write_world-result-requires
+write_world-result-requires g c = tenants_read c.in-Ok.world _ _ c.in-Ok.ensures.read
+
+pub returns-clause-ok : goal.returns-clause-ok
+returns-clause-ok g c = on_ok_weaker c.write_world-result.result (all_audited c.in-Ok.world _ _ _ c.in-Ok.ensures.ok) c.write_world-result.ensures.ok
+
+pub returns-clause-err : goal.returns-clause-err
+returns-clause-err g c = on_err_any _ c.write_world-result.result (front_audited c.in-Ok.world _ _ _ c.in-Ok.ensures.ok c.write_world-result.ensures.front)
+
+pub returns-clause-bad_head : goal.returns-clause-bad_head
+returns-clause-bad_head g c = never_refused _ c.write_world-result.result c.write_world-result.ensures.fault
+
+pub returns-clause-unwritten : goal.returns-clause-unwritten
+returns-clause-unwritten g c = never_refused _ c.write_world-result.result c.write_world-result.ensures.fault
+
+pub returns-clause-read_fault : goal.returns-clause-read_fault
+returns-clause-read_fault g c is = absurd (never_read c.write_world-result.result c.write_world-result.ensures.fault is)

@@ -1,0 +1,12 @@
+use Rattle.std.proofs.Common.{List, sym, subst, ap, ◌∙◌}
+use Rattle.cops_types.specs.declared.configs.Config.{Config}
+use Rattle.cops_node.specs.Parts.{Shared}
+use Rattle.cops_world.specs.Worlds.{setup_of}
+use Rattle.cops_replay.specs.AuditText.{AreNodesOf}
+use Rattle.cops_replay.proofs.audit_runs.write_world.Goals as goal
+
+pub write_audit-requires-clause-nodes : goal.write_audit-requires-clause-nodes
+write_audit-requires-clause-nodes g c =
+    subst (λ (config : Config). AreNodesOf config c.nodes.result.now) (sym c.config.ensures.value)
+    (subst (AreNodesOf (setup_of c.args.world.now)) (sym c.nodes.ensures.value)
+    (record { by_number = c.nodes.ensures.in_order; each_tenant = c.requires }))

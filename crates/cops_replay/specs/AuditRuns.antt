@@ -1,0 +1,45 @@
+-- What becomes of a script of which the audit is asked for.
+use Rattle.std.specs.Prelude.{◌≡◌, ℕ, ⊤, List, Option, Some, slice_get}
+use Rattle.std.specs.Io.KnownBytes.{Appends}
+use Rattle.cops_types.specs.declared.configs.Tenant.{Tenant}
+use Rattle.cops_types.specs.declared.line_runs.fault.RunFault.{RunFault}
+use Rattle.cops_types.specs.declared.line_runs.fault.RunFault.TheVariants.{OutOfMemory, WriteFault}
+use Rattle.cops_types.specs.Head.{HeadReading, Whole, BadAt, head_of}
+use Rattle.cops_types.specs.Lines.{lines_of}
+use Rattle.cops_types.specs.Sink.{AppendsFront}
+use Rattle.cops_types.specs.TenantConfig.{tenant_config}
+use Rattle.cops_node.specs.Clusters.{HasTenant}
+use Rattle.cops_world.specs.declared.scripts.BadConfig.{BadConfig as BadHead}
+use Rattle.cops_world.specs.Script.{Output, Written, BadConfig}
+use Rattle.cops_world.specs.ScriptRuns.{text_in}
+use Rattle.cops_world.specs.ScriptWorlds.{cluster_left}
+use Rattle.cops_world.specs.Worlds.{KeptWorld, setup_of}
+use Rattle.cops_replay.specs.AuditText.{audit_text}
+
+-- the audit of the nodes that each tenant's lines leave him, who has a cluster to himself
+abbrev pub audit_after : HeadReading → Output
+audit_after (Whole config lines) = Written (audit_text config (λ tenant slot. (cluster_left config lines tenant slot).nodes))
+audit_after (BadAt number) = BadConfig number
+
+abbrev pub audit_out : List ℕ → Output
+audit_out bytes = audit_after (head_of (lines_of bytes))
+
+-- the bytes are a script, and its audit is written
+pub record WritesAudit (bytes : List ℕ) (old_contents new_contents : Option (List ℕ)) : Type 0 where
+  pub text : List ℕ
+  pub is_audit : audit_out bytes ≡ Written text
+  pub written : Appends old_contents new_contents text
+
+-- a front of it is written
+abbrev pub WritesAuditFront : List ℕ → Option (List ℕ) → Option (List ℕ) → Type 0
+WritesAuditFront bytes old_contents new_contents = AppendsFront old_contents new_contents (text_in (audit_out bytes))
+
+-- each slot of the world's nodes is that of its tenant
+abbrev pub HasItsTenants : KeptWorld → Type 0
+HasItsTenants world = (slot : ℕ) (tenant : Tenant) → slice_get (setup_of world).tenants slot ≡ Some tenant → HasTenant (tenant_config (setup_of world) tenant) slot world.nodes
+
+-- memory was refused, or the writer failed
+abbrev pub IsOfWriting : RunFault BadHead → Type 0
+IsOfWriting OutOfMemory = ⊤
+IsOfWriting WriteFault = ⊤
+IsOfWriting other = ⊥

@@ -1,0 +1,64 @@
+-- A replay on its way: a tenant's nodes after the records so far.
+use Rattle.std.specs.Prelude.{◌≡◌, ℕ, Bool, true, false, ◌⊎◌, Option, Some, None, List}
+use Rattle.cops_types.specs.declared.configs.Config.{Config}
+use Rattle.cops_types.specs.Counts.{counted}
+use Rattle.cops_types.specs.TenantConfig.{TenantConfig}
+use Rattle.cops_node.specs.Clusters.{Cluster, nodes_of}
+use Rattle.cops_replay.specs.declared.Record.{Record}
+use Rattle.cops_replay.specs.declared.Replayed.{Replayed}
+use Rattle.cops_replay.specs.declared.Replayed.TheVariants.{Same, FirstDifference}
+use Rattle.cops_replay.specs.Replaying.{Agrees, fresh_nodes, nodes_after}
+use Rattle.cops_replay.specs.Replays.{IsAlone}
+use Rattle.cops_replay.specs.ReplayText.{told_in}
+
+-- the nodes, how many records agreed, and where the first that does not stands
+pub record Standing : Type 0 where
+  pub nodes : Cluster
+  pub passed : ℕ
+  pub found : Option ℕ
+
+-- the nodes are of a cluster of one tenant with these sizes
+pub record HasSizes (config : Config) (nodes : Cluster) : Type 0 where
+  pub data_centres : nodes.shape.data_centres ≡ config.data_centres
+  pub shards : nodes.shape.shards ≡ config.shards
+  pub slots : nodes.shape.slots ≡ 1
+
+-- no record has been replayed
+pub record IsFresh (config : TenantConfig) (replay : Standing) : Type 0 where
+  pub alone : IsAlone config replay.nodes
+  pub nodes_are : nodes_of config 0 replay.nodes ≡ fresh_nodes config
+  pub passed_is : replay.passed ≡ 0
+  pub found_is : replay.found ≡ None
+
+-- the line's record agreed, and the nodes took its turn
+pub record Passes (config : TenantConfig) (line : List ℕ) (old new : Standing) : Type 0 where
+  pub told : Record
+  pub told_is : told_in line ≡ Some told
+  pub agrees : Agrees config told (nodes_of config 0 old.nodes)
+  pub after : nodes_of config 0 new.nodes ≡ nodes_after config told (nodes_of config 0 old.nodes)
+  pub alone : IsAlone config new.nodes
+  pub passed_is : new.passed ≡ counted old.passed
+  pub found_is : new.found ≡ None
+
+-- the line is no record that agrees, and this is its place
+pub record Differs (config : TenantConfig) (line : List ℕ) (old new : Standing) : Type 0 where
+  pub differs : (told : Record) → told_in line ≡ Some told → Agrees config told (nodes_of config 0 old.nodes) → ⊥
+  pub found_is : new.found ≡ Some (counted old.passed)
+
+-- one line was replayed; after a difference none is
+pub record IsReplayedLine (line : List ℕ) (old new : Standing) : Type 0 where
+  pub over : (place : ℕ) → old.found ≡ Some place → new ≡ old
+  pub goes : old.found ≡ None → (config : TenantConfig) → IsAlone config old.nodes → Passes config line old new ⊎ Differs config line old new
+
+-- the next record's place is noted: one more has passed, or it is the first that differs
+abbrev pub IsNoted : Bool → Standing → Standing → Type 0
+IsNoted true old new = (new.nodes ≡ old.nodes) × (new.passed ≡ counted old.passed) × (new.found ≡ old.found)
+IsNoted false old new = new.found ≡ Some (counted old.passed)
+
+-- what has been found so far
+abbrev pub found_so_far : ℕ → Option ℕ → Replayed
+found_so_far passed None = Same passed
+found_so_far passed (Some place) = FirstDifference place
+
+abbrev pub found_of : Standing → Replayed
+found_of replay = found_so_far replay.passed replay.found

@@ -1,0 +1,74 @@
+//! The audit of a script, over any reader and any writer.
+ghost use Rattle.std.specs.Prelude.{◌≡◌, ◌⊎◌, IfErr, IfSome, IsErrOf, OnErr, OnOk};
+ghost use Rattle.std.specs.Io.KnownBytes.{Appends, IsAtEnd, Keeps};
+ghost use Rattle.cops_types.specs.Counts.{HasRisen, HasRisenBy};
+ghost use Rattle.cops_types.specs.Head.{BadAt, head_of};
+ghost use Rattle.cops_types.specs.LineRuns.{IfRunRefused};
+ghost use Rattle.cops_types.specs.Lines.{lines_of};
+ghost use Rattle.cops_types.specs.Sink.{AppendsFront, sink_failures, sink_writer};
+ghost use Rattle.cops_types.specs.Source.{source_failures, source_reader, source_reads};
+ghost use Rattle.cops_world.specs.Worlds.{setup_of};
+ghost use Rattle.cops_replay.specs.AuditText.{audit_of};
+ghost use Rattle.cops_replay.specs.AuditRuns.{HasItsTenants, IsOfWriting, WritesAudit, WritesAuditFront};
+
+use crate::audits::write_audit;
+use cops_types::{Fault, RunFault, Sink, Source};
+use cops_world::{BadConfig, World, script_world};
+use std::alloc::Global;
+use std::io::{Read, Write};
+
+/// Writes the audit of the nodes of a world.
+fn write_world<O: Write>(
+    alloc: Global,
+    sink: &mut Sink<O>,
+    world: &World,
+) -> Result<(), RunFault<BadConfig>>
+    requires { HasItsTenants world.now }
+    ensures ok { OnOk result (Appends (O.contents (sink_writer sink.old)) (O.contents (sink_writer sink.new)) (audit_of (setup_of world.now) world.now.nodes.nodes)) }
+    ensures front { AppendsFront (O.contents (sink_writer sink.old)) (O.contents (sink_writer sink.new)) (audit_of (setup_of world.now) world.now.nodes.nodes) }
+    ensures fault { IfErr result IsOfWriting }
+    ensures write_fault { IsErrOf result RunFault.WriteFault → HasRisen (sink_failures sink.old) (sink_failures sink.new) }
+{
+    match write_audit(alloc, sink, world.config(), world.nodes()) {
+        Ok(()) => Ok(()),
+        Err(Fault::WriteFault) => Err(RunFault::WriteFault),
+        Err(_) => Err(RunFault::OutOfMemory),
+    }
+}
+
+/// Writes the audit of a script: reads it to its end as `run_script` does, does what it says, and
+/// then writes what the audits of the nodes hold, with the head in its one form.
+///
+/// It keeps the world, and no copy of the text. It ends where a reply would say that memory was
+/// refused, and nothing is written then.
+pub fn audit_text<R: Read, O: Write>(
+    alloc: Global,
+    source: &mut Source<R>,
+    sink: &mut Sink<O>,
+) -> Result<(), RunFault<BadConfig>>
+    // All is read, and the audit is written, or a front of it.
+    ensures end { OnOk result (IsAtEnd (R.remaining (source_reader source.new))) }
+    ensures ok { OnOk result (IfSome (R.remaining (source_reader source.old)) (λ bytes.
+        WritesAudit bytes (O.contents (sink_writer sink.old)) (O.contents (sink_writer sink.new)))) }
+    ensures err { OnErr result (IfSome (R.remaining (source_reader source.old)) (λ bytes.
+        WritesAuditFront bytes (O.contents (sink_writer sink.old)) (O.contents (sink_writer sink.new)))) }
+
+    // A head is refused where it is bad, and nothing is written then.
+    ensures bad_head { IfErr result (λ fault. IfRunRefused fault (λ bad.
+        IfSome (R.remaining (source_reader source.old)) (λ bytes. head_of (lines_of bytes) ≡ BadAt bad.line))) }
+    ensures unwritten { IfErr result (λ fault. IfRunRefused fault (λ bad.
+        Keeps (O.contents (sink_writer sink.old)) (O.contents (sink_writer sink.new)))) }
+
+    // The reader or the writer failed in this call, or the bound on turns was met.
+    ensures read_fault { IsErrOf result RunFault.ReadFault →
+        HasRisen (source_failures source.old) (source_failures source.new)
+        ⊎ HasRisenBy (source_reads source.old) (source_reads source.new) 4294967296 }
+    ensures write_fault { IsErrOf result RunFault.WriteFault → HasRisen (sink_failures sink.old) (sink_failures sink.new) }
+{
+    let world = match script_world(alloc, source) {
+        Ok(world) => world,
+        Err(fault) => return Err(fault),
+    };
+    let result = write_world(alloc, sink, &world);
+    result
+}

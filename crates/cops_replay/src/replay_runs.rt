@@ -1,0 +1,57 @@
+//! The replay of one tenant's records of an audit, over any reader and any writer.
+ghost use Rattle.std.specs.Prelude.{◌≡◌, ◌⊎◌, ℕ, List, IfErr, IfSome, IsErrOf, OnErr, OnOk};
+ghost use Rattle.std.specs.Io.KnownBytes.{Appends, IsAtEnd, Keeps};
+ghost use Rattle.cops_types.specs.Counts.{HasRisen, HasRisenBy};
+ghost use Rattle.cops_types.specs.LineRuns.{IfRunRefused};
+ghost use Rattle.cops_types.specs.Sink.{AppendsFront, sink_failures, sink_writer};
+ghost use Rattle.cops_types.specs.Source.{source_failures, source_reader, source_reads};
+ghost use Rattle.cops_world.specs.SoloRuns.{IsRefusedFor};
+ghost use Rattle.cops_replay.specs.ReplayText.{IsReplayOf};
+
+use crate::replay_machine::{ReplayScript, new_replay_script};
+use crate::replayings::LONGEST_RECORD;
+use cops_types::{RunFault, Sink, Source, run_lines};
+use cops_world::SoloRefusal;
+use std::alloc::Global;
+use std::io::{Read, Write};
+
+/// How many turns a reader has.
+const TURNS: u64 = 4_294_967_296;
+
+/// Replays the records of one tenant of an audit, on new nodes that he has to himself: reads the
+/// whole of it, and writes `same N` where each of his N lines is a record whose reply is computed
+/// again, else `differs PLACE`, the place among his lines, from 1, of the first that is not one.
+///
+/// Lines of other tenants, and what follows a difference, are read and passed over. It reads as
+/// `run_script` does, and keeps the nodes and one line of at most 200,001 bytes.
+pub fn replay_text<R: Read, O: Write>(
+    alloc: Global,
+    source: &mut Source<R>,
+    sink: &mut Sink<O>,
+    tenant: &[u8],
+) -> Result<(), RunFault<SoloRefusal>>
+    // All is read, and what is found is written, or a front of that.
+    ensures end { OnOk result (IsAtEnd (R.remaining (source_reader source.new))) }
+    ensures ok { OnOk result (IfSome (R.remaining (source_reader source.old)) (λ bytes.
+        (text : List ℕ) × IsReplayOf tenant.now bytes text × Appends (O.contents (sink_writer sink.old)) (O.contents (sink_writer sink.new)) text)) }
+    ensures err { OnErr result (IfSome (R.remaining (source_reader source.old)) (λ bytes.
+        (text : List ℕ) → IsReplayOf tenant.now bytes text → AppendsFront (O.contents (sink_writer sink.old)) (O.contents (sink_writer sink.new)) text)) }
+
+    // The head is refused where it is bad, and the tenant where it has none of the name; nothing is written then.
+    ensures refused { IfErr result (λ fault. IfRunRefused fault (λ refusal.
+        IfSome (R.remaining (source_reader source.old)) (λ bytes. IsRefusedFor tenant.now bytes refusal))) }
+    ensures unwritten { IfErr result (λ fault. IfRunRefused fault (λ refusal.
+        Keeps (O.contents (sink_writer sink.old)) (O.contents (sink_writer sink.new)))) }
+
+    // The reader or the writer failed in this call, or the bound on turns was met.
+    ensures read_fault { IsErrOf result RunFault.ReadFault →
+        HasRisen (source_failures source.old) (source_failures source.new)
+        ⊎ HasRisenBy (source_reads source.old) (source_reads source.new) 4294967296 }
+    ensures write_fault { IsErrOf result RunFault.WriteFault → HasRisen (sink_failures sink.old) (sink_failures sink.new) }
+{
+    let Ok(replay) = new_replay_script(alloc, tenant) else {
+        return Err(RunFault::OutOfMemory);
+    };
+    let mut replay: ReplayScript = replay;
+    run_lines(&mut replay, alloc, TURNS, LONGEST_RECORD, source, sink)
+}
