@@ -254,6 +254,11 @@ fn main() {
         let runs: Vec<Figures> = (0..times).map(|_| store(&words[1], 2, count)).collect();
         medians(&runs)[1..].iter().map(|figure| figure.1).collect()
     });
+    println!("beside so many keys of others with something stale, in ratio to the first row: a collection that finds one record");
+    grown(&[0, 1_000, 100_000], |count| {
+        let runs: Vec<Figures> = (0..times).map(|_| store(&words[1], 3, count)).collect();
+        medians(&runs)[1..].iter().map(|figure| figure.1).collect()
+    });
 }
 
 /// Prints for each count the figures in ratio to those of the first.

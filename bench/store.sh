@@ -17,7 +17,7 @@ for crate in cops_types cops_store; do
     done
 done
 cp "$here/store_program.rt.txt" "$program/src/main.rt"
-for pair in fill:i collect:i collect_all:slot; do
+for pair in fill:i collect:i collect_little:i collect_all:slot; do
     mkdir -p "$program/proofs/${pair%:*}"
     sed -e "s/FUNCTION/${pair%:*}/" -e "s/LOOP/${pair#*:}/g" "$here/store_program_tenants.antt.txt" >"$program/proofs/${pair%:*}/Invariants.antt"
 done

@@ -166,9 +166,11 @@ fn two_slots_with_one_key(rt: HostRuntime) {
     keep(&rt, alloc, &mut store, 0, b"x", 2, 500);
     keep(&rt, alloc, &mut store, 1, b"x", 1, 1);
     keep(&rt, alloc, &mut store, 1, b"x", 2, 1);
+    collect(&rt, &mut store, 1, 101, 100, 0);
     collect(&rt, &mut store, 1, 102, 100, 1);
     assert_clocks(&rt, &store, 0, b"x", &[1, 2]);
     assert_clocks(&rt, &store, 1, b"x", &[2]);
+    collect(&rt, &mut store, 0, 600, 100, 0);
     collect(&rt, &mut store, 0, 601, 100, 1);
     assert_clocks(&rt, &store, 0, b"x", &[2]);
     assert_clocks(&rt, &store, 1, b"x", &[2]);
