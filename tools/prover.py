@@ -7,6 +7,7 @@ its own, with the crate and those below it, so that several go on side by side: 
 import os
 import re
 import shutil
+import signal
 import subprocess
 import sys
 import tempfile
@@ -95,6 +96,8 @@ class Room:
     """The folder for all copies. What is proved stands in `proved`, a folder for each crate with its `out`."""
 
     def __init__(self):
+        # (so that the folder goes where the run is told to stop)
+        signal.signal(signal.SIGTERM, lambda number, _: sys.exit(128 + number))
         self.held = tempfile.TemporaryDirectory(prefix="cops-")
         self.folder = self.held.name
         os.mkdir(f"{self.folder}/proved")
@@ -124,6 +127,23 @@ class Room:
 
     def drop(self, folder):
         shutil.rmtree(os.path.dirname(os.path.dirname(folder)))
+
+    def build(self, crate):
+        """Takes over what the repository built of a crate that only stands below others, or builds it."""
+        tree = self.tree(crate)
+        folder = f"{tree}/crates/{crate.name}"
+        for part in SOURCES:
+            if os.path.isdir(f"{crate.folder}/{part}"):
+                copy(f"{crate.folder}/{part}", folder)
+        if os.path.isdir(f"{crate.folder}/out/rlib"):
+            copy(f"{crate.folder}/out/rlib", f"{folder}/out", "--reflink=auto")
+        outcome = rt(folder, "lib", "--jobs", "1")
+        if outcome.status:
+            return f"rt lib ended with status {outcome.status}\n{outcome.text[-6000:]}"
+        shutil.rmtree(f"{folder}/out/incremental", ignore_errors=True)
+        os.rename(folder, self.proved(crate))
+        shutil.rmtree(tree)
+        return ""
 
     def prove(self, crate, is_verdict):
         """Proves a crate, over what the repository kept or from nothing; a verdict holds it to more. Returns the seconds and what is wrong, if anything."""
@@ -219,8 +239,8 @@ def module_of(path):
     return inside[1].replace("/", "::") if inside and inside[1] not in ("lib", "main") else ""
 
 
-# What the prover says where a proof file names a step, a goal or a field that the edit took away.
-IS_GONE = re.compile(r"(\./)?proofs/.*(has no field|is not in scope|has no `|was not admitted)")
+# What the prover says where a proof file names a step, a goal or a field that the edit took away, and of what cites that proof.
+IS_GONE = re.compile(r"(\./)?proofs/.*(has no field|is not in scope|has no `|was not admitted|was rejected, was not checked|were not checked)")
 
 
 def judge(outcome, texts):
