@@ -137,15 +137,18 @@ fn each_tenant_has_a_limit(rt: HostRuntime) {
 }
 
 #[test]
-fn each_tenant_has_a_front(rt: HostRuntime) {
-    let mut outbox = with_one_each(&rt, rt.alloc());
-    assert_eq!(rt; seen(&outbox, 1), ((1, 1), (2, 1)));
-    ack(&rt, &mut outbox, 1, 1, 1, Ack::NotFront);
-    assert_eq!(rt; seen(&outbox, 1), ((1, 1), (2, 1)));
-    ack(&rt, &mut outbox, 0, 1, 1, Ack::Acked);
-    assert_eq!(rt; seen(&outbox, 1), ((0, 0), (2, 1)));
-    ack(&rt, &mut outbox, 0, 1, 1, Ack::NotFront);
-    assert_eq!(rt; seen(&outbox, 0), ((0, 0), (0, 0)));
+fn tenants_share_a_queue(rt: HostRuntime) {
+    let alloc = rt.alloc();
+    let mut outbox = outbox(&rt, alloc, 2);
+    let first = entry(&rt, alloc, 1);
+    outbox.push(0, &first, 1).expect(&rt, "room");
+    let second = entry(&rt, alloc, 2);
+    assert_eq!(rt; outbox.push(0, &second, 1), Err(Fault::OutboxFull));
+    outbox.push(1, &first, 1).expect(&rt, "room");
+    assert_eq!(rt; front(&outbox, 1, 1), 1);
+    assert_eq!(rt; outbox.ack(1, 1, version(&rt, 2)), Ack::NotFront);
+    assert_eq!(rt; outbox.ack(0, 1, version(&rt, 1)), Ack::Acked);
+    assert_eq!(rt; front(&outbox, 0, 1), 0);
 }
 
 /// Three entries of one tenant and two of the other.
@@ -160,25 +163,6 @@ fn with_five(rt: &impl Abort, alloc: Global) -> Outbox
     push(rt, alloc, &mut outbox, 1, 5);
     push(rt, alloc, &mut outbox, 0, 3);
     outbox
-}
-
-#[test]
-fn all_data_centres_are_sent_all(rt: HostRuntime) {
-    let outbox = with_five(&rt, rt.alloc());
-    assert_eq!(rt; seen(&outbox, 0), ((0, 0), (0, 0)));
-    assert_eq!(rt; seen(&outbox, 1), ((1, 3), (1, 2)));
-    assert_eq!(rt; seen(&outbox, 2), ((1, 3), (1, 2)));
-}
-
-#[test]
-fn data_centres_acknowledge_at_their_own_pace(rt: HostRuntime) {
-    let mut outbox = with_five(&rt, rt.alloc());
-    ack(&rt, &mut outbox, 0, 1, 2, Ack::NotFront);
-    ack(&rt, &mut outbox, 0, 1, 1, Ack::Acked);
-    ack(&rt, &mut outbox, 0, 1, 2, Ack::Acked);
-    assert_eq!(rt; seen(&outbox, 1), ((3, 1), (1, 2)));
-    assert_eq!(rt; seen(&outbox, 2), ((1, 3), (1, 2)));
-    assert!(rt; outbox.is_full(0, 3) && !outbox.is_full(1, 3));
 }
 
 #[test]
@@ -202,35 +186,6 @@ fn entries_come_to_an_empty_queue(rt: HostRuntime) {
     push(&rt, alloc, &mut outbox, 0, 6);
     assert_eq!(rt; seen(&outbox, 1), ((6, 1), (2, 1)));
     assert_eq!(rt; seen(&outbox, 2), ((1, 2), (2, 1)));
-}
-
-#[test]
-fn one_full_queue_refuses_for_all(rt: HostRuntime) {
-    let alloc = rt.alloc();
-    let mut outbox = outbox(&rt, alloc, 3);
-    push_within(&rt, alloc, &mut outbox, 0, 1, 1);
-    ack(&rt, &mut outbox, 0, 1, 1, Ack::Acked);
-    let second = entry(&rt, alloc, 2);
-    assert_eq!(rt; outbox.push(0, &second, 1), Err(Fault::OutboxFull));
-    assert_eq!(rt; outbox.push(1, &second, 0), Err(Fault::OutboxFull));
-    assert_eq!(rt; seen(&outbox, 0), ((0, 0), (0, 0)));
-    assert_eq!(rt; seen(&outbox, 1), ((0, 0), (0, 0)));
-    assert_eq!(rt; seen(&outbox, 2), ((1, 1), (0, 0)));
-}
-
-#[test]
-fn a_full_queue_that_was_acknowledged_takes_more(rt: HostRuntime) {
-    let alloc = rt.alloc();
-    let mut outbox = with_one_each(&rt, alloc);
-    push_within(&rt, alloc, &mut outbox, 0, 3, 2);
-    let over = entry(&rt, alloc, 4);
-    assert_eq!(rt; outbox.push(0, &over, 2), Err(Fault::OutboxFull));
-    ack(&rt, &mut outbox, 0, 1, 1, Ack::Acked);
-    assert_eq!(rt; outbox.push(0, &over, 2), Err(Fault::OutboxFull));
-    ack(&rt, &mut outbox, 0, 2, 1, Ack::Acked);
-    push_within(&rt, alloc, &mut outbox, 0, 4, 2);
-    assert_eq!(rt; seen(&outbox, 1), ((3, 2), (2, 1)));
-    assert_eq!(rt; seen(&outbox, 2), ((3, 2), (2, 1)));
 }
 
 #[test]

@@ -111,16 +111,6 @@ fn assert_clocks(rt: &impl Abort, store: &Store, slot: usize, name: &[u8], there
     }
 }
 
-#[test]
-fn a_new_store_is_empty(rt: HostRuntime) {
-    let store = store(&rt, rt.alloc(), 2);
-    assert_eq!(rt; clock(store.latest(0, &key(&rt, b"x"))), 0);
-    assert_eq!(rt; clock(store.latest(5, &key(&rt, b"x"))), 0);
-    assert_clocks(&rt, &store, 1, b"x", &[]);
-    assert_in_use(&rt, store.in_use(0), 0, 0);
-    assert_in_use(&rt, store.in_use(1), 0, 0);
-}
-
 /// Collects and asserts how many records go.
 fn collect(rt: &impl Abort, store: &mut Store, slot: usize, now: u64, time: u64, count: u64)
     requires { slot < store.old.tenants }
@@ -158,76 +148,25 @@ fn a_smaller_version_is_stale_from_then_on(rt: HostRuntime) {
     assert_in_use(&rt, store.in_use(0), 1, 3);
 }
 
-#[test]
-fn two_slots_with_one_key(rt: HostRuntime) {
-    let alloc = rt.alloc();
-    let mut store = store(&rt, alloc, 2);
-    keep(&rt, alloc, &mut store, 0, b"x", 1, 500);
-    keep(&rt, alloc, &mut store, 0, b"x", 2, 500);
-    keep(&rt, alloc, &mut store, 1, b"x", 1, 1);
-    keep(&rt, alloc, &mut store, 1, b"x", 2, 1);
-    collect(&rt, &mut store, 1, 101, 100, 0);
-    collect(&rt, &mut store, 1, 102, 100, 1);
-    assert_clocks(&rt, &store, 0, b"x", &[1, 2]);
-    assert_clocks(&rt, &store, 1, b"x", &[2]);
-    collect(&rt, &mut store, 0, 600, 100, 0);
-    collect(&rt, &mut store, 0, 601, 100, 1);
-    assert_clocks(&rt, &store, 0, b"x", &[2]);
-    assert_clocks(&rt, &store, 1, b"x", &[2]);
-}
-
-#[test]
-fn stale_for_longer_than_the_time(rt: HostRuntime) {
-    let alloc = rt.alloc();
-    let mut store = store(&rt, alloc, 2);
-    keep(&rt, alloc, &mut store, 0, b"x", 1, 0);
-    collect(&rt, &mut store, 0, 999999, 5000, 0);
-    keep(&rt, alloc, &mut store, 0, b"x", 2, 100);
-    collect(&rt, &mut store, 1, 990000, 5000, 0);
-    collect(&rt, &mut store, 0, 5100, 5000, 0);
-    collect(&rt, &mut store, 0, 5101, 5000, 1);
-    collect(&rt, &mut store, 0, 5101, 5000, 0);
-    assert_clocks(&rt, &store, 0, b"x", &[2]);
-}
-
-/// Five versions of x, of which 4 is stale since 30 and 3 since 40, and one of y.
-fn with_a_chain(rt: &impl Abort, alloc: Global) -> Store
-    ensures { result.tenants ≡ 1 }
+/// Versions 1 and 2 of x in each slot: the first is stale since 500 in slot 0, and since 1 in slot 1.
+fn with_one_key_in_two_slots(rt: &impl Abort, alloc: Global) -> Store
+    ensures { result.tenants ≡ 2 }
 {
-    let mut store = store(rt, alloc, 1);
-    keep(rt, alloc, &mut store, 0, b"x", 2, 10);
-    keep(rt, alloc, &mut store, 0, b"x", 4, 20);
-    keep(rt, alloc, &mut store, 0, b"x", 8, 30);
-    keep(rt, alloc, &mut store, 0, b"x", 3, 40);
-    keep(rt, alloc, &mut store, 0, b"x", 9, 50);
-    keep(rt, alloc, &mut store, 0, b"y", 1, 50);
+    let mut store = store(rt, alloc, 2);
+    keep(rt, alloc, &mut store, 0, b"x", 1, 500);
+    keep(rt, alloc, &mut store, 0, b"x", 2, 500);
+    keep(rt, alloc, &mut store, 1, b"x", 1, 1);
+    keep(rt, alloc, &mut store, 1, b"x", 2, 1);
     store
 }
 
 #[test]
-fn some_of_a_chain_go(rt: HostRuntime) {
-    let mut store = with_a_chain(&rt, rt.alloc());
-    assert_clocks(&rt, &store, 0, b"x", &[2, 3, 4, 8, 9]);
-    assert_in_use(&rt, store.in_use(0), 6, 18);
-    collect(&rt, &mut store, 0, 30, 10, 0);
-    collect(&rt, &mut store, 0, 31, 10, 1);
-    assert_clocks(&rt, &store, 0, b"x", &[3, 4, 8, 9]);
-    collect(&rt, &mut store, 0, 41, 10, 1);
-    assert_clocks(&rt, &store, 0, b"x", &[3, 8, 9]);
-}
-
-#[test]
-fn all_of_a_chain_but_the_latest_go(rt: HostRuntime) {
-    let alloc = rt.alloc();
-    let mut store = with_a_chain(&rt, alloc);
-    keep(&rt, alloc, &mut store, 0, b"x", 1, 60);
-    collect(&rt, &mut store, 0, 61, 10, 4);
-    assert_clocks(&rt, &store, 0, b"x", &[1, 9]);
-    collect(&rt, &mut store, 0, 71, 10, 1);
-    collect(&rt, &mut store, 0, 99999, 0, 0);
-    assert_clocks(&rt, &store, 0, b"x", &[9]);
-    assert_clocks(&rt, &store, 0, b"y", &[1]);
-    assert_in_use(&rt, store.in_use(0), 2, 6);
+fn two_slots_with_one_key(rt: HostRuntime) {
+    let mut store = with_one_key_in_two_slots(&rt, rt.alloc());
+    collect(&rt, &mut store, 1, 101, 100, 0);
+    collect(&rt, &mut store, 1, 102, 100, 1);
+    collect(&rt, &mut store, 0, 600, 100, 0);
+    collect(&rt, &mut store, 0, 601, 100, 1);
 }
 
 /// Asserts that the version is refused where it would be put, and where the store is asked before.
@@ -259,22 +198,6 @@ fn with_one_each(rt: &impl Abort, alloc: Global) -> Store
     keep(rt, alloc, &mut store, 0, b"x", 1, 0);
     keep(rt, alloc, &mut store, 1, b"x", 1, 0);
     store
-}
-
-#[test]
-fn quotas_are_of_the_slot(rt: HostRuntime) {
-    let alloc = rt.alloc();
-    let few = Quota {
-        versions: 1,
-        ..QUOTA
-    };
-    let mut store = store(&rt, alloc, 2);
-    keep(&rt, alloc, &mut store, 1, b"x", 1, 0);
-    let value = Value::new(alloc, b"10").expect(&rt, "a value");
-    assert!(rt; store.refused(0, &key(&rt, b"x"), &value, &few).is_none());
-    keep_within(&rt, alloc, &mut store, 0, b"x", 1, 0, &few).expect(&rt, "room");
-    assert_in_use(&rt, store.in_use(0), 1, 3);
-    assert_in_use(&rt, store.in_use(1), 1, 3);
 }
 
 #[test]
