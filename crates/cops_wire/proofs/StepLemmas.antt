@@ -10,6 +10,7 @@ use Rattle.cops_node.specs.declared.NodeCall.{NodeCall}
 use Rattle.cops_node.specs.declared.NodeId.{NodeId}
 use Rattle.cops_node.specs.declared.NodeReply.{NodeReply}
 use Rattle.cops_node.specs.Log.{LogStep, Late, Replied, Next, Call, Restart, Ended}
+use Rattle.cops_node.specs.Shape.{Shape}
 use Rattle.cops_session.specs.declared.Answer.{Answer}
 use Rattle.cops_session.specs.declared.Progress.{Progress}
 use Rattle.cops_session.specs.declared.Progress.TheVariants.{Working, Restarted, Done}
@@ -27,27 +28,28 @@ use Rattle.cops_session.specs.Session.{Running, Session, moment_at, request_of, 
 use Rattle.cops_session.specs.SessionStands.{RunningStandsFor, SessionStandsFor, WorkStandsFor}
 use Rattle.cops_session.specs.Stepping as stepping
 use Rattle.cops_session.specs.Transaction.{outdated, reads_of, wanted_version}
-use Rattle.cops_wire.specs.Requests.{Backend, backend, DoesNext, Ends, EndsAfter, GoesOn, HasFewRestarts, HasShown, Steps}
+use Rattle.cops_wire.specs.Requests.{Backend, KeepsShape, backend, DoesNext, Ends, EndsAfter, GoesOn, HasFewRestarts, HasShown, Steps}
 use Rattle.cops_wire.specs.Running.{Gives, HasEnded, HasFewKeys, HasStepped}
 
 -- ---- one step
 
 module _ {N M : Type 0} (Calls : N → NodeId → ℕ → ℕ → NodeCall → NodeReply → N → Type 0) (GivesMoment : M → ℕ → M → Type 0) (config : TenantConfig) (slot : ℕ) where
-  does_next : (session : Session) (running : Running) (moment : ℕ) (old new : N) (shown : Progress) (kept : Kept) (n : Next Answer)
+  does_next : (Keeps : N → NodeId → ℕ → ℕ → NodeCall → NodeReply → N → Type 0) (session : Session) (running : Running) (moment : ℕ) (old new : N) (shown : Progress) (kept : Kept) (n : Next Answer)
+      → ((id : NodeId) (call : NodeCall) (reply : NodeReply) → Calls old id slot moment call reply new → Keeps old id slot moment call reply new)
       → stepping.DoesNext (λ id call reply. Calls old id slot moment call reply new) (new ≡ old) config session running moment shown kept n
-      → (after : Session) × SessionStandsFor config kept after × DoesNext Calls GivesMoment config slot session running moment old n shown after new
-  does_next session running moment old new shown kept (Call directed) d =
-      (session_after session running (record { moment = moment; outcome = Replied d.0 }) shown, d.2.stands, (d.0, d.1, record { shown_is = d.2.shown_is; after_is = refl }))
-  does_next session running moment old new shown kept Restart d =
+      → (after : Session) × SessionStandsFor config kept after × DoesNext Keeps GivesMoment config slot session running moment old n shown after new
+  does_next Keeps session running moment old new shown kept (Call directed) keeps d =
+      (session_after session running (record { moment = moment; outcome = Replied d.0 }) shown, d.2.stands, (d.0, keeps directed.node directed.call d.0 d.1, record { shown_is = d.2.shown_is; after_is = refl }))
+  does_next Keeps session running moment old new shown kept Restart keeps d =
       (session_after session running (record { moment = moment; outcome = Late }) shown, d.1.stands, (d.0, record { shown_is = d.1.shown_is; after_is = refl }))
-  does_next session running moment old new shown kept (Ended answer) d = absurd d
+  does_next Keeps session running moment old new shown kept (Ended answer) keeps d = absurd d
 
-  pub stepped : (session : Session) (running : Running) (old new : N) (old_moments new_moments : M) (given : ℕ) (shown : Progress) (kept : Kept) (answer : Option Answer)
-      → session.running ≡ Some running → GivesMoment old_moments given new_moments
+  pub stepped : (shape : N → Shape) (session : Session) (running : Running) (old new : N) (old_moments new_moments : M) (given : ℕ) (shown : Progress) (kept : Kept) (answer : Option Answer)
+      → session.running ≡ Some running → GivesMoment old_moments given new_moments → shape new ≡ shape old
       → stepping.DoesNext (λ id call reply. Calls old id slot (moment_at given session) call reply new) (new ≡ old) config session running (moment_at given session) shown kept (next config (request_of session running) running.log (moment_at given session))
-      → Gives shown answer → HasStepped Calls GivesMoment config slot (backend session old old_moments) kept new new_moments answer
-  stepped session running old new old_moments new_moments given shown kept answer runs gives does is =
-      let d = does_next session running (moment_at given session) old new shown kept (next config (request_of session running) running.log (moment_at given session)) does in
+      → Gives shown answer → HasStepped (KeepsShape shape Calls) GivesMoment config slot (backend session old old_moments) kept new new_moments answer
+  stepped shape session running old new old_moments new_moments given shown kept answer runs gives same does is =
+      let d = does_next (KeepsShape shape Calls) session running (moment_at given session) old new shown kept (next config (request_of session running) running.log (moment_at given session)) (λ id call reply called. (called, same)) does in
       record {
         after = d.0;
         stands = d.1;

@@ -16,6 +16,7 @@ use Rattle.cops_node.specs.declared.NodeCall.{NodeCall}
 use Rattle.cops_node.specs.declared.NodeId.{NodeId}
 use Rattle.cops_node.specs.declared.NodeReply.{NodeReply}
 use Rattle.cops_node.specs.Log.{LogStep, Late, Replied, Next, Call, Restart, Ended}
+use Rattle.cops_node.specs.Shape.{Shape}
 use Rattle.cops_session.specs.declared.Answer.{Answer}
 use Rattle.cops_session.specs.declared.Answer.TheVariants as answer
 use Rattle.cops_session.specs.declared.Progress.{Progress}
@@ -97,6 +98,10 @@ reply_to (answer.Values reads) = if is_one_frame reads then values_of reads else
 reply_to (answer.Refused fault) = Refused fault
 
 -- ---- steps
+
+-- the call may be answered so, and leaves the sizes of the nodes
+abbrev pub KeepsShape : {N : Type 0} → (N → Shape) → (N → NodeId → ℕ → ℕ → NodeCall → NodeReply → N → Type 0) → N → NodeId → ℕ → ℕ → NodeCall → NodeReply → N → Type 0
+KeepsShape shape Calls old id slot moment call reply new = Calls old id slot moment call reply new × (shape new ≡ shape old)
 
 -- what requests are answered from: a session, the nodes, and the moments to come
 pub record Backend (S N M : Type 0) : Type 0 where

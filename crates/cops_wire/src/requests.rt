@@ -10,7 +10,7 @@ ghost use Rattle.cops_session.specs.Session.{Session as SoloSession, context_cre
 ghost use Rattle.cops_session.specs.SessionStands.{SessionStandsFor};
 ghost use Rattle.cops_wire.specs.declared.messages.Message.{Message};
 ghost use Rattle.cops_wire.specs.Fitting.{CanBeWritten};
-ghost use Rattle.cops_wire.specs.Requests.{HasAnswered, backend, context_tag, deletion_refusal, naming_refusal, number_in, reading_refusal, writing_refusal};
+ghost use Rattle.cops_wire.specs.Requests.{KeepsShape, HasAnswered, backend, context_tag, deletion_refusal, naming_refusal, number_in, reading_refusal, writing_refusal};
 ghost use Rattle.cops_wire.specs.Running.{HasRun, IsDone, Puts};
 ghost use Rattle.cops_wire.specs.Serving.{is_request};
 ghost use Rattle.cops_wire.specs.Spelling.{spelling};
@@ -149,7 +149,7 @@ fn run<N: Nodes, M: Moments>(
     out: &mut Vec<u8>,
 ) -> Result<(), AllocError>
     requires fits { IsOfSizes (N.shape nodes.old).data_centres (N.shape nodes.old).shards (N.shape nodes.old).slots session.old.setting }
-    ensures ran { HasRun N.Answers M.Gives (backend session.old nodes.old moments.old) begun (backend session.new nodes.new moments.new) (Puts result out.old.items out.new.items) }
+    ensures ran { HasRun (KeepsShape N.shape N.Answers) M.Gives (backend session.old nodes.old moments.old) begun (backend session.new nodes.new moments.new) (Puts result out.old.items out.new.items) }
     ensures setting { session.new.setting ≡ session.old.setting }
     ensures shape { N.shape nodes.new ≡ N.shape nodes.old }
 {
@@ -173,7 +173,7 @@ pub(crate) fn answer<N: Nodes, M: Moments>(
     requires fits { IsOfSizes (N.shape nodes.old).data_centres (N.shape nodes.old).shards (N.shape nodes.old).slots session.old.setting }
     requires request { IsTrue (is_request request.now) }
     ensures answered { (reply : Message)
-        × HasAnswered N.Answers M.Gives (backend session.old nodes.old moments.old) request.now reply (backend session.new nodes.new moments.new)
+        × HasAnswered (KeepsShape N.shape N.Answers) M.Gives (backend session.old nodes.old moments.old) request.now reply (backend session.new nodes.new moments.new)
         × Puts result out.old.items out.new.items reply }
     ensures shape { N.shape nodes.new ≡ N.shape nodes.old }
 {

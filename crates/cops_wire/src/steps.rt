@@ -4,7 +4,7 @@ ghost use Rattle.cops_types.specs.TenantConfig.{TenantConfig};
 ghost use Rattle.cops_session.specs.Kept.{IsOfSizes};
 ghost use Rattle.cops_session.specs.Session.{Running as SoloRunning, Session as SoloSession};
 ghost use Rattle.cops_session.specs.SessionStands.{SessionStandsFor};
-ghost use Rattle.cops_wire.specs.Requests.{HasFewRestarts, backend};
+ghost use Rattle.cops_wire.specs.Requests.{KeepsShape, HasFewRestarts, backend};
 ghost use Rattle.cops_wire.specs.Running.{HasEnded, HasStepped, HasFewKeys};
 
 use crate::moments::Moments;
@@ -20,7 +20,7 @@ fn step_once<N: Nodes, M: Moments>(
 ) -> Option<Answer>
     requires fits { IsOfSizes (N.shape nodes.old).data_centres (N.shape nodes.old).shards (N.shape nodes.old).slots session.old.setting }
     ensures stepped { (config : TenantConfig) (solo : SoloSession) (running : SoloRunning) → SessionStandsFor config session.old solo → solo.running ≡ Some running →
-        HasStepped N.Answers M.Gives config session.old.setting.slot (backend solo nodes.old moments.old) session.new nodes.new moments.new result }
+        HasStepped (KeepsShape N.shape N.Answers) M.Gives config session.old.setting.slot (backend solo nodes.old moments.old) session.new nodes.new moments.new result }
     ensures setting { session.new.setting ≡ session.old.setting }
     ensures shape { N.shape nodes.new ≡ N.shape nodes.old }
 {
@@ -46,7 +46,7 @@ pub(crate) fn finish<N: Nodes, M: Moments>(
 ) -> Answer
     requires fits { IsOfSizes (N.shape nodes.old).data_centres (N.shape nodes.old).shards (N.shape nodes.old).slots session.old.setting }
     ensures ended { (config : TenantConfig) (solo : SoloSession) (running : SoloRunning) → HasFewRestarts config → SessionStandsFor config session.old solo → solo.running ≡ Some running → running.log ≡ [] → HasFewKeys running.action →
-        HasEnded N.Answers M.Gives config session.old.setting.slot (backend solo nodes.old moments.old) session.new nodes.new moments.new result }
+        HasEnded (KeepsShape N.shape N.Answers) M.Gives config session.old.setting.slot (backend solo nodes.old moments.old) session.new nodes.new moments.new result }
     ensures setting { session.new.setting ≡ session.old.setting }
     ensures shape { N.shape nodes.new ≡ N.shape nodes.old }
 {
