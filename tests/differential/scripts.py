@@ -153,15 +153,26 @@ class ScriptMaker:
         return str(numbers.randrange(100))
 
     def moment(self, tenant: Tenant) -> str:
-        numbers = self.numbers
+        """Mostly the tenant's latest or a little later; now and then one that others have left behind."""
+        numbers, time = self.numbers, min(self.trans_time, 6_000)
         draw = numbers.random()
-        if draw < 0.08:
+        if draw < 0.05:
             return str(numbers.randrange(tenant.now + 1))
-        if draw < 0.082:
+        if draw < 0.2:
+            return str(max(0, tenant.now - numbers.randrange(2 * time + 4)))
+        if draw < 0.202:
             return str(numbers.choice([MOST, MOST - 1, numbers.randrange(MOST)]))
-        time = self.trans_time
-        tenant.now += numbers.choice([0, 0, 0, 1, 1, 2, 7, min(time, 6_000) // 2, min(time, 6_000), min(time, 6_000) + 1])
+        tenant.now += numbers.choice([0, 0, 0, 1, 1, 2, 7, time // 2, time, time + 1])
         return self.number(tenant.now)
+
+    def collect(self, tenant: Tenant) -> str:
+        dc, shard = self.place()
+        moment = self.moment(tenant)
+        if self.numbers.random() < 0.3:
+            # Just when what grew stale a little ago may go, or not yet.
+            ago = self.numbers.randrange(4)
+            moment = str(min(MOST, max(0, tenant.now - ago) + self.trans_time + self.numbers.randrange(2)))
+        return f"collect {self.number(dc)} {self.number(shard)} {moment}"
 
     def session(self, tenant: Tenant, of: list[str]) -> str:
         if self.is_wrong():
@@ -184,8 +195,11 @@ class ScriptMaker:
             self.lines.append(self.bad_line())
             return
         tenant = numbers.choice(self.tenants)
-        if numbers.random() < 0.02:
+        draw = numbers.random()
+        if draw < 0.02:
             self.straddle(tenant)
+        elif draw < 0.05:
+            self.churn(tenant)
         else:
             self.write(tenant, self.act(tenant))
 
@@ -225,7 +239,7 @@ class ScriptMaker:
         if draw < 0.92 and (self.data_centres > 1 or self.is_wrong()):
             return self.carry(tenant)
         if draw < 0.97:
-            return f"collect {self.number(self.place()[0])} {self.number(self.place()[1])} {self.moment(tenant)}"
+            return self.collect(tenant)
         return self.open(tenant)
 
     def place(self) -> tuple[int, int]:
@@ -287,6 +301,28 @@ class ScriptMaker:
         tenant.carriers.setdefault(name, 0)
         return f"carry {name} {self.number(origin)} {self.number(shard)} {self.number(numbers.choice(others))}"
 
+    def churn(self, tenant: Tenant) -> None:
+        """Puts of few keys by sessions of one place, at moments that go back and forth, until quotas are met; then a
+        collection just when some of it may go or not yet; and then puts again."""
+        numbers = self.numbers
+        ready = [name for name, session in tenant.sessions.items() if session.steps == 0 and session.contexts]
+        if not ready:
+            return
+        place = tenant.sessions[numbers.choice(ready)].data_centre
+        writers = [name for name in ready if tenant.sessions[name].data_centre == place]
+        keys = numbers.sample(self.keys, min(len(self.keys), numbers.choice([1, 1, 2])))
+        time = min(self.trans_time, 6_000)
+        for _ in range(numbers.randrange(1, 4)):
+            moments = [max(0, tenant.now + numbers.randrange(-time - 2, time + 3)) for _ in range(numbers.randrange(1, 6))]
+            for moment in moments:
+                writer = numbers.choice(writers)
+                self.write(tenant, f"put {writer} {self.context(tenant, writer)} {numbers.choice(keys)} {self.value()}")
+                self.write(tenant, f"done {writer} {moment}")
+            tenant.now = max(tenant.now, *moments)
+            late = min(MOST, numbers.choice(moments) + self.trans_time + numbers.randrange(3))
+            shard = sum(numbers.choice(keys).encode()) % self.shards
+            self.write(tenant, f"collect {place} {shard} {late}")
+
     def straddle(self, tenant: Tenant) -> None:
         """A transaction between whose reads a session of the same place puts what it reads, several times over, and
         collections take the versions away that it wants then."""
@@ -308,8 +344,9 @@ class ScriptMaker:
             self.write(tenant, f"step {reader} {tenant.now}")
         for key in [*keys, *numbers.choices(keys, k=numbers.randrange(4))]:
             self.write(tenant, f"put {writer} {self.context(tenant, writer)} {key} {self.value()}")
-            self.write(tenant, f"done {writer} {self.moment(tenant)}")
-            if numbers.random() < 0.2:
+            moment = self.moment(tenant) if numbers.random() < 0.1 else str(tenant.now)
+            self.write(tenant, f"done {writer} {moment}")
+            if numbers.random() < 0.1:
                 self.add()
         if numbers.random() < 0.6:
             # What is collected here is so by a moment that the reader hasn't come to.
