@@ -25,11 +25,16 @@ impl Context {
     where
         I: Iterator<Item = (Version, &'a Body)> + Clone,
     {
-        let (count, pairs) = reads
-            .clone()
-            .fold((0, 0), |(count, pairs), (_, body)| (count + 1, pairs + 1 + body.deps.len()));
+        let (count, pairs) = reads.clone().fold((0, 0), |(count, pairs), (_, body)| {
+            (count + 1, pairs + 1 + body.deps.len())
+        });
         let has_room = self.all.len() + pairs <= limit
-            || self.all.len() + reads.clone().map(|(_, body)| self.unknown(body)).sum::<usize>() <= limit;
+            || self.all.len()
+                + reads
+                    .clone()
+                    .map(|(_, body)| self.unknown(body))
+                    .sum::<usize>()
+                <= limit;
         if has_room && self.near.len() + count <= limit {
             reads.for_each(|(version, body)| self.observe(&body.key, version, &body.deps));
             return Ok(());
@@ -48,15 +53,20 @@ impl Context {
     /// How many keys of a read are not in `all`.
     fn unknown(&self, body: &Body) -> usize {
         let keys = body.deps.iter().map(|pair| &pair.key).chain([&body.key]);
-        keys.filter(|key| version_of(&self.all, key).is_none()).count()
+        keys.filter(|key| version_of(&self.all, key).is_none())
+            .count()
     }
 
     fn observe(&mut self, key: &Key, version: Version, deps: &[Pair]) {
         if !deps.is_empty() {
-            self.near.retain(|pair| version_of(deps, &pair.key) != Some(pair.version));
+            self.near
+                .retain(|pair| version_of(deps, &pair.key) != Some(pair.version));
         }
         if version_of(&self.all, key) != Some(version) {
-            let pair = Pair { key: key.clone(), version };
+            let pair = Pair {
+                key: key.clone(),
+                version,
+            };
             let place = self
                 .near
                 .binary_search_by(|near| (&near.key, near.version).cmp(&(key, version)));
@@ -81,7 +91,10 @@ impl Context {
     }
 
     pub fn after_put(&mut self, key: &Key, version: Version) {
-        let pair = Pair { key: key.clone(), version };
+        let pair = Pair {
+            key: key.clone(),
+            version,
+        };
         self.near.clear();
         self.near.push(pair.clone());
         join_pair(&mut self.all, pair);
@@ -104,7 +117,10 @@ fn join(all: &mut Vec<Pair>, deps: &[Pair]) {
         place += if all.len() > 8 * deps.len() {
             all[place..].partition_point(|own| own.key < pair.key)
         } else {
-            all[place..].iter().take_while(|own| own.key < pair.key).count()
+            all[place..]
+                .iter()
+                .take_while(|own| own.key < pair.key)
+                .count()
         };
         match all.get_mut(place) {
             Some(own) if own.key == pair.key => own.version = own.version.max(pair.version),
@@ -124,12 +140,25 @@ mod tests {
 
     fn pair(key: &str, clock: u64, node: u64) -> Pair {
         let key = Key::new(key.as_bytes()).unwrap();
-        Pair { key, version: Version::of(Layout::Two, clock, node) }
+        Pair {
+            key,
+            version: Version::of(Layout::Two, clock, node),
+        }
     }
 
-    fn observe(context: &mut Context, seen: Pair, deps: &[Pair], limit: usize) -> Result<(), Fault> {
+    fn observe(
+        context: &mut Context,
+        seen: Pair,
+        deps: &[Pair],
+        limit: usize,
+    ) -> Result<(), Fault> {
         let (value, near) = (Box::default(), Pairs::default());
-        let body = Body { key: seen.key, value, deps: deps.into(), near };
+        let body = Body {
+            key: seen.key,
+            value,
+            deps: deps.into(),
+            near,
+        };
         context.observe_all([(seen.version, &body)].into_iter(), limit)
     }
 
@@ -138,8 +167,13 @@ mod tests {
         let mut all = vec![pair("x", 1, 0)];
         join(&mut all, &[pair("x", 2, 1), pair("y", 1, 0)]);
         assert_eq!(all, [pair("x", 2, 1), pair("y", 1, 0)]);
-        let mut long: Vec<_> = (0..100).map(|number| pair(&format!("k{number:03}"), 5, 0)).collect();
-        join(&mut long, &[pair("k005", 9, 0), pair("k0055", 1, 0), pair("k099", 1, 0)]);
+        let mut long: Vec<_> = (0..100)
+            .map(|number| pair(&format!("k{number:03}"), 5, 0))
+            .collect();
+        join(
+            &mut long,
+            &[pair("k005", 9, 0), pair("k0055", 1, 0), pair("k099", 1, 0)],
+        );
         assert_eq!(long.len(), 101);
         assert_eq!(long[5], pair("k005", 9, 0));
         assert_eq!(long[6], pair("k0055", 1, 0));
@@ -162,7 +196,10 @@ mod tests {
             let z = pair("z", 3, 0);
             assert_eq!(context.check_put(&z.key, 20), Ok(()));
             context.after_put(&z.key, z.version);
-            assert_eq!(context.all, [pair("x", 1, 0), pair("y", 2, 1), pair("z", 3, 0)]);
+            assert_eq!(
+                context.all,
+                [pair("x", 1, 0), pair("y", 2, 1), pair("z", 3, 0)]
+            );
             assert_eq!(context.near, [z]);
         }
     }

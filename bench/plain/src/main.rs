@@ -26,14 +26,22 @@ enum Command {
 
 /// Takes the command line apart; None where it is of no form.
 fn parse(words: impl Iterator<Item = OsString>) -> Option<(Command, Options)> {
-    let mut options = Options { layout: Layout::Two, keep_audit: true };
-    let mut limits = Limits { workers: 4, connections: u64::from(u32::MAX) };
+    let mut options = Options {
+        layout: Layout::Two,
+        keep_audit: true,
+    };
+    let mut limits = Limits {
+        workers: 4,
+        connections: u64::from(u32::MAX),
+    };
     let mut plain = Vec::new();
     let mut words = words.map(OsString::into_vec);
     let mut of_serve = false;
     while let Some(word) = words.next() {
         let (flag, joined) = match word.iter().position(|&byte| byte == b'=') {
-            Some(place) if word.starts_with(b"--") => (&word[..place], Some(word[place + 1..].to_vec())),
+            Some(place) if word.starts_with(b"--") => {
+                (&word[..place], Some(word[place + 1..].to_vec()))
+            }
             _ => (&word[..], None),
         };
         let mut number = || -> Option<u64> {
@@ -41,17 +49,20 @@ fn parse(words: impl Iterator<Item = OsString>) -> Option<(Command, Options)> {
             std::str::from_utf8(&text).ok()?.parse().ok()
         };
         match flag {
-            b"--layout" => options.layout = match number()? {
-                1 => Layout::One,
-                2 => Layout::Two,
-                _ => return None,
-            },
+            b"--layout" => {
+                options.layout = match number()? {
+                    1 => Layout::One,
+                    2 => Layout::Two,
+                    _ => return None,
+                }
+            }
             b"--workers" => {
                 limits.workers = number().filter(|count| (1..=16).contains(count))? as usize;
                 of_serve = true;
             }
             b"--connections" => {
-                limits.connections = number().filter(|count| (1..=u64::from(u32::MAX)).contains(count))?;
+                limits.connections =
+                    number().filter(|count| (1..=u64::from(u32::MAX)).contains(count))?;
                 of_serve = true;
             }
             b"--count-audit" if joined.is_none() => options.keep_audit = false,

@@ -108,7 +108,10 @@ impl Chain {
         if self.latest.version == version {
             return Some(&self.latest);
         }
-        let place = self.older.binary_search_by_key(&version, |older| older.version).ok()?;
+        let place = self
+            .older
+            .binary_search_by_key(&version, |older| older.version)
+            .ok()?;
         Some(&self.older[place])
     }
 
@@ -116,7 +119,10 @@ impl Chain {
         if self.older.front()?.version == version {
             return self.older.pop_front();
         }
-        let place = self.older.binary_search_by_key(&version, |older| older.version).ok()?;
+        let place = self
+            .older
+            .binary_search_by_key(&version, |older| older.version)
+            .ok()?;
         self.older.remove(place)
     }
 }
@@ -142,7 +148,9 @@ struct Store {
 
 impl Store {
     fn chain(&self, key: &Key) -> Option<&Chain> {
-        self.places.get(key).map(|&place| &self.chains[place as usize])
+        self.places
+            .get(key)
+            .map(|&place| &self.chains[place as usize])
     }
 
     fn refuses(&self, body: &Body, quota: &Quota) -> Option<Fault> {
@@ -162,11 +170,19 @@ impl Store {
         match self.places.get(&record.body.key) {
             Some(&chain) => {
                 let version = self.chains[chain as usize].insert(record);
-                self.due.push_back(Due { since: now, version, chain });
+                self.due.push_back(Due {
+                    since: now,
+                    version,
+                    chain,
+                });
             }
             None => {
-                self.places.insert(record.body.key.clone(), self.chains.len() as u32);
-                self.chains.push(Chain { latest: record, older: VecDeque::new() });
+                self.places
+                    .insert(record.body.key.clone(), self.chains.len() as u32);
+                self.chains.push(Chain {
+                    latest: record,
+                    older: VecDeque::new(),
+                });
             }
         }
     }
@@ -208,7 +224,11 @@ impl SoloNode {
             marks: vec![Version::NONE; dcs].into(),
             queues: vec![VecDeque::new(); dcs].into(),
             store: Store::default(),
-            audit: Audit { keep: keep_audit, len: 0, entries: Vec::new() },
+            audit: Audit {
+                keep: keep_audit,
+                len: 0,
+                entries: Vec::new(),
+            },
         }
     }
 
@@ -243,7 +263,11 @@ impl SoloNode {
         };
         self.audit.len += 1;
         if self.audit.keep {
-            self.audit.entries.push(AuditEntry { moment, call, reply: reply.clone() });
+            self.audit.entries.push(AuditEntry {
+                moment,
+                call,
+                reply: reply.clone(),
+            });
         }
         reply
     }
@@ -257,28 +281,53 @@ impl SoloNode {
     }
 
     fn exactly(&self, place: &Place, key: &Key, version: Version) -> Reply {
-        if let Some(record) = self.store.chain(key).and_then(|chain| chain.exactly(version)) {
+        if let Some(record) = self
+            .store
+            .chain(key)
+            .and_then(|chain| chain.exactly(version))
+        {
             return Reply::Found(version, record.body.clone());
         }
-        if self.mark(place, version) >= version { Reply::Gone(self.now) } else { Reply::NotYet }
+        if self.mark(place, version) >= version {
+            Reply::Gone(self.now)
+        } else {
+            Reply::NotYet
+        }
     }
 
     fn put(&mut self, place: &Place, body: &Arc<Body>) -> Result<Version, Fault> {
         let layout = place.shape.layout;
-        let greatest = body.deps.iter().map(|pair| pair.version).max().unwrap_or_default();
-        let version =
-            Version::next(layout, self.clock, greatest.clock(layout), place.number() as u64)?;
+        let greatest = body
+            .deps
+            .iter()
+            .map(|pair| pair.version)
+            .max()
+            .unwrap_or_default();
+        let version = Version::next(
+            layout,
+            self.clock,
+            greatest.clock(layout),
+            place.number() as u64,
+        )?;
         if let Some(fault) = self.store.refuses(body, &self.quota) {
             return Err(fault);
         }
-        let mut others = self.queues.iter().enumerate().filter(|(dc, _)| *dc != place.dc);
+        let mut others = self
+            .queues
+            .iter()
+            .enumerate()
+            .filter(|(dc, _)| *dc != place.dc);
         if others.any(|(_, queue)| queue.len() as u64 >= self.quota.outbox) {
             return Err(Fault::OutboxFull);
         }
         let prev = std::mem::replace(&mut self.marks[place.dc], version);
         for (dc, queue) in self.queues.iter_mut().enumerate() {
             if dc != place.dc {
-                queue.push_back(Entry { version, prev, body: body.clone() });
+                queue.push_back(Entry {
+                    version,
+                    prev,
+                    body: body.clone(),
+                });
             }
         }
         self.clock = version.clock(layout);
@@ -302,7 +351,8 @@ impl SoloNode {
         }
         self.marks[origin] = entry.version;
         self.clock = self.clock.max(entry.version.clock(place.shape.layout));
-        self.store.insert(entry.version, entry.body.clone(), self.now);
+        self.store
+            .insert(entry.version, entry.body.clone(), self.now);
         Reply::Committed
     }
 }
@@ -344,8 +394,16 @@ pub struct Node {
 impl Node {
     /// An empty node. Without `keep_audit` only the length of audits is kept.
     pub fn new(shape: Shape, number: usize, keep_audit: bool) -> Self {
-        let place = Place { shape, dc: number / shape.shards, shard: number % shape.shards };
-        Node { place, keep_audit, slots: Vec::new() }
+        let place = Place {
+            shape,
+            dc: number / shape.shards,
+            shard: number % shape.shards,
+        };
+        Node {
+            place,
+            keep_audit,
+            slots: Vec::new(),
+        }
     }
 
     /// Opens an empty solo node in a free slot.
@@ -353,7 +411,11 @@ impl Node {
         if slot >= self.slots.len() {
             self.slots.resize_with(slot + 1, || None);
         }
-        self.slots[slot] = Some(Box::new(SoloNode::new(&self.place, tenant, self.keep_audit)));
+        self.slots[slot] = Some(Box::new(SoloNode::new(
+            &self.place,
+            tenant,
+            self.keep_audit,
+        )));
     }
 
     /// Drops all of a slot.
@@ -373,7 +435,9 @@ impl Node {
             Call::Pull { dc } | Call::Ack { dc, .. } => place.is_other(*dc),
             Call::Commit(entry) => {
                 placed(&entry.body.key)
-                    && place.equivalent(entry.version).is_some_and(|dc| place.is_other(dc))
+                    && place
+                        .equivalent(entry.version)
+                        .is_some_and(|dc| place.is_other(dc))
             }
             Call::Collect => true,
         }
@@ -412,7 +476,13 @@ mod tests {
     use super::*;
     use crate::types::{Layout, Name};
 
-    const SHAPE: Shape = Shape { layout: Layout::Two, dcs: 2, shards: 1, trans_time: 100, restarts: 1 };
+    const SHAPE: Shape = Shape {
+        layout: Layout::Two,
+        dcs: 2,
+        shards: 1,
+        trans_time: 100,
+        restarts: 1,
+    };
 
     fn tenant() -> Tenant {
         let quota = Quota {
@@ -424,7 +494,12 @@ mod tests {
             actors: 8,
             audit: 1000,
         };
-        Tenant { name: Name::new(b"acme").unwrap(), token: [1; 16], first_clock: 0, quota }
+        Tenant {
+            name: Name::new(b"acme").unwrap(),
+            token: [1; 16],
+            first_clock: 0,
+            quota,
+        }
     }
 
     fn node(dcs: usize, number: usize, slots: usize) -> Node {
@@ -443,7 +518,12 @@ mod tests {
 
     fn body(text: &str) -> Arc<Body> {
         let (deps, near) = (Pairs::default(), Pairs::default());
-        Arc::new(Body { key: key(text), value: b"10".as_slice().into(), deps, near })
+        Arc::new(Body {
+            key: key(text),
+            value: b"10".as_slice().into(),
+            deps,
+            near,
+        })
     }
 
     fn put(text: &str) -> Call {
@@ -452,7 +532,11 @@ mod tests {
 
     fn entry(clock: u64, prev: u64) -> Call {
         let prev = if prev == 0 { Version::NONE } else { v(prev, 0) };
-        Call::Commit(Entry { version: v(clock, 0), prev, body: body("x") })
+        Call::Commit(Entry {
+            version: v(clock, 0),
+            prev,
+            body: body("x"),
+        })
     }
 
     #[test]
@@ -481,24 +565,45 @@ mod tests {
         assert_eq!(node.step(0, 0, put("x")), Reply::Stored(v(1, 0)));
         assert_eq!(node.step(0, 0, put("x")), Reply::Refused(Fault::OutboxFull));
         assert_eq!(node.step(1, 0, put("y")), Reply::Stored(v(1, 0)));
-        let ack = |clock| Call::Ack { dc: 1, version: v(clock, 0) };
-        assert!(matches!(node.step(1, 0, Call::Pull { dc: 1 }), Reply::Pulled(_)));
+        let ack = |clock| Call::Ack {
+            dc: 1,
+            version: v(clock, 0),
+        };
+        assert!(matches!(
+            node.step(1, 0, Call::Pull { dc: 1 }),
+            Reply::Pulled(_)
+        ));
         assert_eq!(node.step(0, 0, ack(2)), Reply::NotFront);
         assert_eq!(node.step(0, 0, ack(1)), Reply::Acked);
         assert_eq!(node.step(0, 0, Call::Pull { dc: 1 }), Reply::Nothing);
-        assert!(matches!(node.step(1, 0, Call::Pull { dc: 1 }), Reply::Pulled(_)));
+        assert!(matches!(
+            node.step(1, 0, Call::Pull { dc: 1 }),
+            Reply::Pulled(_)
+        ));
     }
 
     #[test]
     fn commits_in_order() {
         let mut node = node(2, 1, 2);
-        assert_eq!(node.step(0, 0, entry(2, 1)), Reply::OutOfOrder(Version::NONE));
+        assert_eq!(
+            node.step(0, 0, entry(2, 1)),
+            Reply::OutOfOrder(Version::NONE)
+        );
         assert_eq!(node.step(0, 0, entry(1, 0)), Reply::Committed);
         assert_eq!(node.step(0, 0, entry(2, 1)), Reply::Committed);
         assert_eq!(node.step(0, 0, entry(1, 0)), Reply::Already);
-        assert_eq!(node.step(0, 0, Call::DepCheck(key("x"), v(2, 0))), Reply::Checked(true));
-        assert_eq!(node.step(0, 0, Call::DepCheck(key("x"), v(3, 0))), Reply::Checked(false));
-        assert_eq!(node.step(0, 0, Call::Exactly(key("x"), v(3, 0))), Reply::NotYet);
+        assert_eq!(
+            node.step(0, 0, Call::DepCheck(key("x"), v(2, 0))),
+            Reply::Checked(true)
+        );
+        assert_eq!(
+            node.step(0, 0, Call::DepCheck(key("x"), v(3, 0))),
+            Reply::Checked(false)
+        );
+        assert_eq!(
+            node.step(0, 0, Call::Exactly(key("x"), v(3, 0))),
+            Reply::NotYet
+        );
 
         let mut node = self::node(2, 1, 2);
         let greatest = Layout::Two.greatest_clock();
@@ -524,7 +629,10 @@ mod tests {
             node.step(slot, moment, put("x"));
         }
         for (slot, moment, removed) in [(1, 101, 0), (1, 102, 1), (0, 600, 0), (0, 601, 1)] {
-            assert_eq!(node.step(slot, moment, Call::Collect), Reply::Removed(removed));
+            assert_eq!(
+                node.step(slot, moment, Call::Collect),
+                Reply::Removed(removed)
+            );
         }
     }
 

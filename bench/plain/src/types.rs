@@ -144,7 +144,10 @@ pub struct Key(KeyBytes);
 
 #[derive(Clone)]
 enum KeyBytes {
-    Short { len: u8, bytes: [u8; LONGEST_INLINE] },
+    Short {
+        len: u8,
+        bytes: [u8; LONGEST_INLINE],
+    },
     /// Doubly boxed, so that a key is two words.
     Long(Arc<Box<[u8]>>),
 }
@@ -157,7 +160,10 @@ impl Key {
         Ok(Key(if bytes.len() <= LONGEST_INLINE {
             let mut short = [0; LONGEST_INLINE];
             short[..bytes.len()].copy_from_slice(bytes);
-            KeyBytes::Short { len: bytes.len() as u8, bytes: short }
+            KeyBytes::Short {
+                len: bytes.len() as u8,
+                bytes: short,
+            }
         } else {
             KeyBytes::Long(Arc::new(bytes.into()))
         }))
@@ -176,7 +182,11 @@ impl Key {
         if shards == 1 {
             return 0;
         }
-        self.bytes().iter().map(|&byte| usize::from(byte)).sum::<usize>() % shards
+        self.bytes()
+            .iter()
+            .map(|&byte| usize::from(byte))
+            .sum::<usize>()
+            % shards
     }
 }
 
@@ -184,7 +194,9 @@ impl PartialEq for Key {
     #[inline]
     fn eq(&self, other: &Key) -> bool {
         match (&self.0, &other.0) {
-            (KeyBytes::Short { bytes, .. }, KeyBytes::Short { bytes: others, .. }) => bytes == others,
+            (KeyBytes::Short { bytes, .. }, KeyBytes::Short { bytes: others, .. }) => {
+                bytes == others
+            }
             _ => self.bytes() == other.bytes(),
         }
     }
@@ -204,7 +216,9 @@ impl Ord for Key {
     fn cmp(&self, other: &Key) -> Ordering {
         match (&self.0, &other.0) {
             // Padding is less than every byte of a key.
-            (KeyBytes::Short { bytes, .. }, KeyBytes::Short { bytes: others, .. }) => bytes.cmp(others),
+            (KeyBytes::Short { bytes, .. }, KeyBytes::Short { bytes: others, .. }) => {
+                bytes.cmp(others)
+            }
             _ => self.bytes().cmp(other.bytes()),
         }
     }
@@ -340,7 +354,9 @@ impl Tenants {
     }
 
     pub fn slot_of_token(&self, token: &Token) -> Option<usize> {
-        self.slots.iter().position(|slot| slot.as_ref().is_some_and(|tenant| tenant.token == *token))
+        self.slots
+            .iter()
+            .position(|slot| slot.as_ref().is_some_and(|tenant| tenant.token == *token))
     }
 
     pub fn tenant(&self, slot: usize) -> Option<&Tenant> {
@@ -349,7 +365,10 @@ impl Tenants {
 
     /// The open tenants with their slots, in slot order.
     pub fn iter(&self) -> impl Iterator<Item = (usize, &Tenant)> {
-        self.slots.iter().enumerate().filter_map(|(slot, tenant)| Some((slot, tenant.as_ref()?)))
+        self.slots
+            .iter()
+            .enumerate()
+            .filter_map(|(slot, tenant)| Some((slot, tenant.as_ref()?)))
     }
 
     pub fn len(&self) -> usize {
@@ -366,7 +385,11 @@ impl Tenants {
         if self.slot_of_name(tenant.name).is_some() || self.slot_of_token(&tenant.token).is_some() {
             return Err(Fault::NameTaken);
         }
-        let slot = self.slots.iter().position(Option::is_none).unwrap_or(self.slots.len());
+        let slot = self
+            .slots
+            .iter()
+            .position(Option::is_none)
+            .unwrap_or(self.slots.len());
         if slot >= MOST_TENANTS {
             return Err(Fault::NoSlot);
         }
@@ -413,7 +436,11 @@ mod tests {
             for right in &texts {
                 let [a, b] = [left, right].map(|text| Key::new(text.as_bytes()).unwrap());
                 assert_eq!(a.bytes(), left.as_bytes());
-                assert_eq!(a.cmp(&b), left.as_bytes().cmp(right.as_bytes()), "{left} {right}");
+                assert_eq!(
+                    a.cmp(&b),
+                    left.as_bytes().cmp(right.as_bytes()),
+                    "{left} {right}"
+                );
                 assert_eq!(a == b, left == right);
             }
         }
@@ -425,11 +452,23 @@ mod tests {
     #[test]
     fn versions() {
         let next = Version::next;
-        assert_eq!(next(Layout::One, 0, 1, 1), Ok(Version::of(Layout::One, 2, 1)));
-        assert_eq!(next(Layout::One, 5, 3, 2), Ok(Version::of(Layout::One, 6, 2)));
-        assert_eq!(next(Layout::One, 72057594037927935, 0, 0), Err(Fault::ClockFull));
+        assert_eq!(
+            next(Layout::One, 0, 1, 1),
+            Ok(Version::of(Layout::One, 2, 1))
+        );
+        assert_eq!(
+            next(Layout::One, 5, 3, 2),
+            Ok(Version::of(Layout::One, 6, 2))
+        );
+        assert_eq!(
+            next(Layout::One, 72057594037927935, 0, 0),
+            Err(Fault::ClockFull)
+        );
         assert_eq!(Version::of(Layout::One, 1, 0).0, 256);
         assert_eq!(Version::of(Layout::Two, 1, 0).0, 65536);
-        assert_eq!(next(Layout::Two, 281474976710655, 0, 0), Err(Fault::ClockFull));
+        assert_eq!(
+            next(Layout::Two, 281474976710655, 0, 0),
+            Err(Fault::ClockFull)
+        );
     }
 }

@@ -44,7 +44,10 @@ fn items() -> Vec<Item> {
     let key = |n: usize| Key::new(format!("key_{n:04}").as_bytes()).expect("a key");
     let keys: Vec<Key> = (0..KEYS).map(key).collect();
     let version = Version::of(LAYOUT, 1, 0);
-    let first = |n: usize| Pair { key: keys[n % KEYS].clone(), version };
+    let first = |n: usize| Pair {
+        key: keys[n % KEYS].clone(),
+        version,
+    };
     let item = |n: usize| {
         let mut deps: Vec<Pair> = (n..n + 4).map(first).collect();
         deps.sort_by(|left, right| left.key.cmp(&right.key));
@@ -59,7 +62,12 @@ fn items() -> Vec<Item> {
 
 fn put(item: &Item) -> Call {
     let (deps, near) = (Pairs::from(&item.deps[..]), Pairs::from(&item.near[..]));
-    Call::Put(Arc::new(Body { key: item.key.clone(), value: VALUE.as_bytes().into(), deps, near }))
+    Call::Put(Arc::new(Body {
+        key: item.key.clone(),
+        value: VALUE.as_bytes().into(),
+        deps,
+        near,
+    }))
 }
 
 /// The number of the version that was stored or found.
@@ -78,12 +86,26 @@ struct Caller {
 
 impl Caller {
     fn new(tenants: u64) -> Self {
-        let shape = Shape { layout: LAYOUT, dcs: 1, shards: 1, trans_time: 5000, restarts: 1 };
+        let shape = Shape {
+            layout: LAYOUT,
+            dcs: 1,
+            shards: 1,
+            trans_time: 5000,
+            restarts: 1,
+        };
         let mut node = Node::new(std::hint::black_box(shape), 0, true);
         for slot in 0..tenants {
             let name = Name::new(format!("t{slot}").as_bytes()).expect("a name");
             let token = u128::from(slot).to_be_bytes();
-            node.admit(slot as usize, &Tenant { name, token, first_clock: 0, quota: QUOTA });
+            node.admit(
+                slot as usize,
+                &Tenant {
+                    name,
+                    token,
+                    first_clock: 0,
+                    quota: QUOTA,
+                },
+            );
         }
         Caller { node, tenants }
     }

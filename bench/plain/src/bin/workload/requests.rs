@@ -59,7 +59,11 @@ pub struct Plan {
 impl Plan {
     /// The plan of a case and options; None where they aren't known.
     pub fn of(case: Case, words: &[String]) -> Option<Plan> {
-        let mut plan = Plan { case, requests: case.usual_requests(), seed: 1 };
+        let mut plan = Plan {
+            case,
+            requests: case.usual_requests(),
+            seed: 1,
+        };
         options(words, |option, number| {
             match option {
                 "--requests" => plan.requests = number,
@@ -76,7 +80,12 @@ impl Plan {
             Case::TwoDataCentres | Case::ManyTenants => 4,
             _ => 1,
         };
-        let mut script = Script { out, random: Random(self.seed), shards, moment: 0 };
+        let mut script = Script {
+            out,
+            random: Random(self.seed),
+            shards,
+            moment: 0,
+        };
         let requests = self.requests;
         match self.case {
             Case::ManyKeys => script.puts(requests, 10_000, 8),

@@ -91,15 +91,57 @@ impl Plan {
             ..plain.clone()
         };
         Some(match name {
-            "puts" => Plan { events: 2_000_000, ..plain },
-            "gets" => Plan { reads: 100, get_keys: 4, fill: true, ..plain },
+            "puts" => Plan {
+                events: 2_000_000,
+                ..plain
+            },
+            "gets" => Plan {
+                reads: 100,
+                get_keys: 4,
+                fill: true,
+                ..plain
+            },
             "mixed" => mixed,
-            "growth" => Plan { keys: 64, fill: false, ..mixed },
-            "crowd" => Plan { tenants: 2, dcs: 2, keys: 64, collect: 16, trans_time: 10, crowd: true, ..plain },
-            "deep" => Plan { events: 206_300, keys: 1, group: 1, value: 16, sweep: true, ..plain },
-            "wide" => Plan { tenants: 64, shards: 4, reads: 50, get_keys: 2, sessions: 2, ..plain },
-            "audit" => Plan { events: 200_000, value: 256, ..mixed },
-            "serve" => Plan { tenants: 8, head_alone: true, ..plain },
+            "growth" => Plan {
+                keys: 64,
+                fill: false,
+                ..mixed
+            },
+            "crowd" => Plan {
+                tenants: 2,
+                dcs: 2,
+                keys: 64,
+                collect: 16,
+                trans_time: 10,
+                crowd: true,
+                ..plain
+            },
+            "deep" => Plan {
+                events: 206_300,
+                keys: 1,
+                group: 1,
+                value: 16,
+                sweep: true,
+                ..plain
+            },
+            "wide" => Plan {
+                tenants: 64,
+                shards: 4,
+                reads: 50,
+                get_keys: 2,
+                sessions: 2,
+                ..plain
+            },
+            "audit" => Plan {
+                events: 200_000,
+                value: 256,
+                ..mixed
+            },
+            "serve" => Plan {
+                tenants: 8,
+                head_alone: true,
+                ..plain
+            },
             _ => return None,
         })
     }
@@ -178,7 +220,15 @@ impl<W: Write> Generator<W> {
                 for number in 0..plan.sessions {
                     let name = format!("s{dc}_{number}");
                     let (context, group, left, running) = (0, 0, 0, None);
-                    sessions.push(Session { tenant, dc, name, context, group, left, running });
+                    sessions.push(Session {
+                        tenant,
+                        dc,
+                        name,
+                        context,
+                        group,
+                        left,
+                        running,
+                    });
                 }
             }
         }
@@ -200,7 +250,11 @@ impl<W: Write> Generator<W> {
 
     fn head(&mut self) -> io::Result<()> {
         let plan = &self.plan;
-        writeln!(self.out, "cluster {} {} {} 3", plan.dcs, plan.shards, plan.trans_time)?;
+        writeln!(
+            self.out,
+            "cluster {} {} {} 3",
+            plan.dcs, plan.shards, plan.trans_time
+        )?;
         for tenant in 0..plan.tenants {
             writeln!(
                 self.out,
@@ -225,7 +279,12 @@ impl<W: Write> Generator<W> {
             return Ok(());
         }
         for place in 0..self.sessions.len() {
-            let Session { tenant, dc, ref name, .. } = self.sessions[place];
+            let Session {
+                tenant,
+                dc,
+                ref name,
+                ..
+            } = self.sessions[place];
             let name = name.clone();
             self.event(tenant, format_args!("open {name} {dc}"))?;
         }
@@ -302,7 +361,10 @@ impl<W: Write> Generator<W> {
             _ => session.group,
         };
         self.renew(place, group)?;
-        let size = self.plan.group.min(self.plan.keys - group * self.plan.group);
+        let size = self
+            .plan
+            .group
+            .min(self.plan.keys - group * self.plan.group);
         let first = group * self.plan.group;
         if self.random.below(100) < self.plan.reads {
             let count = self.plan.get_keys.min(size);
@@ -311,8 +373,16 @@ impl<W: Write> Generator<W> {
             for number in 0..count {
                 write!(self.line, " {}", key_name(first + (offset + number) % size))?;
             }
-            let Session { tenant, context, ref name, .. } = self.sessions[place];
-            let (name, keys) = (name.clone(), String::from_utf8_lossy(&self.line).into_owned());
+            let Session {
+                tenant,
+                context,
+                ref name,
+                ..
+            } = self.sessions[place];
+            let (name, keys) = (
+                name.clone(),
+                String::from_utf8_lossy(&self.line).into_owned(),
+            );
             self.sessions[place].running = Some(None);
             self.event(tenant, format_args!("get {name} {context}{keys}"))?;
         } else {
@@ -335,14 +405,25 @@ impl<W: Write> Generator<W> {
         self.line.truncate(self.plan.value);
         let value = String::from_utf8_lossy(&self.line).into_owned();
         let key = key_name(key);
-        let Session { tenant, context, ref name, .. } = self.sessions[place];
+        let Session {
+            tenant,
+            context,
+            ref name,
+            ..
+        } = self.sessions[place];
         let name = name.clone();
         self.sessions[place].running = Some(Some(shard_of(&key, self.plan.shards as u64) as usize));
         self.event(tenant, format_args!("put {name} {context} {key} {value}"))
     }
 
     fn finish(&mut self, place: usize) -> io::Result<()> {
-        let Session { tenant, dc, ref name, running, .. } = self.sessions[place];
+        let Session {
+            tenant,
+            dc,
+            ref name,
+            running,
+            ..
+        } = self.sessions[place];
         let name = name.clone();
         self.sessions[place].running = None;
         let moment = self.moment;
