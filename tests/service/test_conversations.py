@@ -6,12 +6,15 @@ of itself where the client hasn't ended.
 """
 
 import pathlib
+import re
 import socket
 import unittest
 
 from service import Service, read_some, read_to_end
 
-FOLDER = pathlib.Path(__file__).parent / "conversations"
+HERE = pathlib.Path(__file__).resolve().parent
+FOLDER = HERE / "conversations"
+PAGE = HERE.parents[1] / "docs" / "FRAMES.md"
 
 
 class Conversations(unittest.TestCase):
@@ -20,13 +23,23 @@ class Conversations(unittest.TestCase):
         self.assertGreater(len(files), 10)
         for file in files:
             with self.subTest(file.name):
-                self.hold(file.read_text().splitlines())
+                lines = file.read_text().splitlines()
+                place = lines.index("begin") + 1
+                self.hold("\n".join(lines[1:place]) + "\n", lines[place:])
 
-    def hold(self, lines: list[str]) -> None:
-        place = lines.index("begin") + 1
-        with Service("\n".join(lines[1:place]) + "\n", workers=1, connections=1) as service:
+    def test_the_conversations_of_the_page_on_frames_are_held(self):
+        page = PAGE.read_text()
+        head = re.search(r"^```head\n(.*?)^```$", page, re.M | re.S)
+        conversations = re.findall(r"^```conversation\n(.*?)^```$", page, re.M | re.S)
+        self.assertEqual(len(conversations), 6)
+        for text in conversations:
+            with self.subTest(text):
+                self.hold(head[1], text.splitlines())
+
+    def hold(self, head: str, lines: list[str]) -> None:
+        with Service(head, workers=1, connections=1) as service:
             with service.stream() as stream:
-                for line in lines[place:]:
+                for line in lines:
                     kind, text = line[0], line[2:]
                     if text == "end":
                         stream.shutdown(socket.SHUT_WR)
