@@ -44,7 +44,7 @@ use Rattle.cops_replay.specs.RecordLines.{record_in}
 use Rattle.cops_replay.specs.Replaying.{Agrees, fresh_nodes, nodes_after}
 use Rattle.cops_replay.specs.Replayings.{IsFresh, IsReplayedLine, Passes, Differs, Standing, found_of, found_so_far}
 use Rattle.cops_replay.specs.ReplayRules.{ReplaysOwn, StartsFor, replay_answers, replay_answers_in, replay_end_answers, replay_end_answers_in, replay_end_refuses, replay_end_refuses_in, replay_refuses, replay_refuses_in, replay_rules}
-use Rattle.cops_replay.specs.ReplayText.{FindsIn, IsReplayOf, longest_record, replayed_text, told_in, told_number}
+use Rattle.cops_replay.specs.ReplayText.{FindsIn, IsReplayOf, ReplaysFront, longest_record, replayed_text, told_in, told_number}
 use Rattle.cops_replay.specs.Replays.{IsAlone}
 use Rattle.cops_replay.proofs.PageLemmas.{front_of_none}
 
@@ -295,21 +295,21 @@ module _ (name : List ℕ) where
     no_rest (line ∷ rest) e = cc
 
     pub front_replayed : (known : Option (List ℕ)) (why : RunFault SoloRefusal) → StopsEarly replay_rules longest_record known new_remaining begins old_contents new_contents why →
-        IfSome known (λ bytes. (text : List ℕ) → IsReplayOf name bytes text → AppendsFront old_contents new_contents text)
+        IfSome known (λ bytes. ReplaysFront name bytes old_contents new_contents)
     front_replayed None why p = tt
-    front_replayed (Some bytes) why p = λ text is. by_end text is p.ended
+    front_replayed (Some bytes) why p = by_end p.ended
       where
-        by_end : (text : List ℕ) → IsReplayOf name bytes text → (p.last ≡ []) ⊎ (IsWhole longest_record p.input new_remaining p.lines × (new : ReplayScript) × replay_end_answers p.machine p.last new) → AppendsFront old_contents new_contents text
-        by_end text is (inl e) =
+        by_end : (p.last ≡ []) ⊎ (IsWhole longest_record p.input new_remaining p.lines × (new : ReplayScript) × replay_end_answers p.machine p.last new) → ReplaysFront name bytes old_contents new_contents
+        by_end (inl e) =
             let found = known_lines longest_record bytes p.input new_remaining p.lines p.read p.first in
             let s = stopped bytes p.lines found.0 p.text p.machine found.1 p.run in
-            AppendsFront-more old_contents new_contents [] text (subst (AppendsFront old_contents new_contents) (λ i. silent_run s.front p.text p.machine s.ran i ++ e i) p.written)
-        by_end text is (inr (whole, new, ends)) =
+            inl (AppendsFront-nil old_contents new_contents (subst (AppendsFront old_contents new_contents) (λ i. silent_run s.front p.text p.machine s.ran i ++ e i) p.written))
+        by_end (inr (whole, new, ends)) =
             let found = known_whole longest_record bytes p.input new_remaining p.lines p.read whole in
             let s = stopped bytes p.lines [] p.text p.machine (found ∙ sym (append-nil p.lines)) p.run in
             let none = no_rest s.rest s.others_are in
             let all : lines_of bytes ≡ s.front = s.whole ∙ ap (λ l. s.front ++ l) none ∙ append-nil s.front in
-            subst (AppendsFront old_contents new_contents) (one_text bytes (p.text ++ p.last) text (replayed bytes s.front new p.text p.last p.machine all s.ran ends) is) p.written
+            inr (p.text ++ p.last, replayed bytes s.front new p.text p.last p.machine all s.ran ends, p.written)
 
     -- ---- a refusal
 
@@ -399,7 +399,11 @@ unwritten old_contents new_contents new_remaining begins known fault.OutOfMemory
 unwritten old_contents new_contents new_remaining begins known fault.ReadFault p = tt
 unwritten old_contents new_contents new_remaining begins known fault.WriteFault p = tt
 
+stays_as_it_is : (contents : Option (List ℕ)) → Keeps contents contents
+stays_as_it_is None = tt
+stays_as_it_is (Some bytes) = refl
+
 -- nothing was done
-pub nothing_replayed : (name : List ℕ) (known contents : Option (List ℕ)) → IfSome known (λ bytes. (text : List ℕ) → IsReplayOf name bytes text → AppendsFront contents contents text)
+pub nothing_replayed : (name : List ℕ) (known contents : Option (List ℕ)) → IfSome known (λ bytes. ReplaysFront name bytes contents contents)
 nothing_replayed name None contents = tt
-nothing_replayed name (Some bytes) contents = λ text is. front_of_none contents text
+nothing_replayed name (Some bytes) contents = inl (stays_as_it_is contents)

@@ -1,10 +1,12 @@
 -- What a replay of a file's records writes.
 use Rattle.std.specs.Prelude.{◌≡◌, ℕ, ◌+◌, ◌-◌, ◌^◌, ◌⊎◌, min, nat_le, if◌then◌else◌, List, [], ◌∷◌, ◌++◌, length, codes, decimal, slice_get, Option, Some, None}
 use Rattle.std.specs.Option.{option_map}
+use Rattle.std.specs.Io.KnownBytes.{Keeps}
 use Rattle.cops_types.specs.declared.configs.Config.{Config}
 use Rattle.cops_types.specs.declared.configs.Tenant.{Tenant}
 use Rattle.cops_types.specs.Head.{Whole, head_of}
 use Rattle.cops_types.specs.Lines.{lines_of}
+use Rattle.cops_types.specs.Sink.{AppendsFront}
 use Rattle.cops_types.specs.TenantConfig.{TenantConfig, tenant_config}
 use Rattle.cops_types.specs.Words.{newline}
 use Rattle.cops_node.specs.SoloNode.{SoloNode}
@@ -50,3 +52,8 @@ pub record IsReplayOf (name bytes text : List ℕ) : Type 0 where
   pub found : Replayed
   pub finds : FindsIn (tenant_config config tenant) 0 (fresh_nodes (tenant_config config tenant)) (alone_lines name lines) found
   pub text_is : text ≡ replayed_text found
+
+-- nothing is written, or a front of what a replay finds
+abbrev pub ReplaysFront : List ℕ → List ℕ → Option (List ℕ) → Option (List ℕ) → Type 0
+ReplaysFront name bytes old_contents new_contents =
+    Keeps old_contents new_contents ⊎ ((text : List ℕ) × IsReplayOf name bytes text × AppendsFront old_contents new_contents text)

@@ -3,10 +3,10 @@ ghost use Rattle.std.specs.Prelude.{◌≡◌, ◌⊎◌, ℕ, List, IfErr, IfSo
 ghost use Rattle.std.specs.Io.KnownBytes.{Appends, IsAtEnd, Keeps};
 ghost use Rattle.cops_types.specs.Counts.{HasRisen, HasRisenBy};
 ghost use Rattle.cops_types.specs.LineRuns.{IfRunRefused};
-ghost use Rattle.cops_types.specs.Sink.{AppendsFront, sink_failures, sink_writer};
+ghost use Rattle.cops_types.specs.Sink.{sink_failures, sink_writer};
 ghost use Rattle.cops_types.specs.Source.{source_failures, source_reader, source_reads};
 ghost use Rattle.cops_world.specs.SoloRuns.{IsRefusedFor};
-ghost use Rattle.cops_replay.specs.ReplayText.{IsReplayOf};
+ghost use Rattle.cops_replay.specs.ReplayText.{IsReplayOf, ReplaysFront};
 
 use crate::replay_machine::{ReplayScript, new_replay_script};
 use crate::replayings::LONGEST_RECORD;
@@ -35,7 +35,7 @@ pub fn replay_text<R: Read, O: Write>(
     ensures ok { OnOk result (IfSome (R.remaining (source_reader source.old)) (λ bytes.
         (text : List ℕ) × IsReplayOf tenant.now bytes text × Appends (O.contents (sink_writer sink.old)) (O.contents (sink_writer sink.new)) text)) }
     ensures err { OnErr result (IfSome (R.remaining (source_reader source.old)) (λ bytes.
-        (text : List ℕ) → IsReplayOf tenant.now bytes text → AppendsFront (O.contents (sink_writer sink.old)) (O.contents (sink_writer sink.new)) text)) }
+        ReplaysFront tenant.now bytes (O.contents (sink_writer sink.old)) (O.contents (sink_writer sink.new)))) }
 
     // The head is refused where it is bad, and the tenant where it has none of the name; nothing is written then.
     ensures refused { IfErr result (λ fault. IfRunRefused fault (λ refusal.

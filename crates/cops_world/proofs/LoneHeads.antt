@@ -21,7 +21,7 @@ use Rattle.cops_world.specs.declared.scripts.Script.TheVariants.{Head}
 use Rattle.cops_world.specs.GoodHeads.{is_good}
 use Rattle.cops_world.specs.HeadRules.{HeadAnswers, HeadRefuses, IsHeadAt}
 use Rattle.cops_world.specs.LoneHead.{lone_answers, lone_refuses, lone_refuses_end, lone_rules}
-use Rattle.cops_world.proofs.HeadRuns.{HeadRun, InHead, PastHead, bad_end, bad_first, cut_in_head, counted-small, heads, read_once, real_lines, refused_line, start}
+use Rattle.cops_world.proofs.HeadRuns.{HeadRun, InHead, PastHead, bad_end, bad_first, cut_in_head, counted-small, heads, read_once, real_lines, refused_line, start, wide}
 
 -- a lone head as a script in its head: no world ever starts
 abbrev stage : HeadSoFar → Script (Unit {0})
@@ -36,7 +36,7 @@ steps s head is same line text new (config, found, silent, reader, lines) =
     (tt, (Within config, subst (λ (h : HeadSoFar). front_with h.reader line ≡ Some (Within config)) same_head found, silent, (reader, lines ∙ ap (λ (h : HeadSoFar). counted h.lines) same_head)))
 
 abbrev LoneRun : List (List ℕ) → List ℕ → HeadSoFar → Type 0
-LoneRun lines text state = HeadRun lone_rules stage (λ s. Unit {0}) NoneStarts steps AtStart 0 lines text state
+LoneRun lines text state = HeadRun longest_line wide lone_rules stage (λ s. Unit {0}) NoneStarts steps AtStart 0 lines text state
 
 module _ (old_contents new_contents new_remaining : Option (List ℕ)) (begins : HeadSoFar) (begun : IsHeadAt {W = Unit {0}} AtStart 0 (Head begins)) where
   record Stopped (bytes : List ℕ) (lines others : List (List ℕ)) (text : List ℕ) (machine : HeadSoFar) : Type 0 where
@@ -48,13 +48,13 @@ module _ (old_contents new_contents new_remaining : Option (List ℕ)) (begins :
 
   stopped : (bytes : List ℕ) (lines others : List (List ℕ)) (text : List ℕ) (machine : HeadSoFar) → cut_lines longest_line bytes ≡ lines ++ others → Run lone_rules begins lines text machine → Stopped bytes lines others text machine
   stopped bytes lines others text machine e run =
-      let real = real_lines (lines_of bytes) lines others e in
+      let real = real_lines longest_line (lines_of bytes) lines others e in
       record {
         front = real.0;
         rest = real.1;
         whole = real.2;
         others_are = real.4;
-        ran = heads lone_rules stage (λ s. Unit {0}) NoneStarts steps real.0 AtStart 0 begins text machine start refl tt begun (subst (λ ls. Run lone_rules begins ls text machine) real.3 run);
+        ran = heads longest_line wide lone_rules stage (λ s. Unit {0}) NoneStarts steps real.0 AtStart 0 begins text machine start refl tt begun (subst (λ ls. Run lone_rules begins ls text machine) real.3 run);
       }
 
   module _ (bytes : List ℕ) where
@@ -67,7 +67,7 @@ module _ (old_contents new_contents new_remaining : Option (List ℕ)) (begins :
         by_run (InHead next later n still is tied silent reads) [] whole same = cc
         by_run (InHead next later n still is tied silent reads) (real ∷ rest) whole same =
             let cut : line ≡ cut_line longest_line real = cc in
-            let ends : front_after next real ≡ Some (Begun config) = sym (cut_in_head next real) ∙ ap (front_after next) (sym cut) ∙ sym (ap (λ r. front_with r line) is.0) ∙ found in
+            let ends : front_after next real ≡ Some (Begun config) = sym (cut_in_head longest_line wide next real) ∙ ap (front_after next) (sym cut) ∙ sym (ap (λ r. front_with r line) is.0) ∙ found in
             (rest, ap head_of whole ∙ reads (real ∷ rest) ∙ read_once next (later + 1) real rest (Begun config) still ends)
 
     bad_at : (bad : BadConfig) (line : List ℕ) (others : List (List ℕ)) (lines : List (List ℕ)) (text : List ℕ) (machine : HeadSoFar) → HeadRefuses machine line bad → Stopped bytes lines (line ∷ others) text machine →
@@ -80,7 +80,7 @@ module _ (old_contents new_contents new_remaining : Option (List ℕ)) (begins :
         by_run (InHead next later n still is tied silent reads) (real ∷ rest) whole same =
             let cut : line ≡ cut_line longest_line real = cc in
             let none = refused_line (Unit {0}) next later machine line bad is refused in
-            let stuck : front_after next real ≡ None = sym (cut_in_head next real) ∙ ap (front_after next) (sym cut) ∙ none.0 in
+            let stuck : front_after next real ≡ None = sym (cut_in_head longest_line wide next real) ∙ ap (front_after next) (sym cut) ∙ none.0 in
             ap head_of whole ∙ reads (real ∷ rest) ∙ bad_first next (later + 1) real rest still stuck ∙ ap BadAt (sym (none.1 ∙ counted-small next later n))
 
     bad_at_end : (bad : BadConfig) (lines : List (List ℕ)) (text : List ℕ) (machine : HeadSoFar) → bad.line ≡ counted machine.lines → Stopped bytes lines [] text machine → head_of (lines_of bytes) ≡ BadAt bad.line
