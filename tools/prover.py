@@ -38,6 +38,9 @@ class Crate:
         own = [above[it] for it in libraries.split() if it in above]
         self.below = list(dict.fromkeys(it for dep in own for it in (*dep.below, dep)))
         self.is_program = os.path.isfile(f"{self.folder}/src/main.rt")
+        self.is_used = False
+        for it in self.below:
+            it.is_used = True
 
     def text(self):
         """All that it is proved from: how long that is tells roughly how long the proof takes."""
@@ -87,9 +90,17 @@ def rt(folder, *words, **how):
     return call(["rt", *words], folder, **how)
 
 
-def copy(path, to, *flags):
+def copy(path, to):
     os.makedirs(to, exist_ok=True)
-    subprocess.run(["cp", "-a", *flags, path, to], check=True)
+    subprocess.run(["cp", "-a", path, to], check=True)
+
+
+def link(path, to):
+    """The same folder with links to its files, for what is never written to: rt and the prover put new files in the place of old ones."""
+    os.makedirs(to, exist_ok=True)
+    if subprocess.run(["cp", "-al", path, to], stderr=subprocess.DEVNULL).returncode:
+        shutil.rmtree(f"{to}/{os.path.basename(path)}", ignore_errors=True)
+        copy(path, to)
 
 
 class Room:
@@ -112,8 +123,8 @@ class Room:
         for dep in crate.below:
             for part in SOURCES:
                 if os.path.isdir(f"{self.proved(dep)}/{part}"):
-                    copy(f"{self.proved(dep)}/{part}", f"{tree}/crates/{dep.name}", "-l")
-            copy(f"{self.proved(dep)}/out/rlib", f"{tree}/crates/{dep.name}/out", "-l")
+                    link(f"{self.proved(dep)}/{part}", f"{tree}/crates/{dep.name}")
+            link(f"{self.proved(dep)}/out/rlib", f"{tree}/crates/{dep.name}/out")
         return tree
 
     def proved(self, crate):
@@ -121,9 +132,10 @@ class Room:
 
     def copy_of(self, crate):
         """The folder of a copy of a proved crate with what its proof kept, in a tree of its own."""
-        tree = self.tree(crate)
-        copy(self.proved(crate), f"{tree}/crates", "--reflink=auto")
-        return f"{tree}/crates/{crate.name}"
+        folder = f"{self.tree(crate)}/crates/{crate.name}"
+        for part in os.listdir(self.proved(crate)):
+            (link if part == "out" else copy)(f"{self.proved(crate)}/{part}", folder)
+        return folder
 
     def drop(self, folder):
         shutil.rmtree(os.path.dirname(os.path.dirname(folder)))
@@ -135,8 +147,9 @@ class Room:
         for part in SOURCES:
             if os.path.isdir(f"{crate.folder}/{part}"):
                 copy(f"{crate.folder}/{part}", folder)
-        if os.path.isdir(f"{crate.folder}/out/rlib"):
-            copy(f"{crate.folder}/out/rlib", f"{folder}/out", "--reflink=auto")
+        for part in ("incremental", "rlib"):
+            if os.path.isdir(f"{crate.folder}/out/{part}"):
+                link(f"{crate.folder}/out/{part}", f"{folder}/out")
         outcome = rt(folder, "lib", "--jobs", "1")
         if outcome.status:
             return f"rt lib ended with status {outcome.status}\n{outcome.text[-6000:]}"
@@ -155,13 +168,13 @@ class Room:
         kept = [] if is_verdict else ["incremental", "rlib"]
         for part in kept:
             if os.path.isdir(f"{crate.folder}/out/{part}"):
-                copy(f"{crate.folder}/out/{part}", f"{folder}/out", "--reflink=auto")
+                link(f"{crate.folder}/out/{part}", f"{folder}/out")
         calls = []
         if is_verdict:
             calls.append(("rt fmt", rt(folder, "fmt"), changed_layout))
         checks = ["--empty-contracts"] if is_verdict else []
         calls.append(("rt check", rt(folder, "check", "--jobs", "1", *checks), lambda it: refusal(it, crate, is_verdict)))
-        if not crate.is_program and not calls[-1][1].status:
+        if crate.is_used and not calls[-1][1].status:
             calls.append(("rt lib", rt(folder, "lib", "--jobs", "1"), lambda it: ""))
         seconds = sum(it.seconds for _, it, _ in calls)
         for name, outcome, judge in calls:
