@@ -20,6 +20,8 @@ SOURCES = ("src", "specs", "proofs")
 PROVED = re.compile(r"logic=proved(?: (\w[\w-]*=\S+))+")
 PLAIN_WORDS = set("functions tests sum native logic-built libraries-built statements incremental target cpu threads axioms main may-wait".split())
 PRINTING = threading.Lock()
+# How many processors the work of this thread may use.
+LANE = threading.local()
 
 
 def say(text):
@@ -173,7 +175,7 @@ class Room:
         if is_verdict:
             calls.append(("rt fmt", rt(folder, "fmt"), changed_layout))
         checks = ["--empty-contracts"] if is_verdict else []
-        calls.append(("rt check", rt(folder, "check", "--jobs", "1", *checks), lambda it: refusal(it, crate, is_verdict)))
+        calls.append(("rt check", rt(folder, "check", "--jobs", str(getattr(LANE, "width", 1)), *checks), lambda it: refusal(it, crate, is_verdict)))
         if crate.is_used and not calls[-1][1].status:
             calls.append(("rt lib", rt(folder, "lib", "--jobs", "1"), lambda it: ""))
         seconds = sum(it.seconds for _, it, _ in calls)
@@ -346,11 +348,19 @@ def in_lanes(tasks, lanes):
         for below in tasks[key][0]:
             behind[below] = max(behind[below], tasks[below][1] + behind[key])
     left, ended, running = sorted(tasks, key=lambda it: -behind[it]), set(), {}
+
+    def in_lane(width, call):
+        LANE.width = width
+        return call()
+
     with ThreadPoolExecutor(lanes) as pool:
         while left or running:
-            for key in [it for it in left if {*tasks[it][0]} <= ended][: lanes - len(running)]:
+            ready = [it for it in left if {*tasks[it][0]} <= ended][: lanes - len(running)]
+            for key in ready:
                 left.remove(key)
-                running[pool.submit(tasks[key][2])] = key
+                # What nothing else can run beside gets the processors that are idle.
+                width = lanes - len(running) if not any(tasks[it][1] for it in (*ready, *running.values()) if it != key) else 1
+                running[pool.submit(in_lane, min(max(width, 1), 4), tasks[key][2])] = key
             for done in wait(running, return_when=FIRST_COMPLETED).done:
                 done.result()
                 ended.add(running.pop(done))
