@@ -138,64 +138,6 @@ fn ending(rt: &impl Abort, alloc: Global, count: usize, last: NodeReply) -> Deli
     ending
 }
 
-/// The nodes after a step of the carrier of y at each of the moments 5, 3, 7 and 7.
-fn after_carrying(rt: &impl Abort, alloc: Global) -> Script {
-    let mut nodes = nodes_with(alloc, answers(rt, alloc, 3, NodeReply::Acked));
-    let mut carrier = y_carrier(alloc);
-    for moment in [5, 3, 7] {
-        assert!(rt; !carrier.ended());
-        assert!(rt; matches!(carrier.step(&mut nodes, 0, moment), Progress::Working));
-    }
-    assert!(rt; !carrier.ended());
-    assert!(rt; matches!(carrier.step(&mut nodes, 0, 7), Progress::Done(_)));
-    assert!(rt; carrier.ended());
-    nodes
-}
-
-#[test]
-fn each_call_goes_to_its_node(rt: HostRuntime) {
-    let nodes = after_carrying(&rt, rt.alloc());
-    let places = [(0, 1, 5), (1, 0, 5), (1, 1, 7), (0, 1, 7)];
-    assert_eq!(rt; nodes.asked.len(), 4);
-    for (at, (dc, shard, moment)) in nodes.asked.iter().zip(places) {
-        assert_eq!(rt; at.id.dc, dc);
-        assert_eq!(rt; at.id.shard, shard);
-        assert_eq!(rt; at.moment, moment);
-    }
-}
-
-/// Whether this asks for x 1.0.
-fn checks_x(call: &NodeCall) -> bool {
-    match call {
-        NodeCall::DepCheck(key, version) => {
-            key.bytes() == b"x".as_slice() && version.to_u64() == 256
-        }
-        _ => false,
-    }
-}
-
-/// Whether this acknowledges y 2.1 for data centre 1.
-fn acknowledges_y(call: &NodeCall) -> bool {
-    match call {
-        NodeCall::Ack(dc, version) => *dc == 1 && version.to_u64() == 513,
-        _ => false,
-    }
-}
-
-#[test]
-fn the_calls_are_made_in_order(rt: HostRuntime) {
-    let nodes = after_carrying(&rt, rt.alloc());
-    match nodes.asked.as_slice() {
-        [pull, check, commit, ack] => {
-            assert!(rt; matches!(pull.call, NodeCall::Pull(1)));
-            assert!(rt; checks_x(&check.call));
-            assert!(rt; matches!(commit.call, NodeCall::Commit(_)));
-            assert!(rt; acknowledges_y(&ack.call));
-        }
-        _ => panic!(&rt; "four calls"),
-    }
-}
-
 /// Asserts what is told of an entry that was carried.
 fn assert_carried(rt: &impl Abort, ending: Delivery, of: Pair, is_fresh: bool, is_acked: bool) {
     match ending {
@@ -210,51 +152,6 @@ fn assert_carried(rt: &impl Abort, ending: Delivery, of: Pair, is_fresh: bool, i
 fn an_entry_is_carried(rt: HostRuntime) {
     let ending = ending(&rt, rt.alloc(), 3, NodeReply::Acked);
     assert_carried(&rt, ending, pair(&rt, b"y", 2, 1), true, true);
-}
-
-#[test]
-fn an_entry_may_no_longer_be_the_front(rt: HostRuntime) {
-    let ending = ending(&rt, rt.alloc(), 3, NodeReply::NotFront);
-    assert_carried(&rt, ending, pair(&rt, b"y", 2, 1), true, false);
-}
-
-#[test]
-fn an_entry_is_carried_again(rt: HostRuntime) {
-    let x = entry(&rt, rt.alloc(), pair(&rt, b"x", 1, 0), &[]);
-    let replies = vec![in rt.alloc();
-        NodeReply::Pulled(x),
-        NodeReply::Already,
-        NodeReply::NotFront,
-    ]
-    .expect(&rt, "memory");
-    let origin = NodeId { dc: 0, shard: 0 };
-    let carrier = Carrier::new(&config(rt.alloc()), origin, 1);
-    let mut nodes = nodes_with(rt.alloc(), replies);
-    let ending = carry(&rt, &mut nodes, carrier);
-    assert_carried(&rt, ending, pair(&rt, b"x", 1, 0), false, false);
-}
-
-#[test]
-fn nothing_is_there(rt: HostRuntime) {
-    let ending = ending(&rt, rt.alloc(), 0, NodeReply::Nothing);
-    assert!(rt; matches!(ending, Delivery::Nothing));
-}
-
-#[test]
-fn an_entry_waits_for_what_it_depends_on(rt: HostRuntime) {
-    match ending(&rt, rt.alloc(), 1, NodeReply::Checked(false)) {
-        Delivery::Waits(p) => assert!(rt; p == pair(&rt, b"x", 1, 0)),
-        _ => panic!(&rt; "x is not there"),
-    }
-}
-
-#[test]
-fn an_entry_comes_too_early(rt: HostRuntime) {
-    let early = NodeReply::OutOfOrder(Version::of(1, 0));
-    match ending(&rt, rt.alloc(), 2, early) {
-        Delivery::OutOfOrder(mark) => assert_eq!(rt; mark.to_u64(), 256),
-        _ => panic!(&rt; "an entry before it is missing"),
-    }
 }
 
 /// Asserts that this answer after so many good ones is not what was asked for.
@@ -279,18 +176,6 @@ fn foreign_entries(rt: HostRuntime) {
     assert_torn(&rt, rt.alloc(), 0, NodeReply::Pulled(of_another_shard));
 }
 
-#[test]
-fn a_node_refuses(rt: HostRuntime) {
-    for fault in [Fault::AuditFull, Fault::OutOfMemory] {
-        for count in 0..4 {
-            match ending(&rt, rt.alloc(), count, NodeReply::Refused(fault)) {
-                Delivery::Refused(shown) => assert!(rt; shown == fault),
-                _ => panic!(&rt; "the node's refusal ends it"),
-            }
-        }
-    }
-}
-
 /// Answers to collecting.
 fn removed(rt: &impl Abort, alloc: Global, counts: &[u64]) -> Vec<NodeReply> {
     let mut replies = Vec::new(alloc);
@@ -310,44 +195,4 @@ fn what_each_node_removes_is_counted(rt: HostRuntime) {
     assert!(rt; matches!(collect_all(&mut nodes, &config, 0, 5101), Ok(3)));
     assert!(rt; matches!(collect_all(&mut nodes, &config, 0, 5101), Ok(0)));
     assert_eq!(rt; nodes.asked.len(), 8);
-}
-
-#[test]
-fn collects_on_each_node(rt: HostRuntime) {
-    let config = config(rt.alloc());
-    let counts = removed(&rt, rt.alloc(), &[1, 0, 2, 0]);
-    let mut nodes = nodes_with(rt.alloc(), counts);
-    assert!(rt; collect_all(&mut nodes, &config, 0, 5101).is_ok());
-    let places = [(0, 0), (0, 1), (1, 0), (1, 1)];
-    assert_eq!(rt; nodes.asked.len(), 4);
-    for (at, (dc, shard)) in nodes.asked.iter().zip(places) {
-        assert!(rt; at.id.dc == dc && at.id.shard == shard && at.moment == 5101);
-        assert!(rt; matches!(at.call, NodeCall::Collect));
-    }
-}
-
-/// Asserts what `collect_all` answers where the second of two replies is the last asked for.
-fn assert_stops(rt: &impl Abort, alloc: Global, first: u64, last: NodeReply, fault: Fault) {
-    let mut replies = removed(rt, alloc, &[first]);
-    replies.push(last).expect(rt, "memory");
-    let mut nodes = nodes_with(alloc, replies);
-    match collect_all(&mut nodes, &config(alloc), 0, 7) {
-        Ok(_) => panic!(rt; "a refusal"),
-        Err(given) => assert_eq!(rt; given, fault),
-    }
-    assert_eq!(rt; nodes.asked.len(), 2);
-}
-
-#[test]
-fn collecting_stops_at_a_refusal(rt: HostRuntime) {
-    let refused = NodeReply::Refused(Fault::AuditFull);
-    assert_stops(&rt, rt.alloc(), 1, refused, Fault::AuditFull);
-    assert_stops(&rt, rt.alloc(), 1, NodeReply::Nothing, Fault::Torn);
-    assert_stops(
-        &rt,
-        rt.alloc(),
-        u64::MAX,
-        NodeReply::Removed(1),
-        Fault::Torn,
-    );
 }
