@@ -85,30 +85,6 @@ fn step(
     }
 }
 
-/// A step that makes no call.
-fn late(
-    rt: &impl Abort,
-    alloc: Global,
-    session: &mut Session,
-    handle: Handle<Running>,
-    moment: u64,
-) -> Progress
-    requires { IsOfSizes 1 2 1 session.old.setting }
-    ensures { IsOfSizes 1 2 1 session.new.setting }
-{
-    let mut nodes = Script {
-        replies: Vec::new(alloc),
-    };
-    assert!(rt; nodes.replies.push(NodeReply::Absent).is_ok());
-    match session.step(&mut nodes, handle, moment) {
-        Ok(shown) => {
-            assert_eq!(rt; nodes.replies.len(), 1);
-            shown
-        }
-        Err(_) => panic!(rt; "the request runs"),
-    }
-}
-
 /// No request of this number runs.
 fn assert_idle(rt: &impl Abort, alloc: Global, session: &mut Session, handle: Handle<Running>)
     requires { IsOfSizes 1 2 1 session.old.setting }
@@ -138,13 +114,6 @@ fn found(rt: &impl Abort, alloc: Global, version: Version, deps: Deps) -> NodeRe
 fn has_stored(shown: &Progress, version: Version) -> bool {
     match shown {
         Progress::Done(Answer::Stored(pair)) => pair.version == version,
-        _ => false,
-    }
-}
-
-fn has_read(shown: &Progress, count: usize) -> bool {
-    match shown {
-        Progress::Done(Answer::Values(reads)) => reads.len() == count,
         _ => false,
     }
 }
@@ -183,51 +152,6 @@ fn put_x(
     request
 }
 
-#[test]
-fn a_put_is_in_the_context(rt: HostRuntime) {
-    let mut session = session(rt.alloc(), 20, 1);
-    let handle = context(&rt, &mut session);
-    assert_eq!(rt; handle.number(), 1);
-    let request = put_x(&rt, rt.alloc(), &mut session, handle);
-    assert_eq!(rt; request.number(), 1);
-    assert!(rt; session.running().is_none());
-    let all = [pair(&rt, b"x", Version::of(1, 0))];
-    assert_lists(&rt, &session, handle, &all, &all);
-    assert_idle(&rt, rt.alloc(), &mut session, request);
-}
-
-#[test]
-fn a_session_is_busy_with_a_put(rt: HostRuntime) {
-    let mut session = session(rt.alloc(), 20, 1);
-    let handle = context(&rt, &mut session);
-    let request = put(&rt, rt.alloc(), &mut session, handle, b"x");
-    assert!(rt; matches!(session.running(), Some(running) if running.number() == 1));
-    assert!(rt; matches!(session.create_context(), Err(Fault::Busy)));
-    assert!(rt; matches!(session.delete_context(handle), Err(Fault::Busy)));
-    let again = session.begin_get_trans(handle, &[key(&rt, b"x")]);
-    assert!(rt; matches!(again, Err(Fault::Busy)));
-}
-
-#[test]
-fn a_get_has_the_next_number(rt: HostRuntime) {
-    let mut session = session(rt.alloc(), 20, 1);
-    let handle = context(&rt, &mut session);
-    put_x(&rt, rt.alloc(), &mut session, handle);
-    let request = get(&rt, &mut session, handle, &[key(&rt, b"x")]);
-    assert_eq!(rt; request.number(), 2);
-    let reply = found(&rt, rt.alloc(), Version::of(1, 0), Deps::empty(rt.alloc()));
-    let read = step(&rt, rt.alloc(), &mut session, request, 0, reply);
-    assert!(rt; has_read(&read, 1));
-}
-
-#[test]
-fn a_context_is_deleted(rt: HostRuntime) {
-    let mut session = session(rt.alloc(), 20, 1);
-    let handle = context(&rt, &mut session);
-    assert!(rt; session.delete_context(handle).is_ok());
-    assert!(rt; matches!(session.context(handle), Err(Fault::NoContext)));
-}
-
 /// A transaction over x and y in its second round, where x is wanted at 1.0.
 fn in_second_round(
     rt: &impl Abort,
@@ -248,20 +172,6 @@ fn in_second_round(
     let y = found(rt, alloc, Version::of(2, 1), on_x(rt, alloc));
     assert!(rt; matches!(step(rt, alloc, session, request, 11, y), Progress::Working));
     request
-}
-
-#[test]
-fn both_rounds(rt: HostRuntime) {
-    let mut session = session(rt.alloc(), 20, 1);
-    let handle = context(&rt, &mut session);
-    let request = in_second_round(&rt, rt.alloc(), &mut session, handle);
-    let x = found(&rt, rt.alloc(), Version::of(1, 0), Deps::empty(rt.alloc()));
-    let read = step(&rt, rt.alloc(), &mut session, request, 12, x);
-    assert!(rt; has_read(&read, 2));
-    let x = pair(&rt, b"x", Version::of(1, 0));
-    let y = pair(&rt, b"y", Version::of(2, 1));
-    let nearest = pair(&rt, b"y", Version::of(2, 1));
-    assert_lists(&rt, &session, handle, &[x, y], &[nearest]);
 }
 
 /// Asserts why a request ended.
@@ -304,81 +214,6 @@ fn a_put_that_is_not_stored_is_torn(rt: HostRuntime) {
     assert_refused(&rt, torn, Fault::Torn);
 }
 
-#[test]
-fn a_put_that_a_node_refuses(rt: HostRuntime) {
-    let mut session = session(rt.alloc(), 20, 1);
-    let handle = context(&rt, &mut session);
-    let request = put(&rt, rt.alloc(), &mut session, handle, b"x");
-    let reply = NodeReply::Refused(Fault::VersionQuota);
-    let refused = step(&rt, rt.alloc(), &mut session, request, 12, reply);
-    assert_refused(&rt, refused, Fault::VersionQuota);
-    assert_lists(&rt, &session, handle, &[], &[]);
-}
-
-#[test]
-fn a_version_that_is_gone(rt: HostRuntime) {
-    let mut session = session(rt.alloc(), 20, 1);
-    let handle = context(&rt, &mut session);
-    let request = in_second_round(&rt, rt.alloc(), &mut session, handle);
-    let gone = step(
-        &rt,
-        rt.alloc(),
-        &mut session,
-        request,
-        12,
-        NodeReply::Gone(90000),
-    );
-    assert!(rt; matches!(gone, Progress::Restarted(1)));
-    let x = step(
-        &rt,
-        rt.alloc(),
-        &mut session,
-        request,
-        13,
-        NodeReply::Absent,
-    );
-    assert!(rt; matches!(x, Progress::Working));
-    let y = step(
-        &rt,
-        rt.alloc(),
-        &mut session,
-        request,
-        95000,
-        NodeReply::Absent,
-    );
-    assert!(rt; matches!(y, Progress::Done(Answer::Values(_))));
-}
-
-#[test]
-fn late_steps(rt: HostRuntime) {
-    let mut session = session(rt.alloc(), 20, 1);
-    let handle = context(&rt, &mut session);
-    let request = get(&rt, &mut session, handle, &[key(&rt, b"x"), key(&rt, b"y")]);
-    let x = step(&rt, rt.alloc(), &mut session, request, 3, NodeReply::Absent);
-    assert!(rt; matches!(x, Progress::Working));
-    let again = late(&rt, rt.alloc(), &mut session, request, 5004);
-    assert!(rt; matches!(again, Progress::Restarted(1)));
-    let x = step(&rt, rt.alloc(), &mut session, request, 0, NodeReply::Absent);
-    assert!(rt; matches!(x, Progress::Working));
-    let overrun = late(&rt, rt.alloc(), &mut session, request, 10005);
-    assert_refused(&rt, overrun, Fault::Overrun);
-    assert_lists(&rt, &session, handle, &[], &[]);
-}
-
-#[test]
-fn no_room_for_all_results(rt: HostRuntime) {
-    let mut session = session(rt.alloc(), 1, 1);
-    let handle = context(&rt, &mut session);
-    let request = get(&rt, &mut session, handle, &[key(&rt, b"x"), key(&rt, b"y")]);
-    let x = found(&rt, rt.alloc(), Version::of(1, 0), Deps::empty(rt.alloc()));
-    let working = step(&rt, rt.alloc(), &mut session, request, 0, x);
-    assert!(rt; matches!(working, Progress::Working));
-    let y = found(&rt, rt.alloc(), Version::of(1, 1), Deps::empty(rt.alloc()));
-    let full = step(&rt, rt.alloc(), &mut session, request, 0, y);
-    assert_refused(&rt, full, Fault::DependenciesFull);
-    assert_lists(&rt, &session, handle, &[], &[]);
-}
-
 /// Asserts why a transaction does not begin.
 fn assert_no_get(
     rt: &impl Abort,
@@ -409,38 +244,6 @@ fn assert_no_put(
 }
 
 #[test]
-fn refused_gets(rt: HostRuntime) {
-    let mut session = session(rt.alloc(), 1, 1);
-    let handle = context(&rt, &mut session);
-    let missing = Handle::of_number(7);
-    let x = key(&rt, b"x");
-    assert_no_get(&rt, &mut session, missing, &[], Fault::Syntax);
-    assert_no_get(&rt, &mut session, missing, &[x], Fault::NoContext);
-    assert_no_get(&rt, &mut session, handle, &[x; 33], Fault::TooManyKeys);
-    let twice = [x, key(&rt, b"y"), x];
-    assert_no_get(&rt, &mut session, handle, &twice, Fault::RepeatedKey);
-}
-
-#[test]
-fn refused_puts(rt: HostRuntime) {
-    let alloc = rt.alloc();
-    let mut session = session(alloc, 1, 1);
-    let handle = context(&rt, &mut session);
-    put_x(&rt, alloc, &mut session, handle);
-    assert_no_put(&rt, alloc, &mut session, handle, Fault::DependenciesFull);
-    let missing = Handle::of_number(7);
-    assert_no_put(&rt, alloc, &mut session, missing, Fault::NoContext);
-}
-
-#[test]
-fn contexts_have_a_limit(rt: HostRuntime) {
-    let mut session = session(rt.alloc(), 1, 1);
-    assert!(rt; session.create_context().is_ok());
-    assert!(rt; session.create_context().is_ok());
-    assert!(rt; matches!(session.create_context(), Err(Fault::TooManyContexts)));
-}
-
-#[test]
 fn the_last_context(rt: HostRuntime) {
     let mut session = session(rt.alloc(), 20, 18446744073709551614);
     let handle = context(&rt, &mut session);
@@ -463,4 +266,21 @@ fn the_last_request(rt: HostRuntime) {
         &[key(&rt, b"x")],
         Fault::IdsSpent,
     );
+}
+
+#[test]
+fn a_get_of_no_keys_has_no_form(rt: HostRuntime) {
+    let mut session = session(rt.alloc(), 1, 1);
+    assert_no_get(&rt, &mut session, Handle::of_number(7), &[], Fault::Syntax);
+}
+
+/// The first handle of a context in bytes.
+const FIRST_CONTEXT: [u8; 9] = [0x43, 0, 0, 0, 0, 0, 0, 0, 1];
+
+#[test]
+fn a_context_is_no_request_on_the_wire(rt: HostRuntime) {
+    let context: Handle<Contexts> = Handle::of_number(1);
+    assert_eq!(rt; context.to_wire(), FIRST_CONTEXT);
+    let request: Result<Handle<Running>, Fault> = Handle::from_wire(FIRST_CONTEXT);
+    assert!(rt; matches!(request, Err(Fault::NoContext)));
 }
