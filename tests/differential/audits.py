@@ -38,8 +38,12 @@ def changed(numbers: Random, audit: bytes) -> bytes:
 def changed_record(numbers: Random, record: str) -> str:
     words = record.split(" ")
     place = numbers.randrange(1, len(words))
+    lists = [at for at, word in enumerate(words) if word == "-" or ":" in word]
     draw = numbers.random()
-    if draw < 0.3:
+    if lists and draw < 0.2:
+        at = numbers.choice(lists)
+        words[at] = changed_list(numbers, words[at])
+    elif draw < 0.3:
         words[place] = numbers.choice(VERSIONS)
     elif draw < 0.5:
         words[place] = numbers.choice(WORDS)
@@ -56,3 +60,20 @@ def changed_record(numbers: Random, record: str) -> str:
     else:
         words[place] += "0" * 200_000
     return " ".join(words)
+
+
+def changed_list(numbers: Random, word: str) -> str:
+    """A list with a pair twice, out of order, with two versions of a key, added or left out."""
+    pairs = [] if word == "-" else word.split(",")
+    pair = numbers.choice(pairs or ["x:1.0"])
+    key, version = pair.split(":")
+    draw = numbers.random()
+    if draw < 0.3:
+        pairs.insert(numbers.randrange(len(pairs) + 1), f"{key}:{numbers.choice([version, '1.0', '9.0'])}")
+    elif draw < 0.5:
+        pairs.reverse()
+    elif draw < 0.7 and pairs:
+        pairs.remove(pair)
+    else:
+        pairs.insert(numbers.randrange(len(pairs) + 1), f"{numbers.choice(['x', 'y', 'zz'])}:1.0")
+    return ",".join(pairs) or "-"
