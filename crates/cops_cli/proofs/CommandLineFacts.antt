@@ -1,8 +1,11 @@
 -- What clap makes of words, by computing.
-use Rattle.std.proofs.Common.{◌≡◌, ◌≢◌, ◌⊎◌, inl, inr, arith, ◌<◌, suc, ◌&&◌, not, ℕ, List, [], ◌∷◌, length, Option, Some, None, Bool, true, false, cond, codes, is_some, option_map, refl, sym, ap, ap₂, slice_get, subst, unwrap_or, Bor}
+use Rattle.std.proofs.Common.{◌≡◌, ◌≢◌, ◌⊎◌, inl, inr, arith, ◌<◌, ◌^◌, ◌∙◌, suc, ◌&&◌, not, ℕ, List, [], ◌∷◌, length, Option, Some, None, Bool, true, false, cond, codes, is_some, option_map, refl, sym, ap, ap₂, slice_get, subst, unwrap_or, Bor}
 use Rattle.std.specs.List.{list_any}
+use Rattle.std.specs.Prelude.{Result, Ok, Err}
+use Rattle.std.specs.Str.Parse.{ExplainsUnsignedError, HasUnsignedDigitsIfOk, IsNumeral, ParsesUnsigned, digits_value, without_leading_plus}
+use Rattle.std.specs.declared.num.ParseIntError.{ParseIntError}
 use Rattle.clap.specs.Facts.{explicit_source}
-use Rattle.clap.specs.Matches.{subcommand_name_of}
+use Rattle.clap.specs.Matches.{ReadsOne, subcommand_name_of}
 use Rattle.clap.specs.Walk.{Held, Names, answers_to, finished, nothing_held, settled, stop_after, walk, walk_from}
 use Rattle.clap.specs.Words.{Row, Shape, Text, is_simple, subcommand_of, subcommand_rows_of, takes}
 use Rattle.clap.specs.Simple.{argument_words, built, entered, label_of, names_of, rows_at}
@@ -12,7 +15,7 @@ use Rattle.clap.specs.Faults.{check_fault, defaults_fault, entered_fault, fault_
 use Rattle.clap.specs.declared.parser.matches.ArgMatches.{ArgMatches}
 use Rattle.clap.specs.declared.parser.matches.ArgMatches.TheViews.{out-ArgMatches}
 use Rattle.clap.proofs.OnLiterals.{clap_on_literals}
-use Rattle.cops_cli.specs.CommandLine.{cops, subcommand_named, tenant_in, with_tenant}
+use Rattle.cops_cli.specs.CommandLine.{IsSpelledBy, IsSubcommand, cops, subcommand_named, tenant_in, with_tenant}
 
 pub is_simple_cops : is_simple cops ≡ true
 unfolding clap_on_literals
@@ -30,10 +33,22 @@ pub run_is_named : (program : List ℕ) → subcommand_named (program ∷ codes 
 unfolding clap_on_literals
 run_is_named program = refl
 
+pub takes_audit : (program : List ℕ) → takes cops (program ∷ codes "audit" ∷ []) ≡ true
+unfolding clap_on_literals
+takes_audit program = refl
+
+pub audit_is_named : (program : List ℕ) → subcommand_named (program ∷ codes "audit" ∷ []) ≡ Some (codes "audit")
+unfolding clap_on_literals
+audit_is_named program = refl
+
 -- ---- lists and options
 
 pub differ : (m n : ℕ) → m < n → m ≡ n → ⊥
 differ m n less e = omega arith
+
+-- the first letters differ
+pub not_serve : Some (codes "audit") ≡ Some (codes "serve") → ⊥
+not_serve e = differ 97 115 (omega arith) (ap (λ (o : Option Text). unwrap_or (slice_get (unwrap_or o []) 0) 0) e)
 
 abbrev number_of : Bool → ℕ
 number_of false = 0
@@ -60,10 +75,17 @@ pub unwrap_or-now : (o : Option (Bor Text)) (d : Bor Text) → (unwrap_or o d).n
 unwrap_or-now None d = refl
 unwrap_or-now (Some s) d = refl
 
-either_of : {X : Type 0} (a b : Bool) (x y : X) → let o = cond a (Some x) (cond b (Some y) None) in (o ≡ None) ⊎ ((o ≡ Some x) ⊎ (o ≡ Some y))
-either_of true b x y = inr (inl refl)
-either_of false true x y = inr (inr refl)
-either_of false false x y = inl refl
+-- it is one of five, or none
+abbrev OneOf : {X : Type 0} → Option X → X → X → X → X → X → Type 0
+OneOf o x y z w v = (o ≡ None) ⊎ ((o ≡ Some x) ⊎ ((o ≡ Some y) ⊎ ((o ≡ Some z) ⊎ ((o ≡ Some w) ⊎ (o ≡ Some v)))))
+
+either_of : {X : Type 0} (a b c d e : Bool) (x y z w v : X) → OneOf (cond a (Some x) (cond b (Some y) (cond c (Some z) (cond d (Some w) (cond e (Some v) None))))) x y z w v
+either_of true b c d e x y z w v = inr (inl refl)
+either_of false true c d e x y z w v = inr (inr (inl refl))
+either_of false false true d e x y z w v = inr (inr (inr (inl refl)))
+either_of false false false true e x y z w v = inr (inr (inr (inr (inl refl))))
+either_of false false false false true x y z w v = inr (inr (inr (inr (inr refl))))
+either_of false false false false false x y z w v = inl refl
 
 -- ---- what is named
 
@@ -71,22 +93,47 @@ either_of false false x y = inl refl
 pub name_in : (m : ArgMatches) → subcommand_name_of m ≡ option_map (λ (p : Text × List Row). p.0) (subcommand_rows_of m)
 name_in m = sym (option_map-twice _ (λ (p : Text × List Row). p.0) (out-ArgMatches m).subcommand)
 
--- where the subcommand is `solo`, its words name the tenant
-pub solo_is_named : (found : Option (Text × List Row)) (rows : List Row) → option_map (λ (p : Text × List Row). p.0) found ≡ Some (codes "solo") → option_map (λ (p : Text × List Row). p.1) found ≡ Some rows
-    → option_map with_tenant found ≡ Some (codes "solo", tenant_in rows)
-solo_is_named None rows named with_rows = absurd (none_is_some named)
-solo_is_named (Some p) rows named with_rows =
-    let name : p.0 ≡ codes "solo" = ap (λ o. unwrap_or o []) named in
+-- where the subcommand is this one, its words name the tenant
+pub named_with_tenant : (word : Text) (found : Option (Text × List Row)) (rows : List Row) → option_map (λ (p : Text × List Row). p.0) found ≡ Some word → option_map (λ (p : Text × List Row). p.1) found ≡ Some rows
+    → option_map with_tenant found ≡ Some (word, tenant_in rows)
+named_with_tenant word None rows named with_rows = absurd (none_is_some named)
+named_with_tenant word (Some p) rows named with_rows =
+    let name : p.0 ≡ word = ap (λ o. unwrap_or o []) named in
     let its : p.1 ≡ rows = ap (λ o. unwrap_or o []) with_rows in
     ap₂ (λ (n : Text) (r : List Row). Some (with_tenant (n, r))) name its
 
-by_found : (words : List Text) (x y : Shape) (o : Option Shape) → (o ≡ None) ⊎ ((o ≡ Some x) ⊎ (o ≡ Some y))
-    → let name = option_map (λ (p : Text × List Row). p.0) (option_map (λ (s : Shape). rows_at s words) o) in (name ≡ None) ⊎ ((name ≡ Some x.name) ⊎ (name ≡ Some y.name))
-by_found words x y o found = elim found [
+-- a subcommand that is named with a tenant is named
+pub word_of_named : (word other tenant : Text) (found : Option (Text × List Row)) → option_map (λ (p : Text × List Row). p.0) found ≡ Some word → option_map with_tenant found ≡ Some (other, tenant) → word ≡ other
+word_of_named word other tenant None named with_name = absurd (none_is_some named)
+word_of_named word other tenant (Some p) named with_name =
+    let name : p.0 ≡ word = ap (λ o. unwrap_or o []) named in
+    let its : with_tenant p ≡ (other, tenant) = ap (λ (o : Option (Text × Text)). unwrap_or o (other, tenant)) with_name in
+    sym name ∙ ap (λ (t : Text × Text). t.0) its
+
+-- where the subcommand is `serve`, these are the rows of what follows it
+pub serve_is_named : (found : Option (Text × List Row)) (rows : List Row) → option_map (λ (p : Text × List Row). p.0) found ≡ Some (codes "serve") → option_map (λ (p : Text × List Row). p.1) found ≡ Some rows
+    → found ≡ Some (codes "serve", rows)
+serve_is_named None rows named with_rows = absurd (none_is_some named)
+serve_is_named (Some p) rows named with_rows =
+    let name : p.0 ≡ codes "serve" = ap (λ o. unwrap_or o []) named in
+    let its : p.1 ≡ rows = ap (λ o. unwrap_or o []) with_rows in
+    ap₂ (λ (n : Text) (r : List Row). Some (n, r)) name its
+
+by_found : (words : List Text) (x y z w v : Shape) (o : Option Shape) → OneOf o x y z w v → OneOf (option_map (λ (p : Text × List Row). p.0) (option_map (λ (s : Shape). rows_at s words) o)) x.name y.name z.name w.name v.name
+by_found words x y z w v o found = elim found [
   | inl e ↦ inl (ap name_of e)
-  | inr some ↦ elim some [
+  | inr first ↦ elim first [
     | inl e ↦ inr (inl (ap name_of e))
-    | inr e ↦ inr (inr (ap name_of e))
+    | inr second ↦ elim second [
+      | inl e ↦ inr (inr (inl (ap name_of e)))
+      | inr third ↦ elim third [
+        | inl e ↦ inr (inr (inr (inl (ap name_of e))))
+        | inr fourth ↦ elim fourth [
+          | inl e ↦ inr (inr (inr (inr (inl (ap name_of e)))))
+          | inr e ↦ inr (inr (inr (inr (inr (ap name_of e)))))
+        ]
+      ]
+    ]
   ]
 ]
   where
@@ -96,16 +143,31 @@ by_found words x y o found = elim found [
 abbrev sub_of : ℕ → Shape
 sub_of i = unwrap_or (slice_get (built cops).subs i) (built cops).top
 
-by_stop : (stop : Option (Text × List Text)) → let name = option_map (λ (p : Text × List Row). p.0) (entered (built cops) stop) in
-    (name ≡ None) ⊎ ((name ≡ Some (codes "run")) ⊎ (name ≡ Some (codes "solo")))
+by_stop : (stop : Option (Text × List Text)) → let name = option_map (λ (p : Text × List Row). p.0) (entered (built cops) stop) in (name ≡ None) ⊎ IsSubcommand name
 by_stop None = inl refl
 by_stop (Some p) =
     let is_it = λ (s : Shape). answers_to p.0 (label_of s) in
-    by_found p.1 (sub_of 0) (sub_of 1) _ (either_of (is_it (sub_of 0)) (is_it (sub_of 1)) (sub_of 0) (sub_of 1))
+    by_found p.1 (sub_of 0) (sub_of 1) (sub_of 2) (sub_of 3) (sub_of 4) _
+    (either_of (is_it (sub_of 0)) (is_it (sub_of 1)) (is_it (sub_of 2)) (is_it (sub_of 3)) (is_it (sub_of 4)) (sub_of 0) (sub_of 1) (sub_of 2) (sub_of 3) (sub_of 4))
 
 -- the subcommands that can be found
-pub run_or_solo : (words : List Text) → (subcommand_named words ≡ None) ⊎ ((subcommand_named words ≡ Some (codes "run")) ⊎ (subcommand_named words ≡ Some (codes "solo")))
-run_or_solo words = by_stop (stop_after (built cops).top.rules (names_of (built cops)) (argument_words cops words))
+pub subcommands : (words : List Text) → (subcommand_named words ≡ None) ⊎ IsSubcommand (subcommand_named words)
+subcommands words = by_stop (stop_after (built cops).top.rules (names_of (built cops)) (argument_words cops words))
+
+-- ---- numbers
+
+-- how a text is read as a number
+abbrev pub ReadsNumber : Text → Result ℕ ParseIntError → Type 0
+ReadsNumber text r = ParsesUnsigned 64 10 text r × ExplainsUnsignedError 10 text r × HasUnsignedDigitsIfOk text r
+
+-- what is read of a text is the number that it spells
+pub spelled : (found : Option Text) (got : Option ℕ) (other n : ℕ) → ((text : Text) → found ≡ Some text → ReadsOne ReadsNumber text got) → n ≡ unwrap_or got other → IsSpelledBy found n
+spelled None got other n reads is = tt
+spelled (Some text) got other n reads is = λ numeral small. by_read got (reads text refl) is numeral small
+  where
+    by_read : (got : Option ℕ) → ReadsOne ReadsNumber text got → n ≡ unwrap_or got other → IsNumeral 10 (without_leading_plus text) → digits_value 10 (without_leading_plus text) < 2 ^ 64 → n ≡ digits_value 10 (without_leading_plus text)
+    by_read (Some v) read is numeral small = is ∙ read.0.1
+    by_read None read is numeral small = absurd (read.1.0 (numeral, small))
 
 -- ---- what a parse that succeeds has found
 

@@ -1,2 +1,3 @@
 mod CommandLineFacts
 mod NothingWritten
+pub mod ServingFacts

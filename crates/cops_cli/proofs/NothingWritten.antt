@@ -4,9 +4,11 @@ use Rattle.std.specs.Io.KnownBytes.{Keeps}
 use Rattle.cops_world.specs.ScriptRuns.{WritesFront}
 use Rattle.cops_world.specs.SoloRuns.{WritesSoloFront}
 use Rattle.cops_cli.specs.Faults.{IsOfWords, UnlessOfWords}
-use Rattle.cops_cli.specs.Runs.{Runs, RunsAlone}
+use Rattle.cops_replay.proofs.AuditRunLemmas.{none_audited}
+use Rattle.cops_replay.proofs.ReplayRunLemmas.{nothing_replayed}
+use Rattle.cops_cli.specs.Runs.{Audits, Replays, Runs, RunsAlone, Serves}
 use Rattle.cops_cli.specs.declared.faults.CliFault.{CliFault}
-use Rattle.cops_cli.specs.declared.faults.CliFault.TheVariants.{CommandLine, NoText, BadHead, UnknownTenant, OutOfMemory, ReadFault, WriteFault}
+use Rattle.cops_cli.specs.declared.faults.CliFault.TheVariants.{CommandLine, NoText, BadHead, UnknownTenant, OutOfMemory, ReadFault, WriteFault, Torn}
 
 stays_as_it_is : (known : Option (List ℕ)) → Keeps known known
 stays_as_it_is None = tt
@@ -46,3 +48,50 @@ ends_with_words name remaining contents (Err (BadHead line)) e = absurd e
 ends_with_words name remaining contents (Err UnknownTenant) e = absurd e
 ends_with_words name remaining contents (Err ReadFault) e = absurd e
 ends_with_words name remaining contents (Err WriteFault) e = absurd e
+ends_with_words name remaining contents (Err Torn) e = absurd e
+
+-- the same of an audit, and of a replay
+pub audits_for_lack : {T : Type 0} → (remaining contents : Option (List ℕ)) (result : Result T CliFault) → result ≡ Err OutOfMemory → Audits remaining remaining contents contents result
+audits_for_lack remaining contents result is =
+    subst (Audits remaining remaining contents contents) (sym is) (record {
+      of_run = tt;
+      of_all = tt;
+      written = none_audited remaining contents;
+      bad = tt;
+      unwritten = tt;
+    })
+
+pub replays_nothing : {T : Type 0} → (name : List ℕ) (remaining contents : Option (List ℕ)) (result : Result T CliFault) → IsErrAnd result IsOfWords
+    → UnlessOfWords result (Replays name remaining remaining contents contents result)
+replays_nothing name remaining contents (Ok done) e = absurd e
+replays_nothing name remaining contents (Err (CommandLine error)) e = tt
+replays_nothing name remaining contents (Err NoText) e = tt
+replays_nothing name remaining contents (Err OutOfMemory) e = record {
+  of_run = tt;
+  written = nothing_replayed name remaining contents;
+  refused = tt;
+  unwritten = tt;
+}
+replays_nothing name remaining contents (Err (BadHead line)) e = absurd e
+replays_nothing name remaining contents (Err UnknownTenant) e = absurd e
+replays_nothing name remaining contents (Err ReadFault) e = absurd e
+replays_nothing name remaining contents (Err WriteFault) e = absurd e
+replays_nothing name remaining contents (Err Torn) e = absurd e
+
+-- the same before anything is served
+pub ends_unserved : {T : Type 0} → (remaining contents : Option (List ℕ)) (result : Result T CliFault) → IsErrAnd result IsOfWords → UnlessOfWords result (Serves remaining contents contents result)
+ends_unserved remaining contents (Ok done) e = absurd e
+ends_unserved remaining contents (Err (CommandLine error)) e = tt
+ends_unserved remaining contents (Err NoText) e = tt
+ends_unserved remaining contents (Err OutOfMemory) e = record {
+  of_run = tt;
+  of_all = tt;
+  written = inl (stays_as_it_is contents);
+  bad = tt;
+  unwritten = tt;
+}
+ends_unserved remaining contents (Err (BadHead line)) e = absurd e
+ends_unserved remaining contents (Err UnknownTenant) e = absurd e
+ends_unserved remaining contents (Err ReadFault) e = absurd e
+ends_unserved remaining contents (Err WriteFault) e = absurd e
+ends_unserved remaining contents (Err Torn) e = absurd e

@@ -1,9 +1,12 @@
 -- The command line, as clap reads it.
-use Rattle.std.specs.Prelude.{◌≡◌, List, [], Option, Some, codes, option_map, true, unwrap_or}
-use Rattle.clap.specs.Words.{App, Row, Rule, Text, first_of, new_app, new_rule, subcommand_of, with_rule, with_subcommand}
+use Rattle.std.specs.Prelude.{◌≡◌, ◌⊎◌, ℕ, ◌<◌, ◌^◌, List, [], ◌∷◌, Option, Some, None, codes, option_map, true, unwrap_or}
+use Rattle.std.specs.Str.Parse.{IsNumeral, digits_value, without_leading_plus}
+use Rattle.clap.specs.Words.{App, Row, Rule, Text, first_of, new_app, new_rule, one_of, subcommand_of, with_rule, with_subcommand}
+use Rattle.clap.specs.declared.builder.value_parser.ValueParser.TheVariants.{Unsigned}
 use Rattle.clap.specs.Simple.{on_top}
+use Rattle.cops_cli.specs.declared.command_line.Service.{Service}
 use Rattle.cops_cli.specs.declared.command_line.Task.{Task}
-use Rattle.cops_cli.specs.declared.command_line.Task.TheVariants.{Run, Solo}
+use Rattle.cops_cli.specs.declared.command_line.Task.TheVariants.{Run, Solo, Audit, Replay, Serve}
 
 abbrev pub run : App
 run = new_app (codes "run")
@@ -14,6 +17,22 @@ tenant = record (new_rule (codes "TENANT")) { required = true }
 abbrev pub solo : App
 solo = with_rule (new_app (codes "solo")) tenant
 
+abbrev pub audit : App
+audit = new_app (codes "audit")
+
+abbrev pub replay : App
+replay = with_rule (new_app (codes "replay")) tenant
+
+abbrev pub address : Rule
+address = record (new_rule (codes "ADDRESS")) { required = true }
+
+-- a number from 1 to the greatest, and this text where none is given
+abbrev pub number : Text → ℕ → Text → Rule
+number id greatest given = record (new_rule id) { long = Some id; value_names = 1; parser = Some (Unsigned 1 greatest); defaults = given ∷ [] }
+
+abbrev pub serve : App
+serve = with_rule (with_rule (with_rule (new_app (codes "serve")) address) (number (codes "workers") 16 (codes "4"))) (number (codes "connections") 4294967295 (codes "4294967295"))
+
 -- one of the subcommands has to be named
 abbrev pub with_run : App
 with_run = with_subcommand (on_top (λ shape. record shape {
@@ -23,15 +42,24 @@ with_run = with_subcommand (on_top (λ shape. record shape {
   disable_help_subcommand = true;
 }) (new_app (codes "cops"))) run.top
 
+abbrev pub with_solo : App
+with_solo = with_subcommand with_run solo.top
+
+abbrev pub with_audit : App
+with_audit = with_subcommand with_solo audit.top
+
+abbrev pub with_replay : App
+with_replay = with_subcommand with_audit replay.top
+
 -- the program with its subcommands
 abbrev pub cops : App
-cops = with_subcommand with_run solo.top
+cops = with_subcommand with_replay serve.top
 
 -- the subcommand that words name
 abbrev pub subcommand_named : List Text → Option Text
 subcommand_named words = option_map (λ (found : Text × List Row). found.0) (subcommand_of cops words)
 
--- the tenant that the words after `solo` name
+-- the tenant that the words after `solo` or `replay` name
 abbrev pub tenant_in : List Row → Text
 tenant_in rows = unwrap_or (first_of (codes "TENANT") rows) []
 
@@ -43,7 +71,37 @@ with_tenant found = (found.0, tenant_in found.1)
 abbrev pub alone_named : List Text → Option (Text × Text)
 alone_named words = option_map with_tenant (subcommand_of cops words)
 
+-- the address that the words after `serve` name
+abbrev pub address_in : List Row → Text
+address_in rows = unwrap_or (first_of (codes "ADDRESS") rows) []
+
+-- the number is the one that the text spells, if it spells one that fits
+abbrev pub IsSpelledBy : Option Text → ℕ → Type 0
+IsSpelledBy None n = Unit {0}
+IsSpelledBy (Some text) n = IsNumeral 10 (without_leading_plus text) → digits_value 10 (without_leading_plus text) < 2 ^ 64 → n ≡ digits_value 10 (without_leading_plus text)
+
+-- this is what the words after `serve` ask for
+pub record IsServiceIn (rows : List Row) (service : Service) : Type 0 where
+  pub address_is : service.address.now ≡ address_in rows
+  pub workers_are : IsSpelledBy (one_of (codes "workers") rows) service.workers
+  pub connections_are : IsSpelledBy (one_of (codes "connections") rows) service.connections
+
+-- words ask for this service
+pub record IsServedBy (words : List Text) (service : Service) : Type 0 where
+  pub rows : List Row
+  pub named : subcommand_of cops words ≡ Some (codes "serve", rows)
+  pub is : IsServiceIn rows service
+
 -- words ask for the task
 abbrev pub IsAskedBy : List Text → Task → Type 0
 IsAskedBy words Run = subcommand_named words ≡ Some (codes "run")
 IsAskedBy words (Solo name) = alone_named words ≡ Some (codes "solo", name.now)
+IsAskedBy words Audit = subcommand_named words ≡ Some (codes "audit")
+IsAskedBy words (Replay name) = alone_named words ≡ Some (codes "replay", name.now)
+IsAskedBy words (Serve service) = IsServedBy words service
+
+-- it is one of the subcommands
+abbrev pub IsSubcommand : Option Text → Type 0
+IsSubcommand found =
+    (found ≡ Some (codes "run"))
+    ⊎ ((found ≡ Some (codes "solo")) ⊎ ((found ≡ Some (codes "audit")) ⊎ ((found ≡ Some (codes "replay")) ⊎ (found ≡ Some (codes "serve")))))

@@ -3,13 +3,15 @@ use Rattle.std.specs.Prelude.{◌≡◌, ◌≢◌, ⊤, ℕ, Result, Err}
 use Rattle.clap.specs.Words.{kind_of}
 use Rattle.clap.specs.declared.error.Error.{Error}
 use Rattle.clap.specs.declared.error.kind.ErrorKind.TheVariants as kind
+use Rattle.cops_types.specs.declared.faults.Fault.{Fault}
+use Rattle.cops_types.specs.declared.faults.Fault.TheVariants as fault
 use Rattle.cops_types.specs.declared.line_runs.fault.RunFault.{RunFault}
 use Rattle.cops_types.specs.declared.line_runs.fault.RunFault.TheVariants as run
 use Rattle.cops_world.specs.declared.scripts.BadConfig.{BadConfig}
 use Rattle.cops_world.specs.declared.solo_machine.SoloRefusal.{SoloRefusal}
 use Rattle.cops_world.specs.declared.solo_machine.SoloRefusal.TheVariants as solo
 use Rattle.cops_cli.specs.declared.faults.CliFault.{CliFault}
-use Rattle.cops_cli.specs.declared.faults.CliFault.TheVariants.{CommandLine, NoText, BadHead, UnknownTenant, OutOfMemory, ReadFault, WriteFault}
+use Rattle.cops_cli.specs.declared.faults.CliFault.TheVariants.{CommandLine, NoText, BadHead, UnknownTenant, OutOfMemory, ReadFault, WriteFault, Torn}
 
 -- the fault of a run
 abbrev pub ended_by : RunFault BadConfig → CliFault
@@ -25,6 +27,13 @@ ended_alone_by (run.Refused solo.UnknownTenant) = UnknownTenant
 ended_alone_by run.OutOfMemory = OutOfMemory
 ended_alone_by run.ReadFault = ReadFault
 ended_alone_by run.WriteFault = WriteFault
+
+-- the fault of a service, or of an audit
+abbrev pub ended_serving_by : Fault → CliFault
+ended_serving_by fault.OutOfMemory = OutOfMemory
+ended_serving_by fault.WriteFault = WriteFault
+ended_serving_by fault.Torn = Torn
+ended_serving_by other = ReadFault
 
 -- the fault of words that clap refuses
 pub record RefusesWords (error : Error) (fault : CliFault) : Type 0 where

@@ -1,14 +1,25 @@
 //! What the words of the command line ask for.
 ghost use Rattle.std.specs.Prelude.{◌≡◌, ℕ, List, [], ◌∷◌, codes, map, false, IfOk, IfErr, MatchResult};
-ghost use Rattle.clap.specs.Words.{app_of};
+ghost use Rattle.clap.specs.Matches.{found_of};
+ghost use Rattle.clap.specs.Walk.{rows_of};
+ghost use Rattle.clap.specs.Words.{app_of, new_app, one_of, rule_of};
 ghost use Rattle.clap.specs.declared.builder.command.Command.TheViews.{out-Command};
-ghost use Rattle.cops_cli.specs.CommandLine.{IsAskedBy, cops, solo, with_run};
+ghost use Rattle.cops_cli.specs.CommandLine.{IsAskedBy, IsServiceIn, IsSpelledBy, address, audit, cops, number, replay, serve, solo, tenant_in, with_audit, with_replay, with_run, with_solo};
 ghost use Rattle.cops_cli.specs.Faults.{IsOfWords};
 
 use crate::faults::CliFault;
-use clap::{Arg, Command};
+use clap::builder::ValueParser;
+use clap::{Arg, ArgMatches, Command};
 use std::alloc::{AllocError, Global};
 use std::convert::AsStr;
+
+/// What is to be served.
+#[derive(Clone, Copy)]
+pub(crate) struct Service<'a> {
+    pub(crate) address: &'a str,
+    pub(crate) workers: u64,
+    pub(crate) connections: u64,
+}
 
 #[derive(Clone, Copy)]
 pub(crate) enum Task<'a> {
@@ -16,9 +27,30 @@ pub(crate) enum Task<'a> {
     Run,
     /// Answers a script for the tenant of this name alone.
     Solo(&'a str),
+    /// Writes the audit of a script.
+    Audit,
+    /// Replays the records of the tenant of this name in an audit.
+    Replay(&'a str),
+    /// Serves clients.
+    Serve(Service<'a>),
 }
 
 const TENANT: &str = "TENANT";
+
+const ADDRESS: &str = "ADDRESS";
+
+const WORKERS: &str = "workers";
+
+const CONNECTIONS: &str = "connections";
+
+/// How many workers there are where nobody says.
+const SOME_WORKERS: u64 = 4;
+
+/// How many workers there may be.
+const MOST_WORKERS: u64 = 16;
+
+/// How many connections may be served, and are where nobody says.
+const MOST_CONNECTIONS: u64 = 4294967295;
 
 /// With the name of a tenant.
 fn solo_command<'a>(alloc: Global) -> Result<Command<'a>, AllocError>
@@ -29,6 +61,77 @@ fn solo_command<'a>(alloc: Global) -> Result<Command<'a>, AllocError>
     Command::new(alloc, "solo")
         .about("Answers it for one tenant alone")
         .arg(tenant)
+}
+
+fn audit_command<'a>(alloc: Global) -> Command<'a>
+    ensures app { app_of result ≡ audit }
+    ensures no_globals { (out-Command result).has_globals ≡ false }
+{
+    Command::new(alloc, "audit").about("Writes the audit of the script on standard input")
+}
+
+/// With the name of a tenant.
+fn replay_command<'a>(alloc: Global) -> Result<Command<'a>, AllocError>
+    ensures app { IfOk result (λ command. app_of command ≡ replay) }
+    ensures no_globals { IfOk result (λ command. (out-Command command).has_globals ≡ false) }
+{
+    let name = Arg::new(alloc, TENANT).required(true);
+    Command::new(alloc, "replay")
+        .about("Replays a tenant's records of the audit on standard input")
+        .arg(name)
+}
+
+/// Where to listen.
+fn address_argument<'a>(alloc: Global) -> Arg<'a>
+    ensures rule { rule_of result ≡ address }
+    ensures local { result.global ≡ false }
+{
+    Arg::new(alloc, ADDRESS)
+        .help("Where to listen, as 127.0.0.1:7000")
+        .required(true)
+}
+
+/// A number from 1 to the greatest, with this text where none is given.
+fn number_argument<'a>(
+    alloc: Global,
+    id: &'a str,
+    greatest: u64,
+    given: &'a str,
+    help: &'a str,
+) -> Arg<'a>
+    ensures rule { rule_of result ≡ number id.entry.now greatest given.entry.now }
+    ensures local { result.global ≡ false }
+{
+    Arg::new(alloc, id)
+        .help(help)
+        .long(id)
+        .value_name("N")
+        .value_parser(ValueParser::unsigned(1, greatest))
+        .default_value(given)
+}
+
+/// What it does, without its arguments.
+fn bare_serve_command<'a>(alloc: Global) -> Command<'a>
+    ensures app { app_of result ≡ new_app (codes "serve") }
+    ensures no_globals { (out-Command result).has_globals ≡ false }
+{
+    Command::new(alloc, "serve").about("Serves clients over TCP, and then writes the audit")
+}
+
+/// With an address, and two numbers that may be left out.
+fn serve_command<'a>(alloc: Global) -> Result<Command<'a>, AllocError>
+    ensures app { IfOk result (λ command. app_of command ≡ serve) }
+    ensures no_globals { IfOk result (λ command. (out-Command command).has_globals ≡ false) }
+{
+    let address = address_argument(alloc);
+    let help = "How many clients are served at once";
+    let workers = number_argument(alloc, WORKERS, MOST_WORKERS, "4", help);
+    let help = "After how many connections it ends";
+    let connections = number_argument(alloc, CONNECTIONS, MOST_CONNECTIONS, "4294967295", help);
+    bare_serve_command(alloc)
+        .arg(address)?
+        .arg(workers)?
+        .arg(connections)
 }
 
 /// With one subcommand so far.
@@ -45,11 +148,60 @@ fn first_commands<'a>(alloc: Global) -> Result<Command<'a>, AllocError>
         .subcommand(run)
 }
 
-fn command_line<'a>(alloc: Global) -> Result<Command<'a>, AllocError>
-    ensures { IfOk result (λ command. app_of command ≡ cops) }
+/// With two.
+fn solo_commands<'a>(alloc: Global) -> Result<Command<'a>, AllocError>
+    ensures { IfOk result (λ command. app_of command ≡ with_solo) }
 {
     let solo = solo_command(alloc)?;
     first_commands(alloc)?.subcommand(solo)
+}
+
+/// With three.
+fn audit_commands<'a>(alloc: Global) -> Result<Command<'a>, AllocError>
+    ensures { IfOk result (λ command. app_of command ≡ with_audit) }
+{
+    let audit = audit_command(alloc);
+    solo_commands(alloc)?.subcommand(audit)
+}
+
+/// With four.
+fn replay_commands<'a>(alloc: Global) -> Result<Command<'a>, AllocError>
+    ensures { IfOk result (λ command. app_of command ≡ with_replay) }
+{
+    let replay = replay_command(alloc)?;
+    audit_commands(alloc)?.subcommand(replay)
+}
+
+fn command_line<'a>(alloc: Global) -> Result<Command<'a>, AllocError>
+    ensures { IfOk result (λ command. app_of command ≡ cops) }
+{
+    let serve = serve_command(alloc)?;
+    replay_commands(alloc)?.subcommand(serve)
+}
+
+/// The tenant that the words after a subcommand name.
+fn tenant_in<'a>(matches: &ArgMatches<'a>) -> &'a str
+    ensures { result.now ≡ tenant_in (rows_of (found_of matches.now)) }
+{
+    matches.get_str(TENANT).unwrap_or("")
+}
+
+/// The number under this id, or another where there is none.
+fn number_in(matches: &ArgMatches, id: &str, other: u64) -> u64
+    ensures { IsSpelledBy (one_of id.now (rows_of (found_of matches.now))) result }
+{
+    matches.get_one::<u64>(id).unwrap_or(other)
+}
+
+/// What the words after `serve` ask for.
+fn service_in<'a>(serve: &ArgMatches<'a>) -> Service<'a>
+    ensures { IsServiceIn (rows_of (found_of serve.now)) result }
+{
+    Service {
+        address: serve.get_str(ADDRESS).unwrap_or(""),
+        workers: number_in(serve, WORKERS, SOME_WORKERS),
+        connections: number_in(serve, CONNECTIONS, MOST_CONNECTIONS),
+    }
 }
 
 /// The first word is the program's name.
@@ -57,11 +209,24 @@ pub(crate) fn read_words<'a, S: AsStr>(alloc: Global, words: &'a [S]) -> Result<
     ensures asked { IfOk result (IsAskedBy (map S.text words.now)) }
     ensures run { (program : List ℕ) → map S.text words.now ≡ program ∷ codes "run" ∷ [] →
         MatchResult result (λ task. task ≡ Task.Run) (λ fault. fault ≡ CliFault.OutOfMemory) }
+    ensures audit { (program : List ℕ) → map S.text words.now ≡ program ∷ codes "audit" ∷ [] →
+        MatchResult result (λ task. task ≡ Task.Audit) (λ fault. fault ≡ CliFault.OutOfMemory) }
     ensures err { IfErr result IsOfWords }
 {
     let matches = command_line(alloc)?.try_get_matches_from(words)?;
-    match matches.subcommand_matches("solo") {
-        Some(solo) => Ok(Task::Solo(solo.get_str(TENANT).unwrap_or(""))),
+    if let Some(solo) = matches.subcommand_matches("solo") {
+        let tenant = tenant_in(solo);
+        return Ok(Task::Solo(tenant));
+    }
+    if let Some(replay) = matches.subcommand_matches("replay") {
+        let named = tenant_in(replay);
+        return Ok(Task::Replay(named));
+    }
+    if let Some(serve) = matches.subcommand_matches("serve") {
+        return Ok(Task::Serve(service_in(serve)));
+    }
+    match matches.subcommand_matches("audit") {
+        Some(_audit) => Ok(Task::Audit),
         None => Ok(Task::Run),
     }
 }

@@ -1,6 +1,6 @@
 //! Why the program ends with another status than 0.
 ghost use Rattle.std.specs.Prelude.{◌≡◌};
-ghost use Rattle.cops_cli.specs.Faults.{RefusesWords, ended_alone_by, ended_by};
+ghost use Rattle.cops_cli.specs.Faults.{RefusesWords, ended_alone_by, ended_by, ended_serving_by};
 ghost use Rattle.cops_cli.specs.Statuses.{fault_status};
 ghost use Rattle.cops_cli.specs.declared.faults.CliFault.TheVariants.{OutOfMemory};
 
@@ -29,9 +29,24 @@ pub(crate) enum CliFault {
     ReadFault,
     #[error("cops: {}\n", Fault::WriteFault)]
     WriteFault,
+    /// A turn of a node was never ended.
+    #[error("cops: {}\n", Fault::Torn)]
+    Torn,
 }
 
 impl CliFault {
+    /// What a service ended with, or an audit. A listener that fails is a reader.
+    pub(crate) fn of_service(fault: Fault) -> CliFault
+        ensures { result ≡ ended_serving_by fault }
+    {
+        match fault {
+            Fault::OutOfMemory => CliFault::OutOfMemory,
+            Fault::WriteFault => CliFault::WriteFault,
+            Fault::Torn => CliFault::Torn,
+            _ => CliFault::ReadFault,
+        }
+    }
+
     /// The status that the program ends with.
     pub(crate) fn status(&self) -> u8
         ensures { result ≡ fault_status self.now }
@@ -40,6 +55,7 @@ impl CliFault {
             CliFault::CommandLine(_) | CliFault::NoText => 2,
             CliFault::BadHead(_) | CliFault::UnknownTenant => 2,
             CliFault::OutOfMemory | CliFault::ReadFault | CliFault::WriteFault => 1,
+            CliFault::Torn => 1,
         }
     }
 }

@@ -1,4 +1,5 @@
-//! The program `cops`: answers a script of tenants' events, from standard input to standard output.
+//! The program `cops`: answers a script of tenants' events, writes its audit, or replays an audit, from
+//! standard input to standard output, or serves clients.
 #![tactic(auto)]
 
 ghost use Rattle.std.specs.Prelude.{◌≡◌};
@@ -8,6 +9,7 @@ ghost use Rattle.cops_cli.specs.Statuses.{status_of};
 mod command_line;
 mod faults;
 mod program;
+mod serve;
 #[cfg(test)]
 mod tests;
 
@@ -15,8 +17,12 @@ use cops_types::{Sink, Source};
 use faults::CliFault;
 use program::answer;
 use std::io::ErrorKind;
+use std::net::{Net, TcpListener, TcpStream};
 use std::process::ExitCode;
 use std::rt::Env;
+use std::sync::Wait;
+use std::thread::Threads;
+use std::time::Clock;
 use std::{env, io};
 
 /// The words of the command line, the program's name first.
@@ -30,11 +36,15 @@ fn words_of<R: Env + AllocGlobal>(rt: &R) -> Result<Vec<String>, CliFault> {
 }
 
 /// Does what the command line asks for.
-fn run<R: Env + Input + Print + AllocGlobal>(rt: &R) -> Result<(), CliFault> {
+fn run<R>(rt: &R) -> Result<(), CliFault>
+where
+    R: Env + Input + Print + AllocGlobal,
+    R: Net<Listener = TcpListener, Stream = TcpStream> + Threads + Wait + Clock + Sync,
+{
     let words = words_of(rt)?;
     let mut source = Source::new(rt.reader());
     let mut sink = Sink::new(io::writer(rt));
-    answer(rt.alloc(), words.as_slice(), &mut source, &mut sink)
+    answer(rt, rt.alloc(), words.as_slice(), &mut source, &mut sink)
 }
 
 /// Writes the text of a fault to standard error, and gives the status.

@@ -2,6 +2,8 @@
 use crate::faults::CliFault;
 use crate::program::answer;
 use cops_types::{Sink, Source};
+use std::alloc::Global;
+use std::process::Abort;
 use std::test::Fail;
 
 #[test]
@@ -28,8 +30,11 @@ const HELP: &str = "A causal store shared by isolated tenants
 Usage: cops <COMMAND>
 
 Commands:
-  run   Answers the script on standard input
-  solo  Answers it for one tenant alone
+  run     Answers the script on standard input
+  solo    Answers it for one tenant alone
+  audit   Writes the audit of the script on standard input
+  replay  Replays a tenant's records of the audit on standard input
+  serve   Serves clients over TCP, and then writes the audit
 
 Options:
   -h, --help     Print help
@@ -58,20 +63,31 @@ Usage: cops solo <TENANT>
 For more information, try '--help'.
 ";
 
+const NO_TENANT_TO_REPLAY: &str = "error: the following required arguments were not provided:
+  <TENANT>
+
+Usage: cops replay <TENANT>
+
+For more information, try '--help'.
+";
+
 #[test]
 fn words_that_ask_for_nothing(rt: HostRuntime) -> Result<(), Fail> {
-    let cases: [(&[&str], &str); 6] = [
+    let cases: [(&[&str], &str); 7] = [
         (&["cops"], HELP),
         (&["cops", "--help"], HELP),
         (&["cops", "--version"], "cops 0.1\n"),
         (&["cops", "fly"], NO_COMMAND),
         (&["cops", "run", "acme"], LEFT_OVER),
         (&["cops", "solo"], NO_TENANT),
+        (&["cops", "replay"], NO_TENANT_TO_REPLAY),
     ];
     for (words, text) in cases {
         let mut source = Source::new(b"begin\n".as_slice());
         let mut sink = Sink::new(Vec::new(rt.alloc()));
-        let fault = answer(rt.alloc(), words, &mut source, &mut sink).expect_err(&rt, "a fault");
+        let fault = answer(&rt, rt.alloc(), words, &mut source, &mut sink).expect_err(
+            &rt, "a fault",
+        );
         assert_eq!(rt; fault.to_string(rt.alloc())?.as_str(), text);
         assert_eq!(rt; fault.status(), 2);
         assert!(rt; sink.into_inner().is_empty());
@@ -102,20 +118,69 @@ fn words_that_are_answered(rt: HostRuntime) -> Result<(), Fail> {
     for (words, text) in cases {
         let mut source = Source::new(SCRIPT);
         let mut sink = Sink::new(Vec::new(rt.alloc()));
-        answer(rt.alloc(), words, &mut source, &mut sink).expect(&rt, "an answer");
+        answer(&rt, rt.alloc(), words, &mut source, &mut sink).expect(&rt, "an answer");
         assert!(rt; sink.into_inner().as_slice() == text);
     }
     Ok(())
 }
 
+const AUDITED: &[u8] = b"cluster 1 1 5000 1
+tenant acme 00000000000000000000000000000001 0 100 10000 10 4 20 8 1000
+begin
+acme open a 0
+acme ctx a
+acme put a 1 x 10
+acme step a 0
+acme get a 1 x
+acme step a 1
+";
+
+const AUDIT: &[u8] = b"cluster 1 1 5000 1
+tenant acme 00000000-0000-0000-0000-000000000001 0 100 10000 10 4 20 8 1000
+begin
+acme 0.0 0 put x 3130 - - = stored 1.0
+acme 0.0 1 get x latest = found 1.0 3130 -
+";
+
+/// Asserts what words write of some input.
+fn assert_written(
+    rt: &HostRuntime,
+    alloc: Global,
+    words: &[&str],
+    input: &[u8],
+    text: &[u8],
+) -> Result<(), Fail> {
+    let mut source = Source::new(input);
+    let mut sink = Sink::new(Vec::new(alloc));
+    answer(rt, alloc, words, &mut source, &mut sink).expect(rt, "an answer");
+    assert!(rt; sink.into_inner().as_slice() == text);
+    Ok(())
+}
+
+#[test]
+fn an_audit_that_replays(rt: HostRuntime) -> Result<(), Fail> {
+    assert_written(&rt, rt.alloc(), &["cops", "audit"], AUDITED, AUDIT)?;
+    assert_written(
+        &rt,
+        rt.alloc(),
+        &["cops", "replay", "acme"],
+        AUDIT,
+        b"same 2\n",
+    )
+}
+
 #[test]
 fn a_tenant_that_is_not_there(rt: HostRuntime) -> Result<(), Fail> {
-    let words = ["cops", "solo", "zeta"];
-    let mut source = Source::new(SCRIPT);
-    let mut sink = Sink::new(Vec::new(rt.alloc()));
-    let fault = answer(rt.alloc(), &words, &mut source, &mut sink).expect_err(&rt, "a fault");
-    assert_eq!(rt; fault.to_string(rt.alloc())?.as_str(), "cops: E02\n");
-    assert_eq!(rt; fault.status(), 2);
-    assert!(rt; sink.into_inner().is_empty());
+    for command in ["solo", "replay"] {
+        let words = ["cops", command, "zeta"];
+        let mut source = Source::new(SCRIPT);
+        let mut sink = Sink::new(Vec::new(rt.alloc()));
+        let fault = answer(&rt, rt.alloc(), &words, &mut source, &mut sink).expect_err(
+            &rt, "a fault",
+        );
+        assert_eq!(rt; fault.to_string(rt.alloc())?.as_str(), "cops: E02\n");
+        assert_eq!(rt; fault.status(), 2);
+        assert!(rt; sink.into_inner().is_empty());
+    }
     Ok(())
 }

@@ -63,10 +63,11 @@ module _ (config : TenantConfig) (c : SoloCluster) (name : List ℕ) where
   plain_carrier k moment (Ended ending) = plain_delivery ending
 
   running_runs : (s : Session) (moment : ℕ) (run : Option Running) → find_actor name c ≡ Some (OfSession s) → s.running ≡ run → Runs c name (running_step config name s moment c run).reply
-  running_runs s moment (Some running) found runs effect e =
-      (running.context,
-      ap (λ (a : Option Actor). option_map (λ (r : Running). r.context) (option_and_then (λ (s : Session). s.running) (option_and_then session_in a))) found
-      ∙ ap (option_map (λ (r : Running). r.context)) runs)
+  running_runs s moment (Some running) found runs effect e = (
+    running.context,
+    ap (λ (a : Option Actor). option_map (λ (r : Running). r.context) (option_and_then (λ (s : Session). s.running) (option_and_then session_in a))) found
+        ∙ ap (option_map (λ (r : Running). r.context)) runs,
+  )
   running_runs s moment None found runs effect e = no_end c name (running_step config name s moment c None).reply refl effect e
 
   step_runs : (moment : ℕ) (found : Option Actor) → find_actor name c ≡ found → Runs c name (step_of config name moment c found).reply
