@@ -115,16 +115,6 @@ fn a_tenant_alone_is_told_the_same(rt: HostRuntime) -> Result<(), Fail> {
     Ok(())
 }
 
-#[test]
-fn a_run_of_a_tenants_own_events(rt: HostRuntime) -> Result<(), Fail> {
-    let alloc = rt.alloc();
-    let config = config_of(&rt, alloc, TWO_SHARDS);
-    let own = events_of(&rt, alloc, &config.tenants, BOTH, "acme ")?;
-    let told = run(alloc, config, &own)?;
-    assert_told(&rt, alloc, &told, BOTH, "acme ");
-    Ok(())
-}
-
 const SCRIPT: &[u8] = b"cluster 1 1 5000 1
 tenant acme 00000000-0000-0000-0000-000000000001 0 100 10000 10 4 20 8 1000
 tenant beta {00000000-0000-0000-0000-000000000002} 7 100 10000 10 4 20 8 1000
@@ -177,51 +167,6 @@ fn code(ran: Result<(), RunFault<BadConfig>>) -> u64 {
         Err(RunFault::ReadFault) => 26,
         Err(RunFault::WriteFault) => 27,
     }
-}
-
-#[test]
-fn scripts_are_answered(rt: HostRuntime) {
-    let mut source = Source::new(SCRIPT);
-    let mut sink = Sink::new(Vec::new(rt.alloc()));
-    assert_eq!(rt; code(run_script(rt.alloc(), &mut source, &mut sink)), 0);
-    assert!(rt; sink.into_inner().as_slice() == ANSWER);
-}
-
-#[test]
-fn scripts_are_answered_however_they_are_cut(rt: HostRuntime) {
-    for len in [1, 7, 64] {
-        let mut source = Source::new(Pieces {
-            bytes: SCRIPT,
-            len,
-            reads_to_failure: 1000,
-        });
-        let mut sink = Sink::new(Trickle {
-            taken: Vec::new(rt.alloc()),
-            writes_to_failure: 1000,
-        });
-        assert_eq!(rt; code(run_script(rt.alloc(), &mut source, &mut sink)), 0);
-        assert_eq!(rt; (source.failures(), sink.failures()), (0, 0));
-        assert!(rt; sink.into_inner().taken.as_slice() == ANSWER);
-    }
-}
-
-/// Asserts the number of the first bad line of a script, and 100 more, and that nothing is written.
-fn assert_bad(rt: &impl Abort, alloc: Global, script: &[u8], want: u64) {
-    let mut source = Source::new(script);
-    let mut sink = Sink::new(Vec::new(alloc));
-    assert_eq!(rt; code(run_script(alloc, &mut source, &mut sink)), want);
-    assert!(rt; sink.into_inner().is_empty());
-}
-
-#[test]
-fn heads_that_are_bad_write_nothing(rt: HostRuntime) {
-    assert_bad(&rt, rt.alloc(), b"", 101);
-    assert_bad(&rt, rt.alloc(), b"cluster 1 17 5000 1\nbegin\n", 101);
-    assert_bad(&rt, rt.alloc(), b"cluster 1 1 5000 1", 102);
-    let early = b"cluster 1 1 5000 1\nbegin\nacme open a 0\n";
-    assert_bad(&rt, rt.alloc(), early, 102);
-    assert_bad(&rt, rt.alloc(), &SCRIPT[..94], 103);
-    assert_bad(&rt, rt.alloc(), &SCRIPT[..95], 103);
 }
 
 #[test]

@@ -4,11 +4,11 @@ ghost use Rattle.cops_world.specs.GoodHeads.{is_good};
 
 use crate::lines::parse_act;
 use crate::scripts::{HeadSoFar, read_head};
-use crate::tests::text_of;
+use crate::texts::push_reply;
 use crate::{Act, Event, Reply, World};
 use cops_types::words::split_word;
 use cops_types::{Config, ConfigReader, Fault, Tenants};
-use std::alloc::Global;
+use std::alloc::{AllocError, Global};
 use std::process::Abort;
 
 /// Reads a line of a head.
@@ -69,6 +69,12 @@ pub(crate) fn event_of(rt: &impl Abort, alloc: Global, tenants: &Tenants, line: 
         slot,
         act: act_of(rt, alloc, line.as_bytes()),
     }
+}
+
+fn text_of(alloc: Global, reply: &Reply) -> Result<Vec<u8>, AllocError> {
+    let mut out = Vec::new(alloc);
+    push_reply(&mut out, reply)?;
+    Ok(out)
 }
 
 /// Whether the text of the reply is one of these.
