@@ -1,5 +1,5 @@
 //! Nodes and calls in few words, and replies in short.
-use crate::{AuditEntry, Node, NodeCall, NodeId, NodeReply, Wanted, has_clocks};
+use crate::{Node, NodeCall, NodeId, NodeReply, Wanted, has_clocks};
 use cops_types::{
     Config, Deps, Entry, EntryParts, Fault, Key, Name, Near, Quota, Tenant, Tenants, Value, Version,
 };
@@ -88,16 +88,6 @@ pub(crate) fn ask(
 pub(crate) fn audit_len(rt: &impl Abort, node: &Node, slot: u64) -> u64 {
     assert!(rt; slot < node.slots());
     node.audit_len(slot)
-}
-
-pub(crate) fn audit<'a>(
-    rt: &impl Abort,
-    node: &'a Node,
-    slot: u64,
-    place: u64,
-) -> Option<&'a AuditEntry> {
-    assert!(rt; slot < node.slots());
-    node.audit(slot, place)
 }
 
 pub(crate) fn key(rt: &impl Abort, bytes: &[u8]) -> Key {

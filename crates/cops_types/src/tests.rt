@@ -23,25 +23,6 @@ fn numbers_of_versions(rt: HostRuntime) {
     assert_eq!(rt; Version::from_u64(513).node(), 1);
 }
 
-/// Asserts whether these bytes are a key.
-fn assert_key(rt: &impl Abort, bytes: &[u8], is_key: bool) {
-    match Key::new(bytes) {
-        Ok(key) => assert!(rt; is_key && key.bytes() == bytes),
-        Err(fault) => assert!(rt; !is_key && fault == Fault::BadKey),
-    }
-}
-
-#[test]
-fn keys(rt: HostRuntime) {
-    assert_key(&rt, b"x_9", true);
-    assert_key(&rt, b"", false);
-    assert_key(&rt, b"X", false);
-    assert_key(&rt, &[97; 64], true);
-    assert_key(&rt, &[97; 65], false);
-    let key = Key::new(b"x_9").expect(&rt, "a key");
-    assert_eq!(rt; key.shard(16), (120 + 95 + 57) % 16);
-}
-
 #[test]
 fn values(rt: HostRuntime) -> Result<(), Fail> {
     let value = Value::new(rt.alloc(), b"10").expect(&rt, "a value");
@@ -147,13 +128,6 @@ fn nearest_pairs_have_a_limit(rt: HostRuntime) {
     let refused = near.add(pair(&rt, b"y", 1, 0), 2);
     assert!(rt; matches!(refused, Err(Fault::DependenciesFull)));
     assert_eq!(rt; near.len(), 2);
-}
-
-#[test]
-fn nearest_pairs_that_are_held_are_dropped(rt: HostRuntime) {
-    let mut near = two_nearest(&rt, rt.alloc());
-    near.drop_held(&deps(&rt, rt.alloc(), &[pair(&rt, b"x", 2, 0)]));
-    assert_eq!(rt; near.pairs(), [pair(&rt, b"x", 1, 0)].as_slice());
 }
 
 #[test]

@@ -184,25 +184,6 @@ fn answers_each_line(rt: HostRuntime) -> Result<(), Fail> {
 }
 
 #[test]
-fn answers_the_same_however_reads_cut_the_text(rt: HostRuntime) -> Result<(), Fail> {
-    for len in 1..32 {
-        let mut source = Source::new(Pieces {
-            bytes: TEXT,
-            len,
-            reads_to_failure: 100,
-        });
-        let mut sink = Sink::new(Trickle {
-            taken: Vec::new(rt.alloc()),
-            writes_to_failure: 100,
-        });
-        assert_eq!(rt; run(rt.alloc(), 100, &mut source, &mut sink), 0);
-        assert_eq!(rt; (source.failures(), sink.failures()), (0, 0));
-        assert!(rt; sink.into_inner().taken.as_slice() == ANSWER);
-    }
-    Ok(())
-}
-
-#[test]
 fn a_failing_reader_leaves_a_front(rt: HostRuntime) -> Result<(), Fail> {
     for reads in 0..28 {
         let mut source = Source::new(Pieces {
@@ -253,26 +234,6 @@ fn a_line_that_never_ends_meets_the_bound_on_turns(rt: HostRuntime) -> Result<()
     assert_eq!(rt; run(rt.alloc(), 100, &mut source, &mut sink), 26);
     assert_eq!(rt; (source.reads(), source.failures()), (100, 0));
     assert!(rt; sink.into_inner().is_empty());
-    Ok(())
-}
-
-#[test]
-fn a_long_line_is_seen_with_one_byte_past_the_limit(rt: HostRuntime) -> Result<(), Fail> {
-    for (count, answer) in [
-        (8192, b"8192\n2\n".as_slice()),
-        (8193, b"8193\n2\n".as_slice()),
-        (20000, b"8193\n2\n".as_slice()),
-    ] {
-        let mut text = Vec::new(rt.alloc());
-        for _ in 0..count {
-            text.push(b'y')?;
-        }
-        text.extend_from_slice(b"\nab\n")?;
-        let mut source = Source::new(text.as_slice());
-        let mut sink = Sink::new(Vec::new(rt.alloc()));
-        assert_eq!(rt; run(rt.alloc(), 100, &mut source, &mut sink), 0);
-        assert!(rt; sink.into_inner().as_slice() == answer);
-    }
     Ok(())
 }
 
