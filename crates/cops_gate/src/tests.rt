@@ -77,19 +77,6 @@ fn the_last_ticket_is_drawn_once(rt: HostRuntime) -> Result<(), Fail> {
 }
 
 #[test]
-fn a_gate_may_open_without_a_ticket(rt: HostRuntime) -> Result<(), Fail> {
-    let Ok((gate, mut seat)) = Gate::first_at(rt.alloc(), Counter { count: 7 }, 1 << 62) else {
-        panic!(rt; "no memory")
-    };
-    assert!(rt; gate.step(&rt, &mut seat, 0, 0, Ask::Go) == Err(Fault::GateSpent));
-    let Some(left) = gate.close(seat) else {
-        panic!(rt; "a turn was under way")
-    };
-    assert!(rt; left.count == 7);
-    Ok(())
-}
-
-#[test]
 fn a_turn_without_memory_is_blank(rt: HostRuntime) -> Result<(), Fail> {
     let Ok((gate, mut seat)) = Gate::first(rt.alloc(), Counter { count: 0 }) else {
         panic!(rt; "no memory")
