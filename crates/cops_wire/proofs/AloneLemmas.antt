@@ -1,5 +1,5 @@
 -- What a tenant is told at the nodes of a cluster is what he is told alone.
-use Rattle.std.proofs.Common.{◌≡◌, ◌≢◌, ◌⊎◌, ℕ, zero, suc, Bool, true, false, List, [], ◌∷◌, ◌++◌, inl, inr, refl, sym, ap, subst, ◌∙◌, append_assoc, append-nil, true≢false}
+use Rattle.std.proofs.Common.{◌≡◌, ◌⊎◌, ℕ, zero, suc, true, List, [], ◌∷◌, ◌++◌, inl, inr, refl, sym, ap, subst, ◌∙◌, append_assoc, append-nil, true≢false}
 use Rattle.std.specs.Prelude.{Option, Some, None, slice_index_or, slice_set}
 use Rattle.cops_types.specs.declared.faults.Fault.{Fault}
 use Rattle.cops_types.specs.declared.faults.Fault.TheVariants.{OutOfMemory}
@@ -17,12 +17,12 @@ use Rattle.cops_session.specs.declared.Answer.{Answer}
 use Rattle.cops_session.specs.declared.Answer.TheVariants as answer
 use Rattle.cops_session.specs.declared.Progress.{Progress}
 use Rattle.cops_session.specs.declared.Progress.TheVariants.{Working, Restarted, Done}
-use Rattle.cops_session.specs.Request.{Action, Write, Fetch, next}
+use Rattle.cops_session.specs.Request.{Action, next}
 use Rattle.cops_session.specs.Session.{Running, Session, moment_at, progress, request_begun, request_of, session_after}
 use Rattle.cops_wire.specs.declared.messages.Message.{Message}
-use Rattle.cops_wire.specs.declared.messages.Message.TheVariants.{Hello, CreateContext, DeleteContext, Put, GetTrans, Ready, Created, Deleted, Stored, Values, Refused}
-use Rattle.cops_wire.specs.Alone.{Alone, AreGiven, AreSpared, CallsAmid, CallsCluster, EndAlone, IsServedAt, IsToldAlone, OthersCall, ReplyAlone, SlotCall, StepAlone, answer_alone, does_alone, further, is_out_of_memory, replied, replies_after, replies_alone, runs_on, step_alone, stepped, steps_alone, unless_told}
-use Rattle.cops_wire.specs.Requests.{Answers, AnswersSo, Backend, Becomes, DoesNext, Ends, EndsAfter, GoesOn, HasShown, Runs, Steps, UnlessRefused, backend, reply_to}
+use Rattle.cops_wire.specs.declared.messages.Message.TheVariants.{CreateContext, DeleteContext, Put, GetTrans}
+use Rattle.cops_wire.specs.Alone.{AreGiven, AreSpared, CallsAmid, CallsCluster, IsServedAt, IsToldAlone, OthersCall, ReplyAlone, SlotCall, StepAlone, answer_alone, does_alone, further, is_out_of_memory, replied, replies_after, replies_alone, runs_on, stepped, steps_alone, unless_told}
+use Rattle.cops_wire.specs.Requests.{Answers, AnswersSo, Backend, Becomes, DoesNext, EndsAfter, GoesOn, HasShown, Runs, UnlessRefused, backend, reply_to}
 use Rattle.cops_wire.specs.Serving.{Serves}
 use Rattle.cops_wire.proofs.RefusedReplies.{request_refused}
 

@@ -1,14 +1,12 @@
 -- What can be counted, and what a key had.
-use Rattle.std.proofs.Common.{◌≡◌, ℕ, ◌≤◌, ◌&&◌, true, List, ◌∷◌, ◌++◌, map, length, take, sym, ap, ◌∙◌, arith}
-use Rattle.std.specs.Prelude.{Option, Some, None, nat_le}
+use Rattle.std.proofs.Common.{◌≡◌, ℕ, ◌≤◌, true, List, ◌∷◌, ◌++◌, map, length, take, sym, ap, ◌∙◌, arith}
+use Rattle.std.specs.Prelude.{Option, Some}
 use Rattle.std.specs.Option.{option_map, option_map_or}
 use Rattle.std.proofs.lemmas.Bool.Decides.{nat_tests}
 use Rattle.std.proofs.lemmas.List.{length-map, take_all}
 use Rattle.std.specs.List.{flat_map, list_all}
 use Rattle.byteorder.specs.Endian.{big_bytes}
 use Rattle.cops_types.specs.declared.contexts.Read.{Read}
-use Rattle.cops_types.specs.declared.pairs.Pair.{Pair}
-use Rattle.cops_types.specs.Version.{Timestamp}
 use Rattle.cops_wire.specs.Requests.{are_counted, is_counted, link_to, outcome_of_read, values_of}
 use Rattle.cops_wire.specs.Spelling.{body_of, held_of, link_of, outcome_of, parts_of, value_of, version_of}
 

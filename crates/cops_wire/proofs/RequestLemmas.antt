@@ -1,5 +1,5 @@
 -- Requests that were begun or refused are answered as the definition says.
-use Rattle.std.proofs.Common.{◌≡◌, ◌⊎◌, ℕ, ◌≤◌, Bool, true, false, cond, List, [], ◌∷◌, ◌++◌, length, inl, inr, refl, sym, ap, subst, ◌∙◌, arith}
+use Rattle.std.proofs.Common.{◌≡◌, ◌⊎◌, ℕ, ◌≤◌, Bool, true, false, cond, List, [], ◌∷◌, length, inl, inr, refl, sym, ap, subst, ◌∙◌, arith}
 use Rattle.std.specs.Prelude.{Option, Some, None, Result, Ok, Err, OnErr, OnOk, not, nat_lt}
 use Rattle.std.specs.Option.{option_or}
 use Rattle.std.proofs.lemmas.Bool.Decides.{nat_tests}
@@ -13,15 +13,14 @@ use Rattle.cops_types.specs.Value.{is_too_long}
 use Rattle.cops_node.specs.declared.NodeCall.{NodeCall}
 use Rattle.cops_node.specs.declared.NodeId.{NodeId}
 use Rattle.cops_node.specs.declared.NodeReply.{NodeReply}
-use Rattle.cops_session.specs.declared.Answer.{Answer}
 use Rattle.cops_session.specs.Kept.{Kept}
-use Rattle.cops_session.specs.Request.{Action, Write, Fetch}
-use Rattle.cops_session.specs.Session.{Session, Running, get_refusal, has_repeats, is_busy, is_open, is_spent, put_refusal, request_begun}
+use Rattle.cops_session.specs.Request.{Action}
+use Rattle.cops_session.specs.Session.{Session, has_repeats, is_busy, is_open, is_spent, put_refusal, request_begun}
 use Rattle.cops_session.specs.SessionStands.{SessionStandsFor}
 use Rattle.cops_wire.specs.declared.messages.Message.{Message}
 use Rattle.cops_wire.specs.declared.messages.Message.TheVariants.{Refused}
 use Rattle.cops_wire.specs.Requests.{Backend, backend, Answers, AnswersSo, Becomes, Ends, HasAnswered, HasFewRestarts, Runs, UnlessRefused, naming_refusal, number_in, reading_refusal, reply_to, writing_refusal}
-use Rattle.cops_wire.specs.Running.{HasEnded, HasFewKeys, HasRun, IsDone, IsTold, Puts}
+use Rattle.cops_wire.specs.Running.{HasFewKeys, HasRun, IsDone, IsTold}
 
 -- ---- refusals
 

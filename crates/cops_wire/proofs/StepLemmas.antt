@@ -1,6 +1,6 @@
 -- Steps of a session that is kept are steps of each session of the definition that it stands for.
-use Rattle.std.proofs.Common.{◌≡◌, ℕ, ◌+◌, ◌*◌, ◌-◌, ◌^◌, ◌≤◌, ◌<◌, Bool, true, false, cond, List, [], ◌∷◌, ◌++◌, length, drop, map, filter, zero, suc, refl, sym, ap, subst, ◌∙◌, arith, length-append, length-drop}
-use Rattle.std.specs.Prelude.{Option, Some, None, nat_lt}
+use Rattle.std.proofs.Common.{◌≡◌, ℕ, ◌+◌, ◌*◌, ◌-◌, ◌^◌, ◌≤◌, Bool, true, false, cond, List, [], ◌∷◌, ◌++◌, length, filter, zero, suc, refl, sym, ap, subst, ◌∙◌, arith, length-append, length-drop}
+use Rattle.std.specs.Prelude.{Option, Some, None}
 use Rattle.std.proofs.lemmas.Bool.Decides.{nat_tests}
 use Rattle.std.proofs.lemmas.List.{length-map}
 use Rattle.cops_types.specs.TenantConfig.{TenantConfig}
@@ -15,20 +15,19 @@ use Rattle.cops_session.specs.declared.Answer.{Answer}
 use Rattle.cops_session.specs.declared.Progress.{Progress}
 use Rattle.cops_session.specs.declared.Progress.TheVariants.{Working, Restarted, Done}
 use Rattle.cops_session.specs.declared.ongoing.Ongoing.{Ongoing}
-use Rattle.cops_session.specs.declared.ongoing.Reading.{Reading}
 use Rattle.cops_session.specs.declared.ongoing.Round.{Round}
 use Rattle.cops_session.specs.declared.ongoing.Round.TheVariants.{First, Second}
 use Rattle.cops_session.specs.declared.ongoing.Work.{Work}
 use Rattle.cops_session.specs.declared.ongoing.Work.TheVariants.{Put, Get}
 use Rattle.cops_session.specs.Kept.{Kept}
 use Rattle.cops_session.specs.Reading.{IsReading, RoundStandsFor}
-use Rattle.cops_session.specs.Request.{Action, Write, Fetch, Attempt, attempt_after, attempt_of, begins_again, next, replies_of}
+use Rattle.cops_session.specs.Request.{Action, Fetch, Attempt, attempt_after, attempt_of, begins_again, next, replies_of}
 use Rattle.cops_session.specs.Rounds.{wishes_of}
 use Rattle.cops_session.specs.Session.{Running, Session, moment_at, request_of, session_after}
 use Rattle.cops_session.specs.SessionStands.{RunningStandsFor, SessionStandsFor, WorkStandsFor}
 use Rattle.cops_session.specs.Stepping as stepping
 use Rattle.cops_session.specs.Transaction.{outdated, reads_of, wanted_version}
-use Rattle.cops_wire.specs.Requests.{Backend, KeepsShape, backend, DoesNext, Ends, EndsAfter, GoesOn, HasFewRestarts, HasShown, Steps}
+use Rattle.cops_wire.specs.Requests.{Backend, KeepsShape, backend, DoesNext, Ends, GoesOn, HasFewRestarts, Steps}
 use Rattle.cops_wire.specs.Running.{Gives, HasEnded, HasFewKeys, HasStepped}
 
 -- ---- one step

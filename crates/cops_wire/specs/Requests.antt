@@ -25,7 +25,6 @@ use Rattle.cops_session.specs.Kept.{Kept}
 use Rattle.cops_session.specs.Request.{Action, Write, Fetch, next}
 use Rattle.cops_session.specs.Session.{Running, Session, context_created, context_deleted, context_refusal, create_refusal, get_refusal, is_busy, moment_at, progress, put_refusal, request_begun, request_of, session_after}
 use Rattle.cops_session.specs.SessionStands.{SessionStandsFor}
-use Rattle.cops_wire.specs.declared.messages.Held.{Held}
 use Rattle.cops_wire.specs.declared.messages.Link.{Link}
 use Rattle.cops_wire.specs.declared.messages.Message.{Message}
 use Rattle.cops_wire.specs.declared.messages.Message.TheVariants.{CreateContext, DeleteContext, Put, GetTrans, Created, Deleted, Stored, Values, Refused}

@@ -13,6 +13,22 @@ use std::io::{Read, Write};
 use std::process::Abort;
 use uuid::Uuid;
 
+/// A client greets, creates a context, puts, gets, deletes the context, and gets again.
+pub(crate) const CLIENT: &str = "00000012 01 00000000000000000000000000000001 00
+    00000001 02
+    00000010 04 43 0000000000000001 01 78 0002 3130
+    0000000d 05 43 0000000000000001 01 01 78
+    0000000a 03 43 0000000000000001
+    0000000d 05 43 0000000000000001 01 01 78";
+
+/// What it is answered.
+pub(crate) const SERVER: &str = "00000001 81
+    0000000a 82 43 0000000000000001
+    0000000b 84 01 78 0000000000000100
+    00000013 85 01 01 78 01 0002 3130 0000000000000100 0000
+    00000001 83
+    00000002 ff 07";
+
 /// A clock that stands still.
 #[derive(Drop)]
 pub(crate) struct Still {

@@ -1,5 +1,4 @@
-use Rattle.std.proofs.Common.{◌≡◌, ◌++◌, sym, subst}
-use Rattle.std.specs.Prelude.{OnOk, OnErr}
+use Rattle.std.proofs.Common.{sym, subst}
 use Rattle.cops_handles.specs.Wire.{wire_of}
 use Rattle.cops_session.specs.Request.{Write, Fetch}
 use Rattle.cops_session.specs.Session.{context_created, context_deleted, create_refusal}

@@ -1,6 +1,6 @@
 use Rattle.std.proofs.Common.{subst}
 use Rattle.cops_types.specs.Sink.{AppendsFront, sink_writer}
-use Rattle.cops_wire.specs.Requests.{KeepsShape, HasAnswered, backend}
+use Rattle.cops_wire.specs.Requests.{KeepsShape, HasAnswered}
 use Rattle.cops_wire.proofs.AnsweredRequests.{unwritten_some, written_some}
 use Rattle.cops_wire.proofs.serving.answer_waiting.Goals as goal
 

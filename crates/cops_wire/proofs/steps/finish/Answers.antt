@@ -1,8 +1,8 @@
-use Rattle.std.proofs.Common.{◌≡◌, ℕ, ◌+◌, ◌-◌, ◌^◌, sym, subst, ap, ◌∙◌, arith}
+use Rattle.std.proofs.Common.{◌≡◌, ◌-◌, ◌^◌, subst, ap, ◌∙◌, arith}
 use Rattle.std.specs.Prelude.{None, Some}
 use Rattle.cops_wire.specs.Requests.{KeepsShape, backend}
 use Rattle.cops_wire.specs.Running.{HasStepped}
-use Rattle.cops_wire.proofs.StepLemmas.{IsOngoing, begins, ends_so, goes_on, too_many}
+use Rattle.cops_wire.proofs.StepLemmas.{IsOngoing, ends_so, goes_on, too_many}
 use Rattle.cops_wire.proofs.steps.finish.Goals as goal
 
 pub returns-in-Some-clause-ended : goal.returns-in-Some-clause-ended
