@@ -54,7 +54,7 @@ fn digit_of(byte: u8) -> Option<u8> {
 
 /// The bytes that pairs of hexadecimal digits write. What is no digit stands between them.
 pub(crate) fn bytes_of(rt: &impl Abort, alloc: Global, text: &str) -> Vec<u8> {
-    let mut bytes = Vec::new(alloc);
+    let mut bytes = Vec::with_capacity(alloc, text.len()).expect(rt, "memory");
     let mut high = None;
     for byte in text.as_bytes() {
         if let Some(digit) = digit_of(*byte) {
