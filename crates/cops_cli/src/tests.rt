@@ -3,8 +3,12 @@ use crate::faults::CliFault;
 use crate::program::answer;
 use cops_types::{Sink, Source};
 use std::alloc::Global;
+use std::net::{Net, TcpListener, TcpStream};
 use std::process::Abort;
+use std::sync::Wait;
 use std::test::Fail;
+use std::thread::Threads;
+use std::time::Clock;
 
 #[test]
 fn texts_of_faults(rt: HostRuntime) -> Result<(), Fail> {
@@ -143,13 +147,16 @@ acme 0.0 1 get x latest = found 1.0 3130 -
 ";
 
 /// Asserts what words write of some input.
-fn assert_written(
-    rt: &HostRuntime,
+fn assert_written<T>(
+    rt: &T,
     alloc: Global,
     words: &[&str],
     input: &[u8],
     text: &[u8],
-) -> Result<(), Fail> {
+) -> Result<(), Fail>
+where
+    T: Net<Listener = TcpListener, Stream = TcpStream> + Threads + Wait + Clock + Sync + Abort,
+{
     let mut source = Source::new(input);
     let mut sink = Sink::new(Vec::new(alloc));
     answer(rt, alloc, words, &mut source, &mut sink).expect(rt, "an answer");
