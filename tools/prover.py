@@ -225,8 +225,11 @@ def name_of(edit):
 
 
 def edited(edit, folder):
-    """The texts of the files that an edit changes, by their path in the crate. Each 'old:' stands once in what the pairs before it made."""
-    path, old, texts = "", None, {}
+    """The texts of the files that an edit changes, by their path in the crate.
+
+    Each 'old:' stands once in what the pairs before it made, or it is the first one behind an 'after:', which stands once.
+    """
+    path, after, old, texts = "", "", None, {}
     with open(edit, encoding="utf-8") as file:
         lines = file.read().splitlines()
     for line in lines:
@@ -234,18 +237,31 @@ def edited(edit, folder):
         rest = rest[1:] if rest.startswith(" ") else rest
         if word == "file":
             path = rest.strip()
+        elif word == "after":
+            after = rest
         elif word == "old":
             old = rest
         elif word == "new":
             if path not in texts:
                 with open(f"{folder}/{path}", encoding="utf-8") as file:
                     texts[path] = file.read()
-            if not old or texts[path].count(old) != 1:
-                raise ValueError(f"an 'old:' text stands in {path} {texts[path].count(old) if old else 0} times, and not once")
-            texts[path], old = texts[path].replace(old, rest), None
+            texts[path] = exchanged(texts[path], path, after, old or "", rest)
+            after, old = "", None
     if not texts:
         raise ValueError("it has no 'old:' and 'new:'")
     return texts
+
+
+def exchanged(text, path, after, old, new):
+    """The text with one place changed."""
+    unique = after or old
+    if not unique or text.count(unique) != 1:
+        raise ValueError(f"the text '{unique}' stands in {path} {text.count(unique) if unique else 0} times, and not once")
+    begin = text.index(unique)
+    at = text.find(old, begin + len(after)) if old else -1
+    if at < 0:
+        raise ValueError(f"the text '{old}' doesn't stand in {path} behind '{after}'")
+    return text[:at] + new + text[at + len(old):]
 
 
 def module_of(path):

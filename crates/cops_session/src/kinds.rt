@@ -1,3 +1,7 @@
+ghost use Rattle.std.specs.Prelude.{◌≡◌, ℕ};
+ghost use Rattle.cops_handles.specs.Wire.{wire_of};
+ghost use Rattle.cops_session.specs.Tags.{context_tag, request_tag};
+
 use cops_context::Context;
 use cops_handles::Kind;
 
@@ -9,7 +13,7 @@ impl Kind for Contexts {
 
     const TAG: u8 = 0x43;
 
-    ghost TAG = { 67 };
+    ghost TAG = { context_tag };
 }
 
 /// The requests that a session runs. They are rows of no table, since one runs at a time.
@@ -23,5 +27,10 @@ impl Kind for Running {
 
     const TAG: u8 = 0x52;
 
-    ghost TAG = { 82 };
+    ghost TAG = { request_tag };
 }
+
+/// A law: no bytes are both a handle of a context and one of a request.
+pub fn handles_are_of_one_kind()
+    ensures { (context request : ℕ) → wire_of context_tag context ≡ wire_of request_tag request → ⊥ }
+{}
