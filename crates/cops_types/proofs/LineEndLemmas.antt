@@ -1,5 +1,5 @@
 -- How a run ends.
-use Rattle.std.proofs.Common.{◌≡◌, ◌≢◌, ℕ, ◌+◌, List, [], ◌∷◌, ◌++◌, inl, inr, Option, refl, sym, subst, ap, ◌∙◌, append_assoc, append-nil, arith}
+use Rattle.std.proofs.Common.{◌≡◌, ◌≢◌, ℕ, ◌+◌, ◌≤◌, List, [], ◌∷◌, ◌++◌, inl, inr, Option, refl, sym, subst, ap, ◌∙◌, append_assoc, append-nil, arith}
 use Rattle.std.specs.Io.KnownBytes.{Appends, Consumes, IsAtEnd, Keeps}
 use Rattle.std.proofs.KnownBytes.{Appends-trans, Consumes-nil, Consumes-trans, Consumes-kept}
 use Rattle.std.proofs.lemmas.List.{take_all}
@@ -292,6 +292,7 @@ module _ {M F : Type 0} (rules : Rules M F) (limit : ℕ) (start_remaining : Opt
 pub record OnlyReads (old_failures new_failures old_reads new_reads turns old_writes new_writes : ℕ) : Type 0 where
   pub reader : new_failures ≡ old_failures
   pub reads : HasRisenBy old_reads new_reads turns
+  pub few : new_reads ≤ old_reads + turns
   pub writer : new_writes ≡ old_writes
 
 pub HasRisenBy-start : (count : ℕ) → HasRisenBy count count 0
@@ -300,3 +301,7 @@ HasRisenBy-start count = inl (omega arith)
 pub HasRisenBy-next : (old count turns new : ℕ) → HasRisenBy old count turns → new ≡ counted count → HasRisenBy old new (turns + 1)
 HasRisenBy-next old count turns new (inl e) d = grind arith
 HasRisenBy-next old count turns new (inr e) d = inr (omega arith)
+
+-- one turn more, one read more at most
+pub few-next : (old count turns new : ℕ) → count ≤ old + turns → new ≡ counted count → new ≤ old + (turns + 1)
+few-next old count turns new few e = omega arith

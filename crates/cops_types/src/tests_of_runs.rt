@@ -99,6 +99,58 @@ impl Write for Trickle {
     }
 }
 
+/// Fails at one of its reads and goes on at the next. It keeps for how many bytes it was asked, at most.
+#[derive(Drop)]
+struct FailsOnce<'a> {
+    bytes: &'a [u8],
+    reads_to_failure: Option<u64>,
+    longest: usize,
+}
+
+impl Read for FailsOnce<'_> {
+    fn read(&mut self, buf: &mut [u8]) -> io::Result<usize> {
+        self.longest = self.longest.max(buf.len());
+        let left = self.reads_to_failure;
+        self.reads_to_failure = left.and_then(|reads| reads.checked_sub(1));
+        if left == Some(0) {
+            return Err(io::Error::from(ErrorKind::Interrupted));
+        }
+        let mut rest = self.bytes;
+        let count = rest.read(buf)?;
+        self.bytes = rest;
+        Ok(count)
+    }
+}
+
+/// Takes all bytes. Its first write or flush fails, and it goes on at the next.
+#[derive(Drop)]
+struct FailsFirst {
+    taken: u64,
+    has_failed: bool,
+}
+
+impl FailsFirst {
+    fn fail_once(&mut self) -> io::Result<()> {
+        if self.has_failed {
+            return Ok(());
+        }
+        self.has_failed = true;
+        Err(io::Error::from(ErrorKind::Interrupted))
+    }
+}
+
+impl Write for FailsFirst {
+    fn write(&mut self, buf: &[u8]) -> io::Result<usize> {
+        self.fail_once()?;
+        self.taken = self.taken.saturating_add(buf.len() as u64);
+        Ok(buf.len())
+    }
+
+    fn flush(&mut self) -> io::Result<()> {
+        self.fail_once()
+    }
+}
+
 /// Gives one byte of a line that never ends, for ever.
 #[derive(Drop)]
 struct Endless;
@@ -225,6 +277,57 @@ fn a_failing_writer_leaves_a_front(rt: HostRuntime) -> Result<(), Fail> {
         assert!(rt; ANSWER.starts_with(taken.as_slice()));
     }
     Ok(())
+}
+
+#[test]
+fn a_read_that_failed_is_not_tried_again(rt: HostRuntime) {
+    for reads in 0..2 {
+        let mut source = Source::new(FailsOnce {
+            bytes: TEXT,
+            reads_to_failure: Some(reads),
+            longest: 0,
+        });
+        let mut sink = Sink::new(Vec::new(rt.alloc()));
+        assert_eq!(rt; run(rt.alloc(), 100, &mut source, &mut sink), 26);
+        assert_eq!(rt;
+            (source.failures(), source.reads()),
+            (1, reads.saturating_add(1))
+        );
+    }
+}
+
+#[test]
+fn a_write_that_failed_is_not_tried_again(rt: HostRuntime) {
+    let mut source = Source::new(TEXT);
+    let mut sink = Sink::new(FailsFirst {
+        taken: 0,
+        has_failed: false,
+    });
+    assert_eq!(rt; run(rt.alloc(), 100, &mut source, &mut sink), 27);
+    assert_eq!(rt; (sink.failures(), sink.into_inner().taken), (1, 0));
+}
+
+#[test]
+fn a_flush_that_failed_is_not_tried_again(rt: HostRuntime) {
+    let mut sink = Sink::new(FailsFirst {
+        taken: 0,
+        has_failed: false,
+    });
+    assert!(rt; sink.flush().is_err());
+    assert_eq!(rt; sink.failures(), 1);
+}
+
+#[test]
+fn a_read_asks_for_4096_bytes(rt: HostRuntime) {
+    let mut source = Source::new(FailsOnce {
+        bytes: TEXT,
+        reads_to_failure: None,
+        longest: 0,
+    });
+    let mut sink = Sink::new(Vec::new(rt.alloc()));
+    assert_eq!(rt; run(rt.alloc(), 100, &mut source, &mut sink), 0);
+    assert!(rt; sink.into_inner().as_slice() == ANSWER);
+    assert_eq!(rt; source.into_inner().longest, 4096);
 }
 
 #[test]

@@ -104,6 +104,7 @@ fn answer_piece<W: Write, M: LineMachine>(
         (W.contents (sink_writer sink.new))) }
 
     ensures same { OnOk result (sink_failures sink.new ≡ sink_failures sink.old) }
+    ensures told { (sink_failures sink.new ≡ sink_failures sink.old) ⊎ IsErrOf result RunFault.WriteFault }
     ensures write_fault { IsErrOf result RunFault.WriteFault → HasRisen (sink_failures sink.old) (sink_failures sink.new) }
     ensures read_fault { IsErrOf result RunFault.ReadFault → ⊥ }
 {
@@ -149,6 +150,7 @@ fn finish<W: Write, M: LineMachine>(
         machine.new (W.contents (sink_writer sink.new))) }
     ensures err { IfErr result (StopsAtEnd M.rules front.now (stage machine.old out.old.items (W.contents (sink_writer sink.old)))
         (W.contents (sink_writer sink.new))) }
+    ensures told { (sink_failures sink.new ≡ sink_failures sink.old) ⊎ IsErrOf result RunFault.WriteFault }
     ensures write_fault { IsErrOf result RunFault.WriteFault → HasRisen (sink_failures sink.old) (sink_failures sink.new) }
     ensures read_fault { IsErrOf result RunFault.ReadFault → ⊥ }
 {
@@ -188,6 +190,11 @@ pub fn run_lines<R: Read, W: Write, M: LineMachine>(
         HasRisen (source_failures source.old) (source_failures source.new)
         ⊎ HasRisenBy (source_reads source.old) (source_reads source.new) turns }
     ensures write_fault { IsErrOf result RunFault.WriteFault → HasRisen (sink_failures sink.old) (sink_failures sink.new) }
+
+    // A turn is one read at most, and a failure ends the run and is told.
+    ensures turns { source_reads source.new ≤ source_reads source.old + turns }
+    ensures told_read { (source_failures source.new ≡ source_failures source.old) ⊎ IsErrOf result RunFault.ReadFault }
+    ensures told_write { (sink_failures sink.new ≡ sink_failures sink.old) ⊎ IsErrOf result RunFault.WriteFault }
 {
     let mut front = Vec::new(alloc);
     let mut out = Vec::new(alloc);

@@ -1,14 +1,14 @@
 use Rattle.std.proofs.Common.{refl, sym, ◌∙◌, take, arith}
 use Rattle.std.proofs.lemmas.Result.{err_from_is_err_and, on_ok_weaker, MatchResult-weaker}
 use Rattle.cops_types.proofs.LineRunLemmas.{on_ok_at, no_front, not_failed}
-use Rattle.cops_types.proofs.LineEndLemmas.{SoFar-start, SoFar-piece, SoFar-written, SoFar-kept, StopsEarly-read, StopsEarly-written, StopsEarly-piece, AnswersAll-finish, StopsEarly-finish, HasRisenBy-start, HasRisenBy-next}
+use Rattle.cops_types.proofs.LineEndLemmas.{SoFar-start, SoFar-piece, SoFar-written, SoFar-kept, StopsEarly-read, StopsEarly-written, StopsEarly-piece, AnswersAll-finish, StopsEarly-finish, HasRisenBy-start, HasRisenBy-next, few-next}
 use Rattle.cops_types.proofs.line_runs.run.run_lines.Goals as goal
 
 pub loop-init : goal.loop-init
 loop-init g c = (
   SoFar-start g.M.LineMachine.rules c.args.limit _ _ _ c.new-front.result.items c.new-out.result.items c.new-front.ensures.items c.new-out.ensures.items,
   no_front c.args.limit c.new-front.result.items c.new-front.ensures.items,
-  record { reader = refl; reads = HasRisenBy-start _; writer = refl },
+  record { reader = refl; reads = HasRisenBy-start _; few = omega arith; writer = refl },
 )
 
 pub returns-in-Err-clause-err : goal.returns-in-Err-clause-err
@@ -57,6 +57,7 @@ loop-preserved g c =
       record {
         reader = c.in-Ok.ensures.failures ∙ c.loop.invariant.2.reader;
         reads = HasRisenBy-next _ _ c.loop.counter _ c.loop.invariant.2.reads c.read.ensures.reads;
+        few = few-next _ _ c.loop.counter _ c.loop.invariant.2.few c.read.ensures.reads;
         writer = on_ok_at _ c.drain.result went_well c.drain.ensures.ok ∙ c.in_ok-answer_piece.ensures.same ∙ c.loop.invariant.2.writer;
       },
     )
