@@ -1,0 +1,6 @@
+//! The variant without its type.
+use crate::Fault::*;
+
+fn refusal() -> Fault {
+    OutOfMemory
+}

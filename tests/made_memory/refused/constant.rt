@@ -1,0 +1,2 @@
+//! An error that is kept as a constant.
+const REFUSED: AllocError = AllocError;
