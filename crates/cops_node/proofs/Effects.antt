@@ -1,5 +1,5 @@
 -- What each call does to what is kept of a slot.
-use Rattle.std.proofs.Common.{◌≡◌, ◌≢◌, ℕ, zero, suc, ◌+◌, ◌<◌, ◌≤◌, Bool, true, false, not, ◌&&◌, ◌||◌, List, [], ◌∷◌, ◌++◌, length, map, refl, sym, ap, ◌∙◌, subst, arith, true≢false, nat_eq, max, get_or, set, length-append, IsTrue}
+use Rattle.std.proofs.Common.{◌≡◌, ◌≢◌, ℕ, zero, suc, ◌+◌, ◌/◌, ◌%◌, ◌<◌, ◌≤◌, Bool, true, false, not, ◌&&◌, ◌||◌, List, [], ◌∷◌, ◌++◌, length, map, refl, sym, ap, ◌∙◌, subst, arith, true≢false, nat_eq, max, get_or, set, length-append, IsTrue}
 use Rattle.std.specs.Prelude.{if◌then◌else◌, ◌==◌, nat_le, filter, drop, Option, Some, None, Ok, ok_or}
 use Rattle.std.specs.List.{AllByRecursion, fold, list_any, range_with_len}
 use Rattle.std.proofs.lemmas.Bool.Decides.{Decides-eqb, Decides-ltb}
@@ -20,7 +20,7 @@ use Rattle.cops_outbox.specs.Queues as outbox_queues
 use Rattle.cops_node.specs.declared.parts.Counters.{Counters}
 use Rattle.cops_node.specs.declared.Place.{Place}
 use Rattle.cops_node.specs.declared.NodeReply.TheVariants.{Acked, NotFront, Refused, Stored}
-use Rattle.cops_node.specs.Parts.{StandsAt, AreMarks}
+use Rattle.cops_node.specs.Parts.{StandsAt, AreMarks, mark_in}
 use Rattle.cops_node.specs.Place.{is_other_dc, own_number}
 use Rattle.cops_node.specs.SoloNode.{SoloNode, queue, issued}
 use Rattle.cops_node.specs.Step.{committed, is_outbox_full, acknowledge, Turn, version_of_put, put, put_at, put_refusal, store_unless, entry_of_put, unchanged}
@@ -45,11 +45,12 @@ pub StandsAt-committed : (slot : ℕ) (place : Place) (counters counters' : Coun
     version_le entry.version (mark entry.version.node solo.recs) ≡ false → entry.version.clock ≤ last_clock →
     ((tracked : List Tracked) → StandsFor (rows_of slot store) tracked → NoneLater solo.moment tracked → StandsFor (rows_of slot store') (tracked ++ record { record_of = record { entry = entry; at = solo.moment }; removed = false } ∷ [])) →
     store'.tenants ≡ store.tenants →
-    counters'.clock ≡ max counters.clock entry.version.clock → counters'.marks.items ≡ set counters.marks.items entry.version.node entry.version →
+    counters'.clock ≡ max counters.clock entry.version.clock → counters'.marks.items ≡ set counters.marks.items (entry.version.node / place.shards) entry.version →
+    entry.version.node / place.shards < place.data_centres → entry.version.node % place.shards ≡ place.id.shard →
     outbox'.own ≡ outbox.own → outbox'.tenants ≡ outbox.tenants → length outbox'.queues ≡ length outbox.queues →
     ((dc : ℕ) → IsTrue (is_other_dc place dc) → queue_of slot dc outbox' ≡ queue_of slot dc outbox ++ sent place entry) →
     StandsAt slot place counters' store' outbox' (committed entry solo)
-StandsAt-committed slot place counters counters' store store' outbox outbox' solo entry h above clock_fits stands tenants clock_is marks_are own queued dcs queues =
+StandsAt-committed slot place counters counters' store store' outbox outbox' solo entry h above clock_fits stands tenants clock_is marks_are within shard_is own queued dcs queues =
     let r : Record = record { entry = entry; at = solo.moment } in
     record {
       place_is = h.place_is;
@@ -66,7 +67,7 @@ StandsAt-committed slot place counters counters' store store' outbox outbox' sol
       acked = λ dc. let more = ap length (issued-push place entry solo) ∙ length-append (issued place solo) (sent place entry) in let low = h.acked dc in omega arith;
       clock_is = clock_is ∙ ap (λ n. max n entry.version.clock) h.clock_is ∙ sym (clock-push place.first_clock solo.recs r);
       clock_fits = let low = h.clock_fits in omega arith;
-      marks = subst (λ ms. AreMarks ms (solo.recs ++ record { record_of = r; removed = false } ∷ [])) (sym marks_are) (AreMarks-push counters.marks.items solo.recs r h.marks above);
+      marks = subst (λ ms. AreMarks place ms (solo.recs ++ record { record_of = r; removed = false } ∷ [])) (sym marks_are) (AreMarks-push place counters.marks.items solo.recs r h.marks within shard_is above);
       late = NoneLater-push solo.moment solo.recs r h.late (omega arith);
     }
 
@@ -104,7 +105,7 @@ StandsAt-collected slot place counters store store' outbox solo h stands tenants
   acked = λ dc. subst (λ rs. get_or solo.acked dc 0 ≤ length (filter (λ (e : Entry). e.version.node == own_number place) (map (λ (r : Record). r.entry) rs))) (sym same) (h.acked dc);
   clock_is = h.clock_is ∙ ap (λ rs. fold max place.first_clock (map (λ (r : Record). r.entry.version.clock) rs)) (sym same);
   clock_fits = h.clock_fits;
-  marks = record { all = h.marks.all; each = λ node lt. subst (λ rs. get_or counters.marks.items node (mark_among node rs) ≡ mark_among node rs) (sym same) (h.marks.each node lt) };
+  marks = record { all = h.marks.all; each = λ node. subst (λ rs. mark_in place counters.marks.items node ≡ mark_among node rs) (sym same) (h.marks.each node) };
   late = subst (AllByRecursion (λ r. r.at ≤ solo.moment)) (sym same) h.late;
 }
   where

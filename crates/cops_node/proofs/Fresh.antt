@@ -1,6 +1,6 @@
 -- What a new node keeps.
-use Rattle.std.proofs.Common.{◌≡◌, ℕ, zero, suc, ◌*◌, ◌<◌, ◌≤◌, Bool, true, false, true≢false, List, [], ◌∷◌, length, map, refl, sym, ap, ◌∙◌, subst, arith, get_or, ◌⊎◌, inl, inr, IsTrue}
-use Rattle.std.specs.Prelude.{replicate, drop, nat_le, ◌&&◌}
+use Rattle.std.proofs.Common.{◌≡◌, ℕ, zero, suc, ◌*◌, ◌/◌, ◌%◌, ◌<◌, ◌≤◌, Bool, true, false, true≢false, List, [], ◌∷◌, length, map, refl, sym, ap, ◌∙◌, subst, arith, get_or, ◌⊎◌, inl, inr, IsTrue}
+use Rattle.std.specs.Prelude.{replicate, drop, nat_le, ◌&&◌, ◌==◌, if◌then◌else◌}
 use Rattle.std.specs.List.{AllClonesOf, AllByRecursion, list_all}
 use Rattle.std.proofs.lemmas.Bool.Decides.{nat_tests}
 use Rattle.std.proofs.Math.Nat.{mul-le-mul_left, mul-le-mul_right}
@@ -17,7 +17,7 @@ use Rattle.cops_outbox.specs.Queues.{Queues, queue_of}
 use Rattle.cops_node.specs.declared.NodeId.{NodeId}
 use Rattle.cops_node.specs.declared.Place.{Place}
 use Rattle.cops_node.specs.declared.parts.Part.{Part}
-use Rattle.cops_node.specs.Parts.{IsFresh, IsPart, IsNode}
+use Rattle.cops_node.specs.Parts.{IsFresh, IsPart, IsNode, mark_in}
 use Rattle.cops_node.specs.Place.{place_of}
 
 -- a list of copies
@@ -35,6 +35,14 @@ replicate_read : {A : Type 0} (n i : ℕ) (x : A) → get_or (replicate n x) i x
 replicate_read zero i x = refl
 replicate_read (suc n) zero x = refl
 replicate_read (suc n) (suc i) x = replicate_read n i x
+
+-- no node has a mark yet
+no_mark : (place : Place) (n node : ℕ) → mark_in place (replicate n no_version) node ≡ no_version
+no_mark place n node = by (node % place.shards == place.id.shard)
+  where
+    by : (b : Bool) → (if b then get_or (replicate n no_version) (node / place.shards) no_version else no_version) ≡ no_version
+    by true = replicate_read n (node / place.shards) no_version
+    by false = refl
 
 length_replicate : {A : Type 0} (n : ℕ) (x : A) → length (replicate n x) ≡ n
 length_replicate zero x = refl
@@ -109,8 +117,8 @@ IsNode-new config id parts store outbox dc shard numbers clocks fresh places sto
             clock_is = h.clock_is;
             clock_fits = subst (λ n. n ≤ last_clock) (sym h.clock_is) clock;
             marks = record {
-              all = ap length h.marks ∙ length_replicate NODES no_version;
-              each = λ node lt. ap (λ (ms : List Timestamp). get_or ms node no_version) h.marks ∙ replicate_read NODES node no_version;
+              all = ap length h.marks ∙ length_replicate part.place.data_centres no_version;
+              each = λ node. ap (λ (ms : List Timestamp). mark_in part.place ms node) h.marks ∙ no_mark part.place part.place.data_centres node;
             };
             late = tt;
           };

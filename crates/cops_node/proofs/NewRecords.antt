@@ -1,5 +1,5 @@
 -- What one more record does to marks, clock and queues, and that its version is new.
-use Rattle.std.proofs.Common.{◌≡◌, ◌≢◌, ℕ, ◌<◌, ◌≤◌, Bool, true, false, cond, not, List, [], ◌∷◌, ◌++◌, length, map, refl, sym, ap, ◌∙◌, subst, arith, true≢false, max, get_or, set}
+use Rattle.std.proofs.Common.{◌≡◌, ◌≢◌, ℕ, ◌+◌, ◌*◌, ◌/◌, ◌%◌, ◌<◌, ◌≤◌, Bool, true, false, cond, not, List, [], ◌∷◌, ◌++◌, map, refl, sym, ap, ◌∙◌, subst, arith, true≢false, max, get_or, set}
 use Rattle.std.specs.Prelude.{if◌then◌else◌, ◌==◌, filter, Option}
 use Rattle.std.specs.List.{AllByRecursion, fold}
 use Rattle.std.proofs.lemmas.Bool.Decides.{Decides-eqb, nat_tests}
@@ -8,13 +8,15 @@ use Rattle.std.proofs.lemmas.List.Elements.{recursion_from_All, All-from_recursi
 use Rattle.std.proofs.lemmas.List.Sums.{fold-append}
 use Rattle.std.proofs.lemmas.List.Sorted.{All-permutation, IsPermutation-sym}
 use Rattle.std.proofs.Math.ListN.{length-set}
+use Rattle.std.proofs.Math.Nat.{div-add-mod}
 use Rattle.cops_types.specs.declared.records.Dated.{Dated}
 use Rattle.cops_types.specs.declared.records.Record.{Record}
 use Rattle.cops_types.specs.Records.{Tracked, StandsFor, clock, mark, mark_among, ever, kept, dated, stale_from}
-use Rattle.cops_types.specs.Version.{Timestamp, version_le, version_max, greatest}
+use Rattle.cops_types.specs.Version.{Timestamp, no_version, version_le, version_max, greatest}
 use Rattle.cops_types.proofs.VersionOrder.{version_max-left, version_max-right, version_le-trans, version_le-false, version_lt-le, version_max-no_version_right}
 use Rattle.cops_store.specs.Contents.{LacksVersion, NoneLater}
-use Rattle.cops_node.specs.Parts.{AreMarks}
+use Rattle.cops_node.specs.declared.Place.{Place}
+use Rattle.cops_node.specs.Parts.{AreMarks, mark_in}
 use Rattle.cops_node.proofs.MarkLaws.{is_of, mark_among-push}
 
 -- ---- a version above the mark of its node is new
@@ -115,28 +117,40 @@ mark_other node recs r differ =
     ∙ ap (λ b. version_max (mark node recs) (greatest (cond b (r.entry.version ∷ []) []))) differ
     ∙ version_max-no_version_right (mark node recs)
 
-pub AreMarks-push : (marks : List Timestamp) (recs : List Tracked) (r : Record) → AreMarks marks recs → version_le r.entry.version (mark r.entry.version.node recs) ≡ false
-    → AreMarks (set marks r.entry.version.node r.entry.version) (recs ++ record { record_of = r; removed = false } ∷ [])
-AreMarks-push marks recs r h above = record {
-  all = length-set marks r.entry.version.node r.entry.version ∙ h.all;
-  each = λ node lt. by node (subst (λ n. node < n) (length-set marks r.entry.version.node r.entry.version) lt) (r.entry.version.node == node) refl;
+-- two nodes with one shard number and one data centre are one
+same_node : (a b shards : ℕ) → a % shards ≡ b % shards → a / shards ≡ b / shards → a ≡ b
+same_node a b shards shard dc = sym (div-add-mod a shards) ∙ (λ i. shards * dc i + shard i) ∙ div-add-mod b shards
+
+-- the mark of another node is as before
+other_mark : (place : Place) (marks : List Timestamp) (v : Timestamp) (node : ℕ) → v.node % place.shards ≡ place.id.shard → (v.node == node) ≡ false
+    → mark_in place (set marks (v.node / place.shards) v) node ≡ mark_in place marks node
+other_mark place marks v node shard_is differ = by (node % place.shards == place.id.shard) refl
+  where
+    by : (b : Bool) → (node % place.shards == place.id.shard) ≡ b
+        → (if b then get_or (set marks (v.node / place.shards) v) (node / place.shards) no_version else no_version) ≡ (if b then get_or marks (node / place.shards) no_version else no_version)
+    by true is =
+        let shard : v.node % place.shards ≡ node % place.shards = shard_is ∙ sym ((Decides-eqb (node % place.shards) place.id.shard).0 is) in
+        get_or-set_other marks (v.node / place.shards) (node / place.shards) v no_version (λ dc. true≢false (sym ((Decides-eqb v.node node).1 (same_node v.node node place.shards shard (sym dc))) ∙ differ))
+    by false is = refl
+
+pub AreMarks-push : (place : Place) (marks : List Timestamp) (recs : List Tracked) (r : Record) → AreMarks place marks recs → r.entry.version.node / place.shards < place.data_centres → r.entry.version.node % place.shards ≡ place.id.shard
+    → version_le r.entry.version (mark r.entry.version.node recs) ≡ false → AreMarks place (set marks (r.entry.version.node / place.shards) r.entry.version) (recs ++ record { record_of = r; removed = false } ∷ [])
+AreMarks-push place marks recs r h within shard_is above = record {
+  all = length-set marks (r.entry.version.node / place.shards) r.entry.version ∙ h.all;
+  each = λ node. by node (r.entry.version.node == node) refl;
 }
   where
-    next : List Tracked
-    next = recs ++ record { record_of = r; removed = false } ∷ []
+    own : mark_in place (set marks (r.entry.version.node / place.shards) r.entry.version) r.entry.version.node ≡ mark r.entry.version.node (recs ++ record { record_of = r; removed = false } ∷ [])
+    own =
+        ap (λ b. if b then get_or (set marks (r.entry.version.node / place.shards) r.entry.version) (r.entry.version.node / place.shards) no_version else no_version) ((Decides-eqb (r.entry.version.node % place.shards) place.id.shard).1 shard_is)
+        ∙ get_or-set_same marks (r.entry.version.node / place.shards) r.entry.version no_version (subst (λ n. r.entry.version.node / place.shards < n) (sym h.all) within)
+        ∙ sym (mark_own recs r above)
 
-    by : (node : ℕ) → node < length marks → (b : Bool) → (r.entry.version.node == node) ≡ b
-        → get_or (set marks r.entry.version.node r.entry.version) node (mark node (recs ++ record { record_of = r; removed = false } ∷ [])) ≡ mark node (recs ++ record { record_of = r; removed = false } ∷ [])
-    by node lt true is =
-        let same : r.entry.version.node ≡ node = (Decides-eqb r.entry.version.node node).0 is in
-        subst (λ n. get_or (set marks r.entry.version.node r.entry.version) n (mark n (recs ++ record { record_of = r; removed = false } ∷ [])) ≡ mark n (recs ++ record { record_of = r; removed = false } ∷ [])) same
-        (get_or-set_same marks r.entry.version.node r.entry.version (mark r.entry.version.node (recs ++ record { record_of = r; removed = false } ∷ [])) (subst (λ n. n < length marks) (sym same) lt) ∙ sym (mark_own recs r above))
-    by node lt false is =
-        let differ : node ≢ r.entry.version.node = λ same. true≢false (sym ((Decides-eqb r.entry.version.node node).1 (sym same)) ∙ is) in
-        ap (get_or (set marks r.entry.version.node r.entry.version) node) (mark_other node recs r is)
-        ∙ get_or-set_other marks r.entry.version.node node r.entry.version (mark node recs) differ
-        ∙ h.each node lt
-        ∙ sym (mark_other node recs r is)
+    by : (node : ℕ) (b : Bool) → (r.entry.version.node == node) ≡ b
+        → mark_in place (set marks (r.entry.version.node / place.shards) r.entry.version) node ≡ mark node (recs ++ record { record_of = r; removed = false } ∷ [])
+    by node true is =
+        subst (λ n. mark_in place (set marks (r.entry.version.node / place.shards) r.entry.version) n ≡ mark n (recs ++ record { record_of = r; removed = false } ∷ [])) ((Decides-eqb r.entry.version.node node).0 is) own
+    by node false is = other_mark place marks r.entry.version node shard_is is ∙ h.each node ∙ sym (mark_other node recs r is)
 
 -- ---- moments
 

@@ -2,7 +2,7 @@
 use Rattle.std.proofs.Common.{◌≡◌, ◌≢◌, ℕ, ◌+◌, ◌*◌, ◌/◌, ◌%◌, ◌<◌, ◌≤◌, Bool, true, false, not, ◌&&◌, List, [], ◌∷◌, ◌++◌, length, refl, sym, ap, ◌∙◌, subst, arith, true≢false, nat_lt, max, set, append-nil, IsTrue}
 use Rattle.std.specs.Prelude.{if◌then◌else◌, ◌==◌, drop, Option, Some, None}
 use Rattle.std.proofs.lemmas.Bool.Decides.{Decides-eqb, nat_tests}
-use Rattle.std.proofs.lemmas.Nat.{div-mul-add}
+use Rattle.std.proofs.lemmas.Nat.{div-mul-add, mod-mul-add}
 use Rattle.cops_types.specs.declared.faults.Fault.{Fault}
 use Rattle.cops_types.specs.declared.pairs.Pair.{Pair}
 use Rattle.cops_types.specs.declared.records.EntryParts.{EntryParts as Entry}
@@ -19,12 +19,40 @@ use Rattle.cops_node.specs.declared.Place.{Place}
 use Rattle.cops_node.specs.declared.NodeCall.TheVariants.{Put, Commit, Ack}
 use Rattle.cops_node.specs.declared.NodeReply.{NodeReply}
 use Rattle.cops_node.specs.declared.NodeReply.TheVariants.{Stored, Committed, Already, OutOfOrder, Refused, Acked, NotFront}
-use Rattle.cops_node.specs.Parts.{StandsAt}
+use Rattle.cops_node.specs.Parts.{IsPlace, StandsAt}
 use Rattle.cops_node.specs.Place.{is_other_dc, is_other_equivalent, own_number}
 use Rattle.cops_node.specs.SoloNode.{SoloNode, queue, front}
 use Rattle.cops_node.specs.Step.{Turn, committed, version_of_put, put, put_at, put_refusal, commit, commit_refusal, store_unless, entry_of_put, effect, unchanged, was_committed}
 use Rattle.cops_node.proofs.Effects.{StandsAt-committed, sent, StandsAt-acked, ack_turn, acknowledge_is}
 use Rattle.cops_node.proofs.NewRecords.{is_new, above_marks}
+
+-- ---- the data centre of a node
+
+other_dc : (place : Place) (dc : ℕ) → IsTrue (is_other_dc place dc) → (dc < place.data_centres) × (dc ≢ place.id.dc)
+other_dc place dc h = let within : dc < place.data_centres = grind (arith, nat_tests) in let differ : dc ≢ place.id.dc = grind (arith, nat_tests) in (within, differ)
+
+-- the key's shard and the version's node, of an entry that fits
+pub equivalent_of : (a b : Bool) → (a && b) ≡ true → b ≡ true
+equivalent_of true b h = h
+equivalent_of false b h = absurd (true≢false (sym h))
+
+-- that of this node
+pub own_within : (place : Place) → IsPlace place → own_number place / place.shards < place.data_centres
+own_within place h = subst (λ dc. dc < place.data_centres) (sym (div-mul-add place.id.dc place.shards place.id.shard h.shard_exists)) h.dc_exists
+
+own_shard : (place : Place) → IsPlace place → own_number place % place.shards ≡ place.id.shard
+own_shard place h = mod-mul-add place.id.dc place.shards place.id.shard h.shard_exists
+
+-- and that of an equivalent one
+first_of : (a b : Bool) → (a && b) ≡ true → a ≡ true
+first_of true b h = refl
+first_of false b h = h
+
+pub equivalent_within : (place : Place) (node : ℕ) → IsTrue (is_other_equivalent place node) → node / place.shards < place.data_centres
+equivalent_within place node h = (other_dc place (node / place.shards) (first_of (is_other_dc place (node / place.shards)) (node % place.shards == place.id.shard) h)).0
+
+equivalent_shard : (place : Place) (node : ℕ) → IsTrue (is_other_equivalent place node) → node % place.shards ≡ place.id.shard
+equivalent_shard place node h = (Decides-eqb (node % place.shards) place.id.shard).0 (equivalent_of (is_other_dc place (node / place.shards)) (node % place.shards == place.id.shard) h)
 
 -- ---- a put
 
@@ -53,9 +81,6 @@ pub put_is_new : (slot : ℕ) (place : Place) (counters : Counters) (store : Con
     version_of_put place solo deps ≡ Some version → LacksVersion key version (rows_of slot store)
 put_is_new slot place counters store outbox solo key deps version h is = is_new key version (rows_of slot store) solo.recs h.rows (put_above place solo deps version is)
 
-other_dc : (place : Place) (dc : ℕ) → IsTrue (is_other_dc place dc) → (dc < place.data_centres) × (dc ≢ place.id.dc)
-other_dc place dc h = let within : dc < place.data_centres = grind (arith, nat_tests) in let differ : dc ≢ place.id.dc = grind (arith, nat_tests) in (within, differ)
-
 module _ (slot now : ℕ) (place : Place) (counters counters' : Counters) (store middle store' : Contents) (outbox outbox' : Queues) (solo : SoloNode) (key value : List ℕ) (deps near : List Pair) (version prev : Timestamp) (entry : Entry)
     (moment : solo.moment ≡ now) (h : StandsAt slot place counters store outbox solo)
     (version_is : version_of_put place solo deps ≡ Some version) (allowed : put_refusal place solo key value ≡ None)
@@ -64,7 +89,7 @@ module _ (slot now : ℕ) (place : Place) (counters counters' : Counters) (store
     (rows : middle.rows ≡ store.rows) (tenants : middle.tenants ≡ store.tenants)
     (stands : (tracked : List Tracked) → StandsFor (rows_of slot middle) tracked → NoneLater now tracked → StandsFor (rows_of slot store') (tracked ++ record { record_of = record { entry = entry; at = now }; removed = false } ∷ []))
     (tenants' : store'.tenants ≡ middle.tenants) (clock_fits : entry.version.clock ≤ last_clock)
-    (clock_is : counters'.clock ≡ max counters.clock entry.version.clock) (marks_are : counters'.marks.items ≡ set counters.marks.items entry.version.node entry.version)
+    (clock_is : counters'.clock ≡ max counters.clock entry.version.clock) (marks_are : counters'.marks.items ≡ set counters.marks.items (entry.version.node / place.shards) entry.version)
     (own : outbox'.own ≡ outbox.own) (queued : outbox'.tenants ≡ outbox.tenants) (dcs : length outbox'.queues ≡ length outbox.queues)
     (pushed : (dc : ℕ) → dc < length outbox.queues → dc ≢ outbox.own → queue_of slot dc outbox' ≡ queue_of slot dc outbox ++ entry ∷ []) where
   same_version : entry.version ≡ version
@@ -95,7 +120,7 @@ module _ (slot now : ℕ) (place : Place) (counters counters' : Counters) (store
       (ap (λ (v : Timestamp). version_le v (mark v.node solo.recs)) same_version ∙ put_above place solo deps version version_is) clock_fits
       (λ tracked s late. subst (λ m. StandsFor (rows_of slot store') (tracked ++ record { record_of = record { entry = entry; at = m }; removed = false } ∷ [])) (sym moment)
       (stands tracked (subst (λ rs. StandsFor (rows_in slot rs) tracked) (sym rows) s) (subst (λ m. NoneLater m tracked) moment late)))
-      (tenants' ∙ tenants) clock_is marks_are own queued dcs
+      (tenants' ∙ tenants) clock_is marks_are (subst (λ n. n / place.shards < place.data_centres) (sym own_node) (own_within place h.place_is)) (ap (λ n. n % place.shards) own_node ∙ own_shard place h.place_is) own queued dcs
       (λ dc other. pushed dc (subst (λ n. dc < n) (sym h.all_queues) (other_dc place dc other).0) (λ same. (other_dc place dc other).1 (same ∙ h.own_is)) ∙ ap (λ es. queue_of slot dc outbox ++ es) own_sent))
 
   pub put_done : (Stored version ≡ (effect place (Put key value deps near) solo).reply) × StandsAt slot place counters' store' outbox' (effect place (Put key value deps near) solo).after
@@ -111,11 +136,7 @@ foreign place node within h = by (node == own_number place) refl
     by true is =
         let same : node ≡ place.id.dc * place.shards + place.id.shard = (Decides-eqb node (own_number place)).0 is in
         let dc : node / place.shards ≡ place.id.dc = ap (λ n. n / place.shards) same ∙ div-mul-add place.id.dc place.shards place.id.shard within in
-        absurd ((other_dc place (node / place.shards) (first (is_other_dc place (node / place.shards)) h)).1 dc)
-      where
-        first : (a : Bool) → (a && node % place.shards == place.id.shard) ≡ true → a ≡ true
-        first true h = refl
-        first false h = h
+        absurd ((other_dc place (node / place.shards) (first_of (is_other_dc place (node / place.shards)) (node % place.shards == place.id.shard) h)).1 dc)
     by false is = refl
 
 -- no row has the version of an entry that is above the mark
@@ -159,7 +180,7 @@ module _ (slot now : ℕ) (place : Place) (counters counters' : Counters) (store
     (same : copy ≡ entry) (rows : middle.rows ≡ store.rows) (tenants : middle.tenants ≡ store.tenants)
     (stands : (tracked : List Tracked) → StandsFor (rows_of slot middle) tracked → NoneLater now tracked → StandsFor (rows_of slot store') (tracked ++ record { record_of = record { entry = copy; at = now }; removed = false } ∷ []))
     (tenants' : store'.tenants ≡ middle.tenants) (clock_fits : copy.version.clock ≤ last_clock)
-    (clock_is : counters'.clock ≡ max counters.clock copy.version.clock) (marks_are : counters'.marks.items ≡ set counters.marks.items copy.version.node copy.version) where
+    (clock_is : counters'.clock ≡ max counters.clock copy.version.clock) (marks_are : counters'.marks.items ≡ set counters.marks.items (copy.version.node / place.shards) copy.version) where
   commit_turn : commit place solo entry ≡ record { reply = Committed; after = committed entry solo }
   commit_turn = commit_open place solo entry true above next ∙ ap (λ o. store_unless o Committed entry solo) allowed
 
@@ -176,16 +197,12 @@ module _ (slot now : ℕ) (place : Place) (counters counters' : Counters) (store
       (λ tracked s late. subst (λ m. StandsFor (rows_of slot store') (tracked ++ record { record_of = record { entry = entry; at = m }; removed = false } ∷ [])) (sym moment)
       (subst (λ (e : Entry). StandsFor (rows_of slot store') (tracked ++ record { record_of = record { entry = e; at = now }; removed = false } ∷ [])) same
       (stands tracked (subst (λ rs. StandsFor (rows_in slot rs) tracked) (sym rows) s) (subst (λ m. NoneLater m tracked) moment late))))
-      (tenants' ∙ tenants) (clock_is ∙ ap (λ (e : Entry). max counters.clock e.version.clock) same) (marks_are ∙ ap (λ (e : Entry). set counters.marks.items e.version.node e.version) same) refl refl refl
+      (tenants' ∙ tenants) (clock_is ∙ ap (λ (e : Entry). max counters.clock e.version.clock) same) (marks_are ∙ ap (λ (e : Entry). set counters.marks.items (e.version.node / place.shards) e.version) same)
+      (equivalent_within place entry.version.node equivalent) (equivalent_shard place entry.version.node equivalent) refl refl refl
       (λ dc other. sym (append-nil (queue_of slot dc outbox)) ∙ ap (λ es. queue_of slot dc outbox ++ es) none_sent))
 
   pub commit_done : (Committed ≡ (effect place (Commit entry) solo).reply) × StandsAt slot place counters' store' outbox (effect place (Commit entry) solo).after
   commit_done = (commit_reply, commit_stands)
-
--- the key's shard and the version's node, of an entry that fits
-pub equivalent_of : (a b : Bool) → (a && b) ≡ true → b ≡ true
-equivalent_of true b h = h
-equivalent_of false b h = absurd (true≢false (sym h))
 
 -- ---- an acknowledgement
 

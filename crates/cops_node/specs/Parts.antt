@@ -1,5 +1,5 @@
 -- What a node holds of all tenants, and what it stands for.
-use Rattle.std.specs.Prelude.{◌≡◌, ◌≢◌, ℕ, ◌+◌, ◌*◌, ◌<◌, ◌≤◌, nat_eq, nat_le, Bool, IsTrue, List, [], ◌∷◌, ◌++◌, length, map, filter, slice_index, slice_index_or, ◌⊎◌, replicate, if◌then◌else◌}
+use Rattle.std.specs.Prelude.{◌≡◌, ◌≢◌, ℕ, ◌+◌, ◌*◌, ◌/◌, ◌%◌, ◌<◌, ◌≤◌, ◌==◌, nat_eq, nat_le, Bool, IsTrue, List, [], ◌∷◌, ◌++◌, length, map, filter, slice_index, slice_index_or, ◌⊎◌, replicate, if◌then◌else◌}
 use Rattle.std.specs.List.{list_all}
 use Rattle.cops_types.specs.declared.configs.Config.{Config}
 use Rattle.cops_types.specs.declared.configs.Tenant.{Tenant}
@@ -93,10 +93,14 @@ IsAudited slot moment call reply old new =
 
 -- ---- what is kept of a slot
 
--- the list has the mark of each node
-pub record AreMarks (marks : List Timestamp) (recs : List Tracked) : Type 0 where
-  pub all : length marks ≡ NODES
-  pub each : (node : ℕ) → node < length marks → slice_index_or marks node (mark node recs) ≡ mark node recs
+-- the mark of a node in a list by data centre: a node of another shard has none
+abbrev pub mark_in : Place → List Timestamp → ℕ → Timestamp
+mark_in place marks node = if node % place.shards == place.id.shard then slice_index_or marks (node / place.shards) no_version else no_version
+
+-- the list has the marks of this node and of each equivalent one, by data centre; no other node has a record
+pub record AreMarks (place : Place) (marks : List Timestamp) (recs : List Tracked) : Type 0 where
+  pub all : length marks ≡ place.data_centres
+  pub each : (node : ℕ) → mark_in place marks node ≡ mark node recs
 
 -- what is kept of a slot is what the solo node has
 pub record StandsAt (slot : ℕ) (place : Place) (counters : Counters) (store : Contents) (outbox : Queues) (solo : SoloNode) : Type 0 where
@@ -111,7 +115,7 @@ pub record StandsAt (slot : ℕ) (place : Place) (counters : Counters) (store : 
   pub acked : (dc : ℕ) → slice_index solo.acked dc ≤ length (issued place solo)
   pub clock_is : counters.clock ≡ clock place.first_clock solo.recs
   pub clock_fits : counters.clock ≤ last_clock
-  pub marks : AreMarks counters.marks.items solo.recs
+  pub marks : AreMarks place counters.marks.items solo.recs
   pub late : NoneLater solo.moment solo.recs
 
 -- some solo node with the moment `now` is what the slot stands for
@@ -165,7 +169,7 @@ pub record IsNode (id : NodeId) (data_centres shards : ℕ) (parts : List Part) 
 pub record IsFresh (part : Part) : Type 0 where
   pub moment : part.moment ≡ 0
   pub clock_is : part.counters.clock ≡ part.place.first_clock
-  pub marks : part.counters.marks.items ≡ replicate NODES no_version
+  pub marks : part.counters.marks.items ≡ replicate part.place.data_centres no_version
   pub trail : part.trail.items ≡ []
 
 -- ---- turns of a machine

@@ -29,12 +29,14 @@ pub(crate) fn act(
     ensures err { OnErr result (IsUnchanged counters.old store.old outbox.old counters.new store.new outbox.new) }
 {
     match call {
-        NodeCall::Get(key, wanted) => gets::get(alloc, counters, store, slot, now, key, wanted),
+        NodeCall::Get(key, wanted) => {
+            gets::get(alloc, place, counters, store, slot, now, key, wanted)
+        }
         NodeCall::Put(key, value, deps, near) => puts::put(
             alloc, place, counters, store, outbox, slot, now, key, value, deps, near,
         ),
         NodeCall::DepCheck(_, version) => {
-            Ok(Replies::checked(parts::was_committed(counters, *version)))
+            Ok(Replies::checked(parts::was_committed(place, counters, *version)))
         }
         NodeCall::Pull(dc) => queues::pull(alloc, outbox, slot, *dc as usize),
         NodeCall::Commit(entry) => {

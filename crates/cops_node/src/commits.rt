@@ -1,19 +1,18 @@
 //! Commits of entries, a node's own and those that other data centres sent.
-ghost use Rattle.std.specs.Prelude.{◌≡◌, ◌≢◌, ℕ, ◌<◌, ◌≤◌, max, length, slice_set, List, [], ◌∷◌, ◌++◌, None, false, IsTrue, IfOk, OnOk, OnErr};
-ghost use Rattle.cops_types.specs.Layout.{NODES};
+ghost use Rattle.std.specs.Prelude.{◌≡◌, ◌≢◌, ℕ, ◌/◌, ◌<◌, ◌≤◌, max, length, slice_set, List, [], ◌∷◌, ◌++◌, None, false, IsTrue, IfOk, OnOk, OnErr};
 ghost use Rattle.cops_types.specs.Records.{Tracked, StandsFor};
 ghost use Rattle.cops_types.specs.Version.{last_clock};
 ghost use Rattle.cops_store.specs.Contents.{rows_of, use_of, refusal, size_of, HasRoom, LacksVersion, NoneLater};
 ghost use Rattle.cops_outbox.specs.Queues.{Queues};
 ghost use Rattle.cops_node.specs.declared.NodeCall.{NodeCall};
-ghost use Rattle.cops_node.specs.Parts.{HasSolo, IsDone};
+ghost use Rattle.cops_node.specs.Parts.{HasSolo, IsDone, IsPlace};
 ghost use Rattle.cops_node.specs.Place.{fits};
 
 use crate::parts::{self, Counters};
 use crate::replies::Replies;
 use crate::{NodeReply, Place};
 use cops_store::Store;
-use cops_types::{Entry, Key, Quota};
+use cops_types::{Entry, Key};
 use std::alloc::{AllocError, Global};
 
 // Makes room in the store for an entry of the slot and key.
@@ -31,27 +30,28 @@ pub(crate) fn reserve(store: &mut Store, slot: usize, key: &Key) -> Result<(), A
 
 // Keeps an entry for which there is room.
 pub(crate) fn keep(
+    place: &Place,
     counters: &mut Counters,
     store: &mut Store,
     slot: usize,
     now: u64,
-    quota: &Quota,
     entry: Entry,
 )
+    requires place { IsPlace place.now }
     requires slot { slot < store.old.tenants }
-    requires marks { length counters.old.marks.items ≡ NODES }
+    requires data_centre { entry.version.node / place.now.shards < length counters.old.marks.items }
     requires new_version { LacksVersion entry.key entry.version (rows_of slot store.old) }
     requires room { HasRoom slot entry.key store.old }
-    requires unrefused { refusal quota.now (size_of entry) (use_of (rows_of slot store.old)) ≡ None }
+    requires unrefused { refusal place.now.quota (size_of entry) (use_of (rows_of slot store.old)) ≡ None }
     ensures stands_for { (tracked : List Tracked) → StandsFor (rows_of slot store.old) tracked → NoneLater now tracked → StandsFor (rows_of slot store.new) (tracked ++ record { record_of = record { entry = entry; at = now }; removed = false } ∷ []) }
     ensures others { (other : ℕ) → other ≢ slot → rows_of other store.new ≡ rows_of other store.old }
     ensures tenants { store.new.tenants ≡ store.old.tenants }
     ensures fits { entry.version.clock ≤ last_clock }
     ensures clock { counters.new.clock ≡ max counters.old.clock entry.version.clock }
-    ensures marks { counters.new.marks.items ≡ slice_set counters.old.marks.items entry.version.node entry.version }
+    ensures marks { counters.new.marks.items ≡ slice_set counters.old.marks.items (entry.version.node / place.now.shards) entry.version }
 {
-    parts::raise(counters, entry.version());
-    match store.insert(slot, entry, now, quota) {
+    parts::raise(place, counters, entry.version());
+    match store.insert(slot, entry, now, &place.quota) {
         Ok(()) => {}
         Err(_) => unreachable!(),
     }
@@ -76,13 +76,13 @@ pub(crate) fn commit(
     ensures counters { OnErr result (counters.new ≡ counters.old) }
     ensures rows { OnErr result (store.new.rows ≡ store.old.rows) }
 {
-    if parts::was_committed(counters, entry.version()) {
+    if parts::was_committed(place, counters, entry.version()) {
         return Ok(Replies {
             told: NodeReply::Already,
             kept: NodeReply::Already,
         });
     }
-    let mark = parts::mark_for(counters, entry.version());
+    let mark = parts::mark_for(place, counters, entry.version());
     let parts = entry.parts();
     if parts.prev != mark {
         return Ok(Replies::out_of_order(&mark));
@@ -92,7 +92,7 @@ pub(crate) fn commit(
     }
     let copy = entry.copy(alloc)?;
     reserve(store, slot, &parts.key)?;
-    keep(counters, store, slot, now, &place.quota, copy);
+    keep(place, counters, store, slot, now, copy);
     Ok(Replies {
         told: NodeReply::Committed,
         kept: NodeReply::Committed,

@@ -1,15 +1,14 @@
 //! What a node answers for a key.
-ghost use Rattle.std.specs.Prelude.{◌≡◌, length, List, IfOk};
-ghost use Rattle.cops_types.specs.Layout.{NODES};
+ghost use Rattle.std.specs.Prelude.{◌≡◌, List, IfOk};
 ghost use Rattle.cops_types.specs.Records.{Tracked, StandsFor, latest as latest_record, exact as exact_record};
 ghost use Rattle.cops_store.specs.Contents.{rows_of};
-ghost use Rattle.cops_node.specs.Parts.{AreMarks};
+ghost use Rattle.cops_node.specs.Parts.{AreMarks, IsPlace};
 ghost use Rattle.cops_node.specs.SoloNode.{SoloNode};
 ghost use Rattle.cops_node.specs.Step.{found as found_reply, reply_latest, reply_exact, reply_get};
 
 use crate::parts::{self, Counters};
 use crate::replies::Replies;
-use crate::{NodeReply, Wanted};
+use crate::{NodeReply, Place, Wanted};
 use cops_store::Store;
 use cops_types::{Key, Record, Version};
 use std::alloc::{AllocError, Global};
@@ -59,6 +58,7 @@ fn exactly(
 // What a slot answers for a key.
 fn answer(
     alloc: Global,
+    place: &Place,
     counters: &Counters,
     store: &Store,
     slot: usize,
@@ -66,13 +66,13 @@ fn answer(
     key: &Key,
     wanted: &Wanted,
 ) -> Result<NodeReply, AllocError>
-    requires { length counters.now.marks.items ≡ NODES }
-    ensures { IfOk result (λ reply. (solo : SoloNode) → StandsFor (rows_of slot store.now) solo.recs → AreMarks counters.now.marks.items solo.recs → solo.moment ≡ now → reply ≡ reply_get key.now wanted.now solo) }
+    requires { IsPlace place.now }
+    ensures { IfOk result (λ reply. (solo : SoloNode) → StandsFor (rows_of slot store.now) solo.recs → AreMarks place.now counters.now.marks.items solo.recs → solo.moment ≡ now → reply ≡ reply_get key.now wanted.now solo) }
 {
     match wanted {
         Wanted::Latest => latest(alloc, store, slot, key),
         Wanted::Exactly(version) => {
-            let was_here = parts::was_committed(counters, *version);
+            let was_here = parts::was_committed(place, counters, *version);
             exactly(alloc, store, slot, key, *version, now, was_here)
         }
     }
@@ -81,6 +81,7 @@ fn answer(
 // A call `Get`.
 pub(crate) fn get(
     alloc: Global,
+    place: &Place,
     counters: &Counters,
     store: &Store,
     slot: usize,
@@ -88,11 +89,11 @@ pub(crate) fn get(
     key: &Key,
     wanted: &Wanted,
 ) -> Result<Replies, AllocError>
-    requires { length counters.now.marks.items ≡ NODES }
-    ensures told { IfOk result (λ replies. (solo : SoloNode) → StandsFor (rows_of slot store.now) solo.recs → AreMarks counters.now.marks.items solo.recs → solo.moment ≡ now → replies.told ≡ reply_get key.now wanted.now solo) }
+    requires { IsPlace place.now }
+    ensures told { IfOk result (λ replies. (solo : SoloNode) → StandsFor (rows_of slot store.now) solo.recs → AreMarks place.now counters.now.marks.items solo.recs → solo.moment ≡ now → replies.told ≡ reply_get key.now wanted.now solo) }
     ensures kept { IfOk result (λ replies. replies.kept ≡ replies.told) }
 {
-    let told = answer(alloc, counters, store, slot, now, key, wanted)?;
+    let told = answer(alloc, place, counters, store, slot, now, key, wanted)?;
     let kept = told.copy(alloc)?;
     Ok(Replies { told, kept })
 }

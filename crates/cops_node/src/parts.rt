@@ -1,10 +1,10 @@
 //! What a node keeps of one tenant beside the store and the outbox.
-ghost use Rattle.std.specs.Prelude.{◌≡◌, ◌<◌, ◌≤◌, max, map, not, nat_lt, length, slice_set, List, IfOk};
+ghost use Rattle.std.specs.Prelude.{◌≡◌, ◌/◌, ◌<◌, ◌≤◌, max, map, not, nat_lt, length, slice_set, List, IfOk};
 ghost use Rattle.std.specs.List.{AllByRecursion};
 ghost use Rattle.cops_types.specs.Layout.{NODES};
 ghost use Rattle.cops_types.specs.Records.{Tracked, mark};
 ghost use Rattle.cops_types.specs.Version.{version_le, last_clock};
-ghost use Rattle.cops_node.specs.Parts.{AreMarks, IsFresh, IsPlace};
+ghost use Rattle.cops_node.specs.Parts.{AreMarks, IsFresh, IsPlace, mark_in};
 ghost use Rattle.cops_node.specs.Place.{place_of, own_number as own_number_of};
 ghost use Rattle.cops_types.specs.TenantConfig.{tenant_config};
 
@@ -19,7 +19,8 @@ pub struct Audited {
     pub entry: AuditEntry,
 }
 
-/// The clock of a slot, and its mark of each node.
+/// The clock of a slot, and its marks: the version committed last of each data centre's node with
+/// this shard.
 #[derive(Debug, Drop)]
 pub struct Counters {
     pub clock: u64,
@@ -41,7 +42,7 @@ fn fresh(alloc: Global, place: Place) -> Result<Part, AllocError>
     ensures fresh { IfOk result IsFresh }
     ensures place { IfOk result (λ part. part.place ≡ place) }
 {
-    let marks = vec![in alloc; Version::none(); Version::NODES as usize]?;
+    let marks = vec![in alloc; Version::none(); place.data_centres as usize]?;
     let clock = place.first_clock;
     Ok(Part {
         place,
@@ -101,38 +102,55 @@ pub(crate) fn own_number(place: &Place) -> u64
     id.dc * shards + id.shard
 }
 
-// Whether a version was committed: the mark of its node has reached it.
-pub(crate) fn was_committed(counters: &Counters, version: Version) -> bool
-    requires { length counters.now.marks.items ≡ NODES }
-    ensures { (recs : List Tracked) → AreMarks counters.now.marks.items recs → result ≡ version_le version (mark version.node recs) }
+// The mark of the node of this number. A node of another shard has none.
+fn mark_of(place: &Place, counters: &Counters, node: u64) -> Version
+    requires { IsPlace place.now }
+    ensures { result ≡ mark_in place.now counters.now.marks.items node }
 {
-    version <= counters.marks[version.place()]
+    let shards = place.shards;
+    let shard = place.id.shard;
+    if node % shards != shard {
+        return Version::none();
+    }
+    match counters.marks.get((node / shards) as usize) {
+        Some(mark) => *mark,
+        None => Version::none(),
+    }
+}
+
+// Whether a version was committed: the mark of its node has reached it.
+pub(crate) fn was_committed(place: &Place, counters: &Counters, version: Version) -> bool
+    requires { IsPlace place.now }
+    ensures { (recs : List Tracked) → AreMarks place.now counters.now.marks.items recs → result ≡ version_le version (mark version.node recs) }
+{
+    version <= mark_of(place, counters, version.node())
 }
 
 // The mark of a version's node.
-pub(crate) fn mark_for(counters: &Counters, version: Version) -> Version
-    requires { length counters.now.marks.items ≡ NODES }
-    ensures { (recs : List Tracked) → AreMarks counters.now.marks.items recs → result ≡ mark version.node recs }
+pub(crate) fn mark_for(place: &Place, counters: &Counters, version: Version) -> Version
+    requires { IsPlace place.now }
+    ensures { (recs : List Tracked) → AreMarks place.now counters.now.marks.items recs → result ≡ mark version.node recs }
 {
-    counters.marks[version.place()]
+    mark_of(place, counters, version.node())
 }
 
 // The mark of the place's own node.
 pub(crate) fn own_mark(place: &Place, counters: &Counters) -> Version
-    requires place { IsPlace place.now }
-    requires marks { length counters.now.marks.items ≡ NODES }
-    ensures { (recs : List Tracked) → AreMarks counters.now.marks.items recs → result ≡ mark (own_number_of place.now) recs }
+    requires { IsPlace place.now }
+    ensures { (recs : List Tracked) → AreMarks place.now counters.now.marks.items recs → result ≡ mark (own_number_of place.now) recs }
 {
-    counters.marks[own_number(place) as usize]
+    mark_of(place, counters, own_number(place))
 }
 
 // Counts a version that is committed: the clock is raised to its clock, and it is the mark of its node.
-pub(crate) fn raise(counters: &mut Counters, version: Version)
-    requires { length counters.old.marks.items ≡ NODES }
+pub(crate) fn raise(place: &Place, counters: &mut Counters, version: Version)
+    requires place { IsPlace place.now }
+    requires data_centre { version.node / place.now.shards < length counters.old.marks.items }
     ensures clock { counters.new.clock ≡ max counters.old.clock version.clock }
-    ensures marks { counters.new.marks.items ≡ slice_set counters.old.marks.items version.node version }
+    ensures marks { counters.new.marks.items ≡ slice_set counters.old.marks.items (version.node / place.now.shards) version }
     ensures fits { version.clock ≤ last_clock }
 {
     counters.clock = counters.clock.max(version.clock());
-    counters.marks[version.place()] = version;
+    let dc = version.node() / place.shards;
+    counters.marks[dc as usize] = version;
 }

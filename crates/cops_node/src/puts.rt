@@ -123,6 +123,6 @@ pub(crate) fn put(
         Err(Fault::OutOfMemory) => return Err(AllocError),
         Err(_) => unreachable!(),
     }
-    commits::keep(counters, store, slot, now, &place.quota, entry);
+    commits::keep(place, counters, store, slot, now, entry);
     Ok(replies)
 }
