@@ -1,5 +1,5 @@
 -- What a call at one node does to a cluster.
-use Rattle.std.proofs.Common.{◌≡◌, ◌≢◌, ℕ, zero, suc, ◌+◌, ◌*◌, ◌/◌, ◌%◌, ◌<◌, ◌≤◌, List, [], ◌∷◌, length, map, refl, sym, ap, ◌∙◌, subst, arith, get_or, set, inl, inr, ◌⊎◌}
+use Rattle.std.proofs.Common.{◌≡◌, ◌≢◌, ℕ, zero, suc, ◌+◌, ◌*◌, ◌/◌, ◌%◌, ◌<◌, ◌≤◌, List, [], ◌∷◌, length, map, refl, sym, ap, ◌∙◌, subst, arith, get_or, set, inl, inr, ◌⊎◌, nat_lt, false}
 use Rattle.std.specs.Prelude.{slice_get, replicate, Some}
 use Rattle.std.specs.Option.{option_map}
 use Rattle.std.specs.List.{AllByRecursion, range_with_len}
@@ -10,7 +10,7 @@ use Rattle.std.proofs.lemmas.Option.{get_or_from_slice_get, slice_get-map}
 use Rattle.std.proofs.Math.ListN.{length-set}
 use Rattle.std.proofs.Math.Seq.{map-set_same}
 use Rattle.cops_types.specs.declared.configs.Config.{Config}
-use Rattle.cops_types.specs.declared.faults.Fault.TheVariants.{OutOfMemory}
+use Rattle.cops_types.specs.declared.faults.Fault.TheVariants.{OutOfMemory, AuditFull}
 use Rattle.cops_types.specs.Layout.{NODES}
 use Rattle.cops_types.specs.declared.configs.Tenant.{Tenant}
 use Rattle.cops_types.specs.TenantConfig.{TenantConfig, tenant_config}
@@ -19,8 +19,8 @@ use Rattle.cops_node.specs.declared.NodeId.{NodeId}
 use Rattle.cops_node.specs.declared.NodeReply.{NodeReply}
 use Rattle.cops_node.specs.declared.NodeReply.TheVariants.{Refused}
 use Rattle.cops_node.specs.declared.Place.{Place}
-use Rattle.cops_node.specs.Clusters.{Cluster, nodes_of, HasTenant, turn_at, IsTurnOf, IsCall, IsCluster, id_of, new_shared, new_nodes, shape_of}
-use Rattle.cops_node.specs.Parts.{Home, Shared, trail_of, solo_of, left_by, IsTurn}
+use Rattle.cops_node.specs.Clusters.{Cluster, nodes_of, HasTenant, solo_at, turn_at, IsTurnOf, IsCall, IsCluster, id_of, new_shared, new_nodes, shape_of}
+use Rattle.cops_node.specs.Parts.{Home, Shared, trail_of, solo_of, left_by, has_audit_room, IsTurn}
 use Rattle.cops_node.specs.Place.{place_of, number_of}
 use Rattle.cops_node.specs.Shape.{Shape, place_in}
 use Rattle.cops_node.specs.SoloNode.{SoloNode, new_node}
@@ -46,6 +46,7 @@ read_again (x ∷ xs) (suc i) d = read_again xs i d
 module _ (shape : Shape) (nodes : List Shared) (id : NodeId) (slot moment : ℕ) (call : NodeCall) (reply : NodeReply) (node next : Shared)
     (within : number_of shape.shards id < length nodes) (read : node ≡ get_or nodes (number_of shape.shards id) node) (here : node.home.id ≡ id)
     (turn : (place : Place) → place ≡ get_or node.home.places slot place → IsTurn slot moment call reply place node next)
+    (full : (place : Place) → place ≡ get_or node.home.places slot place → has_audit_room slot place node ≡ false → reply ≡ Refused AuditFull)
     (stay : (other : ℕ) → other ≢ slot → trail_of other next.audit ≡ trail_of other node.audit)
     (home : next.home ≡ node.home) where
   abbrev number : ℕ
@@ -74,37 +75,41 @@ module _ (shape : Shape) (nodes : List Shared) (id : NodeId) (slot moment : ℕ)
   abbrev place : Place
   place = get_or node.home.places slot (place_in shape id)
 
+  same_number : (config : TenantConfig) → config.shards ≡ shape.shards → number ≡ number_of config.shards id
+  same_number config same_shards = ap (λ n. id.dc * n + id.shard) (sym same_shards)
+
+  found : (config : TenantConfig) → HasTenant config slot old → slice_get node.home.places slot ≡ Some (place_of config node.home.id)
+  found config has = all_at (λ (n : Shared). slice_get n.home.places slot ≡ Some (place_of config n.home.id)) nodes number node has within read
+
+  place_is : (config : TenantConfig) → HasTenant config slot old → place ≡ place_of config id
+  place_is config has = get_or_from_slice_get node.home.places slot (place_of config node.home.id) (place_in shape id) (found config has) ∙ ap (place_of config) here
+
+  solo_is : (config : TenantConfig) → config.shards ≡ shape.shards → HasTenant config slot old → solo_of slot place node ≡ solo_at config id slot old
+  solo_is config same_shards has =
+      ap (λ p. solo_of slot p node) (place_is config has ∙ ap (place_of config) (sym here))
+      ∙ ap (λ (n : Shared). solo_of slot (place_of config n.home.id) n) read
+      ∙ sym (get_or-map (λ (n : Shared). solo_of slot (place_of config n.home.id) n) nodes number node (new_node config.data_centres) within)
+      ∙ ap (λ n. get_or (nodes_of config slot old) n (new_node config.data_centres)) (same_number config same_shards)
+
   by_tenant : (reply ≡ (node_step place moment call (solo_of slot place node)).reply) × (solo_of slot place next ≡ (node_step place moment call (solo_of slot place node)).after)
       → (config : TenantConfig) → config.shards ≡ shape.shards → HasTenant config slot old → IsTurnOf config id slot moment call reply old new
   by_tenant t config same_shards has = record {
     reply_is = t.0 ∙ ap (λ (u : Turn). u.reply) turn_is;
-    after = map-set solos nodes number next ∙ (λ i. set (map solos nodes) (same_number i) (next_is i));
+    after = map-set solos nodes number next ∙ (λ i. set (map solos nodes) (same_number config same_shards i) (next_is i));
   }
     where
       solos : Shared → SoloNode
       solos n = solo_of slot (place_of config n.home.id) n
 
-      same_number : number ≡ number_of config.shards id
-      same_number = ap (λ n. id.dc * n + id.shard) (sym same_shards)
-
-      found : slice_get node.home.places slot ≡ Some (place_of config node.home.id)
-      found = all_at (λ (n : Shared). slice_get n.home.places slot ≡ Some (place_of config n.home.id)) nodes number node has within read
-
-      place_is : place ≡ place_of config id
-      place_is = get_or_from_slice_get node.home.places slot (place_of config node.home.id) (place_in shape id) found ∙ ap (place_of config) here
-
-      solo_is : solo_of slot place node ≡ get_or (nodes_of config slot old) (number_of config.shards id) (new_node config.data_centres)
-      solo_is =
-          ap (λ p. solo_of slot p node) (place_is ∙ ap (place_of config) (sym here))
-          ∙ ap (λ (n : Shared). solo_of slot (place_of config n.home.id) n) read
-          ∙ sym (get_or-map (λ (n : Shared). solo_of slot (place_of config n.home.id) n) nodes number node (new_node config.data_centres) within)
-          ∙ ap (λ n. get_or (nodes_of config slot old) n (new_node config.data_centres)) same_number
-
       turn_is : node_step place moment call (solo_of slot place node) ≡ turn_at config id slot moment call old
-      turn_is = (λ i. node_step (place_is i) moment call (solo_is i))
+      turn_is = (λ i. node_step (place_is config has i) moment call (solo_is config same_shards has i))
 
       next_is : solo_of slot (place_of config next.home.id) next ≡ (turn_at config id slot moment call old).after
-      next_is = ap (λ p. solo_of slot p next) (ap (place_of config) (ap (λ (h : Home). h.id) home ∙ here) ∙ sym place_is) ∙ t.1 ∙ ap (λ (u : Turn). u.after) turn_is
+      next_is = ap (λ p. solo_of slot p next) (ap (place_of config) (ap (λ (h : Home). h.id) home ∙ here) ∙ sym (place_is config has)) ∙ t.1 ∙ ap (λ (u : Turn). u.after) turn_is
+
+  refused_full : (config : TenantConfig) → config.shards ≡ shape.shards → HasTenant config slot old → nat_lt (length (solo_at config id slot old).trail) config.quota.audit ≡ false → reply ≡ Refused AuditFull
+  refused_full config same_shards has closed =
+      full place (read_again node.home.places slot (place_in shape id)) ((λ i. nat_lt (length (solo_is config same_shards has i).trail) (place_is config has i).quota.audit) ∙ closed)
 
   which : IsTurn slot moment call reply place node next → ((reply ≡ Refused OutOfMemory) × (new ≡ old)) ⊎ ((config : TenantConfig) → config.shards ≡ shape.shards → HasTenant config slot old → IsTurnOf config id slot moment call reply old new)
   which (inl e) = inl (e.0, ap (λ ns. record { shape = shape; nodes = ns }) (ap (set nodes number) (e.1 ∙ read) ∙ set-get_or nodes number node))
@@ -113,6 +118,7 @@ module _ (shape : Shape) (nodes : List Shared) (id : NodeId) (slot moment : ℕ)
   pub call_is : IsCall old id slot moment call reply new
   call_is = record {
     turn = which (turn place (read_again node.home.places slot (place_in shape id)));
+    full = refused_full;
     others = others;
     tenants = tenants;
     homes = homes;

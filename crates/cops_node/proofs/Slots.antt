@@ -293,6 +293,14 @@ full_done id dcs shards slot moment call parts p store outbox audit full node wi
     ∙ (λ i. unchanged (Refused AuditFull) (left_by (back i) (trail_of slot (shown i)))) in
     (sym (ap (λ (t : Turn). t.reply) turn), sym (ap (λ (t : Turn). t.after) turn))
 
+-- a call that is not refused for a full audit came to one that has room
+pub open_room : (id : NodeId) (dcs shards slot : ℕ) (parts : List Part) (p : Part) (store : Contents) (outbox : Queues) (audit : List Audited) (full : Bool) → IsNode id dcs shards parts store outbox audit → slot < length parts → p ≡ get_or parts slot p
+    → full ≡ not (nat_lt (length p.trail.items) p.place.quota.audit) → full ≡ false → (place : Place) (before : List Audited) → place ≡ p.place → audit ≡ before
+    → nat_lt (length (left_by place (trail_of slot before)).trail) place.quota.audit ≡ true
+open_room id dcs shards slot parts p store outbox audit full node within read test open_is place before place_is shown =
+    (λ i. nat_lt (length (left_by (place_is i) (trail_of slot (sym shown i))).trail) (place_is i).quota.audit)
+    ∙ audit_room id dcs shards slot p store outbox audit (node.each slot p within read) ∙ not_not _ (sym test ∙ open_is)
+
 -- some solo node is what the slot stands for, at the raised moment
 pub raised_solo : (id : NodeId) (dcs shards slot now moment : ℕ) (parts : List Part) (p : Part) (store : Contents) (outbox : Queues) (audit : List Audited) → IsNode id dcs shards parts store outbox audit → slot < length parts → p ≡ get_or parts slot p → now ≡ max p.moment moment
     → HasSolo slot now p.place p.counters store outbox

@@ -1,8 +1,8 @@
 -- A cluster of nodes as contracts see it, and what a call at one of them does for each tenant.
-use Rattle.std.specs.Prelude.{◌≡◌, ◌≢◌, ℕ, ◌*◌, ◌/◌, ◌%◌, ◌<◌, ◌≤◌, ◌⊎◌, List, [], map, length, slice_get, slice_index_or, slice_set, Some}
+use Rattle.std.specs.Prelude.{◌≡◌, ◌≢◌, ℕ, ◌*◌, ◌/◌, ◌%◌, ◌<◌, ◌≤◌, ◌⊎◌, false, nat_lt, List, [], map, length, slice_get, slice_index_or, slice_set, Some}
 use Rattle.std.specs.List.{AllByRecursion, range_with_len}
 use Rattle.cops_types.specs.declared.configs.Config.{Config}
-use Rattle.cops_types.specs.declared.faults.Fault.TheVariants.{OutOfMemory}
+use Rattle.cops_types.specs.declared.faults.Fault.TheVariants.{OutOfMemory, AuditFull}
 use Rattle.cops_types.specs.Layout.{NODES}
 use Rattle.cops_types.specs.TenantConfig.{TenantConfig}
 use Rattle.cops_node.specs.declared.NodeCall.{NodeCall}
@@ -45,18 +45,23 @@ nodes_of config slot cluster = map (λ node. solo_of slot (place_of config node.
 abbrev pub HasTenant : TenantConfig → ℕ → Cluster → Type 0
 HasTenant config slot cluster = AllByRecursion (λ node. slice_get node.home.places slot ≡ Some (place_of config node.home.id)) cluster.nodes
 
+-- the tenant's solo node of an id
+abbrev pub solo_at : TenantConfig → NodeId → ℕ → Cluster → SoloNode
+solo_at config id slot cluster = slice_index_or (nodes_of config slot cluster) (number_of config.shards id) (new_node config.data_centres)
+
 -- the turn of the tenant's solo node
 abbrev pub turn_at : TenantConfig → NodeId → ℕ → ℕ → NodeCall → Cluster → Turn
-turn_at config id slot moment call cluster = node_step (place_of config id) moment call (slice_index_or (nodes_of config slot cluster) (number_of config.shards id) (new_node config.data_centres))
+turn_at config id slot moment call cluster = node_step (place_of config id) moment call (solo_at config id slot cluster)
 
 -- the reply is that of the tenant's solo node, which alone of his nodes changes
 pub record IsTurnOf (config : TenantConfig) (id : NodeId) (slot moment : ℕ) (call : NodeCall) (reply : NodeReply) (old new : Cluster) : Type 0 where
   pub reply_is : reply ≡ (turn_at config id slot moment call old).reply
   pub after : nodes_of config slot new ≡ slice_set (nodes_of config slot old) (number_of config.shards id) (turn_at config id slot moment call old).after
 
--- a call at a node for the tenant of a slot: the turn of his solo node, or memory was refused and nothing changed; other tenants' nodes stay
+-- a call at a node for the tenant of a slot: the turn of his solo node, or memory was refused and nothing changed; other tenants' nodes stay; where his audit is full that is the reply, whatever memory there is
 pub record IsCall (old : Cluster) (id : NodeId) (slot moment : ℕ) (call : NodeCall) (reply : NodeReply) (new : Cluster) : Type 0 where
   pub turn : ((reply ≡ Refused OutOfMemory) × (new ≡ old)) ⊎ ((config : TenantConfig) → config.shards ≡ old.shape.shards → HasTenant config slot old → IsTurnOf config id slot moment call reply old new)
+  pub full : (config : TenantConfig) → config.shards ≡ old.shape.shards → HasTenant config slot old → nat_lt (length (solo_at config id slot old).trail) config.quota.audit ≡ false → reply ≡ Refused AuditFull
   pub others : (config : TenantConfig) (other : ℕ) → other ≢ slot → nodes_of config other new ≡ nodes_of config other old
   pub tenants : (config : TenantConfig) (other : ℕ) → HasTenant config other old → HasTenant config other new
   pub homes : map (λ node. node.home) new.nodes ≡ map (λ node. node.home) old.nodes

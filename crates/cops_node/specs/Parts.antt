@@ -1,5 +1,5 @@
 -- What a node holds of all tenants, and what it stands for.
-use Rattle.std.specs.Prelude.{◌≡◌, ◌≢◌, ℕ, ◌+◌, ◌*◌, ◌/◌, ◌%◌, ◌<◌, ◌≤◌, ◌==◌, nat_eq, nat_le, Bool, IsTrue, List, [], ◌∷◌, ◌++◌, length, map, filter, slice_index, slice_index_or, ◌⊎◌, replicate, if◌then◌else◌}
+use Rattle.std.specs.Prelude.{◌≡◌, ◌≢◌, ℕ, ◌+◌, ◌*◌, ◌/◌, ◌%◌, ◌<◌, ◌≤◌, ◌==◌, nat_eq, nat_le, nat_lt, Bool, IsTrue, List, [], ◌∷◌, ◌++◌, length, map, filter, slice_index, slice_index_or, ◌⊎◌, replicate, if◌then◌else◌}
 use Rattle.std.specs.List.{list_all}
 use Rattle.cops_types.specs.declared.configs.Config.{Config}
 use Rattle.cops_types.specs.declared.configs.Tenant.{Tenant}
@@ -78,6 +78,10 @@ IsSoloTurn slot moment call reply place old new =
 -- the same, or memory was refused and nothing changed
 abbrev pub IsTurn : ℕ → ℕ → NodeCall → NodeReply → Place → Shared → Shared → Type 0
 IsTurn slot moment call reply place old new = ((reply ≡ Refused OutOfMemory) × (new ≡ old)) ⊎ IsSoloTurn slot moment call reply place old new
+
+-- the audit of a slot has room for one more call
+abbrev pub has_audit_room : ℕ → Place → Shared → Bool
+has_audit_room slot place node = nat_lt (length (solo_of slot place node).trail) place.quota.audit
 
 -- the audit is longer by exactly this call and reply, or it was full, and nothing changed
 abbrev pub IsNoted : ℕ → ℕ → NodeCall → NodeReply → Shared → Shared → Type 0

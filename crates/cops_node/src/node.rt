@@ -1,11 +1,11 @@
 //! A node for many tenants: one store, one outbox and one audit for all.
-ghost use Rattle.std.specs.Prelude.{◌≡◌, ◌≢◌, ℕ, ◌<◌, ◌≤◌, length, map, slice_get, slice_index_or, List, [], Some, IsTrue, IfOk, OnErr};
+ghost use Rattle.std.specs.Prelude.{◌≡◌, ◌≢◌, ℕ, ◌<◌, ◌≤◌, length, map, slice_get, slice_index_or, false, List, [], Some, IsTrue, IfOk, OnErr};
 ghost use Rattle.std.specs.List.{AllByRecursion};
 ghost use Rattle.std.specs.Option.{option_copied};
 ghost use Rattle.cops_types.specs.HeadLines.{are_sizes};
 ghost use Rattle.cops_types.specs.Version.{last_clock};
 ghost use Rattle.cops_node.specs.declared.Place.{Place};
-ghost use Rattle.cops_node.specs.Parts.{trail_of, solo_of, home_of, are_clocks, IsTurn, IsSoloTurn, IsNoted, IsAudited};
+ghost use Rattle.cops_node.specs.Parts.{trail_of, solo_of, home_of, has_audit_room, are_clocks, IsTurn, IsSoloTurn, IsNoted, IsAudited};
 ghost use Rattle.cops_node.specs.Place.{is_home, is_other_dc, is_other_equivalent, fits};
 ghost use Rattle.cops_node.specs.Shape.{place_in};
 
@@ -152,6 +152,7 @@ impl Node {
         ensures others { (other : ℕ) → other ≢ slot → trail_of other self.new.audit ≡ trail_of other self.old.audit }
         ensures home { self.new.home ≡ self.old.home }
         ensures err { OnErr result (self.new ≡ self.old) }
+        ensures room { OnErr result ((place : Place) → place ≡ slice_index_or self.old.home.places slot place → IsTrue (has_audit_room slot place self.old)) }
     {
         let slot = slot as usize;
         let at = self.audit.len();
@@ -191,11 +192,12 @@ impl Node {
     }
 
     /// Makes a call for the tenant of a slot. Where the audit is full or memory is refused, that is
-    /// the reply and nothing changes.
+    /// the reply and nothing changes; a full audit comes first, whatever memory there is.
     pub fn step(&mut self, slot: u64, moment: u64, call: NodeCall) -> NodeReply
         requires slot_exists { slot < self.old.home.shape.slots }
         requires call_fits { IsTrue (fits (place_in self.old.home.shape self.old.home.id) call) }
         ensures turn { (place : Place) → place ≡ slice_index_or self.old.home.places slot place → IsTurn slot moment call result place self.old self.new }
+        ensures full { (place : Place) → place ≡ slice_index_or self.old.home.places slot place → has_audit_room slot place self.old ≡ false → result ≡ NodeReply.Refused Fault.AuditFull }
         ensures audited { IsAudited slot moment call result self.old self.new }
         ensures others { (other : ℕ) → other ≢ slot → trail_of other self.new.audit ≡ trail_of other self.old.audit }
         ensures home { self.new.home ≡ self.old.home }

@@ -3,7 +3,7 @@ use crate::test_nodes::{
     put, refused, says, says_at,
 };
 use crate::{Node, NodeCall};
-use cops_types::{Fault, Machine};
+use cops_types::{Fault, Machine, Quota};
 use std::alloc::Global;
 use std::process::Abort;
 use std::test::Fail;
@@ -123,6 +123,19 @@ fn commits_under_want_of_memory(rt: HostRuntime) {
         commit(&rt, alloc, 1, 0),
         ("already", 0),
     );
+}
+
+/// No request for memory comes before the test on the audit.
+#[test]
+fn a_full_audit_under_want_of_memory(rt: HostRuntime) {
+    let alloc = rt.alloc();
+    let quota = Quota { audit: 1, ..QUOTA };
+    let mut node = one_of_two(&rt, alloc, 0, 0, quota);
+    let full = refused(Fault::AuditFull);
+    insists(&rt, alloc, &mut node, 1, check(&rt, 1), ("checked", 0));
+    says(&rt, &mut node, 0, check(&rt, 1), full);
+    says(&rt, &mut node, 0, put(&rt, alloc, b"x"), full);
+    assert_eq!(rt; audit_len(&rt, &node, 0), 1);
 }
 
 #[test]

@@ -32,4 +32,4 @@ returns-clause-answers c =
     let new : Cluster = record { shape = shape; nodes = set c.self.inside.nodes.items (number_of shape.shards c.args.id) c.step.new.self } in
     subst (λ (v : Cluster). IsCall v c.args.id c.args.slot c.args.moment c.args.call c.step.result new) c.self.view_is
     (call_is shape c.self.inside.nodes.items c.args.id c.args.slot c.args.moment c.args.call c.step.result c.index_mut-node.result.now c.step.new.self within c.index_mut-node.ensures.value
-    (at.0 ∙ id_is shape.shards c.args.id fitting.shard_exists) c.step.ensures.turn c.step.ensures.others c.step.ensures.home)
+    (at.0 ∙ id_is shape.shards c.args.id fitting.shard_exists) c.step.ensures.turn c.step.ensures.full c.step.ensures.others c.step.ensures.home)

@@ -2,7 +2,7 @@ use Rattle.std.proofs.Common.{◌≡◌, ◌<◌, ◌∙◌, ap, sym, refl, subs
 use Rattle.cops_node.specs.declared.parts.Audited.{Audited}
 use Rattle.cops_node.specs.declared.parts.Part.{Part}
 use Rattle.cops_node.specs.Parts.{Shared, IsNode}
-use Rattle.cops_node.proofs.Slots.{place_read, same_part, full_done, raised_solo, IsNode-kept, turn_done, turn_node, view_set}
+use Rattle.cops_node.proofs.Slots.{place_read, same_part, full_done, open_room, raised_solo, IsNode-kept, turn_done, turn_node, view_set}
 use Rattle.cops_node.proofs.node.Node.try_step.Goals as goal
 
 pub returns-then-is_audit_full-clause-turn : goal.returns-then-is_audit_full-clause-turn
@@ -98,3 +98,24 @@ pub returns-clause-home : goal.returns-clause-home
 returns-clause-home c =
     ap (λ (v : Shared). v.home) (view_set c.self.inside.id c.self.inside.data_centres c.self.inside.shards c.args.slot c.self.inside.parts.items c.index_mut-part.result.now (next c) c.self.inside.audit.items c.self.inside.audit.items
     c.index_mut-part.ensures.value refl refl ∙ c.self.view_is)
+
+pub returns-then-is_err-clause-room : goal.returns-then-is_err-clause-room
+returns-then-is_err-clause-room c = λ place is.
+    let within : c.args.slot < length c.self.inside.parts.items = subst (λ (v : Shared). c.args.slot < v.home.shape.slots) (sym c.self.view_is) c.requires.slot_exists in
+    let place_is = place_read c.self.inside.parts.items c.args.slot place c.index-part.result.now within (subst (λ (v : Shared). place ≡ get_or v.home.places c.args.slot place) (sym c.self.view_is) is) c.index-part.ensures in
+    open_room c.self.inside.id c.self.inside.data_centres c.self.inside.shards c.args.slot c.self.inside.parts.items c.index-part.result.now c.self.inside.store c.self.inside.outbox c.self.inside.audit.items
+    c.is_audit_full.result c.self.invariant within c.index-part.ensures c.is_audit_full.ensures c.if-is_audit_full.false place c.args.self.now.audit place_is (ap (λ (v : Shared). v.audit) c.self.view_is)
+
+pub returns-then-is_err-2-clause-room : goal.returns-then-is_err-2-clause-room
+returns-then-is_err-2-clause-room c = λ place is.
+    let within : c.args.slot < length c.self.inside.parts.items = subst (λ (v : Shared). c.args.slot < v.home.shape.slots) (sym c.self.view_is) c.requires.slot_exists in
+    let place_is = place_read c.self.inside.parts.items c.args.slot place c.index-part.result.now within (subst (λ (v : Shared). place ≡ get_or v.home.places c.args.slot place) (sym c.self.view_is) is) c.index-part.ensures in
+    open_room c.self.inside.id c.self.inside.data_centres c.self.inside.shards c.args.slot c.self.inside.parts.items c.index-part.result.now c.self.inside.store c.self.inside.outbox c.self.inside.audit.items
+    c.is_audit_full.result c.self.invariant within c.index-part.ensures c.is_audit_full.ensures c.if-is_audit_full.false place c.args.self.now.audit place_is (ap (λ (v : Shared). v.audit) c.self.view_is)
+
+pub returns-in_default-clause-room : goal.returns-in_default-clause-room
+returns-in_default-clause-room c = λ place is.
+    let within : c.args.slot < length c.self.inside.parts.items = subst (λ (v : Shared). c.args.slot < v.home.shape.slots) (sym c.self.view_is) c.requires.slot_exists in
+    let place_is = place_read c.self.inside.parts.items c.args.slot place c.index-part.result.now within (subst (λ (v : Shared). place ≡ get_or v.home.places c.args.slot place) (sym c.self.view_is) is) c.index-part.ensures in
+    open_room c.self.inside.id c.self.inside.data_centres c.self.inside.shards c.args.slot c.self.inside.parts.items c.index-part.result.now c.self.inside.store c.self.inside.outbox c.self.inside.audit.items
+    c.is_audit_full.result c.self.invariant within c.index-part.ensures c.is_audit_full.ensures c.if-is_audit_full.false place c.args.self.now.audit place_is (ap (λ (v : Shared). v.audit) c.self.view_is)
