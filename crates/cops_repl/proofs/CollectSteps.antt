@@ -1,6 +1,6 @@
 -- Collections in a row.
 use Rattle.std.proofs.Common.{◌≡◌, ℕ, zero, suc, ◌+◌, ◌<◌, ◌≤◌, List, [], ◌∷◌, ◌++◌, map, length, drop, refl, sym, ◌∙◌, ap, subst, arith, add-zero, append-nil, append_assoc, ◌⊎◌, inl, inr}
-use Rattle.std.specs.Prelude.{sum, Result, Ok, Err}
+use Rattle.std.specs.Prelude.{sum, ◌^◌, Result, Ok, Err}
 use Rattle.std.specs.List.{flat_map, range_with_len}
 use Rattle.std.proofs.Math.Nat.{eq-or-lt_of_le}
 use Rattle.std.proofs.lemmas.Grind.{flat_map-append}
@@ -77,7 +77,8 @@ module _ {S : Type 0} (answers : S → NodeId → ℕ → ℕ → NodeCall → N
               counts ++ rest,
               last,
               ap (λ rs. map Removed counts ++ rs) later.2.2 ∙ sym (append_assoc (map Removed counts) (map Removed rest) (last ∷ [])) ∙ ap (λ rs. rs ++ last ∷ []) (sym (map-append Removed counts rest)),
-              subst (λ (n : ℕ). StopsAt n last fault) same later.2.3,
+              subst (λ (n : ℕ). n < 2 ^ 64) same later.2.3,
+              subst (λ (n : ℕ). StopsAt n last fault) same later.2.4,
             ),
           )
 
@@ -85,9 +86,10 @@ module _ {S : Type 0} (answers : S → NodeId → ℕ → ℕ → NodeCall → N
   pub one_counts : (total count : ℕ) (id : NodeId) (old new : S) → answers old id slot moment Collect (Removed count) new → CollectsAll answers slot moment total (id ∷ []) old new (Ok (total + count))
   one_counts total count id old new answer = (Removed count ∷ [], (new, answer, refl), (count ∷ [], refl, refl, omega arith))
 
-  pub one_stops : (total : ℕ) (id : NodeId) (reply : NodeReply) (fault : Fault) (old new : S) → answers old id slot moment Collect reply new → StopsAt total reply fault →
+  pub one_stops : (total : ℕ) (id : NodeId) (reply : NodeReply) (fault : Fault) (old new : S) → total < 2 ^ 64 → answers old id slot moment Collect reply new → StopsAt total reply fault →
       CollectsAll answers slot moment total (id ∷ []) old new (Err fault)
-  one_stops total id reply fault old new answer stops = (reply ∷ [], (new, answer, refl), ([], reply, refl, subst (λ (n : ℕ). StopsAt n reply fault) (sym (add-zero total)) stops))
+  one_stops total id reply fault old new fits answer stops =
+      (reply ∷ [], (new, answer, refl), ([], reply, refl, subst (λ (n : ℕ). n < 2 ^ 64) (sym (add-zero total)) fits, subst (λ (n : ℕ). StopsAt n reply fault) (sym (add-zero total)) stops))
 
   -- a fault ends it, whatever nodes are left
   pub fault_ends : (start : ℕ) (ids more : List NodeId) (old new : S) (fault : Fault) → CollectsAll answers slot moment start ids old new (Err fault) →
@@ -149,12 +151,12 @@ module _ {S : Type 0} (answers : S → NodeId → ℕ → ℕ → NodeCall → N
       subst (λ (n : ℕ). CollectsAll answers slot moment start (nodes_of (shard + 1) dc) old new (Ok n)) (sym sum_is)
       (subst (λ (ids : List NodeId). CollectsAll answers slot moment start ids old new (Ok (total + count))) (sym (nodes_of-more shard dc)) made)
 
-  pub shard_stops : (start total shards shard dc : ℕ) (reply : NodeReply) (fault : Fault) → shard < shards → CollectsAll answers slot moment start (nodes_of shard dc) old mid (Ok total) →
+  pub shard_stops : (start total shards shard dc : ℕ) (reply : NodeReply) (fault : Fault) → shard < shards → total < 2 ^ 64 → CollectsAll answers slot moment start (nodes_of shard dc) old mid (Ok total) →
       answers mid (record { dc = dc; shard = shard }) slot moment Collect reply new → StopsAt total reply fault →
       CollectsAll answers slot moment start (nodes_of shards dc) old new (Err fault)
-  shard_stops start total shards shard dc reply fault within first answer stops =
+  shard_stops start total shards shard dc reply fault within fits first answer stops =
       let id : NodeId = record { dc = dc; shard = shard } in
-      let one = one_stops answers slot moment total id reply fault mid new answer stops in
+      let one = one_stops answers slot moment total id reply fault mid new fits answer stops in
       let made = then_more answers slot moment start total (nodes_of shard dc) (id ∷ []) old mid new (Err fault) first one in
       let rest = nodes_of-rest (shard + 1) shards dc (omega arith) in
       let here = subst (λ (ids : List NodeId). CollectsAll answers slot moment start ids old new (Err fault)) (sym (nodes_of-more shard dc)) made in

@@ -1,5 +1,5 @@
 -- Collections on all nodes.
-use Rattle.std.specs.Prelude.{◌≡◌, ℕ, ◌+◌, ◌^◌, ◌≤◌, List, [], ◌∷◌, ◌++◌, map, length, sum, Some, Result, Ok, Err}
+use Rattle.std.specs.Prelude.{◌≡◌, ℕ, ◌+◌, ◌^◌, ◌<◌, ◌≤◌, List, [], ◌∷◌, ◌++◌, map, length, sum, Some, Result, Ok, Err}
 use Rattle.std.specs.List.{flat_map, range_with_len}
 use Rattle.cops_types.specs.declared.faults.Fault.{Fault}
 use Rattle.cops_types.specs.declared.faults.Fault.TheVariants.{Torn}
@@ -30,10 +30,10 @@ abbrev pub StopsAt : ℕ → NodeReply → Fault → Type 0
 StopsAt total (Removed count) fault = (2 ^ 64 ≤ total + count) × (fault ≡ Torn)
 StopsAt total reply fault = fault_in Collect reply ≡ Some fault
 
--- added to a sum: what all of these nodes removed, or the fault of the last reply, where all before it are counts
+-- added to a sum: what all of these nodes removed, or the fault of the last reply, where all before it are counts whose sum fits
 abbrev pub IsTotal : ℕ → List NodeId → List NodeReply → Result ℕ Fault → Type 0
 IsTotal start ids replies (Ok total) = (counts : List ℕ) × (length counts ≡ length ids) × (replies ≡ map Removed counts) × (total ≡ start + sum counts)
-IsTotal start ids replies (Err fault) = (counts : List ℕ) × (last : NodeReply) × (replies ≡ map Removed counts ++ last ∷ []) × StopsAt (start + sum counts) last fault
+IsTotal start ids replies (Err fault) = (counts : List ℕ) × (last : NodeReply) × (replies ≡ map Removed counts ++ last ∷ []) × (start + sum counts < 2 ^ 64) × StopsAt (start + sum counts) last fault
 
 -- the nodes are collected in order, and this is the sum or the fault that ended it
 abbrev pub CollectsAll : {S : Type 0} → (S → NodeId → ℕ → ℕ → NodeCall → NodeReply → S → Type 0) → ℕ → ℕ → ℕ → List NodeId → S → S → Result ℕ Fault → Type 0

@@ -1,4 +1,4 @@
-ghost use Rattle.std.specs.Prelude.{◌≡◌, ℕ, ◌+◌, ◌<◌, MatchResult};
+ghost use Rattle.std.specs.Prelude.{◌≡◌, ℕ, ◌+◌, ◌^◌, ◌<◌, MatchResult};
 ghost use Rattle.cops_node.specs.declared.NodeReply.TheVariants.{Removed};
 ghost use Rattle.cops_repl.specs.Collections.{CollectsAll, StopsAt, all_nodes, nodes_of};
 
@@ -7,9 +7,10 @@ use cops_types::{Config, Fault};
 
 /// The sum with what a collection removed.
 fn add_removed(total: u64, reply: &NodeReply) -> Result<u64, Fault>
-    ensures { MatchResult result
+    ensures value { MatchResult result
         (λ sum. (count : ℕ) × (reply.now ≡ Removed count) × (sum ≡ total + count))
         (λ fault. StopsAt total reply.now fault) }
+    ensures fits { total < 2 ^ 64 }
 {
     match reply {
         NodeReply::Removed(count) => total.checked_add(*count).ok_or(Fault::Torn),
