@@ -1,6 +1,7 @@
 -- What a tenant is told before memory is refused him is what he is told alone.
-use Rattle.std.proofs.Common.{◌≡◌, ℕ, Bool, true, false, cond, ◌==◌, List, [], ◌∷◌, map, refl, sym, ap, ◌∙◌, true≢false}
+use Rattle.std.proofs.Common.{◌≡◌, ℕ, Bool, true, false, cond, ◌||◌, ◌==◌, List, [], ◌∷◌, map, refl, sym, ap, ◌∙◌, true≢false}
 use Rattle.std.specs.Prelude.{Option, Some, None}
+use Rattle.std.specs.List.{list_any}
 use Rattle.std.proofs.lemmas.Bool.Decides.{Decides-eqb}
 use Rattle.cops_types.specs.declared.configs.Config.{Config}
 use Rattle.cops_types.specs.declared.configs.Tenant.{Tenant}
@@ -13,9 +14,9 @@ use Rattle.cops_world.specs.declared.replies.Reply.{Reply}
 use Rattle.cops_world.specs.declared.replies.Reply.TheVariants.{Refused}
 use Rattle.cops_world.specs.ActLines.{act_in}
 use Rattle.cops_world.specs.Cluster.{SoloCluster, cluster_step}
-use Rattle.cops_world.specs.Events.{IsFrontOf, before_lack, config_at, is_out_of_memory, with_cluster}
-use Rattle.cops_world.specs.Script.{Said, OfNobody, Unformed, Acts, answers_to, said_by, said_in, slot_of_name}
-use Rattle.cops_world.specs.ScriptRuns.{Answers, named_in, replies_to}
+use Rattle.cops_world.specs.Events.{IsFrontOf, IsSpared, before_lack, config_at, is_out_of_memory, own, replies, replies_from, with_cluster}
+use Rattle.cops_world.specs.Script.{Said, OfNobody, Unformed, Acts, answers_to, events_in, said_by, said_in, slot_of_name}
+use Rattle.cops_world.specs.ScriptRuns.{Answers, act_replies, named_in, replies_to}
 use Rattle.cops_world.proofs.AnswersTo.{answers_to-from, new_at}
 use Rattle.cops_world.proofs.Sequence.{answers_from}
 
@@ -121,4 +122,56 @@ act_keeps config slot e reply told more cluster mine others =
     let turn = cluster_step config e.act cluster in
     by_test (e.slot == slot)
     (λ is. rw is (one_reply reply turn.reply (replies_to slot told) (replies_along config slot more turn.after) (mine ((Decides-eqb e.slot slot).0 is))))
+    (λ apart. rw apart (others (λ same. true≢false (sym ((Decides-eqb e.slot slot).1 same) ∙ apart))))
+
+-- ---- the replies to acts
+
+-- up to a refusal of memory they are these, and all of them where none is refused
+abbrev pub AreTold : List Reply → List Reply → Type 0
+AreTold told whole = IsFrontOf (before_lack told) whole × (IsSpared told → told ≡ whole)
+
+-- so the tenant of a slot was told, by the acts among these lines, where his cluster is kept
+abbrev pub ActsAreTold : TenantConfig → ℕ → List Said → Answers → SoloCluster → Type 0
+ActsAreTold config slot said told cluster = AreTold (replies slot (events_in said) (act_replies said told)) (replies_from config (own slot (events_in said)) cluster)
+
+first_spared : (a b : Bool) → (a || b) ≡ false → a ≡ false
+first_spared true b e = e
+first_spared false b e = refl
+
+later_spared : (a b : Bool) → (a || b) ≡ false → b ≡ false
+later_spared true b e = absurd (true≢false e)
+later_spared false b e = e
+
+told_one : (r s : Reply) (told whole : List Reply) → (is_out_of_memory r ≡ false → (r ≡ s) × AreTold told whole) → AreTold (r ∷ told) (s ∷ whole)
+told_one r s told whole right = (
+  one_reply r s told whole (λ spared. let one = right spared in (one.0, one.1.0)),
+  λ spared.
+      let one = right (first_spared (is_out_of_memory r) (list_any is_out_of_memory told) spared) in
+      let later = one.1.1 (later_spared (is_out_of_memory r) (list_any is_out_of_memory told) spared) in
+      λ i. one.0 i ∷ later i,
+)
+
+-- a line that acts on nothing
+abbrev pub KeepsActs : Option (ℕ × Reply) → Said → Type 0
+KeepsActs answer said =
+    (config : TenantConfig) (slot : ℕ) (told : Answers) (more : List Said) (cluster : SoloCluster) →
+    ActsAreTold config slot more told cluster → ActsAreTold config slot (said ∷ more) (answer ∷ told) cluster
+
+pub nobody_keeps_acts : KeepsActs None OfNobody
+nobody_keeps_acts config slot told more cluster h = h
+
+pub unformed_keeps_acts : (other : ℕ) → KeepsActs (Some (other, Refused Syntax)) (Unformed other)
+unformed_keeps_acts other config slot told more cluster h = h
+
+-- a line that acts
+pub act_keeps_acts : (config : TenantConfig) (slot : ℕ) (e : Event) (reply : Reply) (told : Answers) (more : List Said) (cluster : SoloCluster) →
+    (e.slot ≡ slot → is_out_of_memory reply ≡ false → (reply ≡ (cluster_step config e.act cluster).reply) × ActsAreTold config slot more told (cluster_step config e.act cluster).after) →
+    ((e.slot ≡ slot → ⊥) → ActsAreTold config slot more told cluster) →
+    ActsAreTold config slot (Acts e ∷ more) (Some (e.slot, reply) ∷ told) cluster
+act_keeps_acts config slot e reply told more cluster mine others =
+    let turn = cluster_step config e.act cluster in
+    let rs = replies slot (events_in more) (act_replies more told) in
+    let acts = own slot (events_in more) in
+    by_test (e.slot == slot)
+    (λ is. rw is (told_one reply turn.reply rs (replies_from config acts turn.after) (mine ((Decides-eqb e.slot slot).0 is))))
     (λ apart. rw apart (others (λ same. true≢false (sym ((Decides-eqb e.slot slot).1 same) ∙ apart))))

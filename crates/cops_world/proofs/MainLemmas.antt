@@ -1,5 +1,5 @@
 -- The main theorem, from what each tenant was told.
-use Rattle.std.proofs.Common.{◌≡◌, ℕ, ◌<◌, Bool, true, false, List, length, refl, sym, subst, ◌∙◌, true≢false, ◌&&◌}
+use Rattle.std.proofs.Common.{◌≡◌, ℕ, zero, suc, take, ◌<◌, Bool, true, false, List, [], ◌∷◌, ◌++◌, length, refl, sym, subst, ap, ◌∙◌, true≢false, ◌&&◌}
 use Rattle.std.specs.Prelude.{IsTrue, nat_le, slice_get, Some}
 use Rattle.std.proofs.lemmas.Bool.{leb-true}
 use Rattle.std.specs.List.{list_all}
@@ -11,9 +11,10 @@ use Rattle.cops_types.specs.Words.{is_u64}
 use Rattle.cops_world.specs.declared.acts.Act.{Act}
 use Rattle.cops_world.specs.declared.acts.Event.{Event}
 use Rattle.cops_world.specs.declared.replies.Reply.{Reply}
-use Rattle.cops_world.specs.Events.{config_at, own, solo_replies}
+use Rattle.cops_world.specs.Cluster.{SoloCluster, cluster_step, new_cluster}
+use Rattle.cops_world.specs.Events.{IsFrontOf, before_lack, config_at, own, replies, replies_from, solo_replies}
 use Rattle.cops_world.specs.GoodHeads.{is_good}
-use Rattle.cops_world.specs.MainTheorem.{HoldsFor, IsToldAlone, IsToldAloneAtFirst, KeepsCausality, with_tenant_alone}
+use Rattle.cops_world.specs.MainTheorem.{answered, HoldsFor, IsToldAlone, IsToldAloneAtFirst, IsToldCausally, KeepsCausality, with_tenant_alone}
 use Rattle.cops_world.proofs.Committed.{has_committed_pasts}
 use Rattle.cops_world.proofs.Consistent.{is_consistent}
 use Rattle.cops_world.proofs.Convergence.{is_convergent}
@@ -44,6 +45,10 @@ some_shard config good =
     let low = and_left (nat_le 1 config.shards) (nat_le config.shards 16) (and_right (is_between 1 8 config.data_centres) shards two) in
     leb-true 1 config.shards low
 
+-- a tenant has the shards of the whole cluster
+some_at : (config : Config) (slot : ℕ) → 0 < config.shards → slot < length config.tenants → 0 < (config_at config slot).shards
+some_at config slot some within = subst (λ n. 0 < n) (sym (sizes_at config slot within).shards) some
+
 pub keeps_causality : (config : TenantConfig) (acts : List Act) → 0 < config.shards → KeepsCausality config acts
 keeps_causality config acts some = record {
   told = has_told_operations config acts;
@@ -58,14 +63,34 @@ keeps_causality config acts some = record {
   restarts = restarts_only_late config some acts;
 }
 
-pub holds_for : (config : Config) (events : List Event) (told : List Reply) (slot : ℕ) → IsTrue (is_good config) → slot < length config.tenants → IsToldAlone config events told slot → IsToldAloneAtFirst config events told slot →
+-- the replies to the first acts are the first replies
+replies-take : (n : ℕ) (config : TenantConfig) (acts : List Act) (c : SoloCluster) → replies_from config (take n acts) c ≡ take n (replies_from config acts c)
+replies-take zero config acts c = refl
+replies-take (suc n) config [] c = refl
+replies-take (suc n) config (act ∷ acts) c = let turn = cluster_step config act c in ap (λ rs. turn.reply ∷ rs) (replies-take n config acts turn.after)
+
+take-front : {A : Type 0} (front rest : List A) → take (length front) (front ++ rest) ≡ front
+take-front [] rest = refl
+take-front (x ∷ front) rest = ap (λ xs. x ∷ xs) (take-front front rest)
+
+-- what is right up to a refusal of memory is told by the acts that were answered before it
+pub told_causally : (config : TenantConfig) (acts : List Act) (told : List Reply) → 0 < config.shards → IsFrontOf (before_lack told) (solo_replies config acts) → IsToldCausally config acts told
+told_causally config acts told some (rest, whole) =
+    let front = before_lack told in
+    record {
+      alone = sym (replies-take (length front) config acts (new_cluster config) ∙ ap (take (length front)) whole ∙ take-front front rest);
+      causal = keeps_causality config (answered acts told) some;
+    }
+
+pub holds_for : (config : Config) (events : List Event) (told : List Reply) (slot : ℕ) → 0 < config.shards → slot < length config.tenants → IsToldAlone config events told slot → IsToldAloneAtFirst config events told slot →
     HoldsFor config events told slot
-holds_for config events told slot good within alone at_first = record {
+holds_for config events told slot some within alone at_first = record {
   alone = alone;
   at_first = at_first;
   same = λ other more heard place there concern agree spared too.
       there spared ∙ (λ i. solo_replies (concern i) (agree i)) ∙ sym (alone too);
-  causal = keeps_causality (config_at config slot) (own slot events) (subst (λ n. 0 < n) (sym (sizes_at config slot within).shards) (some_shard config good));
+  causal = keeps_causality (config_at config slot) (own slot events) (some_at config slot some within);
+  causally = told_causally (config_at config slot) (own slot events) (replies slot events told) (some_at config slot some within) at_first;
 }
 
 -- ---- one tenant alone

@@ -30,12 +30,12 @@ use Rattle.cops_world.specs.Acting.{IsNew, HasActed}
 use Rattle.cops_world.specs.declared.scripts.HeadSoFar.{HeadSoFar}
 use Rattle.cops_world.specs.HeadRules.{HeadAnswers, IsHeadAt}
 use Rattle.cops_world.specs.ScriptRules.{IsAnswered, line_answers, line_refuses, end_answers, end_refuses, script_rules}
-use Rattle.cops_world.specs.ScriptRuns.{Answers, AreAnswered, acts_in, addressee, is_lack, named_in, replies_to, AreSpared, text_of, text_in, WritesScript, WritesFront}
+use Rattle.cops_world.specs.ScriptRuns.{Answers, AreAnswered, acts_in, addressee, events_of, is_lack, named_in, replies_in, replies_to, AreSpared, text_of, text_in, WritesScript, WritesFront}
 use Rattle.cops_world.proofs.AnswersTo.{IsThere, said_in-there, new_at, answers_to-from}
 use Rattle.cops_world.proofs.CutLemmas.{said_in-cut}
-use Rattle.cops_world.proofs.Fronts.{KeepsFronts, act_keeps, answers_to-along, named_by, no_replies, nobody_keeps, replies_along, said_in-named, unformed_keeps}
+use Rattle.cops_world.proofs.Fronts.{ActsAreTold, KeepsActs, KeepsFronts, act_keeps, act_keeps_acts, answers_to-along, named_by, no_replies, nobody_keeps, nobody_keeps_acts, replies_along, said_in-named, unformed_keeps, unformed_keeps_acts}
 use Rattle.cops_world.proofs.HeadRuns.{HeadRun, InHead, PastHead, bad_end, bad_first, cut_in_head, counted-small, heads, named_of, real_lines, start, refused_line as refused_in_head, wide}
-use Rattle.cops_world.proofs.MainLemmas.{keeps_causality}
+use Rattle.cops_world.proofs.MainLemmas.{holds_for, keeps_causality}
 use Rattle.cops_world.proofs.Sequence.{answers_from}
 use Rattle.cops_world.proofs.WholeHeads.{shards_of}
 use Rattle.cops_world.proofs.WorldKeeps.{sizes_at}
@@ -60,6 +60,8 @@ module _ {W : Type 0} (setup : W → Config) (StandsFor : W → ℕ → SoloClus
     pub addressed : map addressee told ≡ map (named_in config.tenants) lines
     pub fronts : (slot : ℕ) → slot < length config.tenants → (cluster : SoloCluster) → StandsFor old slot cluster →
         IsFrontOf (before_lack (replies_to slot told)) (replies_along (config_at config slot) slot (map (said_in config.tenants) lines) cluster)
+    pub acts : (slot : ℕ) → slot < length config.tenants → (cluster : SoloCluster) → StandsFor old slot cluster →
+        ActsAreTold (config_at config slot) slot (map (said_in config.tenants) lines) told cluster
     pub right : AreSpared told → (clusters : ℕ → SoloCluster) → AllStand old clusters →
         (later : ℕ → SoloCluster) × AllStand new later
         × ((others : List (List ℕ)) → answers_from (config_at config) (map (said_in config.tenants) (lines ++ others)) clusters
@@ -88,11 +90,17 @@ module _ {W : Type 0} (setup : W → Config) (StandsFor : W → ℕ → SoloClus
         let Is : Said → Type 0 = λ s. IsFrontOf (before_lack (replies_to slot (answer ∷ p.told))) (replies_along (config_at config slot) slot (s ∷ map (said_in config.tenants) lines) cluster) in
         subst Is (sym says) h
 
+    acts_first : (answer : Option (ℕ × Reply)) (said : Said) → said_in config.tenants line ≡ said → (slot : ℕ) (cluster : SoloCluster) →
+        ActsAreTold (config_at config slot) slot (said ∷ map (said_in config.tenants) lines) (answer ∷ p.told) cluster →
+        ActsAreTold (config_at config slot) slot (map (said_in config.tenants) (line ∷ lines)) (answer ∷ p.told) cluster
+    acts_first answer said says slot cluster h =
+        subst (λ s. ActsAreTold (config_at config slot) slot (s ∷ map (said_in config.tenants) lines) (answer ∷ p.told) cluster) (sym says) h
+
     -- a line that acts on nothing
-    given_idle : (old : W) (answer : Option (ℕ × Reply)) (said : Said) (first text : List ℕ) → said_in config.tenants line ≡ said → mid ≡ old → first ≡ answer_line config.tenants answer → text ≡ first ++ later → is_lack answer ≡ false → addressee answer ≡ named_by said → KeepsFronts answer said →
+    given_idle : (old : W) (answer : Option (ℕ × Reply)) (said : Said) (first text : List ℕ) → said_in config.tenants line ≡ said → mid ≡ old → first ≡ answer_line config.tenants answer → text ≡ first ++ later → is_lack answer ≡ false → addressee answer ≡ named_by said → KeepsFronts answer said → KeepsActs answer said →
         ((more : List Said) (clusters : ℕ → SoloCluster) → answers_from (config_at config) (said ∷ more) clusters ≡ answer ∷ answers_from (config_at config) more clusters) →
         AreGiven config old (line ∷ lines) text new
-    given_idle old answer said first text says stays is whole fine names keeps step = record {
+    given_idle old answer said first text says stays is whole fine names keeps keeps_acts step = record {
       told = answer ∷ p.told;
       each = ap suc p.each;
       whole = whole ∙ (λ i. is i ++ p.whole i);
@@ -101,6 +109,9 @@ module _ {W : Type 0} (setup : W → Config) (StandsFor : W → ℕ → SoloClus
       fronts = λ slot below cluster stood.
           fronts_first answer said says slot cluster
           (keeps (config_at config slot) slot p.told (map (said_in config.tenants) lines) cluster (p.fronts slot below cluster (subst (λ w. StandsFor w slot cluster) (sym stays) stood)));
+      acts = λ slot below cluster stood.
+          acts_first answer said says slot cluster
+          (keeps_acts (config_at config slot) slot p.told (map (said_in config.tenants) lines) cluster (p.acts slot below cluster (subst (λ w. StandsFor w slot cluster) (sym stays) stood)));
       right = λ spared clusters stand.
           let rest = p.right (later_spared (is_lack answer) (list_any is_lack p.told) spared) clusters (subst (λ w. AllStand w clusters) (sym stays) stand) in (
             rest.0,
@@ -130,6 +141,15 @@ module _ {W : Type 0} (setup : W → Config) (StandsFor : W → ℕ → SoloClus
           (act_keeps (config_at config slot) slot event reply p.told (map (said_in config.tenants) lines) cluster
           (λ same spared. let turn = own same spared cluster stood in (turn.0, p.fronts slot below (cluster_step (config_at config slot) event.act cluster).after turn.1))
           (λ apart. p.fronts slot below cluster (acted.others slot apart cluster stood)));
+      acts = λ slot below cluster stood.
+          let One : Config → ℕ → Type 0 = λ c s. (k : SoloCluster) → StandsFor old s k →
+          (reply ≡ (cluster_step (config_at c s) event.act k).reply) × StandsFor mid s (cluster_step (config_at c s) event.act k).after in
+          let own : event.slot ≡ slot → is_out_of_memory reply ≡ false → One config slot =
+          λ same spared. subst (One config) same (subst (λ c. One c event.slot) is_of (acted.own spared)) in
+          acts_first (Some (event.slot, reply)) (Acts event) says slot cluster
+          (act_keeps_acts (config_at config slot) slot event reply p.told (map (said_in config.tenants) lines) cluster
+          (λ same spared. let turn = own same spared cluster stood in (turn.0, p.acts slot below (cluster_step (config_at config slot) event.act cluster).after turn.1))
+          (λ apart. p.acts slot below cluster (acted.others slot apart cluster stood)));
       right = λ spared clusters stand.
           let turn = cluster_step (config_at config event.slot) event.act (clusters event.slot) in
           let mine = acted.own (first_spared (is_out_of_memory reply) (list_any is_lack p.told) spared) (clusters event.slot)
@@ -159,9 +179,9 @@ module _ {W : Type 0} (setup : W → Config) (StandsFor : W → ℕ → SoloClus
   pub given_line : (config : Config) (line : List ℕ) (lines : List (List ℕ)) (first later text : List ℕ) (old after new : W) (said : Said) → said_in config.tenants line ≡ said → IsThere config.tenants said →
       setup old ≡ config → IsAnswered setup StandsFor old said first after → text ≡ first ++ later → AreGiven config after lines later new → AreGiven config old (line ∷ lines) text new
   given_line config line lines first later text old after new OfNobody says there is_of h whole p =
-      given_idle config line lines later after new p old None OfNobody first text says h.1 (h.0 ∙ ap (λ c. answer_line c.tenants None) is_of) whole refl refl nobody_keeps (λ more clusters. refl)
+      given_idle config line lines later after new p old None OfNobody first text says h.1 (h.0 ∙ ap (λ c. answer_line c.tenants None) is_of) whole refl refl nobody_keeps nobody_keeps_acts (λ more clusters. refl)
   given_line config line lines first later text old after new (Unformed slot) says there is_of h whole p =
-      given_idle config line lines later after new p old (Some (slot, Refused Syntax)) (Unformed slot) first text says h.1 (h.0 ∙ ap (λ c. answer_line c.tenants (Some (slot, Refused Syntax))) is_of) whole refl refl (unformed_keeps slot) (λ more clusters. refl)
+      given_idle config line lines later after new p old (Some (slot, Refused Syntax)) (Unformed slot) first text says h.1 (h.0 ∙ ap (λ c. answer_line c.tenants (Some (slot, Refused Syntax))) is_of) whole refl refl (unformed_keeps slot) (unformed_keeps_acts slot) (λ more clusters. refl)
   given_line config line lines first later text old after new (Acts event) says there is_of (reply, acted, is) whole p =
       given_act config line lines later after new p old event reply first text says is_of there acted (is ∙ ap (λ c. answer_line c.tenants (Some (event.slot, reply))) is_of) whole
 
@@ -169,7 +189,7 @@ module _ {W : Type 0} (setup : W → Config) (StandsFor : W → ℕ → SoloClus
   running : (config : Config) → AreNamed config.tenants → (lines : List (List ℕ)) (old : W) (text : List ℕ) (state : Script W) → setup old ≡ config →
       Run (script_rules setup StandsFor) (Running old) (map (cut_line longest_line) lines) text state → (new : W) × (state ≡ Running new) × AreGiven config old lines text new
   running config named [] old text state is_of h =
-      (old, h.1, record { told = []; each = refl; whole = h.0; same = is_of; addressed = refl; fronts = λ slot below cluster stood. no_replies []; right = λ spared clusters stand. (clusters, stand, λ others. refl) })
+      (old, h.1, record { told = []; each = refl; whole = h.0; same = is_of; addressed = refl; fronts = λ slot below cluster stood. no_replies []; acts = λ slot below cluster stood. (no_replies [], λ spared. refl); right = λ spared clusters stand. (clusters, stand, λ others. refl) })
   running config named (line ∷ lines) old text state is_of (first, mid, later, (after, answered, mid_is), run, whole) =
       let cut = said_in-cut config.tenants line named in
       let said = subst (λ s. IsAnswered setup StandsFor old s first after) (ap (λ c. said_in c.tenants (cut_line longest_line line)) is_of ∙ cut) answered in
@@ -207,6 +227,9 @@ module _ {W : Type 0} (setup : W → Config) (StandsFor : W → ℕ → SoloClus
     right = λ slot below.
         subst (IsFrontOf (before_lack (replies_to slot p.told))) (sym (answers_to-along config rest slot)) (p.fronts slot below (new_at config slot) (fresh.empty slot below));
     causal = λ slot below. keeps_causality (config_at config slot) (acts_in config rest slot) (subst (λ n. 0 < n) (sym (sizes_at config slot below).shards) some);
+    theorem = λ slot below.
+        let told = p.acts slot below (new_at config slot) (fresh.empty slot below) in
+        holds_for config (events_of config rest) (replies_in config rest p.told) slot some below told.1 told.0;
   }
 
   pub given_whole : (config : Config) (world : W) (rest : List (List ℕ)) (text : List ℕ) (new : W) → IsNew setup StandsFor config world → (p : AreGiven config world rest text new) → AreSpared p.told → p.told ≡ answers_to config rest

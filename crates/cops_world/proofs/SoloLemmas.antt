@@ -80,7 +80,7 @@ module _ {W : Type 0} (setup : W → Config) (StandsFor : W → ℕ → SoloClus
   running : (config : Config) → AreNamed config.tenants → length name ≤ 16 → (lines : List (List ℕ)) (old : W) (text : List ℕ) (s state : SoloScript W) → setup old ≡ config → s.script ≡ Running old → s.name ≡ name →
       Run (solo_rules setup StandsFor) s (map (cut_line longest_line) lines) text state → (new : W) × (state.script ≡ Running new) × AreGiven setup StandsFor config old (alone_lines name lines) text new
   running config named short [] old text s state is_of at same h =
-      (old, ap (λ (x : SoloScript W). x.script) h.1 ∙ at, record { told = []; each = refl; whole = h.0; same = is_of; addressed = refl; fronts = λ slot below cluster stood. no_replies []; right = λ spared clusters stand. (clusters, stand, λ others. refl) })
+      (old, ap (λ (x : SoloScript W). x.script) h.1 ∙ at, record { told = []; each = refl; whole = h.0; same = is_of; addressed = refl; fronts = λ slot below cluster stood. no_replies []; acts = λ slot below cluster stood. (no_replies [], λ spared. refl); right = λ spared clusters stand. (clusters, stand, λ others. refl) })
   running config named short (line ∷ lines) old text s state is_of at same (first, mid, later, (kept, answered), run, whole) =
       let here = subst (λ (st : Script W). solo_answers_in setup StandsFor s.name st (cut_line longest_line line) first mid.script) at answered in
       let own_is = ap (bytes_eq (first_word (cut_line longest_line line))) same ∙ same_first name line short in

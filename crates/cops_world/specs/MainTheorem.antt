@@ -1,5 +1,5 @@
 -- What is proved of every run of the events of many tenants: the main theorem.
-use Rattle.std.specs.Prelude.{◌≡◌, ℕ, ◌<◌, List, [], ◌∷◌, length}
+use Rattle.std.specs.Prelude.{◌≡◌, ℕ, ◌<◌, List, [], ◌∷◌, length, take}
 use Rattle.cops_types.specs.declared.configs.Config.{Config}
 use Rattle.cops_types.specs.declared.configs.Tenant.{Tenant}
 use Rattle.cops_types.specs.TenantConfig.{TenantConfig}
@@ -40,6 +40,16 @@ pub record KeepsCausality (config : TenantConfig) (acts : List Act) : Type 0 whe
   -- a transaction begins again only where a moment handed in is late for its attempt
   pub restarts : RestartsOnlyLate config acts
 
+-- the acts that were answered before a first reply that memory was refused
+abbrev pub answered : List Act → List Reply → List Act
+answered acts told = take (length (before_lack told)) acts
+
+-- What the tenant was told by these acts, up to a first reply that memory was refused, is what a cluster of his own tells him by the acts
+-- that were answered so; and it keeps the causal laws. Where there is no such reply, that is all that he was told.
+pub record IsToldCausally (config : TenantConfig) (acts : List Act) (told : List Reply) : Type 0 where
+  pub alone : before_lack told ≡ solo_replies config (answered acts told)
+  pub causal : KeepsCausality config (answered acts told)
+
 -- the tenant of a slot is told what a cluster of his own tells him; in any other run that agrees on his own events, and on the
 -- configuration as it concerns him, he is told the same; and what he is told keeps the causal laws
 pub record HoldsFor (config : Config) (events : List Event) (told : List Reply) (slot : ℕ) : Type 0 where
@@ -49,6 +59,7 @@ pub record HoldsFor (config : Config) (events : List Event) (told : List Reply) 
       config_at other place ≡ config_at config slot → own place more ≡ own slot events →
       IsSpared (replies place more heard) → IsSpared (replies slot events told) → replies place more heard ≡ replies slot events told
   pub causal : KeepsCausality (config_at config slot) (own slot events)
+  pub causally : IsToldCausally (config_at config slot) (own slot events) (replies slot events told)
 
 abbrev pub MainTheorem : Config → List Event → List Reply → Type 0
 MainTheorem config events told = (slot : ℕ) → slot < length config.tenants → HoldsFor config events told slot

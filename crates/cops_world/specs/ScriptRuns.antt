@@ -9,10 +9,11 @@ use Rattle.cops_types.specs.Lines.{lines_of}
 use Rattle.cops_types.specs.Sink.{AppendsFront}
 use Rattle.cops_types.specs.Words.{first_word}
 use Rattle.cops_world.specs.declared.acts.Act.{Act}
+use Rattle.cops_world.specs.declared.acts.Event.{Event}
 use Rattle.cops_world.specs.declared.replies.Reply.{Reply}
 use Rattle.cops_world.specs.Events.{IsFrontOf, before_lack, config_at, is_out_of_memory, own}
-use Rattle.cops_world.specs.MainTheorem.{KeepsCausality}
-use Rattle.cops_world.specs.Script.{Output, Written, BadConfig, NoTenant, answer_line, answers_to, events_in, said_in, script_out, slot_of_name}
+use Rattle.cops_world.specs.MainTheorem.{KeepsCausality, MainTheorem}
+use Rattle.cops_world.specs.Script.{Output, Written, BadConfig, NoTenant, Said, OfNobody, Unformed, Acts, answer_line, answers_to, events_in, said_in, script_out, slot_of_name}
 
 -- the answers to lines: to each the tenant and the reply, or nobody
 abbrev pub Answers : Type 0
@@ -45,16 +46,33 @@ replies_to slot [] = []
 replies_to slot (None ∷ told) = replies_to slot told
 replies_to slot (Some answer ∷ told) = if answer.0 == slot then answer.1 ∷ replies_to slot told else replies_to slot told
 
+-- the events that lines are, and of their answers the replies to these
+abbrev pub events_of : Config → List (List ℕ) → List Event
+events_of config lines = events_in (map (said_in config.tenants) lines)
+
+abbrev pub act_replies : List Said → Answers → List Reply
+act_replies [] told = []
+act_replies (said ∷ more) [] = []
+act_replies (OfNobody ∷ more) (answer ∷ told) = act_replies more told
+act_replies (Unformed slot ∷ more) (answer ∷ told) = act_replies more told
+act_replies (Acts event ∷ more) (None ∷ told) = act_replies more told
+act_replies (Acts event ∷ more) (Some answer ∷ told) = answer.1 ∷ act_replies more told
+
+abbrev pub replies_in : Config → List (List ℕ) → Answers → List Reply
+replies_in config lines told = act_replies (map (said_in config.tenants) lines) told
+
 -- what the tenant of a slot does by these lines
 abbrev pub acts_in : Config → List (List ℕ) → ℕ → List Act
 acts_in config lines slot = own slot (events_in (map (said_in config.tenants) lines))
 
 -- Lines are answered, each to the tenant that it names. What a tenant is told before a first reply that memory was refused is what
--- the definition tells him, whatever the others are told; and what it tells him keeps the causal laws.
+-- the definition tells him, whatever the others are told; and what it tells him keeps the causal laws. The main theorem holds of the events
+-- that the lines are, and of the replies to them that are written.
 pub record AreAnswered (config : Config) (lines : List (List ℕ)) (told : Answers) : Type 0 where
   pub addressed : map addressee told ≡ map (named_in config.tenants) lines
   pub right : (slot : ℕ) → slot < length config.tenants → IsFrontOf (before_lack (replies_to slot told)) (replies_to slot (answers_to config lines))
   pub causal : (slot : ℕ) → slot < length config.tenants → KeepsCausality (config_at config slot) (acts_in config lines slot)
+  pub theorem : MainTheorem config (events_of config lines) (replies_in config lines told)
 
 -- the bytes are a script, each line after its head is answered, and the answers are written;
 -- where none is for want of memory they are those of the definition

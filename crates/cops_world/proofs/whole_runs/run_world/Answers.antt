@@ -3,7 +3,7 @@ use Rattle.cops_types.specs.declared.configs.Config.{Config}
 use Rattle.cops_world.specs.Cluster.{new_cluster}
 use Rattle.cops_world.specs.Events.{before_lack, cluster_after, config_at, own, replies, replies_from, IsFrontOf}
 use Rattle.cops_world.specs.Worlds.{HasCluster}
-use Rattle.cops_world.proofs.MainLemmas.{holds_for}
+use Rattle.cops_world.proofs.MainLemmas.{holds_for, some_shard}
 use Rattle.cops_world.proofs.whole_runs.run_world.Goals as goal
 
 pub returns-clause-theorem : goal.returns-clause-theorem
@@ -11,7 +11,7 @@ returns-clause-theorem c = λ slot within.
     let config = c.args.config in
     let events = c.args.events.now in
     let new = c.in_ok-world.ensures in
-    holds_for config events c.in_ok-told.told.items slot c.requires.good within
+    holds_for config events c.in_ok-told.told.items slot (some_shard config c.requires.good) within
     (λ spared.
     (c.in_ok-told.ensures.alone slot (new_cluster (config_at config slot)) (new.empty slot within) spared).same
     ∙ ap (λ k. replies_from (config_at k slot) (own slot events) (new_cluster (config_at config slot))) new.setup_is)
