@@ -1,8 +1,10 @@
 //! Why a run ends early.
 ghost use Rattle.std.specs.Prelude.{◌≡◌};
 ghost use Rattle.cops_types.specs.RunFaults.{fault_of};
+ghost use Rattle.cops_types.specs.declared.line_runs.fault.RunFault.TheVariants.{OutOfMemory};
 
 use crate::line_runs::machine::Stop;
+use std::alloc::AllocError;
 
 /// Why a run ends before the end of its input, or before all is written.
 #[derive(Clone, Copy, Debug, PartialEq, Eq)]
@@ -23,5 +25,13 @@ impl<F> From<Stop<F>> for RunFault<F> {
             Stop::Refused(refusal) => RunFault::Refused(refusal),
             Stop::OutOfMemory => RunFault::OutOfMemory,
         }
+    }
+}
+
+impl<F> From<AllocError> for RunFault<F> {
+    ghost from_gives = { λ _ fault. fault ≡ OutOfMemory };
+
+    fn from(_error: AllocError) -> RunFault<F> {
+        RunFault::OutOfMemory
     }
 }

@@ -1,15 +1,24 @@
 //! What answers lines.
-ghost use Rattle.std.specs.Prelude.{OnOk, IfErr};
+ghost use Rattle.std.specs.Prelude.{◌≡◌, OnOk, IfErr};
+ghost use Rattle.cops_types.specs.declared.line_runs.machine.Stop.TheVariants.{OutOfMemory};
 ghost use Rattle.cops_types.specs.LineAnswers.{Answers, IfRefused};
 ghost use Rattle.cops_types.specs.LineRules.{Rules};
 
-use std::alloc::Global;
+use std::alloc::{AllocError, Global};
 
 /// Why a machine ends a run before the end of its input.
 #[derive(Clone, Copy, Debug, PartialEq, Eq)]
 pub enum Stop<F> {
     Refused(F),
     OutOfMemory,
+}
+
+impl<F> From<AllocError> for Stop<F> {
+    ghost from_gives = { λ _ stop. stop ≡ OutOfMemory };
+
+    fn from(_error: AllocError) -> Stop<F> {
+        Stop::OutOfMemory
+    }
 }
 
 /// A machine that answers each line of a text with some text of its own.

@@ -43,9 +43,7 @@ fn answer_line<M: LineMachine>(
     if front.is_empty() {
         return machine.line(alloc, cut(rest, limit), out);
     }
-    if extend_cut(front, rest, limit).is_err() {
-        return Err(Stop::OutOfMemory);
-    }
+    extend_cut(front, rest, limit)?;
     let result = machine.line(alloc, front.as_slice(), out);
     front.clear();
     result
@@ -116,9 +114,7 @@ fn answer_piece<W: Write, M: LineMachine>(
         }
         rest = after;
     }
-    if extend_cut(front, rest, limit).is_err() {
-        return Err(RunFault::OutOfMemory);
-    }
+    extend_cut(front, rest, limit)?;
     Ok(())
 }
 

@@ -37,16 +37,18 @@ loop-line-preserved g c =
       on_ok_at _ c.drain_full.result went_well c.drain_full.ensures.ok ∙ c.loop-line.invariant.2,
     )
 
-pub returns-then-is_err-2-clause-err : goal.returns-then-is_err-2-clause-err
-returns-then-is_err-2-clause-err g c =
-    Stops-here g.M.LineMachine.rules c.args.limit _ _ _ c.loop-line.machine c.loop-line.out.items _ OutOfMemory c.loop-line.invariant.0 (λ P. tt) tt
+pub returns-in_err-extend_cut-clause-err : goal.returns-in_err-extend_cut-clause-err
+returns-in_err-extend_cut-clause-err g c =
+    let p = err_from_is_err_and c.from_residual-in_err-extend_cut.result c.from_residual-in_err-extend_cut.ensures.1 in
+    rw (p.1, p.2)
+    (Stops-here g.M.LineMachine.rules c.args.limit _ _ _ c.loop-line.machine c.loop-line.out.items _ OutOfMemory c.loop-line.invariant.0 (λ P. tt) tt)
 
 pub returns-clause-ok : goal.returns-clause-ok
 returns-clause-ok g c =
     Answered-cut g.M.LineMachine.rules c.args.limit _ _ _ c.loop-line.front.items c.loop-line.rest.now _ c.loop-line.invariant.0 c.loop-line.invariant.1.unbroken c.in_default.ensures.none
-    (on_ok_at _ c.extend_cut.result (sym c.is_err-2.ensures.value ∙ c.if-is_err-2.false) c.extend_cut.ensures)
+    c.in_ok-extend_cut.ensures
 
 pub returns-clause-front : goal.returns-clause-front
 returns-clause-front g c =
     front_cut c.args.limit c.loop-line.front.items c.loop-line.rest.now _ c.loop-line.invariant.1.unbroken c.in_default.ensures.none
-    (on_ok_at _ c.extend_cut.result (sym c.is_err-2.ensures.value ∙ c.if-is_err-2.false) c.extend_cut.ensures)
+    c.in_ok-extend_cut.ensures

@@ -1,6 +1,4 @@
-use Rattle.std.proofs.Common.{◌∙◌, ap, inl, inr, arith, ◌≤◌, ◌<◌, length, sym, take}
-use Rattle.std.specs.Cmp.Lexicographic.{slice_cmp}
-use Rattle.std.specs.Ordering.{nat_cmp}
+use Rattle.std.proofs.Common.{◌∙◌, inl, inr, arith, ◌≤◌, ◌<◌, length, sym}
 use Rattle.cops_types.specs.Key.{key_cmp}
 use Rattle.cops_types.proofs.WordOrder.{alike_by, apart_by, front_size, short_before, short_decided}
 use Rattle.cops_types.proofs.packed.ShortPair.key_order.Goals as goal
