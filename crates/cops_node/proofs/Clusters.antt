@@ -1,6 +1,6 @@
 -- What a call at one node does to a cluster.
 use Rattle.std.proofs.Common.{◌≡◌, ◌≢◌, ℕ, zero, suc, ◌+◌, ◌*◌, ◌/◌, ◌%◌, ◌<◌, ◌≤◌, List, [], ◌∷◌, length, map, refl, sym, ap, ◌∙◌, subst, arith, get_or, set, inl, inr, ◌⊎◌, nat_lt, false}
-use Rattle.std.specs.Prelude.{slice_get, replicate, Some}
+use Rattle.std.specs.Prelude.{slice_get, replicate, Some, IsTrue}
 use Rattle.std.specs.Option.{option_map}
 use Rattle.std.specs.List.{AllByRecursion, range_with_len}
 use Rattle.std.proofs.lemmas.List.{map-set, get_or-map, set-get_or}
@@ -19,14 +19,15 @@ use Rattle.cops_node.specs.declared.NodeId.{NodeId}
 use Rattle.cops_node.specs.declared.NodeReply.{NodeReply}
 use Rattle.cops_node.specs.declared.NodeReply.TheVariants.{Refused}
 use Rattle.cops_node.specs.declared.Place.{Place}
-use Rattle.cops_node.specs.Clusters.{Cluster, nodes_of, HasTenant, solo_at, turn_at, IsTurnOf, IsCall, IsCluster, id_of, new_shared, new_nodes, shape_of}
-use Rattle.cops_node.specs.Parts.{Home, Shared, trail_of, solo_of, left_by, has_audit_room, IsTurn}
-use Rattle.cops_node.specs.Place.{place_of, number_of}
+use Rattle.cops_node.specs.Clusters.{Cluster, nodes_of, HasTenant, solo_at, turn_at, IsTurnOf, IsCall, IsCluster, id_of, new_shared, new_nodes, shape_of, HoldsNodes}
+use Rattle.cops_node.specs.Parts.{Home, Shared, trail_of, solo_of, left_by, has_audit_room, IsTurn, AllFit, AuditFits, IsAudited}
+use Rattle.cops_node.specs.Place.{place_of, number_of, fits}
 use Rattle.cops_node.specs.Shape.{Shape, place_in}
 use Rattle.cops_node.specs.SoloNode.{SoloNode, new_node}
 use Rattle.cops_node.specs.Step.{Turn, node_step}
+use Rattle.cops_node.proofs.Slots.{AllFit-push}
 
-all_set : {A : Type 0} (P : A → Type 0) (xs : List A) (i : ℕ) (x y : A) → AllByRecursion P xs → (P x → P y) → x ≡ get_or xs i x → AllByRecursion P (set xs i y)
+pub all_set : {A : Type 0} (P : A → Type 0) (xs : List A) (i : ℕ) (x y : A) → AllByRecursion P xs → (P x → P y) → x ≡ get_or xs i x → AllByRecursion P (set xs i y)
 all_set P [] i x y h keep is = tt
 all_set P (z ∷ xs) zero x y h keep is = (keep (subst P (sym is) h.0), h.1)
 all_set P (z ∷ xs) (suc i) x y h keep is = (h.0, all_set P xs i x y h.1 keep is)
@@ -40,6 +41,14 @@ read_again : {A : Type 0} (xs : List A) (i : ℕ) (d : A) → get_or xs i d ≡ 
 read_again [] i d = refl
 read_again (x ∷ xs) zero d = refl
 read_again (x ∷ xs) (suc i) d = read_again xs i d
+
+-- a call that fits, in the audit of its node
+pub fits_next : (slot moment : ℕ) (call : NodeCall) (reply : NodeReply) (node next : Shared) → IsTrue (fits (place_in node.home.shape node.home.id) call) → next.home ≡ node.home → IsAudited slot moment call reply node next → AuditFits node → AuditFits next
+fits_next slot moment call reply node next fit home (inl same) before = subst AuditFits (sym same.1) before
+fits_next slot moment call reply node next fit home (inr more) before =
+    let place : Place = place_in node.home.shape node.home.id in
+    subst (λ (h : Home). AllFit (place_in h.shape h.id) next.audit) (sym home)
+    (subst (AllFit place) (sym more) (AllFit-push place node.audit (record { slot = slot; entry = record { moment = moment; call = call; reply = reply } }) before fit))
 
 -- ---- a call
 
@@ -169,6 +178,17 @@ IsCluster-new config nodes fits is = record {
     at number node lt read =
         let same : node ≡ new_shared config number = read ∙ ap (λ ns. get_or ns number node) is ∙ get_or-map-range_with_len (new_shared config) 0 (config.data_centres * config.shards) number number node lt (omega arith) in
         (ap (λ (n : Shared). n.home.id) same, ap (λ (n : Shared). n.home.shape) same)
+
+-- no call has come to its nodes
+pub HoldsNodes-new : (config : Config) (nodes : List Shared) → config.data_centres * config.shards ≤ NODES → nodes ≡ map (new_shared config) (range_with_len 0 (config.data_centres * config.shards)) → HoldsNodes (shape_of config) nodes
+HoldsNodes-new config nodes numbers is = record {
+  in_order = IsCluster-new config nodes numbers is;
+  fitting = subst (AllByRecursion AuditFits) (sym is) (none (range_with_len 0 (config.data_centres * config.shards)));
+}
+  where
+    none : (numbers : List ℕ) → AllByRecursion AuditFits (map (new_shared config) numbers)
+    none [] = tt
+    none (n ∷ numbers) = (tt, none numbers)
 
 -- each tenant of the configuration has his slot
 pub tenant_new : (config : Config) (slot : ℕ) (tenant : Tenant) → slice_get config.tenants slot ≡ Some tenant → HasTenant (tenant_config config tenant) slot (new_nodes config)

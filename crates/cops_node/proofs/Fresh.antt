@@ -87,6 +87,7 @@ pub IsNode-new : (config : Config) (id : NodeId) (parts : List Part) (store : Co
 IsNode-new config id parts store outbox dc shard numbers clocks fresh places stored outbox_is empty = record {
   shard_exists = shard;
   each = λ slot part lt is. by slot part lt (fresh_at parts slot part fresh lt is) (place_at config id parts config.tenants slot part places clocks lt is);
+  fitting = tt;
 }
   where
     by : (slot : ℕ) (part : Part) → slot < length parts → IsFresh part → PlaceOfSome config id part → IsPart id config.data_centres config.shards slot part store outbox []

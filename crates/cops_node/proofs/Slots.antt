@@ -1,6 +1,6 @@
 -- What one call of a slot does to what a node keeps of all slots.
 use Rattle.std.proofs.Common.{◌≡◌, ◌≢◌, ℕ, zero, suc, ◌+◌, ◌<◌, ◌≤◌, Bool, true, false, cond, not, List, [], ◌∷◌, ◌++◌, length, map, filter, refl, sym, ap, ◌∙◌, subst, arith, true≢false, nat_eq, nat_lt, max, get_or, set, append-nil}
-use Rattle.std.specs.Prelude.{if◌then◌else◌, ◌==◌, ◌&&◌, ◌-◌, ◌/◌, ◌%◌, slice_get, Option, Some, None}
+use Rattle.std.specs.Prelude.{if◌then◌else◌, ◌==◌, ◌&&◌, ◌-◌, ◌/◌, ◌%◌, IsTrue, slice_get, Option, Some, None}
 use Rattle.std.proofs.lemmas.Bool.Decides.{Decides-eqb}
 use Rattle.std.proofs.lemmas.List.{get_or-set_same, get_or-set_other, get_or_default, map-append}
 use Rattle.std.proofs.lemmas.Option.{get_or_from_slice_get}
@@ -24,9 +24,10 @@ use Rattle.cops_node.specs.declared.Place.{Place}
 use Rattle.cops_node.specs.declared.parts.Audited.{Audited}
 use Rattle.cops_node.specs.declared.parts.Counters.{Counters}
 use Rattle.cops_node.specs.declared.parts.Part.{Part}
-use Rattle.cops_node.specs.Parts.{trail_of, left_by, places_from, StandsAt, HasSolo, OthersStay, IsDone, IsPart, IsNode, Shared}
+use Rattle.cops_node.specs.Parts.{AllFit, trail_of, left_by, places_from, StandsAt, HasSolo, OthersStay, IsDone, IsPart, IsNode, Shared}
 use Rattle.cops_node.specs.Place.{fits}
 use Rattle.cops_node.specs.Run.{node_after, calls_of}
+use Rattle.cops_node.specs.Shape.{place_in}
 use Rattle.cops_node.specs.SoloNode.{SoloNode, new_node, queue, front}
 use Rattle.cops_node.specs.Step.{Turn, node_step, audited, effect, unchanged, was_committed, store_unless, put_at, put_refusal, commit_refusal, acknowledge, entry_of_put, version_of_put}
 use Rattle.cops_node.proofs.AuditLaws.{node_after-push, trail_of_effect}
@@ -94,6 +95,11 @@ length_places at slot (x ∷ audit) = by (nat_eq x.slot slot) (length_places (at
         → length (if b then at ∷ places_from (at + 1) slot audit else places_from (at + 1) slot audit) ≡ length (map (λ (a : Audited). a.entry) (cond b (x ∷ filter (λ a. nat_eq a.slot slot) audit) (filter (λ a. nat_eq a.slot slot) audit)))
     by true k = ap suc k
     by false k = k
+
+-- one more call that fits
+pub AllFit-push : (place : Place) (audit : List Audited) (a : Audited) → AllFit place audit → IsTrue (fits place a.entry.call) → AllFit place (audit ++ a ∷ [])
+AllFit-push place [] a all fit = (fit, tt)
+AllFit-push place (x ∷ audit) a all fit = (all.0, AllFit-push place audit a all.1 fit)
 
 -- one more call in the audit is one more turn
 left_by-push : (place : Place) (trail : List AuditEntry) (e : AuditEntry) → left_by place (trail ++ e ∷ []) ≡ (node_step place e.moment e.call (left_by place trail)).after
@@ -190,10 +196,12 @@ places_set (p ∷ parts) (suc slot) old new read same = ap (λ qs. p.place ∷ q
 IsNode-set : (id : NodeId) (dcs shards : ℕ) (parts : List Part) (slot : ℕ) (new : Part) (store store' : Contents) (outbox outbox' : Queues) (audit audit' : List Audited) → IsNode id dcs shards parts store outbox audit → slot < length parts
     → IsPart id dcs shards slot new store' outbox' audit' → OthersStay slot store outbox store' outbox'
     → ((other : ℕ) → other ≢ slot → trail_of other audit' ≡ trail_of other audit) → ((other : ℕ) → other ≢ slot → places_from 0 other audit' ≡ places_from 0 other audit)
+    → AllFit (place_in (record { data_centres = dcs; shards = shards; slots = length parts }) id) audit'
     → IsNode id dcs shards (set parts slot new) store' outbox' audit'
-IsNode-set id dcs shards parts slot new store store' outbox outbox' audit audit' h within own stay trails places = record {
+IsNode-set id dcs shards parts slot new store store' outbox outbox' audit audit' h within own stay trails places fitting = record {
   shard_exists = h.shard_exists;
   each = λ s part lt read. by s part (subst (λ m. s < m) (length-set parts slot new) lt) read (nat_eq s slot) refl;
+  fitting = fitting;
 }
   where
     by : (s : ℕ) (part : Part) → s < length parts → part ≡ get_or (set parts slot new) s part → (b : Bool) → nat_eq s slot ≡ b → IsPart id dcs shards s part store' outbox' audit'
@@ -261,7 +269,7 @@ module _ (slot : ℕ) (id : NodeId) (dcs shards : ℕ) (parts : List Part) (p ne
       }
 
   pub IsNode-kept : IsNode id dcs shards (set parts slot new) store' outbox' audit
-  IsNode-kept = IsNode-set id dcs shards parts slot new store store' outbox outbox' audit audit node within kept_part stay (λ other differ. refl) (λ other differ. refl)
+  IsNode-kept = IsNode-set id dcs shards parts slot new store store' outbox outbox' audit audit node within kept_part stay (λ other differ. refl) (λ other differ. refl) node.fitting
 
 -- whether the audit is full, as the part counts it
 audit_room : (id : NodeId) (dcs shards slot : ℕ) (p : Part) (store : Contents) (outbox : Queues) (audit : List Audited) → IsPart id dcs shards slot p store outbox audit
@@ -380,11 +388,13 @@ module _ (slot moment now : ℕ) (call : NodeCall) (id : NodeId) (dcs shards : �
         ap (λ (q : Place). left_by q (trail_of slot audit')) place_is ∙ turn_after ∙ (λ i. (node_step (back i) moment call (left_by (back i) (trail_of slot (shown i)))).after),
       )
 
-  pub turn_node : IsNode id dcs shards (set parts slot new) store' outbox' audit'
-  turn_node =
+  pub turn_node : IsTrue (fits (place_in (record { data_centres = dcs; shards = shards; slots = length parts }) id) call) → IsNode id dcs shards (set parts slot new) store' outbox' audit'
+  turn_node fit =
+      let home : Place = place_in (record { data_centres = dcs; shards = shards; slots = length parts }) id in
       IsNode-set id dcs shards parts slot new store store' outbox outbox' audit audit' node within next_part others
       (λ other differ. ap (trail_of other) audit_is ∙ trail_other other audit (record { slot = slot; entry = entry }) (λ is. differ (sym is)))
       (λ other differ. ap (places_from 0 other) audit_is ∙ places_other other audit (record { slot = slot; entry = entry }) (λ is. differ (sym is)))
+      (subst (AllFit home) (sym audit_is) (AllFit-push home audit (record { slot = slot; entry = entry }) node.fitting fit))
 
 -- ---- which calls fit
 

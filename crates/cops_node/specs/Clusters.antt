@@ -9,7 +9,7 @@ use Rattle.cops_node.specs.declared.NodeCall.{NodeCall}
 use Rattle.cops_node.specs.declared.NodeId.{NodeId}
 use Rattle.cops_node.specs.declared.NodeReply.{NodeReply}
 use Rattle.cops_node.specs.declared.NodeReply.TheVariants.{Refused}
-use Rattle.cops_node.specs.Parts.{Shared, home_of, solo_of}
+use Rattle.cops_node.specs.Parts.{AuditFits, Shared, home_of, solo_of}
 use Rattle.cops_node.specs.Place.{place_of, number_of}
 use Rattle.cops_node.specs.Shape.{Shape}
 use Rattle.cops_node.specs.SoloNode.{SoloNode, new_node}
@@ -72,3 +72,8 @@ pub record IsCluster (shape : Shape) (nodes : List Shared) : Type 0 where
   pub numbers_fit : shape.data_centres * shape.shards ≤ NODES
   pub all : length nodes ≡ shape.data_centres * shape.shards
   pub each : (number : ℕ) (node : Shared) → number < length nodes → node ≡ slice_index_or nodes number node → (node.home.id ≡ id_of shape.shards number) × (node.home.shape ≡ shape)
+
+-- the nodes are those of the cluster, and the calls in their audits fit them
+pub record HoldsNodes (shape : Shape) (nodes : List Shared) : Type 0 where
+  pub in_order : IsCluster shape nodes
+  pub fitting : AllByRecursion AuditFits nodes

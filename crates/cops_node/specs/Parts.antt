@@ -1,6 +1,6 @@
 -- What a node holds of all tenants, and what it stands for.
 use Rattle.std.specs.Prelude.{◌≡◌, ◌≢◌, ℕ, ◌+◌, ◌*◌, ◌/◌, ◌%◌, ◌<◌, ◌≤◌, ◌==◌, nat_eq, nat_le, nat_lt, Bool, IsTrue, List, [], ◌∷◌, ◌++◌, length, map, filter, slice_index, slice_index_or, ◌⊎◌, replicate, if◌then◌else◌}
-use Rattle.std.specs.List.{list_all}
+use Rattle.std.specs.List.{list_all, AllByRecursion}
 use Rattle.cops_types.specs.declared.configs.Config.{Config}
 use Rattle.cops_types.specs.declared.configs.Tenant.{Tenant}
 use Rattle.cops_types.specs.declared.faults.Fault.TheVariants.{OutOfMemory, AuditFull}
@@ -41,6 +41,14 @@ pub record Shared : Type 0 where
 -- the audit of one slot
 abbrev pub trail_of : ℕ → List Audited → List AuditEntry
 trail_of slot audit = map (λ a. a.entry) (filter (λ a. nat_eq a.slot slot) audit)
+
+-- these calls of an audit could each come to a node at this place
+abbrev pub AllFit : Place → List Audited → Type 0
+AllFit place audit = AllByRecursion (λ (a : Audited). IsTrue (fits place a.entry.call)) audit
+
+-- the calls in a node's audit could each come to it
+abbrev pub AuditFits : Shared → Type 0
+AuditFits node = AllFit (place_in node.home.shape node.home.id) node.audit
 
 -- the solo node that an audit leaves
 abbrev pub left_by : Place → List AuditEntry → SoloNode
@@ -168,6 +176,7 @@ pub record IsPart (id : NodeId) (data_centres shards slot : ℕ) (part : Part) (
 pub record IsNode (id : NodeId) (data_centres shards : ℕ) (parts : List Part) (store : Contents) (outbox : Queues) (audit : List Audited) : Type 0 where
   pub shard_exists : id.shard < shards
   pub each : (slot : ℕ) (part : Part) → slot < length parts → part ≡ slice_index_or parts slot part → IsPart id data_centres shards slot part store outbox audit
+  pub fitting : AllFit (place_in (record { data_centres = data_centres; shards = shards; slots = length parts }) id) audit
 
 -- a part before any call
 pub record IsFresh (part : Part) : Type 0 where

@@ -7,9 +7,10 @@ ghost use Rattle.cops_types.specs.TenantConfig.{tenant_config};
 ghost use Rattle.cops_node.specs.declared.NodeCall.{NodeCall};
 ghost use Rattle.cops_node.specs.declared.NodeReply.{NodeReply};
 ghost use Rattle.cops_node.specs.Clusters.{IsCall, IsCluster, HasTenant, nodes_of, new_nodes};
-ghost use Rattle.cops_node.specs.Parts.{are_clocks};
+ghost use Rattle.cops_node.specs.Parts.{AuditFits, are_clocks};
 ghost use Rattle.cops_node.specs.Shape.{Fits};
 ghost use Rattle.cops_node.specs.SoloNode.{new_node};
+ghost use Rattle.std.specs.List.{AllByRecursion};
 
 use crate::node::Node;
 use crate::nodes::Nodes;
@@ -28,13 +29,13 @@ pub struct Cluster0 {
 }
 
 impl Model for Cluster0 {
-    ghost use Rattle.cops_node.specs.Clusters.{Cluster, IsCluster};
+    ghost use Rattle.cops_node.specs.Clusters.{Cluster, HoldsNodes};
 
     ghost Value = { Cluster };
 
     ghost view = { λ c. record { shape = record { data_centres = c.data_centres; shards = c.shards; slots = c.tenants }; nodes = c.nodes.items } };
 
-    ghost invariant = { λ c. IsCluster (record { data_centres = c.data_centres; shards = c.shards; slots = c.tenants }) c.nodes.items };
+    ghost invariant = { λ c. HoldsNodes (record { data_centres = c.data_centres; shards = c.shards; slots = c.tenants }) c.nodes.items };
 }
 
 // How many nodes there are.
@@ -76,6 +77,7 @@ impl Cluster0 {
     pub fn nodes(&self) -> &[Node]
         ensures value { result.now ≡ self.now.nodes }
         ensures in_order { IsCluster self.now.shape self.now.nodes }
+        ensures fitting { AllByRecursion AuditFits self.now.nodes }
     {
         self.nodes.as_slice()
     }

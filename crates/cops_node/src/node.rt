@@ -5,7 +5,7 @@ ghost use Rattle.std.specs.Option.{option_copied};
 ghost use Rattle.cops_types.specs.HeadLines.{are_sizes};
 ghost use Rattle.cops_types.specs.Version.{last_clock};
 ghost use Rattle.cops_node.specs.declared.Place.{Place};
-ghost use Rattle.cops_node.specs.Parts.{trail_of, solo_of, home_of, has_audit_room, are_clocks, IsTurn, IsSoloTurn, IsNoted, IsAudited};
+ghost use Rattle.cops_node.specs.Parts.{trail_of, solo_of, home_of, has_audit_room, are_clocks, IsTurn, IsSoloTurn, IsNoted, IsAudited, AuditFits};
 ghost use Rattle.cops_node.specs.Place.{is_home, is_other_dc, is_other_equivalent, fits};
 ghost use Rattle.cops_node.specs.Shape.{place_in};
 
@@ -140,6 +140,13 @@ impl Node {
             }
             None => None,
         }
+    }
+
+    /// Each call in the audit could come to this node.
+    pub fn audit_fits(&self)
+        ensures { AuditFits self.now }
+    {
+        let _audit = &self.audit;
     }
 
     /// Makes a call for the tenant of a slot. Where the audit is full that is the reply, and nothing

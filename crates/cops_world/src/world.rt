@@ -2,13 +2,14 @@
 ghost use Rattle.std.specs.Prelude.{◌≡◌, ◌<◌, ◌-◌, ℕ, true, false, not, IfOk, IfSome, IfNone, IsTrue, IsFalse, None, length, nat_le, slice_index, slice_set, if◌then◌else◌};
 ghost use Rattle.cops_types.specs.TenantConfig.{TenantConfig};
 ghost use Rattle.cops_node.specs.Clusters.{IsCluster, shape_of};
+ghost use Rattle.cops_node.specs.Parts.{AuditFits};
 ghost use Rattle.cops_session.specs.Session.{new_session};
 ghost use Rattle.cops_repl.specs.Carrier.{new_carrier};
 ghost use Rattle.cops_repl.specs.Stands.{RunsIn};
 ghost use Rattle.cops_types.specs.Key.{is_key};
 ghost use Rattle.cops_types.specs.Refusal.{IsAnswer, refused_if};
 ghost use Rattle.cops_types.specs.declared.faults.Fault.TheVariants.{BadKey};
-ghost use Rattle.std.specs.List.{list_all};
+ghost use Rattle.std.specs.List.{AllByRecursion, list_all};
 ghost use Rattle.std.specs.Option.{option_copied};
 ghost use Rattle.cops_world.specs.Acting.{HasActed, IsNew};
 ghost use Rattle.cops_world.specs.GoodHeads.{is_good};
@@ -398,6 +399,7 @@ impl World {
     pub fn nodes(&self) -> &[Node]
         ensures value { result.now ≡ self.now.nodes.nodes }
         ensures in_order { IsCluster (shape_of (setup_of self.now)) self.now.nodes.nodes }
+        ensures fitting { AllByRecursion AuditFits self.now.nodes.nodes }
     {
         self.nodes.nodes()
     }

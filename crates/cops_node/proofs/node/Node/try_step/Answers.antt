@@ -1,8 +1,10 @@
-use Rattle.std.proofs.Common.{◌≡◌, ◌<◌, ◌∙◌, ap, sym, refl, subst, length, List, get_or, set, ◌++◌, ◌∷◌, [], not, nat_lt}
+use Rattle.std.proofs.Common.{◌≡◌, ◌<◌, ◌∙◌, ap, sym, refl, subst, length, List, get_or, set, ◌++◌, ◌∷◌, [], not, nat_lt, IsTrue}
 use Rattle.cops_node.specs.declared.parts.Audited.{Audited}
 use Rattle.cops_node.specs.declared.parts.Part.{Part}
 use Rattle.cops_node.specs.Parts.{Shared, IsNode}
 use Rattle.cops_node.proofs.Slots.{place_read, same_part, full_done, open_room, raised_solo, IsNode-kept, turn_done, turn_node, view_set}
+use Rattle.cops_node.specs.Place.{fits}
+use Rattle.cops_node.specs.Shape.{place_in}
 use Rattle.cops_node.proofs.node.Node.try_step.Goals as goal
 
 pub returns-then-is_audit_full-clause-turn : goal.returns-then-is_audit_full-clause-turn
@@ -83,6 +85,7 @@ invariant_of-self-2 c =
     turn_node c.args.slot c.args.moment c.max-now.result c.args.call c.self.inside.id c.self.inside.data_centres c.self.inside.shards c.self.inside.parts.items c.index_mut-part.result.now (next c)
     c.self.inside.store c.act.new.store c.self.inside.outbox c.act.new.outbox c.self.inside.audit.items c.push-2.new.self.items c.in-Ok.replies.told c.in-Ok.replies.kept c.is_audit_full.result
     c.self.invariant within c.index_mut-part.ensures.value (room c) c.if-is_audit_full.false c.max-now.ensures refl refl (noted c) c.in-Ok.ensures.done c.in-Ok.ensures.kept c.in-Ok.ensures.others (pushed c)
+    (subst (λ (v : Shared). IsTrue (fits (place_in v.home.shape v.home.id) c.args.call)) (sym c.self.view_is) c.requires.call_fits)
 
 pub returns-clause-turn : goal.returns-clause-turn
 returns-clause-turn c = λ place is.
