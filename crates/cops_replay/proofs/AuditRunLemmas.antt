@@ -1,17 +1,19 @@
 -- The audit of a script's world is that of its text.
 use Rattle.std.proofs.Common.{◌≡◌, ℕ, zero, suc, ◌+◌, ◌<◌, List, [], ◌∷◌, ◌++◌, length, refl, sym, subst, ap, ◌∙◌, arith}
-use Rattle.std.specs.Prelude.{Option, Some, None, IfErr, IfSome, OnErr, Result, Ok, Err, option_map, slice_get}
+use Rattle.std.specs.Prelude.{Option, Some, None, IfErr, IfSome, OnErr, OnOk, Result, Ok, Err, option_map, slice_get}
 use Rattle.std.specs.Io.KnownBytes.{Appends}
 use Rattle.std.proofs.lemmas.Option.{slice_get-map, slice_get_within}
 use Rattle.cops_types.specs.declared.configs.Config.{Config}
 use Rattle.cops_types.specs.declared.configs.Tenant.{Tenant}
 use Rattle.cops_types.specs.declared.line_runs.fault.RunFault.{RunFault}
 use Rattle.cops_types.specs.declared.line_runs.fault.RunFault.TheVariants.{Refused, OutOfMemory, ReadFault, WriteFault}
+use Rattle.cops_types.specs.Head.{Whole, head_of}
 use Rattle.cops_types.specs.LineRuns.{IfRunRefused}
+use Rattle.cops_types.specs.Lines.{lines_of}
 use Rattle.cops_types.specs.Sink.{AppendsFront}
 use Rattle.cops_types.specs.TenantConfig.{TenantConfig, tenant_config}
 use Rattle.cops_types.proofs.KnownLemmas.{AppendsFront-more}
-use Rattle.cops_node.specs.Clusters.{HasTenant, nodes_of}
+use Rattle.cops_node.specs.Clusters.{HasTenant, nodes_of, shape_of}
 use Rattle.cops_node.specs.SoloNode.{SoloNode}
 use Rattle.cops_world.specs.declared.scripts.BadConfig.{BadConfig}
 use Rattle.cops_world.specs.Events.{config_at}
@@ -20,8 +22,8 @@ use Rattle.cops_world.specs.ScriptRuns.{text_in}
 use Rattle.cops_world.specs.ScriptWorlds.{IsLeftBy, IsLeftByRead, cluster_left}
 use Rattle.cops_world.specs.Worlds.{HasCluster, KeptWorld, setup_of}
 use Rattle.cops_world.proofs.AnswersTo.{config_at-found}
-use Rattle.cops_replay.specs.Audits.{records_of}
-use Rattle.cops_replay.specs.AuditRuns.{HasItsTenants, IsOfWriting, WritesAudit, WritesAuditFront, audit_after, audit_out}
+use Rattle.cops_replay.specs.Audits.{HasShape, ReplaysSame, records_of}
+use Rattle.cops_replay.specs.AuditRuns.{HasItsTenants, IsOfWriting, ReplaysSameFor, WritesAudit, WritesAuditFront, audit_after, audit_out}
 use Rattle.cops_replay.specs.AuditText.{audit_of, audit_text, head_text, his_nodes, records_text, tenants_text}
 use Rattle.cops_replay.proofs.PageLemmas.{front_of_none}
 
@@ -70,6 +72,16 @@ module _ (world : KeptWorld) (bytes : List ℕ) (left : IsLeftBy setup_of HasClu
   pub writes_front : (old_contents new_contents : Option (List ℕ)) → AppendsFront old_contents new_contents (audit_of setup world.nodes.nodes) → WritesAuditFront bytes old_contents new_contents
   writes_front old_contents new_contents written = subst (AppendsFront old_contents new_contents) (sym (ap text_in out_is)) written
 
+  pub replays_same_for : ((config : TenantConfig) (slot : ℕ) → HasShape config (shape_of setup) → ReplaysSame config (nodes_of config slot world.nodes)) → ReplaysSameFor (head_of (lines_of bytes))
+  replays_same_for same = subst ReplaysSameFor (sym left.head) (subst (λ (c : Config). ReplaysSameFor (Whole c left.lines)) left.setup_is (λ slot tenant e. each slot tenant e))
+    where
+      each : (slot : ℕ) (tenant : Tenant) → slice_get setup.tenants slot ≡ Some tenant → ReplaysSame (tenant_config setup tenant) (cluster_left setup left.lines (tenant_config setup tenant) slot).nodes
+      each slot tenant e =
+          let nodes : nodes_of (config_at setup slot) slot world.nodes ≡ (cluster_left setup left.lines (config_at setup slot) slot).nodes = (stands slot (slice_get_within setup.tenants slot tenant e)).nodes_are in
+          let his : nodes_of (tenant_config setup tenant) slot world.nodes ≡ (cluster_left setup left.lines (tenant_config setup tenant) slot).nodes =
+          subst (λ (c : TenantConfig). nodes_of c slot world.nodes ≡ (cluster_left setup left.lines c slot).nodes) (his_config slot tenant e) nodes in
+          subst (ReplaysSame (tenant_config setup tenant)) his (same (tenant_config setup tenant) slot (record { data_centres = refl; shards = refl }))
+
 -- the same, where the bytes of the reader may be known
 pub tenants_read : (world : KeptWorld) (old_remaining new_remaining : Option (List ℕ)) → IsLeftByRead setup_of HasCluster old_remaining new_remaining world → HasItsTenants world
 tenants_read world old_remaining new_remaining read = world_tenants world read.bytes read.left
@@ -84,11 +96,20 @@ pub front_audited : (world : KeptWorld) (known : Option (List ℕ)) (old_content
 front_audited world None old_contents new_contents left written = tt
 front_audited world (Some bytes) old_contents new_contents left written = writes_front world bytes left old_contents new_contents written
 
+pub all_replay_same : (world : KeptWorld) (known : Option (List ℕ)) → IfSome known (λ bytes. IsLeftBy setup_of HasCluster bytes world) →
+    ((config : TenantConfig) (slot : ℕ) → HasShape config (shape_of (setup_of world)) → ReplaysSame config (nodes_of config slot world.nodes)) → IfSome known (λ bytes. ReplaysSameFor (head_of (lines_of bytes)))
+all_replay_same world None left same = tt
+all_replay_same world (Some bytes) left same = replays_same_for world bytes left same
+
 pub none_audited : (known contents : Option (List ℕ)) → IfSome known (λ bytes. WritesAuditFront bytes contents contents)
 none_audited None contents = tt
 none_audited (Some bytes) contents = front_of_none contents (text_in (audit_out bytes))
 
 -- ---- faults of the writing
+
+pub on_ok_any : {T E : Type 0} (P : Type 0) (r : Result T E) → P → OnOk r P
+on_ok_any P (Ok x) h = h
+on_ok_any P (Err x) h = tt
 
 pub on_err_any : {T E : Type 0} (P : Type 0) (r : Result T E) → P → OnErr r P
 on_err_any P (Ok x) h = tt

@@ -14,6 +14,7 @@ use Rattle.cops_world.specs.Script.{Output, Written, BadConfig}
 use Rattle.cops_world.specs.ScriptRuns.{text_in}
 use Rattle.cops_world.specs.ScriptWorlds.{cluster_left}
 use Rattle.cops_world.specs.Worlds.{KeptWorld, setup_of}
+use Rattle.cops_replay.specs.Audits.{ReplaysSame}
 use Rattle.cops_replay.specs.AuditText.{audit_text}
 
 -- the audit of the nodes that each tenant's lines leave him, who has a cluster to himself
@@ -33,6 +34,12 @@ pub record WritesAudit (bytes : List ℕ) (old_contents new_contents : Option (L
 -- a front of it is written
 abbrev pub WritesAuditFront : List ℕ → Option (List ℕ) → Option (List ℕ) → Type 0
 WritesAuditFront bytes old_contents new_contents = AppendsFront old_contents new_contents (text_in (audit_out bytes))
+
+-- a replay of the records of any tenant in the audit of a script finds that all are the same
+abbrev pub ReplaysSameFor : HeadReading → Type 0
+ReplaysSameFor (Whole config lines) =
+    (slot : ℕ) (tenant : Tenant) → slice_get config.tenants slot ≡ Some tenant → ReplaysSame (tenant_config config tenant) (cluster_left config lines (tenant_config config tenant) slot).nodes
+ReplaysSameFor (BadAt number) = ⊤
 
 -- each slot of the world's nodes is that of its tenant
 abbrev pub HasItsTenants : KeptWorld → Type 0

@@ -1,5 +1,5 @@
 //! The audit of a script, over any reader and any writer.
-ghost use Rattle.std.specs.Prelude.{◌≡◌, ◌⊎◌, IfErr, IfSome, IsErrOf, OnErr, OnOk};
+ghost use Rattle.std.specs.Prelude.{◌≡◌, ◌⊎◌, ℕ, IfErr, IfSome, IsErrOf, OnErr, OnOk};
 ghost use Rattle.std.specs.Io.KnownBytes.{Appends, IsAtEnd, Keeps};
 ghost use Rattle.cops_types.specs.Counts.{HasRisen, HasRisenBy};
 ghost use Rattle.cops_types.specs.Head.{BadAt, head_of};
@@ -7,15 +7,19 @@ ghost use Rattle.cops_types.specs.LineRuns.{IfRunRefused};
 ghost use Rattle.cops_types.specs.Lines.{lines_of};
 ghost use Rattle.cops_types.specs.Sink.{AppendsFront, sink_failures, sink_writer};
 ghost use Rattle.cops_types.specs.Source.{source_failures, source_reader, source_reads};
+ghost use Rattle.cops_types.specs.TenantConfig.{TenantConfig};
+ghost use Rattle.cops_node.specs.Clusters.{nodes_of, shape_of};
 ghost use Rattle.cops_world.specs.Worlds.{setup_of};
+ghost use Rattle.cops_replay.specs.Audits.{HasShape, ReplaysSame};
 ghost use Rattle.cops_replay.specs.AuditText.{audit_of};
-ghost use Rattle.cops_replay.specs.AuditRuns.{HasItsTenants, IsOfWriting, WritesAudit, WritesAuditFront};
+ghost use Rattle.cops_replay.specs.AuditRuns.{HasItsTenants, IsOfWriting, ReplaysSameFor, WritesAudit, WritesAuditFront};
 
 use crate::audits::write_audit;
 use cops_types::{Fault, RunFault, Sink, Source};
 use cops_world::{BadConfig, World, script_world};
 use std::alloc::Global;
 use std::io::{Read, Write};
+use std::mem;
 
 /// Writes the audit of the nodes of a world.
 fn write_world<O: Write>(
@@ -26,6 +30,7 @@ fn write_world<O: Write>(
     requires { HasItsTenants world.now }
     ensures ok { OnOk result (Appends (O.contents (sink_writer sink.old)) (O.contents (sink_writer sink.new)) (audit_of (setup_of world.now) world.now.nodes.nodes)) }
     ensures front { AppendsFront (O.contents (sink_writer sink.old)) (O.contents (sink_writer sink.new)) (audit_of (setup_of world.now) world.now.nodes.nodes) }
+    ensures replays { (config : TenantConfig) (slot : ℕ) → HasShape config (shape_of (setup_of world.now)) → ReplaysSame config (nodes_of config slot world.now.nodes) }
     ensures fault { IfErr result IsOfWriting }
     ensures write_fault { IsErrOf result RunFault.WriteFault → HasRisen (sink_failures sink.old) (sink_failures sink.new) }
 {
@@ -41,6 +46,8 @@ fn write_world<O: Write>(
 ///
 /// It keeps the world, and no copy of the text. It ends where a reply would say that memory was
 /// refused, and nothing is written then.
+///
+/// This is a program's last work: the memory of the world stays taken until the process ends.
 pub fn audit_text<R: Read, O: Write>(
     alloc: Global,
     source: &mut Source<R>,
@@ -52,6 +59,9 @@ pub fn audit_text<R: Read, O: Write>(
         WritesAudit bytes (O.contents (sink_writer sink.old)) (O.contents (sink_writer sink.new)))) }
     ensures err { OnErr result (IfSome (R.remaining (source_reader source.old)) (λ bytes.
         WritesAuditFront bytes (O.contents (sink_writer sink.old)) (O.contents (sink_writer sink.new)))) }
+
+    // A replay of any tenant's records in it finds that all are the same.
+    ensures replays { OnOk result (IfSome (R.remaining (source_reader source.old)) (λ bytes. ReplaysSameFor (head_of (lines_of bytes)))) }
 
     // A head is refused where it is bad, and nothing is written then.
     ensures bad_head { IfErr result (λ fault. IfRunRefused fault (λ bad.
@@ -70,5 +80,7 @@ pub fn audit_text<R: Read, O: Write>(
         Err(fault) => return Err(fault),
     };
     let result = write_world(alloc, sink, &world);
+    // The process ends soon, and gives back its memory at once.
+    mem::forget(world);
     result
 }

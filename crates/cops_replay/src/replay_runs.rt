@@ -14,6 +14,7 @@ use cops_types::{RunFault, Sink, Source, run_lines};
 use cops_world::SoloRefusal;
 use std::alloc::Global;
 use std::io::{Read, Write};
+use std::mem;
 
 /// How many turns a reader has.
 const TURNS: u64 = 4_294_967_296;
@@ -24,6 +25,8 @@ const TURNS: u64 = 4_294_967_296;
 ///
 /// Lines of other tenants, and what follows a difference, are read and passed over. It reads as
 /// `run_script` does, and keeps the nodes and one line of at most 200,001 bytes.
+///
+/// This is a program's last work: the memory of the nodes stays taken until the process ends.
 pub fn replay_text<R: Read, O: Write>(
     alloc: Global,
     source: &mut Source<R>,
@@ -53,5 +56,8 @@ pub fn replay_text<R: Read, O: Write>(
         return Err(RunFault::OutOfMemory);
     };
     let mut replay: ReplayScript = replay;
-    run_lines(&mut replay, alloc, TURNS, LONGEST_RECORD, source, sink)
+    let ended = run_lines(&mut replay, alloc, TURNS, LONGEST_RECORD, source, sink);
+    // The process ends soon, and gives back its memory at once.
+    mem::forget(replay);
+    ended
 }

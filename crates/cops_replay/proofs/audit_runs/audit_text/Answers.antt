@@ -1,5 +1,5 @@
 use Rattle.std.proofs.lemmas.Result.{on_ok_weaker}
-use Rattle.cops_replay.proofs.AuditRunLemmas.{all_audited, front_audited, never_read, never_refused, none_audited, on_err_any, tenants_read}
+use Rattle.cops_replay.proofs.AuditRunLemmas.{all_audited, all_replay_same, front_audited, never_read, never_refused, none_audited, on_err_any, on_ok_any, tenants_read}
 use Rattle.cops_replay.proofs.audit_runs.audit_text.Goals as goal
 
 pub returns-in-Err-clause-err : goal.returns-in-Err-clause-err
@@ -22,3 +22,6 @@ returns-clause-unwritten g c = never_refused _ c.write_world-result.result c.wri
 
 pub returns-clause-read_fault : goal.returns-clause-read_fault
 returns-clause-read_fault g c is = absurd (never_read c.write_world-result.result c.write_world-result.ensures.fault is)
+
+pub returns-clause-replays : goal.returns-clause-replays
+returns-clause-replays g c = on_ok_any _ c.write_world-result.result (all_replay_same c.in-Ok.world _ c.in-Ok.ensures.ok c.write_world-result.ensures.replays)
