@@ -1,6 +1,6 @@
 -- The main theorem, from what each tenant was told.
 use Rattle.std.proofs.Common.{◌≡◌, ℕ, zero, suc, take, ◌<◌, Bool, true, false, List, [], ◌∷◌, ◌++◌, length, refl, sym, subst, ap, ◌∙◌, true≢false, ◌&&◌}
-use Rattle.std.specs.Prelude.{IsTrue, nat_le, slice_get, Some}
+use Rattle.std.specs.Prelude.{IsTrue, map, nat_le, slice_get, Some}
 use Rattle.std.proofs.lemmas.Bool.{leb-true}
 use Rattle.std.specs.List.{list_all}
 use Rattle.cops_types.specs.declared.configs.Config.{Config}
@@ -11,9 +11,13 @@ use Rattle.cops_types.specs.Words.{is_u64}
 use Rattle.cops_world.specs.declared.acts.Act.{Act}
 use Rattle.cops_world.specs.declared.acts.Event.{Event}
 use Rattle.cops_world.specs.declared.replies.Reply.{Reply}
+use Rattle.cops_world.specs.Causal.{Operation, operations, traced}
 use Rattle.cops_world.specs.Cluster.{SoloCluster, cluster_step, new_cluster}
 use Rattle.cops_world.specs.Events.{IsFrontOf, before_lack, config_at, own, replies, replies_from, solo_replies}
 use Rattle.cops_world.specs.GoodHeads.{is_good}
+use Rattle.cops_world.specs.Laws.{AreCommittedPasts, AreConsistent, AreExactDeps, AtEachNode, entries_at, is_committed_at}
+use Rattle.cops_world.specs.Precedence.{AreLeastPasts}
+use Rattle.cops_world.specs.Told.{KeepsToldCausality, operations_told}
 use Rattle.cops_world.specs.MainTheorem.{answered, HoldsFor, IsToldAlone, IsToldAloneAtFirst, IsToldCausally, KeepsCausality, with_tenant_alone}
 use Rattle.cops_world.proofs.Committed.{has_committed_pasts}
 use Rattle.cops_world.proofs.Consistent.{is_consistent}
@@ -24,6 +28,7 @@ use Rattle.cops_world.proofs.Never.{is_as_expected}
 use Rattle.cops_world.proofs.Past.{has_exact_deps}
 use Rattle.cops_world.proofs.Restarting.{restarts_only_late}
 use Rattle.cops_world.proofs.Settled.{is_settled}
+use Rattle.cops_world.proofs.ToldHistories.{operations_are_told}
 use Rattle.cops_world.proofs.ToldOperations.{has_told_operations}
 use Rattle.cops_world.proofs.WorldJoins.{quota_at}
 use Rattle.cops_world.proofs.WorldKeeps.{sizes_at, tenant_within}
@@ -63,6 +68,18 @@ keeps_causality config acts some = record {
   restarts = restarts_only_late config some acts;
 }
 
+-- what a cluster of one's own tells keeps the causal laws, over the operations that are read off acts and replies
+pub keeps_told_causality : (config : TenantConfig) (acts : List Act) → 0 < config.shards → KeepsToldCausality config acts (solo_replies config acts)
+keeps_told_causality config acts some =
+    let same : operations config acts ≡ operations_told acts (solo_replies config acts) = sym (operations_are_told config acts) in
+    record {
+      each = has_told_operations config acts ∙ ap (map (λ (o : Operation). o.effect)) same;
+      consistent = subst (λ ops. AreConsistent (traced ops)) same (is_consistent config some acts);
+      least_pasts = subst AreLeastPasts same (has_least_pasts config some acts);
+      exact_deps = subst (λ ops. AtEachNode config (λ dc shard. AreExactDeps (traced ops) (entries_at config acts dc shard))) same (has_exact_deps config some acts);
+      committed = subst (λ ops. AtEachNode config (λ dc shard. AreCommittedPasts (traced ops) (is_committed_at config acts dc) (entries_at config acts dc shard))) same (has_committed_pasts config some acts);
+    }
+
 -- the replies to the first acts are the first replies
 replies-take : (n : ℕ) (config : TenantConfig) (acts : List Act) (c : SoloCluster) → replies_from config (take n acts) c ≡ take n (replies_from config acts c)
 replies-take zero config acts c = refl
@@ -77,9 +94,12 @@ take-front (x ∷ front) rest = ap (λ xs. x ∷ xs) (take-front front rest)
 pub told_causally : (config : TenantConfig) (acts : List Act) (told : List Reply) → 0 < config.shards → IsFrontOf (before_lack told) (solo_replies config acts) → IsToldCausally config acts told
 told_causally config acts told some (rest, whole) =
     let front = before_lack told in
+    let alone : front ≡ solo_replies config (answered acts told) =
+    sym (replies-take (length front) config acts (new_cluster config) ∙ ap (take (length front)) whole ∙ take-front front rest) in
     record {
-      alone = sym (replies-take (length front) config acts (new_cluster config) ∙ ap (take (length front)) whole ∙ take-front front rest);
+      alone = alone;
       causal = keeps_causality config (answered acts told) some;
+      seen = subst (KeepsToldCausality config (answered acts told)) (sym alone) (keeps_told_causality config (answered acts told) some);
     }
 
 pub holds_for : (config : Config) (events : List Event) (told : List Reply) (slot : ℕ) → 0 < config.shards → slot < length config.tenants → IsToldAlone config events told slot → IsToldAloneAtFirst config events told slot →

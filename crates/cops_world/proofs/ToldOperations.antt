@@ -36,7 +36,7 @@ use Rattle.cops_world.proofs.Moves.{plain_collect}
 -- ---- who is told that an operation ended runs a request
 
 -- where the reply is the end of an operation, the session of this name runs a request
-abbrev Runs : SoloCluster → List ℕ → Reply → Type 0
+abbrev pub Runs : SoloCluster → List ℕ → Reply → Type 0
 Runs c name reply = (effect : Effect) → effect_of reply ≡ Some effect → (n : ℕ) × (context_run name c ≡ Some n)
 
 no_end : (c : SoloCluster) (name : List ℕ) (reply : Reply) → effect_of reply ≡ None → Runs c name reply
@@ -75,10 +75,10 @@ module _ (config : TenantConfig) (c : SoloCluster) (name : List ℕ) where
   step_runs moment (Some (OfCarrier k)) found = no_end c name (step_of config name moment c (Some (OfCarrier k))).reply (plain_carrier k (max k.moment moment) (carrier.next config.shards k.stream k.log))
   step_runs moment None found = no_end c name (step_of config name moment c None).reply refl
 
-  actor_step_runs : (moment : ℕ) → Runs c name (actor_step config name moment c).reply
+  pub actor_step_runs : (moment : ℕ) → Runs c name (actor_step config name moment c).reply
   actor_step_runs moment = step_runs moment (find_actor name c) refl
 
-actor_steps_run : (more : ℕ) (config : TenantConfig) (c : SoloCluster) (name : List ℕ) (moment : ℕ) → Runs c name (actor_steps more config name moment c).reply
+pub actor_steps_run : (more : ℕ) (config : TenantConfig) (c : SoloCluster) (name : List ℕ) (moment : ℕ) → Runs c name (actor_steps more config name moment c).reply
 actor_steps_run zero config c name moment = actor_step_runs config c name moment
 actor_steps_run (suc more) config c name moment = by_goes (goes_on step.reply) refl (actor_steps_run more config step.after name moment)
   where

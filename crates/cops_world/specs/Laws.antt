@@ -50,12 +50,14 @@ HasToldOperations config acts = filter_map effect_of (solo_replies config acts) 
 abbrev pub was_put : List Traced → Pair → Bool
 was_put ts pair = list_any (λ t. holds (put_by t.operation.effect) pair) ts
 
--- each stored record is of a put, and its deps are exactly those of that put
+-- each of the entries is of a put, and its deps are exactly those of that put
+abbrev pub AreExactDeps : List Traced → List Entry → Type 0
+AreExactDeps history entries =
+    IsTrue (list_all (λ e. was_put history (pair_of_entry e)) entries) × (map (λ e. e.deps) entries ≡ map (λ e. deps_of history (pair_of_entry e)) entries)
+
+-- so it is with each stored record
 abbrev pub HasExactDepsAt : TenantConfig → List Act → ℕ → ℕ → Type 0
-HasExactDepsAt config acts dc shard =
-    let entries = entries_at config acts dc shard in
-    IsTrue (list_all (λ e. was_put (history_of config acts) (pair_of_entry e)) entries)
-    × (map (λ e. e.deps) entries ≡ map (λ e. deps_of (history_of config acts) (pair_of_entry e)) entries)
+HasExactDepsAt config acts dc shard = AreExactDeps (history_of config acts) (entries_at config acts dc shard)
 
 abbrev pub HasExactDeps : TenantConfig → List Act → Type 0
 HasExactDeps config acts = AtEachNode config (HasExactDepsAt config acts)
@@ -64,17 +66,23 @@ HasExactDeps config acts = AtEachNode config (HasExactDepsAt config acts)
 abbrev pub is_committed_at : TenantConfig → List Act → ℕ → Pair → Bool
 is_committed_at config acts dc pair = holds (map pair_of_entry (entries_at config acts dc (shard_of pair.key config.shards))) pair
 
+-- of the past of each of the entries all is committed
+abbrev pub AreCommittedPasts : List Traced → (Pair → Bool) → List Entry → Type 0
+AreCommittedPasts history is_committed entries = IsTrue (list_all (λ e. list_all is_committed (past_of_put history (pair_of_entry e))) entries)
+
 -- where a record was committed, all of its past was committed
 abbrev pub HasCommittedPastsAt : TenantConfig → List Act → ℕ → ℕ → Type 0
-HasCommittedPastsAt config acts dc shard =
-    IsTrue (list_all (λ e. list_all (is_committed_at config acts dc) (past_of_put (history_of config acts) (pair_of_entry e))) (entries_at config acts dc shard))
+HasCommittedPastsAt config acts dc shard = AreCommittedPasts (history_of config acts) (is_committed_at config acts dc) (entries_at config acts dc shard)
 
 abbrev pub HasCommittedPasts : TenantConfig → List Act → Type 0
 HasCommittedPasts config acts = AtEachNode config (HasCommittedPastsAt config acts)
 
 -- each transaction's answer is causally consistent
+abbrev pub AreConsistent : List Traced → Type 0
+AreConsistent history = IsTrue (list_all (λ t. answers_consistently t t.operation.effect) history)
+
 abbrev pub IsConsistent : TenantConfig → List Act → Type 0
-IsConsistent config acts = IsTrue (list_all (λ t. answers_consistently t t.operation.effect) (history_of config acts))
+IsConsistent config acts = AreConsistent (history_of config acts)
 
 -- no node says that a version has not come, that an entry is out of order, or that a request is torn; and no request or carrier does
 abbrev pub is_expected_of_node : NodeReply → Bool

@@ -10,6 +10,7 @@ use Rattle.cops_world.specs.Events.{config_at, own, replies, solo_replies, befor
 use Rattle.cops_world.specs.Laws.{HasToldOperations, HasExactDeps, HasCommittedPasts, IsConsistent, IsAsExpected, IsConvergent, IsSettled, HasEndingSteps}
 use Rattle.cops_world.specs.Precedence.{HasLeastPasts}
 use Rattle.cops_world.specs.Restarts.{RestartsOnlyLate}
+use Rattle.cops_world.specs.Told.{KeepsToldCausality}
 
 -- unless a reply to him was for want of memory, the tenant of the slot was told what a cluster of his own tells him
 abbrev pub IsToldAlone : Config → List Event → List Reply → ℕ → Type 0
@@ -45,10 +46,12 @@ abbrev pub answered : List Act → List Reply → List Act
 answered acts told = take (length (before_lack told)) acts
 
 -- What the tenant was told by these acts, up to a first reply that memory was refused, is what a cluster of his own tells him by the acts
--- that were answered so; and it keeps the causal laws. Where there is no such reply, that is all that he was told.
+-- that were answered so; and it keeps the causal laws, also over the operations that he reads off these acts and replies himself. Where
+-- there is no such reply, that is all that he was told.
 pub record IsToldCausally (config : TenantConfig) (acts : List Act) (told : List Reply) : Type 0 where
   pub alone : before_lack told ≡ solo_replies config (answered acts told)
   pub causal : KeepsCausality config (answered acts told)
+  pub seen : KeepsToldCausality config (answered acts told) (before_lack told)
 
 -- the tenant of a slot is told what a cluster of his own tells him; in any other run that agrees on his own events, and on the
 -- configuration as it concerns him, he is told the same; and what he is told keeps the causal laws

@@ -4,8 +4,7 @@ use Rattle.cops_types.specs.declared.pairs.Pair.{Pair}
 use Rattle.cops_types.specs.Pairs.{holds}
 use Rattle.cops_types.specs.TenantConfig.{TenantConfig}
 use Rattle.cops_world.specs.declared.acts.Act.{Act}
-use Rattle.cops_world.specs.Causal.{Operation, Traced, put_by, returned_by, operations}
-use Rattle.cops_world.specs.Laws.{history_of}
+use Rattle.cops_world.specs.Causal.{Operation, Traced, put_by, returned_by, operations, traced}
 
 -- the operation at this place put the pair
 abbrev pub PutsAt : List Operation → ℕ → Pair → Type 0
@@ -27,9 +26,11 @@ pub data Precedes (ops : List Operation) : ℕ → ℕ → Type 0 where
   Between : (one third other : ℕ) → Precedes ops one third → Precedes ops third other → Precedes ops one other
 
 -- the past of each operation has just the pairs that were put by operations which precede it
-abbrev pub HasLeastPasts : TenantConfig → List Act → Type 0
-HasLeastPasts config acts =
-    let ops = operations config acts in
-    (map (λ t. t.operation) (history_of config acts) ≡ ops)
-    × ((place : ℕ) (t : Traced) → slice_get (history_of config acts) place ≡ Some t → (pair : Pair) →
+abbrev pub AreLeastPasts : List Operation → Type 0
+AreLeastPasts ops =
+    (map (λ t. t.operation) (traced ops) ≡ ops)
+    × ((place : ℕ) (t : Traced) → slice_get (traced ops) place ≡ Some t → (pair : Pair) →
     IsTrue (holds t.past pair) ↔ ((before : ℕ) × PutsAt ops before pair × Precedes ops before place))
+
+abbrev pub HasLeastPasts : TenantConfig → List Act → Type 0
+HasLeastPasts config acts = AreLeastPasts (operations config acts)

@@ -1,9 +1,19 @@
-ghost use Rattle.std.specs.Prelude.{ℕ, ◌<◌, List};
+ghost use Rattle.std.specs.Prelude.{◌≡◌, ℕ, ◌<◌, List};
 ghost use Rattle.cops_types.specs.TenantConfig.{TenantConfig};
 ghost use Rattle.cops_world.specs.declared.acts.Act.{Act};
+ghost use Rattle.cops_world.specs.Causal.{operations};
+ghost use Rattle.cops_world.specs.Events.{solo_replies};
 ghost use Rattle.cops_world.specs.Precedence.{HasLeastPasts};
 ghost use Rattle.cops_world.specs.Restarts.{RestartsOnlyLate};
 ghost use Rattle.cops_world.specs.Laws.{HasExactDeps, HasCommittedPasts, IsConsistent, IsAsExpected, IsConvergent, IsSettled, HasEndingSteps};
+ghost use Rattle.cops_world.specs.Told.{KeepsToldCausality, operations_told};
+
+/// The operations that a tenant reads off his acts and the replies to them are those of his cluster, on
+/// which the other laws stand. So what he is told keeps the causal laws over what he can see himself.
+pub fn operations_are_told()
+    ensures same { (config : TenantConfig) (acts : List Act) → operations_told acts (solo_replies config acts) ≡ operations config acts }
+    ensures causal { (config : TenantConfig) (acts : List Act) → 0 < config.shards → KeepsToldCausality config acts (solo_replies config acts) }
+{}
 
 /// After every list of acts the past of each operation has just the pairs that were put by operations
 /// which precede it, by the least relation that the words say.
