@@ -38,15 +38,15 @@ class Programs:
         self._files = [os.open(folder / name, os.O_RDWR | os.O_CREAT | os.O_TRUNC, 0o600) for name in names]
         signal.signal(signal.SIGALRM, _ring)
 
-    def run(self, command: list[str], text: bytes) -> Outcome:
-        """The program over some input, to its end. TooLong where it doesn't come to one."""
+    def run(self, command: list[str], text: bytes, variables: dict[str, str] | None = None) -> Outcome:
+        """The program over some input, to its end, with these variables alone. TooLong where it doesn't come to one."""
         for file in self._files:
             os.ftruncate(file, 0)
             os.lseek(file, 0, os.SEEK_SET)
         _write_all(self._files[0], text)
         os.lseek(self._files[0], 0, os.SEEK_SET)
         places = [(os.POSIX_SPAWN_DUP2, file, stream) for stream, file in enumerate(self._files)]
-        process = os.posix_spawn(command[0], command, {}, file_actions=places)
+        process = os.posix_spawn(command[0], command, variables or {}, file_actions=places)
         signal.alarm(RUN_TIME)
         try:
             status = os.waitstatus_to_exitcode(os.waitpid(process, 0)[1])

@@ -1,0 +1,122 @@
+"""Clients and tenants that hold back what they can, beside those of tests/service.
+
+Nobody else's replies change, nothing is kept after a client has gone, and other workers go on.
+"""
+
+import socket
+import time
+import unittest
+
+import pair
+from audits import check_replays
+from cops_client.frames import CreateContext, GetTrans, Handle, Hello, Message, Put
+from model import Alone, replies
+from service import REPLY_TIME, Service, Tenant, frames, head, messages, read_some, read_to_end, talk
+
+ACME, BETA = Tenant("acme", 1), Tenant("beta", 2)
+FIRST = Handle(1)
+HELLO = frames([Hello(ACME.token, 0)])
+CONVERSATION = frames([Hello(BETA.token, 0), CreateContext(), Put(FIRST, b"x", b"10"), GetTrans(FIRST, (b"x",))])
+READY = bytes.fromhex("0000000181")
+
+
+def large_replies() -> tuple[list[Message], bytes]:
+    """What puts 32 values of 4,096 bytes, and a request for all of them: 79 bytes, answered by 131,621 and more."""
+    keys = tuple(b"%c" % (97 + place) if place < 26 else b"%d" % (place - 26) for place in range(32))
+    puts: list[Message] = [CreateContext(), CreateContext()]
+    for key in keys:
+        puts += [Put(Handle(1), key, bytes(4_096))]
+    return puts, frames([GetTrans(Handle(2), keys)])
+
+
+class Denial(unittest.TestCase):
+    def setUp(self) -> None:
+        self.beta = {BETA.token: Alone(BETA, 1)}
+
+    def converse(self, service: Service, times: int = 1) -> None:
+        """Connections of beta's, one after another, each answered as if nobody else were there."""
+        for _ in range(times):
+            pair.hold()
+            answered = messages(talk(service.stream(), [CONVERSATION]))
+            self.assertEqual(answered, replies(CONVERSATION, self.beta))
+
+    def test_those_who_say_nothing_hold_their_workers_and_no_memory(self):
+        """Three of four workers are held; so many more say nothing in the queue, and are served when they end."""
+        silent, waiting = 3, 60
+        with Service(head([ACME, BETA]), workers=4, connections=silent + waiting + 21) as service:
+            self.converse(service)
+            before = service.memory()
+            held = [service.stream() for _ in range(silent)]
+            self.converse(service, 10)
+            more = [service.stream() for _ in range(waiting)]
+            time.sleep(0.1)
+            self.assertLess(service.memory() - before, 1_000_000)
+            # With one more worker held nobody else is served, until one of them goes.
+            for stream in more:
+                stream.close()
+            self.converse(service, 10)
+            for stream in held:
+                stream.close()
+            self.assertLess(service.memory() - before, 1_000_000)
+            check_replays(self, service.audit(), [ACME, BETA])
+
+    def test_a_worker_comes_free_when_a_silent_client_goes(self):
+        with Service(head([ACME, BETA]), workers=2, connections=4) as service:
+            held = [service.stream() for _ in range(2)]
+            for stream in held:
+                stream.sendall(HELLO)
+                self.assertEqual(read_some(stream, 5), READY)
+            waits = service.stream()
+            waits.sendall(CONVERSATION)
+            waits.settimeout(0.2)
+            with self.assertRaises(TimeoutError):
+                waits.recv(1)
+            held[0].close()
+            waits.settimeout(REPLY_TIME)
+            waits.shutdown(socket.SHUT_WR)
+            with waits:
+                self.assertEqual(messages(read_to_end(waits)), replies(CONVERSATION, self.beta))
+            self.converse(service)
+            held[1].close()
+            check_replays(self, service.audit(), [ACME, BETA])
+
+    def test_large_replies_that_nobody_reads_take_what_one_read_asks_for(self):
+        """At most 51 of these requests come in one read, so that is what waits to be written; and none of it is kept."""
+        puts, get = large_replies()
+        with Service(head([ACME, BETA]), workers=2, connections=22) as service:
+            stream = service.stream()
+            stream.sendall(HELLO + frames(puts))
+            read_some(stream, 5 + 2 * 14 + 32 * 15)
+            self.converse(service)
+            before = service.memory()
+            stream.settimeout(0.3)
+            sent = 0
+            with self.assertRaises(TimeoutError):
+                while sent < 1 << 30:
+                    sent += stream.send(get * 100)
+            most = service.memory() - before
+            self.converse(service, 10)
+            stream.close()
+            self.converse(service, 10)
+            left = service.memory() - before
+            print(f"large replies that nobody reads: {most:,} bytes more, {left:,} when the client has gone")
+            self.assertLess(most, 60_000_000)
+            self.assertLess(left, 20_000_000)
+            check_replays(self, service.audit(), [ACME, BETA])
+
+    def test_connections_one_after_another_leave_nothing(self):
+        count = 1_000
+        with Service(head([ACME, BETA]), workers=2, connections=2 * count + 10) as service:
+            sizes, began = [], time.monotonic()
+            for _ in range(2):
+                for number in range(count):
+                    pair.hold()
+                    with service.stream() as stream:
+                        if number % 2 == 0:
+                            stream.sendall(HELLO)
+                            self.assertEqual(read_some(stream, 5), READY)
+                sizes.append(service.memory())
+            print(f"{2 * count} connections: {time.monotonic() - began:.2f} s, {sizes[1] - sizes[0]:,} bytes for the second half")
+            self.converse(service, 10)
+            self.assertLess(sizes[1] - sizes[0], 500_000, sizes)
+            check_replays(self, service.audit(), [ACME, BETA])
