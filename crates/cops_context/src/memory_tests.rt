@@ -51,6 +51,64 @@ fn refused_memory_leaves_a_new_context(rt: HostRuntime) {
     assert_lists(&rt, &context, &[x(&rt), y(&rt)], &[y(&rt)]);
 }
 
+/// Observes a pair in a context that has these lists, again where memory was refused.
+fn observe(
+    rt: &impl Abort,
+    context: &mut Context,
+    pair: &Pair,
+    deps: &Deps,
+    all: &[Pair],
+    near: &[Pair],
+) {
+    if let Err(fault) = context.observe(*pair, deps, 20) {
+        assert!(rt; fault == Fault::OutOfMemory);
+        assert_lists(rt, context, all, near);
+        context.observe(*pair, deps, 20).expect(rt, "a second try");
+    }
+}
+
+#[test]
+fn refused_memory_leaves_what_was_observed(rt: HostRuntime) {
+    let on_x = deps_on_x(&rt, rt.alloc());
+    let mut context = Context::new(rt.alloc());
+    observe(
+        &rt,
+        &mut context,
+        &x(&rt),
+        &Deps::empty(rt.alloc()),
+        &[],
+        &[],
+    );
+    observe(&rt, &mut context, &y(&rt), &on_x, &[x(&rt)], &[x(&rt)]);
+    assert_lists(&rt, &context, &[x(&rt), y(&rt)], &[y(&rt)]);
+}
+
+#[test]
+fn refused_memory_keeps_what_a_put_would_send(rt: HostRuntime) {
+    let key = z(&rt).key;
+    let mut context = Context::new(rt.alloc());
+    observe(
+        &rt,
+        &mut context,
+        &x(&rt),
+        &Deps::empty(rt.alloc()),
+        &[],
+        &[],
+    );
+    let sent = match context.put_args(&key, 20) {
+        Ok((deps, _near)) => deps.len(),
+        Err(fault) => {
+            assert!(rt; fault == Fault::OutOfMemory);
+            assert_lists(&rt, &context, &[x(&rt)], &[x(&rt)]);
+            match context.put_args(&key, 20) {
+                Ok((deps, _near)) => deps.len(),
+                Err(_) => panic!(rt; "a second try"),
+            }
+        }
+    };
+    assert_eq!(rt; sent, 1);
+}
+
 #[test]
 fn refused_memory_observes_no_half(rt: HostRuntime) {
     let alloc = rt.alloc();

@@ -15,6 +15,8 @@ mod keys;
 mod laws;
 mod line_runs;
 mod machines;
+#[cfg(test)]
+mod memory_tests;
 mod names;
 mod near;
 mod packed;
