@@ -1,5 +1,5 @@
 //! What is noted as due, slot by slot: no slot walks another's notes.
-ghost use Rattle.std.specs.Prelude.{◌≡◌, ◌≤◌, ◌<◌, ℕ, [], false, not, map, filter, length, vec_len, vec_capacity, IfOk, OnOk, IsOk, IsTrue};
+ghost use Rattle.std.specs.Prelude.{◌≡◌, ◌≤◌, ◌<◌, ℕ, [], false, not, nat_eq, map, filter, length, vec_len, vec_capacity, IfOk, OnOk, IsOk, IsTrue};
 ghost use Rattle.std.specs.List.{AllByRecursion};
 ghost use Rattle.cops_store.specs.declared.table.Place.{Place};
 ghost use Rattle.cops_store.specs.Notes.{has_room, IsOneMore};
@@ -121,5 +121,16 @@ impl DueNotes {
         table::renew(table, &mut own.list, slot, now, trans_time);
         table::forget(&mut own.list, slot, now, trans_time);
         own.least = least_of(&own.list);
+    }
+
+    // Forgets the notes of the slot, and gives their memory back.
+    pub(crate) fn drop_slot(&mut self, alloc: Global, slot: usize)
+        requires { slot < length self.old.rooms }
+        ensures items { self.new.items ≡ filter (λ d. not (nat_eq d.place.slot slot)) self.old.items }
+        ensures slots { length self.new.rooms ≡ length self.old.rooms }
+    {
+        let own = &mut self.slots[slot];
+        own.list = Vec::new(alloc);
+        own.least = u64::MAX;
     }
 }

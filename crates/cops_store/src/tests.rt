@@ -169,6 +169,28 @@ fn two_slots_with_one_key(rt: HostRuntime) {
     collect(&rt, &mut store, 0, 601, 100, 1);
 }
 
+#[test]
+fn a_dropped_slot_keeps_nothing(rt: HostRuntime) {
+    let mut store = with_one_key_in_two_slots(&rt, rt.alloc());
+    store.drop_slot(1);
+    assert_clocks(&rt, &store, 0, b"x", &[1, 2]);
+    assert_clocks(&rt, &store, 1, b"x", &[]);
+    assert_in_use(&rt, store.in_use(0), 2, 6);
+    assert_in_use(&rt, store.in_use(1), 0, 0);
+    collect(&rt, &mut store, 1, 102, 100, 0);
+    collect(&rt, &mut store, 0, 601, 100, 1);
+}
+
+#[test]
+fn records_come_to_a_dropped_slot(rt: HostRuntime) {
+    let alloc = rt.alloc();
+    let mut store = with_one_key_in_two_slots(&rt, alloc);
+    store.drop_slot(1);
+    keep(&rt, alloc, &mut store, 1, b"x", 3, 7);
+    assert_clocks(&rt, &store, 1, b"x", &[3]);
+    assert_in_use(&rt, store.in_use(1), 1, 3);
+}
+
 /// Asserts that the version is refused where it would be put, and where the store is asked before.
 fn assert_refused(
     rt: &impl Abort,
