@@ -1,5 +1,5 @@
 -- What a replay of a file's records writes.
-use Rattle.std.specs.Prelude.{◌≡◌, ℕ, ◌+◌, ◌-◌, ◌^◌, ◌⊎◌, min, nat_le, if◌then◌else◌, List, [], ◌∷◌, ◌++◌, length, codes, decimal, slice_get, Option, Some, None}
+use Rattle.std.specs.Prelude.{◌≡◌, ℕ, ◌+◌, ◌-◌, ◌^◌, ◌⊎◌, min, nat_le, if◌then◌else◌, List, [], ◌∷◌, ◌++◌, length, codes, decimal, slice_get, IsTrue, Option, Some, None}
 use Rattle.std.specs.Option.{option_map}
 use Rattle.std.specs.Io.KnownBytes.{Keeps}
 use Rattle.cops_types.specs.declared.configs.Config.{Config}
@@ -15,6 +15,7 @@ use Rattle.cops_replay.specs.declared.Record.{Record}
 use Rattle.cops_replay.specs.declared.Replayed.{Replayed}
 use Rattle.cops_replay.specs.declared.Replayed.TheVariants.{Same, FirstDifference}
 use Rattle.cops_replay.specs.RecordLines.{record_in}
+use Rattle.cops_replay.specs.RecordText.{is_record, record_line}
 use Rattle.cops_replay.specs.Replaying.{Agrees, fresh_nodes, nodes_after}
 
 -- no line of a record is longer
@@ -24,6 +25,11 @@ longest_record = 200000
 -- the record of a line that is one
 abbrev pub told_in : List ℕ → Option Record
 told_in line = if nat_le (length line) longest_record then option_map (λ (read : List ℕ × Record). read.1) (record_in line) else None
+
+-- the record has a line that is not too long
+pub record HasLine (tenant : List ℕ) (told : Record) : Type 0 where
+  pub formed : IsTrue (is_record told)
+  pub short : IsTrue (nat_le (length (record_line tenant told)) longest_record)
 
 -- what a replay finds that has come to these nodes after so many lines: the first place whose line is no record or one that doesn't agree, or how many lines there are
 abbrev pub FindsIn : TenantConfig → ℕ → List SoloNode → List (List ℕ) → Replayed → Type 0
