@@ -145,6 +145,9 @@ clocks_of_tenants (t ∷ tenants) h =
     let rest = clocks_of_tenants tenants (and_right (is_tenant t) (list_all is_tenant tenants) h) in
     ap (λ b. b && list_all (λ (tenant : Tenant). nat_le tenant.first_clock last_clock) tenants) (and_right (is_name t.name) (nat_le t.first_clock last_clock) front) ∙ rest
 
+pub sizes_of_good : (config : Config) → IsTrue (is_good config) → IsTrue (are_sizes config)
+sizes_of_good config good = and_left (are_sizes config) (list_all is_tenant config.tenants) good
+
 pub clocks_of_good : (config : Config) → IsTrue (is_good config) → IsTrue (are_clocks config)
 clocks_of_good config good = clocks_of_tenants config.tenants (and_right (are_sizes config) (list_all is_tenant config.tenants) good)
 
