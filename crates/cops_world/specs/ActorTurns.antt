@@ -2,15 +2,13 @@
 use Rattle.std.specs.Prelude.{Option, Some, None}
 use Rattle.cops_types.specs.declared.faults.Fault.{Fault}
 use Rattle.cops_types.specs.declared.faults.Fault.TheVariants.{UnknownName}
-use Rattle.cops_types.specs.Context.{all_of, near_of}
 use Rattle.cops_types.specs.TenantConfig.{TenantConfig}
-use Rattle.cops_session.specs.Request.{Write, Fetch}
-use Rattle.cops_session.specs.Session.{Session, obs_of, create_refusal, context_refusal, context_created, context_deleted, put_refusal, get_refusal, request_begun}
+use Rattle.cops_session.specs.Session.{Session}
 use Rattle.cops_world.specs.declared.actors.Deed.{Deed}
 use Rattle.cops_world.specs.declared.actors.Deed.TheVariants.{Create, Delete, Put, Get, Show}
 use Rattle.cops_world.specs.declared.replies.Reply.{Reply}
-use Rattle.cops_world.specs.declared.replies.Reply.TheVariants.{Created, Deleted, Started, Lists, Refused}
-use Rattle.cops_world.specs.Cluster.{Actor, OfSession, OfCarrier}
+use Rattle.cops_world.specs.declared.replies.Reply.TheVariants.{Refused}
+use Rattle.cops_world.specs.Cluster.{Actor, OfSession, OfCarrier, SessionAct, create_act, delete_act, get_act, put_act, show_act}
 
 -- the reply, and the actor after it
 pub record ActorTurn : Type 0 where
@@ -25,15 +23,16 @@ abbrev pub unless_actor_refused : Option Fault → Actor → ActorTurn → Actor
 unless_actor_refused (Some fault) actor turn = actor_turn (Refused fault) actor
 unless_actor_refused None actor turn = turn
 
+-- what is asked of a session, as a turn of that actor
+abbrev pub session_turn : Session → SessionAct → ActorTurn
+session_turn s act = unless_actor_refused act.refusal (OfSession s) (actor_turn act.reply (OfSession act.after))
+
 abbrev pub session_does : TenantConfig → Session → Deed → ActorTurn
-session_does config s Create = unless_actor_refused (create_refusal config s) (OfSession s) (actor_turn (Created s.next_context) (OfSession (context_created s)))
-session_does config s (Delete number) = unless_actor_refused (context_refusal number s) (OfSession s) (actor_turn Deleted (OfSession (context_deleted number s)))
-session_does config s (Put number key value) =
-    unless_actor_refused (put_refusal config number key s) (OfSession s) (actor_turn Started (OfSession (request_begun number (Write key value) s)))
-session_does config s (Get number keys) =
-    unless_actor_refused (get_refusal config number keys s) (OfSession s) (actor_turn Started (OfSession (request_begun number (Fetch keys) s)))
-session_does config s (Show number) =
-    unless_actor_refused (context_refusal number s) (OfSession s) (actor_turn (Lists (all_of (obs_of number s)) (near_of (obs_of number s))) (OfSession s))
+session_does config s Create = session_turn s (create_act config s)
+session_does config s (Delete number) = session_turn s (delete_act number s)
+session_does config s (Put number key value) = session_turn s (put_act config number key value s)
+session_does config s (Get number keys) = session_turn s (get_act config number keys s)
+session_does config s (Show number) = session_turn s (show_act number s)
 
 -- only a session does anything
 abbrev pub actor_does : TenantConfig → Deed → Actor → ActorTurn
