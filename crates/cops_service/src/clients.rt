@@ -4,7 +4,6 @@ ghost use Rattle.cops_types.specs.HeadLines.{are_sizes};
 ghost use Rattle.cops_node.specs.Clusters.{shape_of};
 
 use cops_node::Nodes;
-use cops_session::Session;
 use cops_types::{Config, Fault, Sink, Source};
 use cops_wire::{Connection, Ended, Moments};
 use std::alloc::Global;
@@ -24,7 +23,5 @@ pub(crate) fn serve_client<R: Read + Drop, O: Write + Drop, N: Nodes, M: Moments
     ensures { N.shape nodes.new ≡ N.shape nodes.old }
 {
     let mut connection = Connection::new(alloc, source, sink);
-    let (slot, dc) = connection.greet(&config.tenants, config.data_centres)?;
-    let mut session = Session::new(alloc, config, slot, dc);
-    connection.serve(&mut session, nodes, moments)
+    connection.converse(config, nodes, moments)
 }

@@ -1,23 +1,27 @@
 -- What the client of a whole connection receives is what it receives alone.
-use Rattle.std.proofs.Common.{◌≡◌, ◌⊎◌, ℕ, Bool, true, false, List, [], ◌∷◌, ◌++◌, inl, inr, Option, Some, None, refl, sym, ap, subst, ◌∙◌, append_assoc, append-nil}
-use Rattle.std.specs.Prelude.{◌&&◌}
-use Rattle.std.specs.Io.KnownBytes.{Appends, Consumes}
+use Rattle.std.proofs.Common.{◌≡◌, ℕ, Bool, true, false, List, [], ◌∷◌, ◌++◌, ◌≤◌, inl, inr, drop, Option, Some, None, Ok, refl, sym, ap, subst, ◌∙◌, append_assoc, append-nil, arith}
+use Rattle.std.specs.Prelude.{◌&&◌, slice_get, IsTrue}
+use Rattle.std.proofs.lemmas.Bool.Decides.{nat_tests}
+use Rattle.std.specs.Io.KnownBytes.{Consumes}
 use Rattle.std.specs.List.{flat_map}
 use Rattle.std.proofs.KnownBytes.{Appends-trans, Consumes-trans}
+use Rattle.cops_types.specs.declared.configs.Config.{Config}
 use Rattle.cops_types.specs.declared.configs.Tenant.{Tenant}
-use Rattle.cops_types.specs.TenantConfig.{TenantConfig}
+use Rattle.cops_types.specs.HeadLines.{are_sizes}
+use Rattle.cops_types.specs.TenantConfig.{tenant_config}
 use Rattle.cops_node.specs.declared.NodeCall.{NodeCall}
 use Rattle.cops_node.specs.declared.NodeId.{NodeId}
 use Rattle.cops_node.specs.declared.NodeReply.{NodeReply}
 use Rattle.cops_node.specs.Clusters.{Cluster, nodes_of}
-use Rattle.cops_session.specs.Session.{Session}
+use Rattle.cops_session.specs.Session.{new_session}
 use Rattle.cops_wire.specs.declared.messages.Message.{Message}
 use Rattle.cops_wire.specs.declared.messages.Message.TheVariants.{Ready}
 use Rattle.cops_wire.specs.declared.serving.Ended.{Ended}
 use Rattle.cops_wire.specs.declared.serving.Ended.TheVariants.{Clean, Torn}
-use Rattle.cops_wire.specs.Alone.{CallsAmid, CallsCluster, IsServedAt, IsToldAlone, replies_alone}
-use Rattle.cops_wire.specs.Conversation.{IsConversation, IsReceivedAlone, are_requests, behind_first, end_of, ended_at, received_alone, requests_in, unless_other}
-use Rattle.cops_wire.specs.Requests.{Backend, backend}
+use Rattle.cops_wire.specs.Alone.{CallsAmid, CallsCluster, IsToldAlone, replies_alone}
+use Rattle.cops_wire.specs.Conversation.{IsConversation, IsReceivedAlone, are_requests, behind_first, end_of, ended_at, requests_in, unless_other}
+use Rattle.cops_wire.specs.Greeting.{greeted}
+use Rattle.cops_wire.specs.Requests.{HasFewRestarts, backend}
 use Rattle.cops_wire.specs.Serving.{AreFront, AreRequests, EndsSo, is_request, last_reply}
 use Rattle.cops_wire.specs.Spelling.{spelling}
 use Rattle.cops_wire.specs.Streams.{Split, split_after, split_of}
@@ -112,45 +116,81 @@ whole_is Torn all split stream hello messages requests rest on same e front aske
     subst (λ (s : Split). IsWhole s requests Torn) (sym (same inside.1))
     (record { requests_are = here all split hello messages requests e front asked; end_is = torn_inside _ _ _ inside.0 })
 
+-- what the whole stream begins with
+begins : (split stream : Split) (hello : Message) (messages : List Message) (rest : List ℕ) → stream ≡ split_after split rest → split.messages ≡ hello ∷ messages → slice_get stream.messages 0 ≡ Some hello
+begins split stream hello messages rest on e =
+    let more = more_messages split rest in
+    ap (λ (s : Split). slice_get s.messages 0) on ∙ ap (λ l. slice_get l 0) (more.1 ∙ ap (λ l. l ++ more.0) e)
+
+-- a greeting that was taken has a first message
+pub first_of : (tenants : List Tenant) (dcs : ℕ) (messages waiting : List Message) (place : ℕ × ℕ) → Ok place ≡ greeted tenants dcs (slice_get messages 0) → waiting ≡ drop 1 messages
+    → (hello : Message) × (messages ≡ hello ∷ waiting)
+first_of tenants dcs [] waiting place e w = absurd (let clash : ⊥ = cc in clash)
+first_of tenants dcs (hello ∷ messages) waiting place e w = (hello, ap (λ l. hello ∷ l) (sym w))
+
+-- no configuration allows as many restarts
+pub few_restarts : (config : Config) (tenant : Tenant) → IsTrue (are_sizes config) → HasFewRestarts (tenant_config config tenant)
+few_restarts config tenant h = let few : config.restarts ≤ 15 = grind (arith, nat_tests) in omega (arith, few)
+
 -- ---- whole connections
 
-module _ {M : Type 0} (Calls : Cluster → NodeId → ℕ → ℕ → NodeCall → NodeReply → Cluster → Type 0) (Gives : M → ℕ → M → Type 0) (tenants : List Tenant) (dcs : ℕ) (config : TenantConfig) (slot dc : ℕ)
-    (sent received : List ℕ) (old new : Backend Session Cluster M) where
-  -- the requests and the end are those of all that was sent
-  sent_whole : (h : IsConversation Calls Gives tenants dcs config slot dc sent received old new) → IsWhole (split_of sent) h.serves.requests h.ended
-  sent_whole h = by_rest h.new_remaining (Consumes-trans (Some sent) h.remaining h.new_remaining h.greets.came.input h.serves.input h.greets.came.read h.serves.read) h.serves.ends
+module _ {M : Type 0} (Calls : Cluster → NodeId → ℕ → ℕ → NodeCall → NodeReply → Cluster → Type 0) (Gives : M → ℕ → M → Type 0) (config : Config) (sent received : List ℕ) (nodes new_nodes : Cluster) (moments new_moments : M) where
+  -- what was read is a front of what was sent, and tells the requests, the end and the tenant of all of it
+  pub record IsAllOf (h : IsConversation Calls Gives config sent received nodes new_nodes moments new_moments) : Type 0 where
+    pub whole : IsWhole (split_of sent) h.conversed.serves.requests h.ended
+    pub first : slice_get (split_of sent).messages 0 ≡ Some h.conversed.hello
+
+  sent_whole : (h : IsConversation Calls Gives config sent received nodes new_nodes moments new_moments) → IsAllOf h
+  sent_whole h =
+      by_rest h.new_remaining (Consumes-trans (Some sent) h.conversed.greeted_remaining h.new_remaining h.conversed.greets.came.input h.conversed.serves.input h.conversed.greets.came.read h.conversed.serves.read) h.conversed.serves.ends
     where
       input : List ℕ
-      input = h.greets.came.input ++ h.serves.input
+      input = h.conversed.greets.came.input ++ h.conversed.serves.input
 
-      by_rest : (remaining : Option (List ℕ)) → Consumes (Some sent) remaining input → EndsSo h.ended h.serves.all (split_of input) remaining → IsWhole (split_of sent) h.serves.requests h.ended
+      by_rest : (remaining : Option (List ℕ)) → Consumes (Some sent) remaining input → EndsSo h.ended h.conversed.serves.all (split_of input) remaining → IsAllOf h
       by_rest None read ends = absurd read
       by_rest (Some rest) read ends =
-          whole_is h.ended h.serves.all (split_of input) (split_of sent) h.hello h.serves.messages h.serves.requests rest
-          (ap split_of read ∙ split_of-append input rest) (λ none. ap split_of (read ∙ ap (λ l. input ++ l) none ∙ append-nil input)) h.serves.are h.serves.front h.serves.asked ends
+          let on : split_of sent ≡ split_after (split_of input) rest = ap split_of read ∙ split_of-append input rest in
+          record {
+            whole = whole_is h.ended h.conversed.serves.all (split_of input) (split_of sent) h.conversed.hello h.conversed.serves.messages h.conversed.serves.requests rest
+                on (λ none. ap split_of (read ∙ ap (λ l. input ++ l) none ∙ append-nil input)) h.conversed.serves.are h.conversed.serves.front h.conversed.serves.asked ends;
+            first = begins (split_of input) (split_of sent) h.conversed.hello h.conversed.serves.messages rest on h.conversed.serves.are;
+          }
 
-  received_is : (h : IsConversation Calls Gives tenants dcs config slot dc sent received old new) → IsToldAlone Gives config slot old h.serves.requests h.serves.replies new.moments
-      → IsReceivedAlone Gives config slot sent received old new.moments
+  received_is : (h : IsConversation Calls Gives config sent received nodes new_nodes moments new_moments)
+      → IsToldAlone Gives (tenant_config config h.conversed.tenant) h.conversed.slot (backend (new_session h.conversed.dc 1) nodes moments) h.conversed.serves.requests h.conversed.serves.replies new_moments
+      → IsReceivedAlone Gives config sent received nodes moments new_moments
   received_is h told =
-      let alone = backend old.session (nodes_of config slot old.nodes) told.given in
-      let whole = sent_whole h in
+      let c = h.conversed in
+      let own = tenant_config config c.tenant in
+      let alone = backend (new_session c.dc 1) (nodes_of own c.slot nodes) told.given in
+      let all = sent_whole h in
       record {
+        slot = c.slot;
+        dc = c.dc;
+        tenant = c.tenant;
+        tenant_is = c.tenant_is;
+        greeted_is = c.greets.answer_is ∙ ap (λ (l : List Message). greeted config.tenants config.data_centres (slice_get l 0)) c.first ∙ ap (greeted config.tenants config.data_centres) (sym all.first);
         given = told.given;
         are = told.are;
         received_is =
-            Appends-trans (Some []) h.contents (Some received) (spelling Ready) (flat_map spelling (h.serves.replies ++ last_reply h.ended)) h.greets.written h.serves.written
-            ∙ ap (λ l. spelling Ready ++ flat_map spelling (l ++ last_reply h.ended)) (told.told ∙ ap (λ l. replies_alone config l alone) whole.requests_are)
-            ∙ ap (λ (e : Ended). spelling Ready ++ flat_map spelling (replies_alone config (requests_in (behind_first (split_of sent).messages)) alone ++ last_reply e)) whole.end_is;
+            Appends-trans (Some []) c.greeted_contents (Some received) (spelling Ready) (flat_map spelling (c.serves.replies ++ last_reply h.ended)) c.greets.written c.serves.written
+            ∙ ap (λ l. spelling Ready ++ flat_map spelling (l ++ last_reply h.ended)) (told.told ∙ ap (λ l. replies_alone own l alone) all.whole.requests_are)
+            ∙ ap (λ (e : Ended). spelling Ready ++ flat_map spelling (replies_alone own (requests_in (behind_first (split_of sent).messages)) alone ++ last_reply e)) all.whole.end_is;
       }
 
-pub conversation_alone : {M : Type 0} (Gives : M → ℕ → M → Type 0) (tenants : List Tenant) (dcs : ℕ) (config : TenantConfig) (slot dc : ℕ) (sent received : List ℕ) (old new : Backend Session Cluster M)
-    → IsConversation CallsCluster Gives tenants dcs config slot dc sent received old new → IsReceivedAlone Gives config slot sent received old new.moments
-conversation_alone Gives tenants dcs config slot dc sent received old new h =
-    received_is CallsCluster Gives tenants dcs config slot dc sent received old new h
-    (served_alone Gives config slot old h.serves.requests h.serves.replies new (record { tenant = h.tenant; shards = h.shards; served = h.serves.served; spared = h.spared }))
+pub conversation_alone : {M : Type 0} (Gives : M → ℕ → M → Type 0) (config : Config) (sent received : List ℕ) (nodes new_nodes : Cluster) (moments new_moments : M)
+    → IsConversation CallsCluster Gives config sent received nodes new_nodes moments new_moments → IsReceivedAlone Gives config sent received nodes moments new_moments
+conversation_alone Gives config sent received nodes new_nodes moments new_moments h =
+    let c = h.conversed in
+    received_is CallsCluster Gives config sent received nodes new_nodes moments new_moments h
+    (served_alone Gives (tenant_config config c.tenant) c.slot (backend (new_session c.dc 1) nodes moments) c.serves.requests c.serves.replies (backend c.after new_nodes new_moments)
+    (record { tenant = h.tenant; shards = h.shards; served = c.serves.served; spared = h.spared }))
 
-pub conversation_alone_amid : {M : Type 0} (Gives : M → ℕ → M → Type 0) (tenants : List Tenant) (dcs : ℕ) (config : TenantConfig) (slot dc : ℕ) (sent received : List ℕ) (old new : Backend Session Cluster M)
-    → IsConversation CallsAmid Gives tenants dcs config slot dc sent received old new → IsReceivedAlone Gives config slot sent received old new.moments
-conversation_alone_amid Gives tenants dcs config slot dc sent received old new h =
-    received_is CallsAmid Gives tenants dcs config slot dc sent received old new h
-    (served_alone_amid Gives config slot old h.serves.requests h.serves.replies new (record { tenant = h.tenant; shards = h.shards; served = h.serves.served; spared = h.spared }))
+pub conversation_alone_amid : {M : Type 0} (Gives : M → ℕ → M → Type 0) (config : Config) (sent received : List ℕ) (nodes new_nodes : Cluster) (moments new_moments : M)
+    → IsConversation CallsAmid Gives config sent received nodes new_nodes moments new_moments → IsReceivedAlone Gives config sent received nodes moments new_moments
+conversation_alone_amid Gives config sent received nodes new_nodes moments new_moments h =
+    let c = h.conversed in
+    received_is CallsAmid Gives config sent received nodes new_nodes moments new_moments h
+    (served_alone_amid Gives (tenant_config config c.tenant) c.slot (backend (new_session c.dc 1) nodes moments) c.serves.requests c.serves.replies (backend c.after new_nodes new_moments)
+    (record { tenant = h.tenant; shards = h.shards; served = c.serves.served; spared = h.spared }))

@@ -1,21 +1,22 @@
 -- A whole connection: from the bytes that a client sends to those that it receives.
-use Rattle.std.specs.Prelude.{◌≡◌, ℕ, Bool, true, false, ◌&&◌, List, [], ◌∷◌, ◌++◌, Option, Some, Ok}
+use Rattle.std.specs.Prelude.{◌≡◌, ℕ, Bool, true, false, ◌&&◌, List, [], ◌∷◌, ◌++◌, slice_get, Option, Some, Ok}
 use Rattle.std.specs.List.{flat_map}
+use Rattle.cops_types.specs.declared.configs.Config.{Config}
 use Rattle.cops_types.specs.declared.configs.Tenant.{Tenant}
-use Rattle.cops_types.specs.TenantConfig.{TenantConfig}
+use Rattle.cops_types.specs.TenantConfig.{TenantConfig, tenant_config}
 use Rattle.cops_node.specs.declared.NodeCall.{NodeCall}
 use Rattle.cops_node.specs.declared.NodeId.{NodeId}
 use Rattle.cops_node.specs.declared.NodeReply.{NodeReply}
 use Rattle.cops_node.specs.Clusters.{Cluster, HasTenant, nodes_of}
-use Rattle.cops_session.specs.Session.{Session}
+use Rattle.cops_session.specs.Session.{Session, new_session}
 use Rattle.cops_wire.specs.declared.messages.Message.{Message}
 use Rattle.cops_wire.specs.declared.messages.Message.TheVariants.{Ready}
 use Rattle.cops_wire.specs.declared.serving.Ended.{Ended}
 use Rattle.cops_wire.specs.declared.serving.Ended.TheVariants.{Clean, Torn}
 use Rattle.cops_wire.specs.Alone.{Alone, AreGiven, AreSpared, replies_alone}
 use Rattle.cops_wire.specs.Decoding.{Kept}
-use Rattle.cops_wire.specs.Greeting.{Greets}
-use Rattle.cops_wire.specs.Requests.{Answers, Backend, backend}
+use Rattle.cops_wire.specs.Greeting.{Greets, greeted}
+use Rattle.cops_wire.specs.Requests.{Answers, backend}
 use Rattle.cops_wire.specs.Serving.{ServesAll, is_request, last_reply}
 use Rattle.cops_wire.specs.Spelling.{spelling}
 use Rattle.cops_wire.specs.Streams.{Split, split_of}
@@ -54,25 +55,41 @@ said_alone config old split = replies_alone config (requests_in (behind_first sp
 abbrev pub received_alone : TenantConfig → Alone → List ℕ → List ℕ
 received_alone config old sent = spelling Ready ++ flat_map spelling (said_alone config old (split_of sent))
 
--- A client sent these bytes and received those: it was greeted, and then served up to the end, and no reply says that memory was refused.
-pub record IsConversation {M : Type 0} (Calls : Cluster → NodeId → ℕ → ℕ → NodeCall → NodeReply → Cluster → Type 0) (Gives : M → ℕ → M → Type 0)
-    (tenants : List Tenant) (dcs : ℕ) (config : TenantConfig) (slot dc : ℕ) (sent received : List ℕ) (old new : Backend Session Cluster M) : Type 0 where
-  pub remaining : Option (List ℕ)
-  pub new_remaining : Option (List ℕ)
-  pub contents : Option (List ℕ)
+-- A client was greeted as the tenant of a slot, and then served up to the end with a new session of this tenant.
+pub record HasConversed {N M : Type 0} (Calls : N → NodeId → ℕ → ℕ → NodeCall → NodeReply → N → Type 0) (Gives : M → ℕ → M → Type 0) (config : Config)
+    (remaining new_remaining contents new_contents : Option (List ℕ)) (nodes new_nodes : N) (moments new_moments : M) (ended : Ended) : Type 0 where
+  pub slot : ℕ
+  pub dc : ℕ
+  pub tenant : Tenant
+  pub tenant_is : slice_get config.tenants slot ≡ Some tenant
+  pub greeted_remaining : Option (List ℕ)
+  pub greeted_contents : Option (List ℕ)
   pub kept : Kept
   pub waiting : List Message
-  pub greets : Greets tenants dcs (Some sent) remaining (Some []) contents kept waiting (Ok (slot, dc))
+  pub greets : Greets config.tenants config.data_centres remaining greeted_remaining contents greeted_contents kept waiting (Ok (slot, dc))
   pub hello : Message
   pub first : greets.messages ≡ hello ∷ waiting
-  pub ended : Ended
-  pub serves : ServesAll (Answers Calls Gives config slot) greets.came.input (hello ∷ []) remaining new_remaining contents (Some received) old new ended
-  pub tenant : HasTenant config slot old.nodes
-  pub shards : config.shards ≡ old.nodes.shape.shards
-  pub spared : AreSpared serves.replies
+  pub after : Session
+  pub serves : ServesAll (Answers Calls Gives (tenant_config config tenant) slot) greets.came.input (hello ∷ []) greeted_remaining new_remaining greeted_contents new_contents
+      (backend (new_session dc 1) nodes moments) (backend after new_nodes new_moments) ended
 
--- the client received what he receives where the tenant has the nodes to himself, at the moments that were given
-pub record IsReceivedAlone {M : Type 0} (Gives : M → ℕ → M → Type 0) (config : TenantConfig) (slot : ℕ) (sent received : List ℕ) (old : Backend Session Cluster M) (new_moments : M) : Type 0 where
+-- A client sent these bytes and received those at the nodes of a cluster, and no reply says that memory was refused.
+pub record IsConversation {M : Type 0} (Calls : Cluster → NodeId → ℕ → ℕ → NodeCall → NodeReply → Cluster → Type 0) (Gives : M → ℕ → M → Type 0) (config : Config)
+    (sent received : List ℕ) (nodes new_nodes : Cluster) (moments new_moments : M) : Type 0 where
+  pub new_remaining : Option (List ℕ)
+  pub ended : Ended
+  pub conversed : HasConversed Calls Gives config (Some sent) new_remaining (Some []) (Some received) nodes new_nodes moments new_moments ended
+  pub tenant : HasTenant (tenant_config config conversed.tenant) conversed.slot nodes
+  pub shards : config.shards ≡ nodes.shape.shards
+  pub spared : AreSpared conversed.serves.replies
+
+-- The client received what it receives where its tenant, whom the first message names, has the nodes to himself, at the moments that were given.
+pub record IsReceivedAlone {M : Type 0} (Gives : M → ℕ → M → Type 0) (config : Config) (sent received : List ℕ) (nodes : Cluster) (moments new_moments : M) : Type 0 where
+  pub slot : ℕ
+  pub dc : ℕ
+  pub tenant : Tenant
+  pub tenant_is : slice_get config.tenants slot ≡ Some tenant
+  pub greeted_is : Ok (slot, dc) ≡ greeted config.tenants config.data_centres (slice_get (split_of sent).messages 0)
   pub given : List ℕ
-  pub are : AreGiven Gives old.moments given new_moments
-  pub received_is : received ≡ received_alone config (backend old.session (nodes_of config slot old.nodes) given) sent
+  pub are : AreGiven Gives moments given new_moments
+  pub received_is : received ≡ received_alone (tenant_config config tenant) (backend (new_session dc 1) (nodes_of (tenant_config config tenant) slot nodes) given) sent

@@ -2,7 +2,7 @@ use Rattle.cops_wire.proofs.Conversations.{conversation_alone, conversation_alon
 use Rattle.cops_wire.proofs.laws.conversations_are_alone.Goals as goal
 
 pub returns-clause-alone : goal.returns-clause-alone
-returns-clause-alone g c = λ tenants dcs config slot dc sent received old new h. conversation_alone g.M.Moments.Gives tenants dcs config slot dc sent received old new h
+returns-clause-alone g c = λ config sent received nodes new_nodes moments new_moments h. conversation_alone g.M.Moments.Gives config sent received nodes new_nodes moments new_moments h
 
 pub returns-clause-amid : goal.returns-clause-amid
-returns-clause-amid g c = λ tenants dcs config slot dc sent received old new h. conversation_alone_amid g.M.Moments.Gives tenants dcs config slot dc sent received old new h
+returns-clause-amid g c = λ config sent received nodes new_nodes moments new_moments h. conversation_alone_amid g.M.Moments.Gives config sent received nodes new_nodes moments new_moments h

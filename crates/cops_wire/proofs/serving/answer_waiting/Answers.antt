@@ -2,7 +2,7 @@ use Rattle.std.proofs.Common.{◌≡◌, ◌+◌, ◌++◌, ◌∷◌, [], take,
 use Rattle.std.proofs.lemmas.List.{drop_more, nil_from_length, take_all, take_more, take-append-drop}
 use Rattle.cops_types.specs.Sink.{sink_writer}
 use Rattle.cops_wire.specs.Requests.{KeepsShape, HasAnswered, backend}
-use Rattle.cops_wire.proofs.AnsweredRequests.{SoFar, all_sent, none_yet, on_err, one_more, one_unkept, sent_on, some_sent}
+use Rattle.cops_wire.proofs.AnsweredRequests.{SoFar, all_sent, on_err, one_more, one_unkept, sent_on, some_sent}
 use Rattle.cops_wire.proofs.serving.answer_waiting.Goals as goal
 
 pub returns-in_err-send-clause-front : goal.returns-in_err-send-clause-front

@@ -1,0 +1,20 @@
+use Rattle.std.proofs.Common.{rules, ◌<◌, ◌∷◌, ◌∙◌, [], length, sym}
+use Rattle.cops_wire.specs.Requests.{KeepsShape}
+use Rattle.cops_wire.proofs.AnsweredRequests.{map_ok}
+use Rattle.cops_wire.proofs.Conversations.{first_of}
+use Rattle.cops_wire.proofs.NewSessions.{conversed, new_sizes, there_is}
+use Rattle.cops_wire.proofs.connections.Connection.converse.Goals as goal
+
+pub serve-requires : goal.serve-requires
+serve-requires g c =
+    let lt : c.in_ok-slot.slot < length c.args.config.now.tenants = search rules in
+    record { fits = new_sizes c.args.config.now _ c.new-session.result _ c.in_ok-slot.slot c.requires.nodes lt c.new-session.ensures.stands c.new-session.ensures.slot }
+
+pub returns-clause-conversed : goal.returns-clause-conversed
+returns-clause-conversed g c =
+    let lt : c.in_ok-slot.slot < length c.args.config.now.tenants = search rules in
+    let tenant = there_is c.args.config.now.tenants c.in_ok-slot.slot lt in
+    let greets = c.in_ok-slot.ensures.greeted in
+    let first = first_of c.args.config.now.tenants c.args.config.now.data_centres greets.messages _ _ greets.answer_is greets.waiting_are in
+    map_ok c.serve.result (c.serve.ensures.served greets.came.input (first.0 ∷ []) greets.came.kept_is (sym greets.came.messages_are ∙ first.1)) (λ ended h.
+    conversed (KeepsShape g.N.Nodes.shape g.N.Nodes.Answers) g.M.Moments.Gives c.args.config.now _ _ _ _ _ _ _ _ _ _ ended _ _ tenant.0 _ _ first.0 _ _ c.requires.sizes tenant.1 greets first.1 (c.new-session.ensures.stands tenant.0 tenant.1) c.new-session.ensures.slot h)
