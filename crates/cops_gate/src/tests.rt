@@ -91,6 +91,22 @@ fn a_turn_without_memory_is_blank(rt: HostRuntime) -> Result<(), Fail> {
     Ok(())
 }
 
+// For runs in which one request for memory is refused: the state comes back, and is as it was.
+#[test]
+fn refused_memory_hands_the_state_back(rt: HostRuntime) {
+    let made = match Gate::first(rt.alloc(), Counter { count: 7 }) {
+        Ok(made) => Ok(made),
+        Err((fault, state)) => {
+            assert!(rt; fault == Fault::OutOfMemory && state.count == 7);
+            Gate::first(rt.alloc(), state)
+        }
+    };
+    let Ok((gate, mut seat)) = made else {
+        panic!(rt; "a second try")
+    };
+    assert!(rt; gate.step(&rt, &mut seat, 0, 0, Ask::Go) == Ok(8));
+}
+
 // How many turns each thread makes.
 const TURNS: usize = 100;
 

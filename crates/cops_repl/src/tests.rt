@@ -75,7 +75,7 @@ fn pair(rt: &impl Abort, key: &[u8], clock: u64, node: u64) -> Pair {
 fn entry(rt: &impl Abort, alloc: Global, put: Pair, near: &[Pair]) -> Entry {
     let mut list = Near::empty(alloc);
     for pair in near {
-        list.add(*pair, 20).expect(rt, "room");
+        list.add(*pair, 20).expect(rt, "memory");
     }
     let parts = EntryParts {
         key: put.key,
@@ -195,4 +195,30 @@ fn what_each_node_removes_is_counted(rt: HostRuntime) {
     assert!(rt; matches!(collect_all(&mut nodes, &config, 0, 5101), Ok(3)));
     assert!(rt; matches!(collect_all(&mut nodes, &config, 0, 5101), Ok(0)));
     assert_eq!(rt; nodes.asked.len(), 8);
+}
+
+// For runs in which one request for memory is refused: the node says so, and the sum is told of none.
+#[test]
+fn refused_memory_ends_a_collection(rt: HostRuntime) {
+    let config = config(rt.alloc());
+    let counts = removed(&rt, rt.alloc(), &[1, 0, 2, 0]);
+    let mut nodes = nodes_with(rt.alloc(), counts);
+    match collect_all(&mut nodes, &config, 0, 5101) {
+        Ok(count) => assert_eq!(rt; count, 3),
+        Err(fault) => assert!(rt; fault == Fault::OutOfMemory),
+    }
+}
+
+// The carrier takes no memory itself. Where the node has none, it ends with what the node said.
+#[test]
+fn refused_memory_ends_a_carrier(rt: HostRuntime) {
+    let replies = answers(&rt, rt.alloc(), 3, NodeReply::Acked);
+    match carry(
+        &rt,
+        &mut nodes_with(rt.alloc(), replies),
+        y_carrier(rt.alloc()),
+    ) {
+        Delivery::Refused(fault) => assert!(rt; fault == Fault::OutOfMemory),
+        ending => assert_carried(&rt, ending, pair(&rt, b"y", 2, 1), true, true),
+    }
 }
