@@ -11,9 +11,9 @@ use Rattle.std.proofs.lemmas.Bool.Decides.{nat_tests}
 use Rattle.std.specs.Bool.{◌==◌}
 use Rattle.std.specs.List.{list_all}
 use Rattle.cops_types.specs.BigEndian.{big_endian}
-use Rattle.cops_types.specs.Key.{is_key, is_key_byte, key_cmp}
+use Rattle.cops_types.specs.Key.{is_key, is_key_byte, is_name, key_cmp}
 use Rattle.cops_types.specs.Padding.{IsPadded, padded, padded-take}
-use Rattle.cops_types.proofs.Padded.{is_key-fits}
+use Rattle.cops_types.proofs.Padded.{is_key-fits, is_name-fits}
 
 -- ---- orders of numbers
 
@@ -236,6 +236,20 @@ cells_decide b c m n o h k is decided = by decided ∙ sym whole
     by (inr short) =
         sym (then_Equal o)
         ∙ (λ i. ordering_then o (slice_cmp nat_cmp (sym (drop_all 16 (take m b) (omega (arith, (padded-take 64 is_key b m h).1, short.0))) i) (sym (drop_all 16 (take n c) (omega (arith, (padded-take 64 is_key c n k).1, short.1))) i)))
+
+is_name-key : (name : List ℕ) → is_name name ≡ true → is_key name ≡ true
+is_name-key name is = grind (arith, nat_tests)
+
+-- the cells of a name and those of another decide
+pub name_cells_decide : (b c : List ℕ) (m n : ℕ) (o : Ordering) → IsPadded 16 is_name b m → IsPadded 16 is_name c n →
+    o ≡ slice_cmp nat_cmp (take 16 b) (take 16 c) → o ≡ key_cmp (take m b) (take n c)
+name_cells_decide b c m n o h k is = is ∙ sym whole
+  where
+    whole : key_cmp (take m b) (take n c) ≡ slice_cmp nat_cmp (take 16 b) (take 16 c)
+    whole =
+        padded_cmp 16 16 16 (take m b) (take n c) (omega arith) (omega arith) (is_name-fits (take m b) h.formed) (is_name-fits (take n c) k.formed) (is_name-key (take m b) h.formed) (is_name-key (take n c) k.formed)
+        ∙ (λ i. ordering_then (slice_cmp nat_cmp (take 16 ((padded-take 16 is_name b m h).0 i)) (take 16 ((padded-take 16 is_name c n k).0 i))) (slice_cmp nat_cmp (drop_all 16 (take m b) (is_name-fits (take m b) h.formed) i) (drop_all 16 (take n c) (is_name-fits (take n c) k.formed) i)))
+        ∙ then_Equal _
 
 -- a short key and another
 short_cells_cmp : (cells key front : List ℕ) (len : ℕ) (o : Ordering) → IsPadded 15 is_key cells len → is_key key ≡ true → front ≡ take 15 (padded 64 key) →

@@ -58,7 +58,7 @@ fn start(alloc: Global, line: &[u8]) -> (Progress, HeadLine)
     }
 }
 
-/// What the line `begin` says after these tenants.
+/// What the line `begin` says where the head has come to this configuration.
 fn begin(config: Config) -> HeadLine
     ensures { result ≡ said_at (next_within config begin_line) }
 {

@@ -2,9 +2,13 @@
 ghost use Rattle.std.specs.Prelude.{◌≡◌, ◌+◌, ◌-◌, ◌*◌, ◌^◌, ◌<◌, ◌≤◌, [], ◌∷◌, ◌++◌, ◌&&◌, ◌==◌, nat_lt, length, slice_index, MatchOption, IfSome, IfNone};
 ghost use Rattle.std.specs.Option.{option_map_or};
 ghost use Rattle.std.specs.Str.Parse.{AllDigits, digits_value};
+ghost use Rattle.memchr.specs.Find.{IsFirstByte, is_byte};
 ghost use Rattle.cops_types.specs.Words.{IsUnspaced, first_word, no_words, number_of, parts_at, space};
 
 use std::marker::Model;
+
+/// How many bytes are looked at one by one.
+const FEW: usize = 8;
 
 /// The words of a line that are still to come, between single spaces. Contracts see the list.
 #[derive(Debug, Drop)]
@@ -33,12 +37,29 @@ pub fn split_word(bytes: &[u8]) -> (&[u8], Option<&[u8]>)
     }
 }
 
+/// Where the first space is. Most words are short, so a few bytes are looked at one by one before
+/// the others are searched many at a time.
+fn place_of_space(bytes: &[u8]) -> Option<usize>
+    ensures { IsFirstByte (is_byte space) bytes.now result }
+{
+    let few = bytes.len().min(FEW);
+    let mut at = 0;
+    while at < few {
+        if bytes[at] == b' ' {
+            return Some(at);
+        }
+        at += 1;
+    }
+    let more = memchr::memchr(b' ', &bytes[few..])?;
+    Some(few + more)
+}
+
 /// The bytes before the first space, and those after it.
 fn split_at_space(bytes: &[u8]) -> Option<(&[u8], &[u8])>
     ensures some { IfSome result (λ parts. IsUnspaced parts.0.now × (bytes.now ≡ parts.0.now ++ 32 ∷ parts.1.now)) }
     ensures none { IfNone result (IsUnspaced bytes.now) }
 {
-    let at = memchr::memchr(b' ', bytes)?;
+    let at = place_of_space(bytes)?;
     Some((&bytes[..at], &bytes[at + 1..]))
 }
 
