@@ -1,13 +1,16 @@
 #!/usr/bin/env bash
-# Messages per second of a decoder, in ratio to one in plain Rust in the same run.
-# Usage: wire.sh [times [thousands]]. Both programs run in turn, so many times each (5), and the least time of each counts.
-# So many thousand puts (1000), and then as many get transactions of 4 keys, come in pieces of 4,096 bytes.
-# The decoder's program is proved and built in a folder of its own (ROOM, which may be kept), so that rt ci has no part in it.
+# Messages per second of processor time that are decoded, encoded and answered on a connection, in ratio to plain Rust in the same run.
+# Usage: wire.sh [times [thousands]]. Both programs run in turn, so many times each (9); so many thousand messages are served (300), and
+# twenty times as many decoded and encoded. The median of the differences to runs over none counts.
+# Messages are puts of 32 bytes, and get transactions of 4 keys. A decoder gets them in pieces of 4,096 bytes; a connection answers them at
+# one node, behind a greeting, with a context for each eight, that is created before and deleted behind them.
+# The program is proved and built in a folder of its own (ROOM, which may be kept, with what was proved of its crates), so that rt ci has
+# no part in it.
 set -eu
 here=$(cd "$(dirname "$0")" && pwd)
 rt=${RT:-rt}
-times=${1:-5}
-thousands=${2:-1000}
+times=${1:-9}
+thousands=${2:-300}
 room=${ROOM:-}
 if [ -z "$room" ]; then
     room=$(mktemp -d)
@@ -27,28 +30,43 @@ done
 cp "$here/wire_program.rt.txt" "$program/src/main.rt"
 cp "$here/../HANDLES" "$room/HANDLES"
 grep -E '^cops_(types|store|outbox|node|handles|context|session|wire)( [^:]*)?:' "$here/../crates.txt" >"$room/crates.txt"
-echo 'wire_program: cops_types cops_wire' >>"$room/crates.txt"
-(cd "$program" && $rt run -- 1 >"$room/build.log" 2>&1) || {
+echo 'wire_program: cops_types cops_node cops_session cops_wire uuid' >>"$room/crates.txt"
+(cd "$program" && $rt run -- decode put 0 >"$room/build.log" 2>&1) || {
     tail -40 "$room/build.log"
     exit 1
 }
 (cd "$here/plain" && cargo build --quiet --release --offline --target-dir "$room/target")
+python3 - "$program/out/wire_program" "$room/target/release/frames" "$times" "$thousands" <<'END'
+import resource
+import statistics
+import subprocess
+import sys
 
-# The least nanoseconds of a program for messages of a kind.
-least() {
-    awk -v kind="$2" '$1 == kind { if (least == "" || $2 < least) least = $2 } END { print least }' "$1"
-}
+ours, plain, times, thousands = sys.argv[1], sys.argv[2], int(sys.argv[3]), int(sys.argv[4])
 
-rm -f "$room/of_cops" "$room/of_plain"
-for ((run = 0; run < times; run++)); do
-    "$program/out/wire_program" "$thousands" >>"$room/of_cops"
-    "$room/target/release/frames" "$thousands" >>"$room/of_plain"
-done
-# As many messages.
-cmp <(awk '{ print $1, $3 }' "$room/of_cops") <(awk '{ print $1, $3 }' "$room/of_plain")
-echo '| Messages | `cops` | Plain | Ratio |'
-echo '|---|---|---|---|'
-for kind in put get; do
-    echo "$kind $(least "$room/of_cops" "$kind") $(least "$room/of_plain" "$kind")" |
-        awk -v count="$((thousands * 1000))" '{ printf "| %ss | %d | %d | %.2f |\n", $1, count / $2 * 1e9, count / $3 * 1e9, $2 / $3 }'
-done
+
+def seconds(program, what, kind, count):
+    """Processor time of a run, and what it prints."""
+    before = resource.getrusage(resource.RUSAGE_CHILDREN)
+    told = subprocess.run([program, what, kind, count], check=True, capture_output=True).stdout
+    after = resource.getrusage(resource.RUSAGE_CHILDREN)
+    return after.ru_utime + after.ru_stime - before.ru_utime - before.ru_stime, told
+
+
+print("| What | Messages | `cops` | Plain | Ratio |\n|---|---|---|---|---|")
+for what in "decode", "encode", "serve":
+    count = thousands if what == "serve" else thousands * 20
+    for kind in "put", "get":
+        taken = {ours: [], plain: []}
+        for _ in range(times):
+            told = set()
+            for program in ours, plain:
+                idle, _ = seconds(program, what, kind, "0")
+                busy, line = seconds(program, what, kind, str(count))
+                taken[program].append(busy - idle)
+                told.add(line)
+            if len(told) > 1:
+                sys.exit(f"{what} {kind}: {told}")
+        rates = {program: count * 1000 / statistics.median(of) for program, of in taken.items()}
+        print(f"| {what} | {kind}s | {rates[ours]:,.0f} | {rates[plain]:,.0f} | {rates[plain] / rates[ours]:.2f} |", flush=True)
+END
