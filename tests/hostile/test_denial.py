@@ -21,11 +21,10 @@ READY = bytes.fromhex("0000000181")
 
 
 def large_replies() -> tuple[list[Message], bytes]:
-    """What puts 32 values of 4,096 bytes, and a request for all of them: 79 bytes, answered by 131,621 and more."""
+    """What has a request of 79 bytes be answered by 800,000 and more: 32 values of 4,096 bytes, each with 300 dependencies."""
     keys = tuple(b"%c" % (97 + place) if place < 26 else b"%d" % (place - 26) for place in range(32))
-    puts: list[Message] = [CreateContext(), CreateContext()]
-    for key in keys:
-        puts += [Put(Handle(1), key, bytes(4_096))]
+    puts: list[Message] = [Put(FIRST, f"{number:064}".encode(), b"") for number in range(300)]
+    puts += [Put(FIRST, key, bytes(4_096)) for key in keys]
     return puts, frames([GetTrans(Handle(2), keys)])
 
 
@@ -80,28 +79,29 @@ class Denial(unittest.TestCase):
             held[1].close()
             check_replays(self, service.audit(), [ACME, BETA])
 
-    def test_large_replies_that_nobody_reads_take_what_one_read_asks_for(self):
-        """At most 51 of these requests come in one read, so that is what waits to be written; and none of it is kept."""
+    def test_large_replies_that_nobody_reads_take_the_memory_of_one(self):
+        """Up to 51 of these requests come in one read."""
         puts, get = large_replies()
         with Service(head([ACME, BETA]), workers=2, connections=22) as service:
             stream = service.stream()
-            stream.sendall(HELLO + frames(puts))
-            read_some(stream, 5 + 2 * 14 + 32 * 15)
+            stream.sendall(HELLO + frames([CreateContext(), CreateContext()]) + frames(puts))
+            told = 5 + 2 * 14 + sum(4 + 1 + 1 + len(put.key) + 8 for put in puts)
+            self.assertEqual(len(read_some(stream, told)), told)
             self.converse(service)
             before = service.memory()
             stream.settimeout(0.3)
-            sent = 0
+            count = 0
             with self.assertRaises(TimeoutError):
-                while sent < 1 << 30:
-                    sent += stream.send(get * 100)
+                while count < 1 << 30:
+                    count += stream.send(get * 100)
             most = service.memory() - before
             self.converse(service, 10)
             stream.close()
             self.converse(service, 10)
             left = service.memory() - before
             print(f"large replies that nobody reads: {most:,} bytes more, {left:,} when the client has gone")
-            self.assertLess(most, 60_000_000)
-            self.assertLess(left, 20_000_000)
+            self.assertLess(most, 12_000_000)
+            self.assertLess(left, 12_000_000)
             check_replays(self, service.audit(), [ACME, BETA])
 
     def test_connections_one_after_another_leave_nothing(self):
