@@ -1,19 +1,16 @@
-//! How a thread waits for the machine: it looks again, gives its processor away, and then sleeps until a turn ends.
+//! How a thread waits for the machine: it looks again, and then sleeps until a turn ends.
 //! The words are read without a seat, so nothing here changes what a seat knows.
 ghost use Rattle.std.specs.Prelude.{◌≡◌, ◌<◌, ◌^◌};
 
 use crate::board::{Board, LAST, SERVING, TICKET};
 use cops_types::Machine;
+use std::hint;
 use std::sync::Wait;
 use std::sync::atomic::AtomicU64;
 use std::sync::atomic::Ordering::SeqCst;
-use std::{hint, thread};
 
-// The first tries that look again at once, each after twice the pause of the one before.
+// The first tries that look again at once, each after twice the pause of the one before. Later ones sleep.
 const LOOKS: u32 = 7;
-
-// The tries up to here give the processor away. Later ones sleep.
-const YIELDS: u32 = 11;
 
 // After so many tries a thread no longer holds back: it draws its ticket and waits in line.
 const HOLDS: u32 = 32;
@@ -49,8 +46,6 @@ impl Sleepers {
             for _ in 0..1u32 << tries {
                 hint::spin_loop();
             }
-        } else if tries < YIELDS {
-            thread::yield_now();
         } else {
             self.sleep(rt, board, seen);
         }
@@ -58,13 +53,14 @@ impl Sleepers {
 
     /// Wakes who may go on, now that `serving` is served.
     /// Where no ticket is out any sleeper may draw the next one, and else the one that has this ticket is to see it.
+    /// Behind the last ticket no turn follows, so all are woken.
     pub(crate) fn wake<M: Machine>(&self, board: &Board<M>, serving: u64)
         requires { board.now.shared.table_id.words ≡ 2 }
     {
         if self.count.load(SeqCst) == 0 {
             return;
         }
-        if board.shared.peek(TICKET) == serving {
+        if serving < LAST && board.shared.peek(TICKET) == serving {
             board.shared.wake_one(SERVING);
         } else {
             board.shared.wake_all(SERVING);
