@@ -15,3 +15,6 @@ unreachable-requires g c = never_written _ _ _ _ _ _ (cc) c.in-Err-WriteFault.en
 
 pub unreachable-requires-in-Ok : goal.unreachable-requires-in-Ok
 unreachable-requires-in-Ok g c = c.in-Ok.ensures.ok.ended
+
+pub returns-in-Err-ReadFault-clause-read_fault : goal.returns-in-Err-ReadFault-clause-read_fault
+returns-in-Err-ReadFault-clause-read_fault g c = λ is. c.in-Err-ReadFault.ensures.read_fault (cc)
