@@ -9,9 +9,9 @@ import unittest
 
 import pair
 from audits import check_replays
-from cops_client.frames import CreateContext, DeleteContext, GetTrans, Handle, Hello, Message, Put
-from model import Alone, replies
-from service import Service, Tenant, frames, head, messages, talk
+from cops_client.frames import CreateContext, DeleteContext, GetTrans, Handle, Hello, Message, Put, Ready, Refused
+from model import SYNTAX, Alone, replies
+from service import REPLY_TIME, Service, Tenant, frames, head, messages, read_some, read_to_end, talk
 
 #: One with quotas that are met, in the second of two data centres.
 ACME = Tenant("acme", 1, versions=2_000, contexts=2, dependencies=3)
@@ -108,6 +108,27 @@ class Streams(unittest.TestCase):
                 streams.append(HELLO + length.to_bytes(4, "big") + behind)
                 streams.append(length.to_bytes(4, "big") + behind)
         self.hold([[stream] for stream in streams])
+
+    def test_a_length_over_the_limit_is_refused_when_its_last_byte_is_there(self):
+        """And no other: a body of 4,000,000 bytes is waited for."""
+        refused = frames([Refused(SYNTAX)])
+        with Service(head([ACME, BETA], 2, SHARDS), workers=1, connections=4) as service:
+            for length, is_refused in ((0, True), (4_000_001, True), ((1 << 32) - 1, True), (4_000_000, False)):
+                pair.hold()
+                with service.stream() as stream:
+                    stream.sendall(HELLO + length.to_bytes(4, "big")[:3])
+                    self.assertEqual(read_some(stream, 5), frames([Ready()]))
+                    stream.settimeout(0.1)
+                    with self.assertRaises(TimeoutError):
+                        stream.recv(1)
+                    stream.sendall(length.to_bytes(4, "big")[3:])
+                    if is_refused:
+                        stream.settimeout(REPLY_TIME)
+                        self.assertEqual(read_to_end(stream), refused)
+                    else:
+                        with self.assertRaises(TimeoutError):
+                            stream.recv(1)
+            check_replays(self, service.audit(), [ACME, BETA])
 
     def test_garbage(self):
         numbers, streams = random.Random(8), []
