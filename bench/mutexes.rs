@@ -1,5 +1,5 @@
 //! Turns per second through the seats of a cluster, beside a `std::sync::Mutex` for each node.
-//! Arguments: the program of seats, and how often each is measured. It prints medians and their ratio.
+//! Arguments: the program of seats, and how often both are measured in turn. It prints medians of both, and the median of the ratios.
 use std::hint::black_box;
 use std::process::Command;
 use std::sync::Mutex;
@@ -97,15 +97,17 @@ fn main() {
     println!("|---|---|---|---|---|---|---|");
     for (nodes, stride, way) in [(1, 0, "at the node"), (4, 0, "at one node"), (4, 1, "goes round"), (16, 0, "at one node"), (16, 1, "goes round")] {
         for threads in [1, 2, 4, 8] {
-            for (name, rounds, total) in [("none", 0, 1_600_000), ("1 microsecond", work, 160_000)] {
+            for (name, rounds, total) in [("none", 0, 4_000_000), ("1 microsecond", work, 160_000)] {
                 let load = Load { threads, nodes, turns: total / threads, rounds, stride };
-                let (mut of_seats, mut of_mutexes) = (Vec::new(), Vec::new());
+                let (mut of_seats, mut of_mutexes, mut ratios) = (Vec::new(), Vec::new(), Vec::new());
                 for _ in 0..times {
-                    of_seats.push(seats(&words[1], load));
-                    of_mutexes.push(mutexes(load));
+                    let (seats, mutexes) = (seats(&words[1], load), mutexes(load));
+                    of_seats.push(seats);
+                    of_mutexes.push(mutexes);
+                    ratios.push(seats / mutexes);
                 }
-                let (seats, mutexes) = (median(of_seats), median(of_mutexes));
-                println!("| {nodes} | {way} | {threads} | {name} | {seats:.2} | {mutexes:.2} | {:.2} |", seats / mutexes);
+                let (seats, mutexes, ratio) = (median(of_seats), median(of_mutexes), median(ratios));
+                println!("| {nodes} | {way} | {threads} | {name} | {seats:.2} | {mutexes:.2} | {ratio:.2} |");
             }
         }
     }
