@@ -1,8 +1,9 @@
 -- What a world keeps whatever its tenants do: its actors run at its nodes, and its tenants have its sizes.
-use Rattle.std.proofs.Common.{◌≡◌, ℕ, zero, suc, ◌+◌, ◌*◌, ◌<◌, ◌≤◌, Bool, true, false, true≢false, ◌&&◌, cond, get_or, Fits, w64, List, [], ◌∷◌, length, refl, sym, subst, ap, ◌∙◌, arith}
+use Rattle.std.proofs.Common.{◌≡◌, ℕ, zero, suc, ◌+◌, ◌*◌, ◌<◌, ◌≤◌, Bool, true, false, true≢false, ◌&&◌, cond, get_or, Fits, w64, List, [], ◌∷◌, length, map, ◌⊎◌, inl, inr, refl, sym, subst, ap, ◌∙◌, arith, rules}
 use Rattle.std.specs.Prelude.{Option, Some, None, IsTrue, nat_le, replicate, slice_get, slice_index}
-use Rattle.std.specs.List.{list_all}
+use Rattle.std.specs.List.{IsDistinct, list_all}
 use Rattle.std.proofs.lemmas.Bool.{leb-false, leb-true}
+use Rattle.std.proofs.lemmas.List.{length-replicate}
 use Rattle.cops_types.specs.HeadLines.{are_sizes, greatest_quota, is_between, is_name, is_quota, is_tenant}
 use Rattle.cops_types.specs.Version.{last_clock}
 use Rattle.cops_types.specs.Words.{is_u64}
@@ -11,8 +12,11 @@ use Rattle.cops_types.proofs.WordLemmas.{same_value}
 use Rattle.cops_types.specs.declared.configs.Config.{Config}
 use Rattle.cops_types.specs.declared.configs.Tenant.{Tenant}
 use Rattle.cops_types.specs.TenantConfig.{TenantConfig, tenant_config}
-use Rattle.cops_node.specs.Clusters.{Cluster, HasTenant, nodes_of}
-use Rattle.cops_node.specs.Parts.{are_clocks}
+use Rattle.cops_node.specs.Clusters.{Cluster, HasTenant, IsCall, new_nodes, nodes_of}
+use Rattle.cops_node.specs.declared.NodeCall.{NodeCall}
+use Rattle.cops_node.specs.declared.NodeId.{NodeId}
+use Rattle.cops_node.specs.declared.NodeReply.{NodeReply}
+use Rattle.cops_node.specs.Parts.{Home, Shared, are_clocks}
 use Rattle.cops_node.specs.Shape.{Shape}
 use Rattle.cops_node.specs.SoloNode.{new_node}
 use Rattle.cops_world.specs.declared.actors.Actor.{Actor as Kept}
@@ -21,7 +25,7 @@ use Rattle.cops_world.specs.ActorsStand.{RunsAt}
 use Rattle.cops_world.specs.ActorTables.{same_actor}
 use Rattle.cops_world.specs.Events.{config_at}
 use Rattle.cops_world.specs.Cluster.{new_cluster}
-use Rattle.cops_world.specs.Worlds.{HasSizes, KeptWorld, StandsAt, world_of}
+use Rattle.cops_world.specs.Worlds.{HasSizes, IsKeptWorld, IsWorld, KeptWorld, StandsAt, world_of}
 use Rattle.cops_world.proofs.ActorTableLemmas.{same_actor-is}
 use Rattle.cops_world.proofs.WorldJoins.{quota_at}
 use Rattle.cops_world.proofs.WorldSteps.{table_after}
@@ -179,3 +183,34 @@ new_stands config nodes kept setup_is nodes_are no_entries no_counts tenants fre
       actors_are = record { same = λ name. tt; distinct = tt };
       count_is = no_count (length config.tenants) slot;
     })
+
+-- ---- the nodes stay those of the configuration
+
+abbrev homes : Cluster → List Home
+homes cluster = map (λ (node : Shared). node.home) cluster.nodes
+
+-- after one call at one of them, or none
+pub homes_stay : (old new : Cluster) (slot : ℕ) → (new ≡ old) ⊎ ((id : NodeId) × (at : ℕ) × (call : NodeCall) × (reply : NodeReply) × IsCall old id slot at call reply new) →
+    map (λ (node : Shared). node.home) new.nodes ≡ map (λ (node : Shared). node.home) old.nodes
+homes_stay old new slot (inl same) = ap homes same
+homes_stay old new slot (inr (id, at, call, reply, made)) = made.homes
+
+-- ---- a world without actors, at new nodes
+
+no_two : IsDistinct same_actor []
+unfolding IsDistinct
+no_two = tt
+
+pub kept_at_first : (config : Config) (nodes : Cluster) (entries : List (ActorId × Kept)) (counts : List ℕ) → IsTrue (is_good config) → nodes ≡ new_nodes config → entries ≡ [] → counts ≡ replicate (length config.tenants) 0 →
+    IsKeptWorld (record { setup = config; nodes = nodes; entries = entries; counts = counts })
+kept_at_first config nodes entries counts good nodes_are none counts_are =
+    let first : KeptWorld = record { setup = config; nodes = new_nodes config; entries = []; counts = replicate (length config.tenants) 0 } in
+    let whole : IsWorld (world_of first) = record {
+      shape_is = refl;
+      homes_are = refl;
+      good = good;
+      counted = length-replicate (length config.tenants) 0;
+      run = λ id actor e. cc;
+    } in
+    let kept : IsKeptWorld first = record { whole = whole; distinct = no_two } in
+    subst IsKeptWorld (λ i. record { setup = config; nodes = sym nodes_are i; entries = sym none i; counts = sym counts_are i }) kept

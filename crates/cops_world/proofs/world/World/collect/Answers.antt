@@ -57,3 +57,17 @@ returns-clause-lack c =
     let shards = subst (λ (k : KeptWorld). (config_at k.setup c.args.slot).shards ≡ k.setup.shards) (sym c.self.view_is) sizes.shards ∙ sym (ap (λ (s : Shape). s.shards) c.self.invariant.whole.shape_is) in
     subst (λ (kept : KeptWorld). Leaves Stays (world_of kept) c.args.slot c.reply_of_collect.result (world_of new)) c.self.view_is
     (collect_leaves (world_of old) c.args.slot c.args.id c.args.moment c.step.result c.step.new.self c.reply_of_collect.result shards c.step.ensures.answers c.reply_of_collect.ensures)
+
+pub invariant_of-self : goal.invariant_of-self
+invariant_of-self c =
+    let whole = c.self.invariant.whole in
+    record {
+      whole = record {
+        shape_is = c.step.ensures.shape ∙ whole.shape_is;
+        homes_are = c.step.ensures.answers.homes ∙ whole.homes_are;
+        good = whole.good;
+        counted = whole.counted;
+        run = whole.run;
+      };
+      distinct = c.self.invariant.distinct;
+    }

@@ -1,6 +1,6 @@
 use Rattle.std.proofs.Common.{refl, ap, ◌∙◌}
 use Rattle.std.specs.Prelude.{replicate}
-use Rattle.cops_world.proofs.WorldKeeps.{clocks_of_good, new_stands, nothing_in}
+use Rattle.cops_world.proofs.WorldKeeps.{clocks_of_good, kept_at_first, new_stands, nothing_in}
 use Rattle.cops_world.proofs.world.World.new.Goals as goal
 
 pub new-requires-clause-clocks : goal.new-requires-clause-clocks
@@ -13,3 +13,9 @@ returns c = record {
       refl refl (nothing_in c.new-2.result.entries c.new-2.ensures.len) (c.in_ok-counts.ensures.items_if_clones_equal (λ y same. same) ∙ ap (λ n. replicate n 0) c.len-tenants.ensures)
       c.in_ok-nodes.ensures.tenants c.in_ok-nodes.ensures.fresh;
 }
+
+pub invariant_of-result : goal.invariant_of-result
+invariant_of-result c =
+    kept_at_first c.args.config c.in_ok-nodes.nodes c.new-2.result.entries c.in_ok-counts.counts.items c.requires c.in_ok-nodes.ensures.nodes
+    (nothing_in c.new-2.result.entries c.new-2.ensures.len)
+    (c.in_ok-counts.ensures.items_if_clones_equal (λ y same. same) ∙ ap (λ n. replicate n 0) c.len-tenants.ensures)
