@@ -30,7 +30,7 @@ done
 cp "$here/wire_program.rt.txt" "$program/src/main.rt"
 cp "$here/../HANDLES" "$room/HANDLES"
 grep -E '^cops_(types|store|outbox|node|handles|context|session|wire)( [^:]*)?:' "$here/../crates.txt" >"$room/crates.txt"
-echo 'wire_program: cops_types cops_node cops_session cops_wire uuid' >>"$room/crates.txt"
+echo 'wire_program: cops_types cops_node cops_wire uuid' >>"$room/crates.txt"
 (cd "$program" && $rt run -- decode put 0 >"$room/build.log" 2>&1) || {
     tail -40 "$room/build.log"
     exit 1
