@@ -314,3 +314,8 @@ all_keys all keys rest are none some =
     let words : list_all is_word all ≡ true = ap (list_all is_word) same ∙ are.0 in
     let one : nat_lt 0 (length all) ≡ true = grind (arith, nat_tests) in
     rw one (rw words (ap Some same))
+
+-- ---- verbs
+
+pub verb_is : (verb literal expected : List ℕ) (test : Bool) → test ≡ bytes_eq verb literal → literal ≡ expected → test ≡ true → verb ≡ expected
+verb_is verb literal expected test is same holds = bytes_from_test verb literal (sym is ∙ holds) ∙ same

@@ -59,8 +59,11 @@ module _ {W : Type 0} (setup : W → Config) (StandsFor : W → ℕ → SoloClus
       }
 
   -- the line ends the head, and the script runs in a new world
-  pub begins_running : (state : Script W) (head : HeadSoFar) (line : List ℕ) (config : Config) (world : W) (out : List ℕ) → state ≡ Head head → front_with head.reader line ≡ Some (Begun config) → IsNew setup StandsFor config world →
-      Answers (line_answers setup StandsFor state line) (Running world) out out
-  begins_running state head line config world out is found fresh =
-      subst (λ s. Answers (line_answers setup StandsFor s line) (Running world) out out) (sym is)
-      (record { text = []; answered = (Begun config, found, refl, (world, fresh, refl)); appended = sym (append-nil out) })
+  pub begins_running : (state : Script W) (head : HeadSoFar) (line : List ℕ) (config : Config) (world : W) → state ≡ Head head → front_with head.reader line ≡ Some (Begun config) → IsNew setup StandsFor config world →
+      line_answers setup StandsFor state line [] (Running world)
+  begins_running state head line config world is found fresh =
+      subst (λ s. line_answers setup StandsFor s line [] (Running world)) (sym is) (Begun config, found, refl, (world, fresh, refl))
+
+  -- nothing is written where the answer is empty
+  pub answers_nothing : (old new : Script W) (line out : List ℕ) → line_answers setup StandsFor old line [] new → Answers (line_answers setup StandsFor old line) new out out
+  answers_nothing old new line out answered = record { text = []; answered = answered; appended = sym (append-nil out) }

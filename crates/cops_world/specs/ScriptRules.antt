@@ -1,5 +1,5 @@
 -- What is answered to each line of a script, and what is left after it.
-use Rattle.std.specs.Prelude.{◌≡◌, ℕ, List, [], Some, None}
+use Rattle.std.specs.Prelude.{◌≡◌, ℕ, List, [], Some, None, ⊤}
 use Rattle.cops_types.specs.declared.configs.Config.{Config}
 use Rattle.cops_types.specs.declared.faults.Fault.TheVariants.{Syntax}
 use Rattle.cops_types.specs.Counts.{counted}
@@ -13,6 +13,11 @@ use Rattle.cops_world.specs.Cluster.{SoloCluster}
 use Rattle.cops_world.specs.HeadRules.{HeadAnswers, HeadRefuses}
 use Rattle.cops_world.specs.Acting.{IsNew, HasActed}
 use Rattle.cops_world.specs.Script.{Said, OfNobody, Unformed, Acts, said_in, answer_line}
+
+-- no line has ended the head
+abbrev pub IsInHead : {W : Type 0} → Script W → Type 0
+IsInHead (Head head) = ⊤
+IsInHead (Running world) = ⊥
 
 module _ {W : Type 0} (setup : W → Config) (StandsFor : W → ℕ → SoloCluster → Type 0) where
   -- what a line says is answered so

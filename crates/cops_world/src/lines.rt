@@ -30,11 +30,23 @@ pub(crate) fn parse_act(alloc: Global, line: &[u8]) -> Result<Option<Act>, Alloc
     read_act(alloc, verb, &mut words)
 }
 
-/// The act of a verb and the words after it.
+/// The act of a verb and the words after it. The verbs of most lines come first.
 fn read_act(alloc: Global, verb: &[u8], words: &mut Words) -> Result<Option<Act>, AllocError>
     requires { AreUnspaced words.old }
     ensures { IfOk result (λ act. act ≡ option_and_then with_line (act_of_verb verb.now words.old)) }
 {
+    if verb == b"put".as_slice() {
+        return read_put(alloc, words);
+    }
+    if verb == b"get".as_slice() {
+        return read_get(alloc, words);
+    }
+    if verb == b"step".as_slice() {
+        return Ok(read_step(words));
+    }
+    if verb == b"done".as_slice() {
+        return Ok(read_done(words));
+    }
     if verb == b"open".as_slice() {
         return Ok(read_open(words));
     }
@@ -44,23 +56,11 @@ fn read_act(alloc: Global, verb: &[u8], words: &mut Words) -> Result<Option<Act>
     if verb == b"drop".as_slice() {
         return Ok(read_delete(words));
     }
-    if verb == b"put".as_slice() {
-        return read_put(alloc, words);
-    }
-    if verb == b"get".as_slice() {
-        return read_get(alloc, words);
-    }
     if verb == b"show".as_slice() {
         return Ok(read_show(words));
     }
     if verb == b"carry".as_slice() {
         return Ok(read_carry(words));
-    }
-    if verb == b"step".as_slice() {
-        return Ok(read_step(words));
-    }
-    if verb == b"done".as_slice() {
-        return Ok(read_done(words));
     }
     if verb == b"collect".as_slice() {
         return Ok(read_collect(words));

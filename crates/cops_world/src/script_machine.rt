@@ -1,10 +1,10 @@
 //! The machine that answers the lines of a script.
-ghost use Rattle.std.specs.Prelude.{◌<◌, length, IfOk, OnOk, Some};
-ghost use Rattle.cops_types.specs.LineAnswers.{Answers};
+ghost use Rattle.std.specs.Prelude.{◌<◌, [], length, IfErr, IfOk, OnOk, Some};
+ghost use Rattle.cops_types.specs.LineAnswers.{Answers, IfRefused};
 ghost use Rattle.cops_types.specs.Words.{first_word};
 ghost use Rattle.cops_world.specs.ActLines.{act_in};
 ghost use Rattle.cops_world.specs.Script.{answer_line, said_by, said_in};
-ghost use Rattle.cops_world.specs.ScriptRules.{IsAnswered};
+ghost use Rattle.cops_world.specs.ScriptRules.{IsAnswered, IsInHead, line_answers, line_refuses};
 
 use crate::lines::parse_act;
 use crate::scripts::{BadConfig, Script, read_head};
@@ -50,6 +50,36 @@ pub(crate) fn answer<W: Tenancy>(
     push_answer(out, &name, &reply)
 }
 
+/// Reads one more line of a script that is in its head. Where it is the last, the script runs from
+/// here on.
+///
+/// It is apart from the lines of a running script, each of which would have to make room for a
+/// configuration and a world.
+#[inline(never)]
+fn read_head_line<W: Tenancy + Drop>(
+    alloc: Global,
+    script: &mut Script<W>,
+    line: &[u8],
+) -> Result<(), Stop<BadConfig>>
+    requires { IsInHead script.old }
+    ensures ok { OnOk result (line_answers W.setup W.StandsFor script.old line.now [] script.new) }
+    ensures err { IfErr result (λ stop. IfRefused stop (line_refuses W.setup W.StandsFor script.old line.now)) }
+{
+    match script {
+        Script::Head(head) => {
+            let Some(config) = read_head(alloc, head, line)? else {
+                return Ok(());
+            };
+            let Ok(world) = W::begin(alloc, config) else {
+                return Err(Stop::OutOfMemory);
+            };
+            *script = Script::Running(world);
+            Ok(())
+        }
+        Script::Running(_) => unreachable!(),
+    }
+}
+
 impl<W: Tenancy + Drop> LineMachine for Script<W> {
     ghost use Rattle.cops_world.specs.ScriptRules.{script_rules};
 
@@ -64,22 +94,14 @@ impl<W: Tenancy + Drop> LineMachine for Script<W> {
         out: &mut Vec<u8>,
     ) -> Result<(), Stop<BadConfig>> {
         match self {
-            Script::Head(head) => {
-                let Some(config) = read_head(alloc, head, line)? else {
-                    return Ok(());
-                };
-                let Ok(world) = W::begin(alloc, config) else {
-                    return Err(Stop::OutOfMemory);
-                };
-                *self = Script::Running(world);
-            }
+            Script::Head(_) => read_head_line(alloc, self, line),
             Script::Running(world) => {
                 if answer(alloc, world, line, out).is_err() {
                     return Err(Stop::OutOfMemory);
                 }
+                Ok(())
             }
         }
-        Ok(())
     }
 
     fn end(&mut self, _alloc: Global, _out: &mut Vec<u8>) -> Result<(), Stop<BadConfig>> {

@@ -1,7 +1,14 @@
-use Rattle.cops_world.proofs.MachineLemmas.{begins_running}
+use Rattle.std.proofs.Common.{subst, sym}
+use Rattle.std.proofs.lemmas.Result.{on_ok_weaker}
+use Rattle.cops_world.specs.ScriptRules.{IsInHead}
+use Rattle.cops_world.proofs.MachineLemmas.{answers_nothing}
 use Rattle.cops_world.proofs.script_machine.ScriptLineMachine.line.Goals as goal
 
-pub returns-in-Ok-clause-ok : goal.returns-in-Ok-clause-ok
-returns-in-Ok-clause-ok g c =
-    begins_running g.W.Tenancy.setup g.W.Tenancy.StandsFor c.args.self.now c.in-Head.head c.args.line.now c.in-Some.config c.in-Ok.world c.args.out.now.items
-    c.in-Head.is (rw c.in-Some.is at c.in_ok-config-in-Head.ensures.begun) c.in-Ok.ensures
+pub read_head_line-requires : goal.read_head_line-requires
+read_head_line-requires g c = subst (λ s. IsInHead s) (sym c.in-Head.is) tt
+
+pub returns-in-Head-clause-ok : goal.returns-in-Head-clause-ok
+returns-in-Head-clause-ok g c =
+    on_ok_weaker c.read_head_line.result
+    (answers_nothing g.W.Tenancy.setup g.W.Tenancy.StandsFor c.args.self.now c.read_head_line.new.script c.args.line.now c.args.out.now.items)
+    c.read_head_line.ensures.ok
