@@ -59,4 +59,4 @@ pub type Sight<M> = View<M, <M as Machine>::Call, <M as Machine>::Reply>;
 
 pub type Board<M> = Table<Option<M>, Sight<M>, Snapshot<Beginning<M>>, Law, Global>;
 
-pub type Place<M> = Seat<Option<M>, Sight<M>>;
+pub type BoardSeat<M> = Seat<Option<M>, Sight<M>>;

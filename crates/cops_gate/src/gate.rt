@@ -5,7 +5,7 @@ ghost use Rattle.cops_gate.specs.declared.board.Stage.TheVariants.{Idle};
 ghost use Rattle.cops_gate.specs.History.{entry, turns_of, StartsWith, IsLegal};
 ghost use Rattle.cops_gate.specs.Seats.{Origin, Known, Extends, Ends, first_seat, home_of};
 
-use crate::board::{Beginning, Board, Place};
+use crate::board::{Beginning, Board, BoardSeat};
 use crate::meetings::{hear, learn, note};
 use crate::turns::{Request, draw, serve};
 use crate::waiting::Sleepers;
@@ -33,7 +33,7 @@ impl<M: Machine> Model for Gate<M> {
 
 /// The right to make turns at a gate. Contracts see its number, the history that it has seen, and whether it has met the last ticket.
 pub struct GateSeat<M: Machine> {
-    place: Place<M>,
+    place: BoardSeat<M>,
 }
 
 impl<M: Machine> Model for GateSeat<M> {
@@ -163,7 +163,7 @@ impl<M: Machine + Drop> Gate<M> {
 }
 
 impl<M: Machine> GateSeat<M> {
-    fn into_place(self) -> Place<M>
+    fn into_place(self) -> BoardSeat<M>
         ensures home { (result.table_id ≡ self.gate.table) × (result.me.0.opening ≡ self.gate.opening) × (result.me.0.numbered ≡ true) }
         ensures sight { (result.me.0.seen ≡ self.history) × (result.me.0.number ≡ self.number) × (result.me.0.spent ≡ self.spent) }
     {

@@ -4,12 +4,12 @@ ghost use Rattle.cops_gate.specs.declared.board.Stage.TheVariants.{Idle};
 ghost use Rattle.cops_gate.specs.History.{turns_of, IsLegal};
 ghost use Rattle.cops_gate.specs.Plays.{fresh_view, numbered_view, told_view, HasRoom, SeesOn, IsSeatOf};
 
-use crate::board::{Board, Place};
+use crate::board::{Board, BoardSeat};
 use crate::plays::{Glance, Learn, Share, Tell};
 use cops_types::Machine;
 
 // A seat that has seen the same, and does not know its number.
-pub(crate) fn note<M: Machine>(board: &Board<M>, place: &mut Place<M>) -> Place<M>
+pub(crate) fn note<M: Machine>(board: &Board<M>, place: &mut BoardSeat<M>) -> BoardSeat<M>
     requires { IsSeatOf board.now.shared.table_id place.old }
     ensures same { (place.new.table_id ≡ place.old.table_id) × (place.new.id ≡ place.old.id) × (place.new.me ≡ place.old.me) }
     ensures new { (result.table_id ≡ place.old.table_id) × (result.me ≡ (fresh_view place.old.me.0, [])) }
@@ -18,7 +18,7 @@ pub(crate) fn note<M: Machine>(board: &Board<M>, place: &mut Place<M>) -> Place<
 }
 
 // Tells a new seat its number.
-pub(crate) fn learn<M: Machine>(board: &Board<M>, place: &mut Place<M>)
+pub(crate) fn learn<M: Machine>(board: &Board<M>, place: &mut BoardSeat<M>)
     requires board { IsSeatOf board.now.shared.table_id place.old }
     requires new { place.old.me.0.numbered ≡ false }
     ensures same { (place.new.table_id ≡ place.old.table_id) × (place.new.id ≡ place.old.id) × (place.new.me.1 ≡ place.old.me.1) }
@@ -28,7 +28,7 @@ pub(crate) fn learn<M: Machine>(board: &Board<M>, place: &mut Place<M>)
 }
 
 // Takes in what a note has seen, and all turns so far.
-pub(crate) fn hear<M: Machine>(board: &Board<M>, place: &mut Place<M>, told: Place<M>)
+pub(crate) fn hear<M: Machine>(board: &Board<M>, place: &mut BoardSeat<M>, told: BoardSeat<M>)
     requires board { IsSeatOf board.now.shared.table_id place.old }
     requires idle { (place.old.me.0.stage ≡ Idle) × (place.old.me.0.numbered ≡ true) }
     requires told { (told.table_id ≡ place.old.table_id) × (told.me.1 ≡ []) × (told.me.0.stage ≡ Idle) × (told.me.0.numbered ≡ false) }

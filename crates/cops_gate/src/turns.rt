@@ -6,7 +6,7 @@ ghost use Rattle.cops_gate.specs.History.{entry, turn, Leads, Grows};
 ghost use Rattle.cops_gate.specs.Notes.{entry_of};
 ghost use Rattle.cops_gate.specs.Plays.{at_stage, spent_view, published_view, HasRoom, Serves, Gets, IsIdle, IsSeatOf};
 
-use crate::board::{Board, LAST, Place, SERVING, TICKET};
+use crate::board::{Board, BoardSeat, LAST, SERVING, TICKET};
 use crate::note::Note;
 use crate::plays::{Draw, Look, Publish, Said};
 use crate::waiting::{Sleepers, hold_back};
@@ -27,7 +27,7 @@ pub(crate) fn draw<M: Machine, R: Wait>(
     rt: &R,
     board: &Board<M>,
     sleepers: &Sleepers,
-    place: &mut Place<M>,
+    place: &mut BoardSeat<M>,
 ) -> Option<u64>
     requires board { IsSeatOf board.now.shared.table_id place.old }
     requires idle { place.old.me.0.stage ≡ Idle }
@@ -58,7 +58,7 @@ fn wait<M: Machine, R: Wait>(
     rt: &R,
     board: &Board<M>,
     sleepers: &Sleepers,
-    place: &mut Place<M>,
+    place: &mut BoardSeat<M>,
     ticket: u64,
 )
     requires board { IsSeatOf board.now.shared.table_id place.old }
@@ -84,7 +84,7 @@ pub(crate) fn take<M: Machine, R: Wait>(
     rt: &R,
     board: &Board<M>,
     sleepers: &Sleepers,
-    place: &mut Place<M>,
+    place: &mut BoardSeat<M>,
     ticket: u64,
 ) -> M
     requires board { IsSeatOf board.now.shared.table_id place.old }
@@ -104,7 +104,7 @@ pub(crate) fn take<M: Machine, R: Wait>(
 // Puts the machine back, and serves the next ticket.
 fn publish<M: Machine, T: Said<M::Call, M::Reply>>(
     board: &Board<M>,
-    place: &mut Place<M>,
+    place: &mut BoardSeat<M>,
     ticket: u64,
     machine: M,
     note: Option<Note<M::Call, M::Reply>>,
@@ -131,7 +131,7 @@ pub(crate) fn serve<M: Machine, R: Wait>(
     rt: &R,
     board: &Board<M>,
     sleepers: &Sleepers,
-    place: &mut Place<M>,
+    place: &mut BoardSeat<M>,
     ticket: u64,
     request: Request<M::Call>,
 ) -> Result<M::Reply, Fault>

@@ -10,7 +10,7 @@ use Rattle.cops_outbox.specs.declared.rows.Row.{Row}
 use Rattle.cops_outbox.specs.declared.rows.Span.{Span}
 use Rattle.cops_outbox.specs.declared.rows.Line.{Line}
 use Rattle.cops_outbox.specs.Queues.{Queues, Waiting, queue_of, is_full, with_last, without_front, pushed, without_slot}
-use Rattle.cops_outbox.specs.Lines.{entries_in, IsLine, AreLines, IsNeeded, IsEmpty, IsTurn, IsLonger, IsShorter, IsCleared, span_at, slots_at, queues_in}
+use Rattle.cops_outbox.specs.Lines.{entries_in, IsLine, AreLines, IsNeeded, IsEmpty, IsTurn, IsLonger, IsShorter, IsCleared, span_at, entries_by_slot, queues_in}
 use Rattle.cops_outbox.proofs.Chains.{chain_length}
 use Rattle.cops_outbox.proofs.Lines.{empty_chain, empty_entries, test_false}
 
@@ -84,19 +84,19 @@ set_same f g (l ∷ lines) (suc slot) es same =
 
 -- ---- what is shown of a line
 
-pub slot_read : (rows : List (Option Row)) (lines : List Line) (dc slot : ℕ) (line : Line) → slot < length lines → line ≡ get_or lines slot line → get_or (slots_at rows lines dc) slot [] ≡ entries_in rows (span_at dc line)
+pub slot_read : (rows : List (Option Row)) (lines : List Line) (dc slot : ℕ) (line : Line) → slot < length lines → line ≡ get_or lines slot line → get_or (entries_by_slot rows lines dc) slot [] ≡ entries_in rows (span_at dc line)
 slot_read rows lines dc slot line lt is = get_or-map (λ (l : Line). entries_in rows (span_at dc l)) lines slot line [] lt ∙ ap (λ (l : Line). entries_in rows (span_at dc l)) (sym is)
 
 pub queue_read : (rows : List (Option Row)) (lines : List Line) (data_centres dc slot : ℕ) (line : Line) → dc < data_centres → slot < length lines → line ≡ get_or lines slot line
     → get_or (get_or (queues_in rows lines data_centres) dc []) slot [] ≡ entries_in rows (span_at dc line)
 queue_read rows lines data_centres dc slot line within lt is =
     let e : 0 + dc ≡ dc = omega arith in
-    ap (λ (es : List (List Entry)). get_or es slot []) (range_read (slots_at rows lines) 0 data_centres dc [] within ∙ ap (slots_at rows lines) e) ∙ slot_read rows lines dc slot line lt is
+    ap (λ (es : List (List Entry)). get_or es slot []) (range_read (entries_by_slot rows lines) 0 data_centres dc [] within ∙ ap (entries_by_slot rows lines) e) ∙ slot_read rows lines dc slot line lt is
 
 pub slots_long : (rows : List (Option Row)) (lines : List Line) (data_centres dc : ℕ) → dc < data_centres → length (get_or (queues_in rows lines data_centres) dc []) ≡ length lines
 slots_long rows lines data_centres dc within =
     let e : 0 + dc ≡ dc = omega arith in
-    ap (λ (es : List (List Entry)). length es) (range_read (slots_at rows lines) 0 data_centres dc [] within ∙ ap (slots_at rows lines) e) ∙ length-map lines (λ (l : Line). entries_in rows (span_at dc l))
+    ap (λ (es : List (List Entry)). length es) (range_read (entries_by_slot rows lines) 0 data_centres dc [] within ∙ ap (entries_by_slot rows lines) e) ∙ length-map lines (λ (l : Line). entries_in rows (span_at dc l))
 
 -- as many entries as the line says
 pub queue_length : (rows : List (Option Row)) (own tenants data_centres : ℕ) (lines : List Line) (dc slot : ℕ) (line : Line) → AreLines rows own tenants data_centres lines → dc < data_centres → slot < tenants → line ≡ get_or lines slot line
@@ -113,7 +113,7 @@ full_is rows own tenants data_centres lines slot limit line h lt is =
     ap (λ n. list_any (λ dc. not (dc == own) && nat_le limit (span_at dc line).count) (range_with_len 0 n)) own_line.all
     ∙ range_any (λ dc. not (dc == own) && nat_le limit (span_at dc line).count) (λ dc. not (dc == own) && nat_le limit (length (get_or (get_or (queues_in rows lines data_centres) dc []) slot []))) 0 data_centres
     (λ k within. ap (λ n. not (0 + k == own) && nat_le limit n) (queue_length rows own tenants data_centres lines (0 + k) slot line h (omega arith) lt is))
-    ∙ ap (λ n. list_any (λ dc. not (dc == own) && nat_le limit (length (get_or (get_or (queues_in rows lines data_centres) dc []) slot []))) (range_with_len 0 n)) (sym (length_range (slots_at rows lines) 0 data_centres))
+    ∙ ap (λ n. list_any (λ dc. not (dc == own) && nat_le limit (length (get_or (get_or (queues_in rows lines data_centres) dc []) slot []))) (range_with_len 0 n)) (sym (length_range (entries_by_slot rows lines) 0 data_centres))
 
 -- ---- one call
 
@@ -157,42 +157,42 @@ module _ (rows rows' : List (Option Row)) (own tenants data_centres slot : ℕ) 
     ];
   }
 
-  slots_after : IsTurn rows rows' own slot line line' → (dc : ℕ) → slots_at rows' (set lines slot line') dc ≡ set (slots_at rows lines dc) slot (entries_in rows' (span_at dc line'))
+  slots_after : IsTurn rows rows' own slot line line' → (dc : ℕ) → entries_by_slot rows' (set lines slot line') dc ≡ set (entries_by_slot rows lines dc) slot (entries_in rows' (span_at dc line'))
   slots_after turn dc =
       map-set (λ (l : Line). entries_in rows' (span_at dc l)) lines slot line'
       ∙ set_same (λ (l : Line). entries_in rows' (span_at dc l)) (λ (l : Line). entries_in rows (span_at dc l)) lines slot (entries_in rows' (span_at dc line'))
       (λ s l differ within read. (turn.others s l.last (span_at dc l).count (span_at dc l).first differ ((h.each s l (omega (arith, h.all)) read).waits dc)).1)
 
-  same_slots : (dc : ℕ) (es : List Entry) → es ≡ entries_in rows (span_at dc line) → set (slots_at rows lines dc) slot es ≡ slots_at rows lines dc
-  same_slots dc es e = ap (set (slots_at rows lines dc) slot) (e ∙ sym (slot_read rows lines dc slot line there is)) ∙ set-get_or (slots_at rows lines dc) slot []
+  same_slots : (dc : ℕ) (es : List Entry) → es ≡ entries_in rows (span_at dc line) → set (entries_by_slot rows lines dc) slot es ≡ entries_by_slot rows lines dc
+  same_slots dc es e = ap (set (entries_by_slot rows lines dc) slot) (e ∙ sym (slot_read rows lines dc slot line there is)) ∙ set-get_or (entries_by_slot rows lines dc) slot []
 
   pub pushed_is : (entry : Entry) → IsLonger rows rows' own slot entry line line' → queues_in rows' (set lines slot line') data_centres ≡ pushed 0 own (record { slot = slot; entry = entry }) (queues_in rows lines data_centres)
-  pushed_is entry longer = range_pushed (slots_at rows' (set lines slot line')) (slots_at rows lines) own (record { slot = slot; entry = entry }) 0 data_centres (λ k within. at (0 + k) (omega arith))
+  pushed_is entry longer = range_pushed (entries_by_slot rows' (set lines slot line')) (entries_by_slot rows lines) own (record { slot = slot; entry = entry }) 0 data_centres (λ k within. at (0 + k) (omega arith))
     where
-      at : (dc : ℕ) → dc < data_centres → slots_at rows' (set lines slot line') dc ≡ (if dc == own then slots_at rows lines dc else with_last (record { slot = slot; entry = entry }) (slots_at rows lines dc))
+      at : (dc : ℕ) → dc < data_centres → entries_by_slot rows' (set lines slot line') dc ≡ (if dc == own then entries_by_slot rows lines dc else with_last (record { slot = slot; entry = entry }) (entries_by_slot rows lines dc))
       at dc within = elim (cases_eq dc own) [
         | inl same ↦
             slots_after longer.turn dc ∙ same_slots dc (entries_in rows' (span_at dc line')) (subst (λ n. entries_in rows' (span_at n line') ≡ entries_in rows (span_at n line)) (sym same) longer.itself)
-            ∙ ap (λ b. if b then slots_at rows lines dc else with_last (record { slot = slot; entry = entry }) (slots_at rows lines dc)) (sym (eq-eqb dc own same))
+            ∙ ap (λ b. if b then entries_by_slot rows lines dc else with_last (record { slot = slot; entry = entry }) (entries_by_slot rows lines dc)) (sym (eq-eqb dc own same))
         | inr differ ↦
             slots_after longer.turn dc
-            ∙ ap (set (slots_at rows lines dc) slot) (longer.entries dc (omega (arith, here.all)) differ ∙ ap (λ (es : List Entry). es ++ entry ∷ []) (sym (slot_read rows lines dc slot line there is)))
-            ∙ ap (λ b. if b then slots_at rows lines dc else with_last (record { slot = slot; entry = entry }) (slots_at rows lines dc)) (sym (test_false dc own differ))
+            ∙ ap (set (entries_by_slot rows lines dc) slot) (longer.entries dc (omega (arith, here.all)) differ ∙ ap (λ (es : List Entry). es ++ entry ∷ []) (sym (slot_read rows lines dc slot line there is)))
+            ∙ ap (λ b. if b then entries_by_slot rows lines dc else with_last (record { slot = slot; entry = entry }) (entries_by_slot rows lines dc)) (sym (test_false dc own differ))
       ]
 
   pub acked_is : (dc : ℕ) → dc < data_centres → IsShorter rows rows' own slot dc line line' → queues_in rows' (set lines slot line') data_centres ≡ set (queues_in rows lines data_centres) dc (without_front slot (get_or (queues_in rows lines data_centres) dc []))
   acked_is dc within shorter =
       let e : 0 + dc ≡ dc = omega arith in
-      let read : get_or (queues_in rows lines data_centres) dc [] ≡ slots_at rows lines dc = range_read (slots_at rows lines) 0 data_centres dc [] within ∙ ap (slots_at rows lines) e in
-      range_set (slots_at rows' (set lines slot line')) (slots_at rows lines) 0 data_centres dc (without_front slot (get_or (queues_in rows lines data_centres) dc [])) within
-      (ap (slots_at rows' (set lines slot line')) e ∙ slots_after shorter.turn dc ∙ ap (set (slots_at rows lines dc) slot) (shorter.entries ∙ ap (drop 1) (sym (slot_read rows lines dc slot line there is))) ∙ ap (without_front slot) (sym read))
+      let read : get_or (queues_in rows lines data_centres) dc [] ≡ entries_by_slot rows lines dc = range_read (entries_by_slot rows lines) 0 data_centres dc [] within ∙ ap (entries_by_slot rows lines) e in
+      range_set (entries_by_slot rows' (set lines slot line')) (entries_by_slot rows lines) 0 data_centres dc (without_front slot (get_or (queues_in rows lines data_centres) dc [])) within
+      (ap (entries_by_slot rows' (set lines slot line')) e ∙ slots_after shorter.turn dc ∙ ap (set (entries_by_slot rows lines dc) slot) (shorter.entries ∙ ap (drop 1) (sym (slot_read rows lines dc slot line there is))) ∙ ap (without_front slot) (sym read))
       (λ k inside differ. slots_after shorter.turn (0 + k) ∙ same_slots (0 + k) (entries_in rows' (span_at (0 + k) line')) (shorter.elsewhere (0 + k) (omega arith)))
 
   pub cleared_is : IsCleared rows rows' own slot line line' → queues_in rows' (set lines slot line') data_centres ≡ without_slot slot (queues_in rows lines data_centres)
   cleared_is cleared =
-      range_same (slots_at rows' (set lines slot line')) (λ dc. set (slots_at rows lines dc) slot []) 0 data_centres
-      (λ k within. slots_after cleared.turn (0 + k) ∙ ap (set (slots_at rows lines (0 + k)) slot) (empty_entries rows' (span_at (0 + k) line') (cleared.waits (0 + k))))
-      ∙ range_without (slots_at rows lines) slot 0 data_centres
+      range_same (entries_by_slot rows' (set lines slot line')) (λ dc. set (entries_by_slot rows lines dc) slot []) 0 data_centres
+      (λ k within. slots_after cleared.turn (0 + k) ∙ ap (set (entries_by_slot rows lines (0 + k)) slot) (empty_entries rows' (span_at (0 + k) line') (cleared.waits (0 + k))))
+      ∙ range_without (entries_by_slot rows lines) slot 0 data_centres
 
 -- ---- what joins all queues
 
@@ -302,7 +302,7 @@ map_replicate f (l ∷ lines) same = ap (λ x. x ∷ map f lines) (same 0 l (ome
 
 pub queues_empty : (rows : List (Option Row)) (tenants data_centres : ℕ) (lines : List Line) → length lines ≡ tenants → ((s : ℕ) (l : Line) → s < length lines → l ≡ get_or lines s l → IsEmpty data_centres l) → queues_in rows lines data_centres ≡ replicate data_centres (replicate tenants [])
 queues_empty rows tenants data_centres lines long each =
-    range_replicate (slots_at rows lines) 0 data_centres (replicate tenants [])
+    range_replicate (entries_by_slot rows lines) 0 data_centres (replicate tenants [])
     (λ dc. map_replicate (λ (l : Line). entries_in rows (span_at dc l)) lines (λ s l lt is. empty_entries rows (span_at dc l) (ap (λ (k : Span). k.count) ((each s l lt is).waits dc))) ∙ ap (λ n. replicate n []) long)
 
 -- ---- what contracts see
@@ -314,7 +314,7 @@ module _ (rows : List (Option Row)) (own tenants data_centres : ℕ) (lines : Li
     (h : AreLines rows own tenants data_centres lines)
     (is : shown rows own tenants data_centres lines ≡ v) where
   dc_within : (dc : ℕ) → dc < length v.queues → dc < data_centres
-  dc_within dc lt = subst (λ n. dc < n) (ap (λ (w : Queues). length w.queues) (sym is) ∙ length_range (slots_at rows lines) 0 data_centres) lt
+  dc_within dc lt = subst (λ n. dc < n) (ap (λ (w : Queues). length w.queues) (sym is) ∙ length_range (entries_by_slot rows lines) 0 data_centres) lt
 
   slot_within : (slot : ℕ) → slot < v.tenants → slot < tenants
   slot_within slot lt = subst (λ n. slot < n) (ap (λ (w : Queues). w.tenants) (sym is)) lt
@@ -367,7 +367,7 @@ module _ (rows : List (Option Row)) (own tenants data_centres : ℕ) (lines : Li
   turn_lines rows1 rows' slot line line' same lt read turn needed = lines_after rows rows' own tenants data_centres slot lines line line' h (slot_within slot lt) read (subst (λ rs. IsTurn rs rows' own slot line line') same turn) needed
 
   pub alone_shown : (least : ℕ) (w : Waiting) → ((dc : ℕ) → dc ≢ own → least ≤ dc) → data_centres ≤ least → v ≡ record v { queues = pushed 0 v.own w v.queues }
-  alone_shown least w far le = subst (λ (u : Queues). u ≡ record u { queues = pushed 0 u.own w u.queues }) is (ap (λ qs. record { own = own; tenants = tenants; queues = qs }) (alone own least w (slots_at rows lines) data_centres far le))
+  alone_shown least w far le = subst (λ (u : Queues). u ≡ record u { queues = pushed 0 u.own w u.queues }) is (ap (λ qs. record { own = own; tenants = tenants; queues = qs }) (alone own least w (entries_by_slot rows lines) data_centres far le))
 
   pub none_other : (least dc : ℕ) → ((at : ℕ) → at ≢ own → least ≤ at) → data_centres ≤ least → dc < length v.queues → dc ≢ v.own → ⊥
   none_other least dc far le lt differ =

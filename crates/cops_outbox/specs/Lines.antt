@@ -69,11 +69,11 @@ pub record AreLines (rows : List (Option Row)) (own tenants data_centres : ℕ) 
   pub needed : (slot : ℕ) (line : Line) → slot < tenants → line ≡ slice_index_or lines slot line → IsNeeded line
 
 -- the queue of each slot for a data centre
-abbrev pub slots_at : List (Option Row) → List Line → ℕ → List (List Entry)
-slots_at rows lines dc = map (λ (l : Line). entries_in rows (span_at dc l)) lines
+abbrev pub entries_by_slot : List (Option Row) → List Line → ℕ → List (List Entry)
+entries_by_slot rows lines dc = map (λ (l : Line). entries_in rows (span_at dc l)) lines
 
 abbrev pub queues_in : List (Option Row) → List Line → ℕ → List (List (List Entry))
-queues_in rows lines data_centres = map (slots_at rows lines) (range_with_len 0 data_centres)
+queues_in rows lines data_centres = map (entries_by_slot rows lines) (range_with_len 0 data_centres)
 
 -- the span with one more row behind it
 abbrev pub extended : ℕ → Span → Span

@@ -4,7 +4,7 @@ use Rattle.std.specs.Str.{bytes_eq}
 use Rattle.cops_types.specs.declared.configs.Config.{Config}
 use Rattle.cops_types.specs.declared.configs.Tenant.{Tenant}
 use Rattle.cops_types.specs.Counts.{counted}
-use Rattle.cops_types.specs.LineRules.{Rules}
+use Rattle.cops_types.specs.LineRules.{LineRules}
 use Rattle.cops_types.specs.TenantConfig.{tenant_config}
 use Rattle.cops_types.specs.Words.{first_word}
 use Rattle.cops_world.specs.declared.scripts.Script.{Script}
@@ -57,5 +57,5 @@ replay_end_refuses_in (Running replay) refusal = ⊥
 abbrev pub replay_end_refuses : ReplayScript → SoloRefusal → Type 0
 replay_end_refuses old refusal = replay_end_refuses_in old.script refusal
 
-abbrev pub replay_rules : Rules ReplayScript SoloRefusal
+abbrev pub replay_rules : LineRules ReplayScript SoloRefusal
 replay_rules = record { answers = replay_answers; refuses = replay_refuses; ends = replay_end_answers; refuses_end = replay_end_refuses }

@@ -14,7 +14,7 @@ use Rattle.cops_node.specs.declared.NodeReply.{NodeReply}
 use Rattle.cops_node.specs.declared.Wanted.{Wanted}
 use Rattle.cops_node.specs.declared.Wanted.TheVariants.{Latest, Exactly}
 use Rattle.cops_node.specs.Log.{fault_in, first_fault}
-use Rattle.cops_session.specs.Transaction.{Asked, gets, first_round, second_round, wanted_version, outdated, read_of, reads_of, last_read}
+use Rattle.cops_session.specs.Transaction.{ReadRequest, gets, first_round, second_round, wanted_version, outdated, read_of, reads_of, last_read}
 use Rattle.cops_types.proofs.KeyTests.{key_eq-true, key_eq-refl}
 use Rattle.cops_session.proofs.DistinctKeys.{IsDistinct, key-read_of, one_read}
 use Rattle.cops_types.proofs.Elements.{Among, Among-find, filter-Among}
@@ -29,11 +29,11 @@ abbrev pub IsFreshAs : List Pair → List ℕ → Wanted → NodeReply → Type 
 IsFreshAs past key Latest reply = (p : Pair) → Among p past → p.key ≡ key → version_le p.version (read_of key reply).version ≡ true
 IsFreshAs past key (Exactly version) reply = (read_of key reply).version ≡ version
 
-abbrev pub IsAnswered : List Pair → Asked → NodeReply → Type 0
+abbrev pub IsAnswered : List Pair → ReadRequest → NodeReply → Type 0
 IsAnswered past q reply = IsFreshAs past q.key q.wanted reply
 
 -- or the call was refused
-abbrev pub IsFresh : List Pair → Asked → NodeReply → Type 0
+abbrev pub IsFresh : List Pair → ReadRequest → NodeReply → Type 0
 IsFresh past q reply = IsRefusal reply ⊎ IsAnswered past q reply
 
 or_none : {A : Type 0} (a b : Option A) → option_or a b ≡ None → (a ≡ None) × (b ≡ None)
@@ -41,7 +41,7 @@ or_none None b e = (refl, e)
 or_none (Some x) b e = cc
 
 -- without a fault there is no refusal
-pub none_refused : (config : TenantConfig) (dc : ℕ) (past : List Pair) (asked : List Asked) (rs : List NodeReply) → Zipped (IsFresh past) asked rs → first_fault (map (call_of config dc) asked) rs ≡ None → Zipped (IsAnswered past) asked rs
+pub none_refused : (config : TenantConfig) (dc : ℕ) (past : List Pair) (asked : List ReadRequest) (rs : List NodeReply) → Zipped (IsFresh past) asked rs → first_fault (map (call_of config dc) asked) rs ≡ None → Zipped (IsAnswered past) asked rs
 none_refused config dc past [] rs z none = tt
 none_refused config dc past (q ∷ asked) [] z none = tt
 none_refused config dc past (q ∷ asked) (r ∷ rs) z none =

@@ -31,7 +31,7 @@ use Rattle.cops_session.specs.Request.{Attempt, Request, Fetch, answer, answer_i
 use Rattle.cops_session.specs.Rounds.{FirstReads, wishes_of}
 use Rattle.cops_session.specs.Session.{has_restarted, progress, raised, shown}
 use Rattle.cops_session.specs.Stands.{IsFirstOf, IsOver, IsSecondOf}
-use Rattle.cops_session.specs.Transaction.{Asked, gets, reads_of}
+use Rattle.cops_session.specs.Transaction.{ReadRequest, gets, reads_of}
 use Rattle.cops_session.proofs.Faults.{attempt_of-push, ended_by_fault, ended_with_reads, fault_of_next}
 use Rattle.cops_session.proofs.RoundsStand.{length-gets, length-push, slice_get-at}
 use Rattle.std.proofs.lemmas.List.{length-drop, length-map}
@@ -79,13 +79,13 @@ late_is trans_time keys (first ∷ steps) moment = refl
 unfinished : (keys : List (List ℕ)) (replies : List NodeReply) (round : Round) → RoundStandsFor keys replies round → length replies < length (gets keys replies)
 unfinished keys replies (First round) stands =
     let some : nat_lt (length replies) (length keys) ≡ true = let h = stands.unfinished in grind (arith, nat_tests) in
-    rw some (omega (arith, stands.unfinished, length-map {A = List ℕ} {B = Asked} keys (λ key. record { key = key; wanted = Latest })))
+    rw some (omega (arith, stands.unfinished, length-map {A = List ℕ} {B = ReadRequest} keys (λ key. record { key = key; wanted = Latest })))
 unfinished keys replies (Second round) stands =
     omega (arith, length-gets keys replies stands.past_first, stands.unfinished, stands.past_first, ap length stands.left_is ∙ length-drop (length replies - length keys) (wishes_of (reads_of keys replies)))
 
-has_next : (keys : List (List ℕ)) (replies : List NodeReply) → length replies < length (gets keys replies) → (asked : Asked) × (slice_get (gets keys replies) (length replies) ≡ Some asked)
+has_next : (keys : List (List ℕ)) (replies : List NodeReply) → length replies < length (gets keys replies) → (asked : ReadRequest) × (slice_get (gets keys replies) (length replies) ≡ Some asked)
 has_next keys replies fewer =
-    let none : Asked = record { key = []; wanted = Latest } in
+    let none : ReadRequest = record { key = []; wanted = Latest } in
     (get_or (gets keys replies) (length replies) none, slice_get-at (gets keys replies) (length replies) none fewer)
 
 -- ---- one step
@@ -95,13 +95,13 @@ module _ (config : TenantConfig) (dc : ℕ) (obs : List Observation) (keys : Lis
   of_keys = record { dc = dc; obs = obs; action = Fetch keys }
 
   -- an attempt with no fault makes the next call
-  calls_next : (attempt : Attempt) (asked : Asked) → nat_lt config.restarts attempt.restarts ≡ false →
+  calls_next : (attempt : Attempt) (asked : ReadRequest) → nat_lt config.restarts attempt.restarts ≡ false →
       first_fault (calls_of config of_keys (replies_of attempt.steps) (Fetch keys)) (replies_of attempt.steps) ≡ None →
       slice_get (gets keys (replies_of attempt.steps)) (length (replies_of attempt.steps)) ≡ Some asked →
       call_after config of_keys attempt ≡ Call (record { node = home_of config dc asked.key; call = Get asked.key asked.wanted })
   calls_next attempt asked few none is =
       let replies = replies_of attempt.steps in
-      let direct : Asked → Directed = λ g. record { node = home_of config dc g.key; call = Get g.key g.wanted } in
+      let direct : ReadRequest → Directed = λ g. record { node = home_of config dc g.key; call = Get g.key g.wanted } in
       let calls = calls_of config of_keys replies (Fetch keys) in
       rw few (ap (λ f. unless_fault f (call_or_answer (slice_get calls (length replies)) (complete config of_keys replies (Fetch keys)))) none
       ∙ ap (λ c. call_or_answer c (complete config of_keys replies (Fetch keys))) (slice_get-map direct (gets keys replies) (length replies) asked is))
@@ -119,7 +119,7 @@ module _ (config : TenantConfig) (dc : ℕ) (obs : List Observation) (keys : Lis
     late-as_kept : (trans_time moment : ℕ) → is_late trans_time (Fetch keys) attempt.steps moment ≡ is_past trans_time reading.start moment
     late-as_kept trans_time moment = late_is trans_time keys attempt.steps moment ∙ ap (λ start. is_past trans_time start moment) (sym stands.start_is)
 
-    pub next_call : (moment : ℕ) (asked : Asked) → is_past config.trans_time reading.start moment ≡ false → slice_get (gets keys replies) (length replies) ≡ Some asked →
+    pub next_call : (moment : ℕ) (asked : ReadRequest) → is_past config.trans_time reading.start moment ≡ false → slice_get (gets keys replies) (length replies) ≡ Some asked →
         next config of_keys log moment ≡ Call (record { node = home_of config dc asked.key; call = Get asked.key asked.wanted })
     next_call moment asked in_time is =
         ap (λ late. unless_late late (call_after config of_keys attempt)) (late-as_kept config.trans_time moment ∙ in_time) ∙ calls_next attempt asked stands.few_restarts stands.no_fault is
@@ -129,7 +129,7 @@ module _ (config : TenantConfig) (dc : ℕ) (obs : List Observation) (keys : Lis
         let some = has_next keys replies (unfinished keys replies reading.round stands.round_is) in
         (λ i. unless_late ((late-as_kept config.trans_time moment ∙ late) i) (calls_next attempt some.0 stands.few_restarts stands.no_fault some.1 i))
 
-    module _ (moment : ℕ) (asked : Asked) (reply : NodeReply) (is : slice_get (gets keys replies) (length replies) ≡ Some asked)
+    module _ (moment : ℕ) (asked : ReadRequest) (reply : NodeReply) (is : slice_get (gets keys replies) (length replies) ≡ Some asked)
         (stays : begins_again (Fetch keys) (length attempt.steps) (Replied reply) ≡ false) where
       abbrev step : LogStep
       step = replied moment reply
@@ -142,7 +142,7 @@ module _ (config : TenantConfig) (dc : ℕ) (obs : List Observation) (keys : Lis
 
       fault_is : first_fault (calls_of config of_keys (replies_of longer.steps) (Fetch keys)) (replies_of longer.steps) ≡ fault_in (Get asked.key asked.wanted) reply
       fault_is =
-          let direct : Asked → Directed = λ g. record { node = home_of config dc g.key; call = Get g.key g.wanted } in
+          let direct : ReadRequest → Directed = λ g. record { node = home_of config dc g.key; call = Get g.key g.wanted } in
           ap (λ rs. first_fault (calls_of config of_keys rs (Fetch keys)) rs) (replies_of-push attempt.steps moment reply)
           ∙ fault_of_next config of_keys keys replies (direct asked) reply stands.no_fault (slice_get-map direct (gets keys replies) (length replies) asked is)
           (unfinished keys replies reading.round stands.round_is)

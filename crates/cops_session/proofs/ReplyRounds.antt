@@ -8,7 +8,7 @@ use Rattle.cops_types.specs.declared.contexts.Read.{Read}
 use Rattle.cops_types.specs.Key.{key_eq}
 use Rattle.cops_node.specs.declared.NodeReply.{NodeReply}
 use Rattle.cops_node.specs.declared.Wanted.TheVariants.{Latest, Exactly}
-use Rattle.cops_session.specs.Transaction.{Asked, gets, first_round, second_round, wanted_version, outdated, read_of, reads_of, last_read, final_reads}
+use Rattle.cops_session.specs.Transaction.{ReadRequest, gets, first_round, second_round, wanted_version, outdated, read_of, reads_of, last_read, final_reads}
 use Rattle.cops_types.proofs.Elements.{Every-find, Every-map, Every-from, Every-at}
 use Rattle.cops_types.proofs.Zipped.{Zipped, Zipped-left, Zipped-right, Zipped-front, Zipped-push}
 
@@ -20,10 +20,10 @@ reads_of-past (key ∷ keys) (s ∷ rs) r past = ap (λ reads. read_of key s ∷
 pub length-first_round : (keys : List (List ℕ)) → length (first_round keys) ≡ length keys
 length-first_round keys = length-map keys (λ key. record { key = key; wanted = Latest })
 
-abbrev gets_by : Bool → List (List ℕ) → List NodeReply → List Asked
+abbrev gets_by : Bool → List (List ℕ) → List NodeReply → List ReadRequest
 gets_by more keys rs = cond more (first_round keys) (first_round keys ++ second_round (reads_of keys rs))
 
-module _ (R : Asked → NodeReply → Type 0) (keys : List (List ℕ)) (rs : List NodeReply) (q : Asked) (r : NodeReply) where
+module _ (R : ReadRequest → NodeReply → Type 0) (keys : List (List ℕ)) (rs : List NodeReply) (q : ReadRequest) (r : NodeReply) where
   gets_push_by : (before : Bool) → nat_lt (length rs) (length keys) ≡ before → Zipped R (gets_by before keys rs) (rs ++ r ∷ []) → (after : Bool) → nat_lt (length (rs ++ r ∷ [])) (length keys) ≡ after →
       Zipped R (gets_by after keys (rs ++ r ∷ [])) (rs ++ r ∷ [])
   gets_push_by true is z true later = z
@@ -44,17 +44,17 @@ module _ (R : Asked → NodeReply → Type 0) (keys : List (List ℕ)) (rs : Lis
 
 -- ---- what was read
 
-module _ (R : Asked → NodeReply → Type 0) (G : Read → Type 0) (reads_well : (q : Asked) (r : NodeReply) → R q r → G (read_of q.key r)) where
-  Every-reads_of : (qs : List Asked) (rs : List NodeReply) → Zipped R qs rs → AllByRecursion G (reads_of (map (λ q. q.key) qs) rs)
+module _ (R : ReadRequest → NodeReply → Type 0) (G : Read → Type 0) (reads_well : (q : ReadRequest) (r : NodeReply) → R q r → G (read_of q.key r)) where
+  Every-reads_of : (qs : List ReadRequest) (rs : List NodeReply) → Zipped R qs rs → AllByRecursion G (reads_of (map (λ q. q.key) qs) rs)
   Every-reads_of [] rs z = tt
   Every-reads_of (q ∷ qs) [] z = tt
   Every-reads_of (q ∷ qs) (r ∷ rs) z = (reads_well q r z.0, Every-reads_of qs rs z.1)
 
-  keys-first_round : (keys : List (List ℕ)) → map (λ (q : Asked). q.key) (first_round keys) ≡ keys
+  keys-first_round : (keys : List (List ℕ)) → map (λ (q : ReadRequest). q.key) (first_round keys) ≡ keys
   keys-first_round [] = refl
   keys-first_round (key ∷ keys) = ap (λ ks. key ∷ ks) (keys-first_round keys)
 
-  keys-second : (reads all : List Read) → map (λ (q : Asked). q.key) (map (λ read. record { key = read.key; wanted = Exactly (wanted_version all read) }) reads) ≡ map (λ (read : Read). read.key) reads
+  keys-second : (reads all : List Read) → map (λ (q : ReadRequest). q.key) (map (λ read. record { key = read.key; wanted = Exactly (wanted_version all read) }) reads) ≡ map (λ (read : Read). read.key) reads
   keys-second [] all = refl
   keys-second (read ∷ reads) all = ap (λ ks. read.key ∷ ks) (keys-second reads all)
 

@@ -18,7 +18,7 @@ use Rattle.cops_node.specs.Log.{LogStep, Outcome, Late, Replied, reply_in, Direc
 use Rattle.cops_session.specs.declared.Answer.{Answer}
 use Rattle.cops_session.specs.declared.Answer.TheVariants.{Stored, Values, Refused}
 use Rattle.cops_session.specs.Request.{Write, Fetch, Request, Attempt, begins_again, attempt_after, attempt_of, replies_of, is_late, home_of, values_or_full, call_or_answer, unless_fault, unless_late, next, answer_in, answer}
-use Rattle.cops_session.specs.Transaction.{Asked, gets, first_round, second_round, reads_of, final_reads}
+use Rattle.cops_session.specs.Transaction.{ReadRequest, gets, first_round, second_round, reads_of, final_reads}
 use Rattle.cops_types.proofs.Elements.{fold-push, slice_get-within}
 use Rattle.cops_types.proofs.PairSets.{at}
 use Rattle.cops_types.proofs.Zipped.{Zipped}
@@ -68,7 +68,7 @@ get_request dc obs keys = record { dc = dc; obs = obs; action = Fetch keys }
 abbrev pub replies_in : List (List ℕ) → List LogStep → List NodeReply
 replies_in keys log = replies_of (attempt_of (Fetch keys) log).steps
 
-abbrev pub call_of : TenantConfig → ℕ → Asked → Directed
+abbrev pub call_of : TenantConfig → ℕ → ReadRequest → Directed
 call_of config dc q = record { node = home_of config dc q.key; call = Get q.key q.wanted }
 
 slice_get-map : {A B : Type 0} (f : A → B) (xs : List A) (i : ℕ) (y : B) → slice_get (map f xs) i ≡ Some y → (x : A) × (slice_get xs i ≡ Some x) × (y ≡ f x)
@@ -92,7 +92,7 @@ module _ (config : TenantConfig) (dc : ℕ) (obs : List Observation) (keys : Lis
 
   -- the call that comes next is the next of those asked for, and no reply so far was a fault
   pub record NextCall (rs : List NodeReply) (directed : Directed) : Type 0 where
-    pub asked : Asked
+    pub asked : ReadRequest
     pub at : slice_get (gets keys rs) (length rs) ≡ Some asked
     pub call : directed ≡ call_of config dc asked
     pub no_fault : faults_in rs ≡ None
@@ -196,8 +196,8 @@ fewer_replies (s ∷ steps) = by_outcome s.outcome (fewer_replies steps)
 
 -- ---- one more step
 
-module _ (R : Asked → NodeReply → Type 0) (keys : List (List ℕ)) where
-  unasked : (qs : List Asked) → Zipped R qs []
+module _ (R : ReadRequest → NodeReply → Type 0) (keys : List (List ℕ)) where
+  unasked : (qs : List ReadRequest) → Zipped R qs []
   unasked [] = tt
   unasked (q ∷ qs) = tt
 
@@ -205,7 +205,7 @@ module _ (R : Asked → NodeReply → Type 0) (keys : List (List ℕ)) where
   pub get-begun : Zipped R (gets keys (replies_in keys [])) (replies_in keys [])
   get-begun = unasked (gets keys [])
 
-  after_step : (attempt : Attempt) (again : Bool) (step : LogStep) (q : Asked) (reply : NodeReply) → step.outcome ≡ Replied reply →
+  after_step : (attempt : Attempt) (again : Bool) (step : LogStep) (q : ReadRequest) (reply : NodeReply) → step.outcome ≡ Replied reply →
       Zipped R (gets keys (replies_of attempt.steps)) (replies_of attempt.steps) →
       slice_get (gets keys (replies_of attempt.steps)) (length (replies_of attempt.steps)) ≡ Some q → (again ≡ false → R q reply) →
       let steps = (cond {A = Attempt} again (record { restarts = attempt.restarts + 1; steps = [] }) (record { restarts = attempt.restarts; steps = attempt.steps ++ step ∷ [] })).steps in
@@ -217,7 +217,7 @@ module _ (R : Asked → NodeReply → Type 0) (keys : List (List ℕ)) where
       subst (λ rs. Zipped R (gets keys rs) rs) (sym one) (Zipped-gets R keys (replies_of attempt.steps) q reply z next (new refl))
 
   -- a reply joins those of the attempt, or the next attempt has none
-  pub get-stepped_if : (log : List LogStep) (moment : ℕ) (reply : NodeReply) (q : Asked) → Zipped R (gets keys (replies_in keys log)) (replies_in keys log) →
+  pub get-stepped_if : (log : List LogStep) (moment : ℕ) (reply : NodeReply) (q : ReadRequest) → Zipped R (gets keys (replies_in keys log)) (replies_in keys log) →
       slice_get (gets keys (replies_in keys log)) (length (replies_in keys log)) ≡ Some q → (begins_again (Fetch keys) (length (attempt_of (Fetch keys) log).steps) (Replied reply) ≡ false → R q reply) →
       let rs = replies_in keys (log ++ record { moment = moment; outcome = Replied reply } ∷ []) in Zipped R (gets keys rs) rs
   get-stepped_if log moment reply q z next new =
@@ -226,7 +226,7 @@ module _ (R : Asked → NodeReply → Type 0) (keys : List (List ℕ)) where
       subst (λ (a : Attempt). Zipped R (gets keys (replies_of a.steps)) (replies_of a.steps)) (sym (fold-push (attempt_after (Fetch keys)) (record { restarts = 0; steps = [] }) log step))
       (after_step attempt (begins_again (Fetch keys) (length attempt.steps) step.outcome) step q reply refl z next new)
 
-  pub get-stepped : (log : List LogStep) (moment : ℕ) (reply : NodeReply) (q : Asked) → Zipped R (gets keys (replies_in keys log)) (replies_in keys log) →
+  pub get-stepped : (log : List LogStep) (moment : ℕ) (reply : NodeReply) (q : ReadRequest) → Zipped R (gets keys (replies_in keys log)) (replies_in keys log) →
       slice_get (gets keys (replies_in keys log)) (length (replies_in keys log)) ≡ Some q → R q reply →
       let rs = replies_in keys (log ++ record { moment = moment; outcome = Replied reply } ∷ []) in Zipped R (gets keys rs) rs
   get-stepped log moment reply q z next new = get-stepped_if log moment reply q z next (λ goes_on. new)

@@ -25,7 +25,7 @@ use Rattle.cops_session.specs.declared.ongoing.Ongoing.{Ongoing}
 use Rattle.cops_session.specs.declared.ongoing.Reading.{Reading}
 use Rattle.cops_session.specs.declared.ongoing.Round.TheVariants.{First}
 use Rattle.cops_session.specs.declared.ongoing.Work.TheVariants.{Put, Get}
-use Rattle.cops_session.specs.declared.ongoing.Writing.{Writing}
+use Rattle.cops_session.specs.declared.ongoing.PendingPut.{PendingPut}
 use Rattle.cops_session.specs.declared.settings.Setting.{Setting}
 use Rattle.cops_session.specs.Kept.{Kept, is_running}
 use Rattle.cops_session.specs.Reading.{IsOfAttempt, IsReading}
@@ -146,7 +146,7 @@ module _ (config : TenantConfig) (kept : Kept) (session : Session) (stands : Ses
       ∷ ((ap is_spent (sym stands.next_request_is) ∙ spent_is) i, IdsSpent)
       ∷ [])
 
-  pub SessionStandsFor-put_begun : (number : ℕ) (after : Kept) (rows : List (Open Lists)) (writing : Writing) → ContextsStandFor rows session.contexts → writing.deps ≡ all_of (obs_of number session) → writing.near ≡ near_of (obs_of number session) →
+  pub SessionStandsFor-put_begun : (number : ℕ) (after : Kept) (rows : List (Open Lists)) (writing : PendingPut) → ContextsStandFor rows session.contexts → writing.deps ≡ all_of (obs_of number session) → writing.near ≡ near_of (obs_of number session) →
       after ≡ record kept { contexts = record kept.contexts { rows = rows }; next_request = kept.next_request + 1; running = Some (record { number = kept.next_request; context = number; work = Put writing }) } →
       SessionStandsFor config after (request_begun number (Write writing.key writing.value) session)
   SessionStandsFor-put_begun number after rows writing stand deps near is =

@@ -24,10 +24,10 @@ use Rattle.cops_session.specs.declared.Progress.TheVariants.{Working, Restarted,
 use Rattle.cops_session.specs.declared.ongoing.Ongoing.{Ongoing}
 use Rattle.cops_session.specs.declared.ongoing.Reading.{Reading}
 use Rattle.cops_session.specs.declared.ongoing.Work.TheVariants.{Put, Get}
-use Rattle.cops_session.specs.declared.ongoing.Writing.{Writing}
+use Rattle.cops_session.specs.declared.ongoing.PendingPut.{PendingPut}
 use Rattle.cops_session.specs.declared.reading.Came.{Came}
 use Rattle.cops_session.specs.declared.reading.Came.TheVariants as came
-use Rattle.cops_session.specs.declared.reading.Turn.{Turn}
+use Rattle.cops_session.specs.declared.reading.ReadStep.{ReadStep}
 use Rattle.cops_session.specs.declared.settings.Setting.{Setting}
 use Rattle.cops_session.specs.Kept.{Kept}
 use Rattle.cops_session.specs.Reading.{IsReading}
@@ -73,13 +73,13 @@ put_progress config dc obs key value moment (reply.Refused fault) = rw (none_res
 put_progress config dc obs key value moment _ = rw (none_restarted config) refl
 
 module _ (config : TenantConfig) (kept after : Kept) (session : Session) (running : Running) (number context : ℕ) where
-  abbrev with_put : Writing → Kept
+  abbrev with_put : PendingPut → Kept
   with_put writing = record kept { running = Some (record { number = number; context = context; work = Put writing }) }
 
   abbrev with_get : Reading → Kept
   with_get reading = record kept { running = Some (record { number = number; context = context; work = Get reading }) }
 
-  pub put_steps : (called : ℕ → NodeId → NodeCall → NodeReply → Type 0) (stays : Type 0) (writing : Writing) (moment now : ℕ) (r : NodeReply) (ended : Answer) →
+  pub put_steps : (called : ℕ → NodeId → NodeCall → NodeReply → Type 0) (stays : Type 0) (writing : PendingPut) (moment now : ℕ) (r : NodeReply) (ended : Answer) →
       SessionStandsFor config (with_put writing) session → session.running ≡ Some running → now ≡ max kept.moment moment →
       called now (record { dc = kept.setting.dc; shard = shard_of writing.key kept.setting.shards }) (call.Put writing.key writing.value writing.deps writing.near) r → ended ≡ answer_to_put writing.key r →
       after.setting ≡ kept.setting → after.moment ≡ now → ContextsStandFor after.contexts.rows (context_extended context (seen_in ended) session.contexts) →
@@ -116,14 +116,14 @@ module _ (config : TenantConfig) (kept after : Kept) (session : Session) (runnin
 
   -- ---- a get transaction
 
-  turns_as : (called : NodeId → NodeCall → NodeReply → Type 0) (stays : Type 0) (keys : List (List ℕ)) (moment : ℕ) (turn : Turn) (shown : Progress) (n : Next Answer) →
+  turns_as : (called : NodeId → NodeCall → NodeReply → Type 0) (stays : Type 0) (keys : List (List ℕ)) (moment : ℕ) (turn : ReadStep) (shown : Progress) (n : Next Answer) →
       ((step : LogStep) → HasTurned config (request_of session running) keys running.log step turn → HasStepped config session running step shown after) →
       TurnsNext called stays config (request_of session running) keys running.log moment turn n → DoesNext called stays config session running moment shown after n
   turns_as called stays keys moment turn shown (Call directed) steps h = (h.0, h.1, steps _ h.2)
   turns_as called stays keys moment turn shown Restart steps h = (h.0, steps _ h.1)
   turns_as called stays keys moment turn shown (Ended ended) steps h = h
 
-  pub get_steps : (called : ℕ → NodeId → NodeCall → NodeReply → Type 0) (stays : Type 0) (reading : Reading) (moment now : ℕ) (turn : Turn) (shown : Progress) →
+  pub get_steps : (called : ℕ → NodeId → NodeCall → NodeReply → Type 0) (stays : Type 0) (reading : Reading) (moment now : ℕ) (turn : ReadStep) (shown : Progress) →
       SessionStandsFor config (with_get reading) session → session.running ≡ Some running → now ≡ max kept.moment moment →
       ((config : TenantConfig) (obs : List Observation) (keys : List (List ℕ)) (log : List LogStep) → IsSettingOf config kept.setting →
       IsReading config (record { dc = kept.setting.dc; obs = obs; action = Fetch keys }) keys log reading →
@@ -146,11 +146,11 @@ module _ (config : TenantConfig) (kept after : Kept) (session : Session) (runnin
       turns_as (called (moment_at moment session)) stays keys (moment_at moment session) turn shown (next config (request_of session running) running.log (moment_at moment session)) (λ step. steps keys step own.1 own.0 action) turns
 
   -- the moment after the step
-  moment_turned : (keys : List (List ℕ)) (step : LogStep) (turn : Turn) → running.action ≡ Fetch keys → HasTurned config (request_of session running) keys running.log step turn → turn.moment ≡ moment_after running step
+  moment_turned : (keys : List (List ℕ)) (step : LogStep) (turn : ReadStep) → running.action ≡ Fetch keys → HasTurned config (request_of session running) keys running.log step turn → turn.moment ≡ moment_after running step
   moment_turned keys step turn action has = has.moment_is ∙ ap (λ a. if has_restarted a running.log step then raised step.moment step.outcome else step.moment) (sym action)
 
   -- the session goes on with the same request
-  goes_on : (reading next_reading : Reading) (keys : List (List ℕ)) (step : LogStep) (turn : Turn) → SessionStandsFor config (with_get reading) session → after ≡ record (with_get next_reading) { moment = turn.moment } →
+  goes_on : (reading next_reading : Reading) (keys : List (List ℕ)) (step : LogStep) (turn : ReadStep) → SessionStandsFor config (with_get reading) session → after ≡ record (with_get next_reading) { moment = turn.moment } →
       context ≡ running.context → number ≡ running.number → running.action ≡ Fetch keys → HasTurned config (request_of session running) keys running.log step turn →
       IsReading config (request_of session running) keys (running.log ++ step ∷ []) next_reading →
       SessionStandsFor config after (record session { moment = moment_after running step; running = Some (record running { log = running.log ++ step ∷ [] }) })
@@ -167,19 +167,19 @@ module _ (config : TenantConfig) (kept after : Kept) (session : Session) (runnin
         running_is = (same_number, same_context, (keys, action, read));
       })
 
-  pub works : (reading next_reading : Reading) (turn : Turn) (keys : List (List ℕ)) (step : LogStep) → SessionStandsFor config (with_get reading) session → turn.came ≡ came.Working next_reading → after ≡ record (with_get next_reading) { moment = turn.moment } →
+  pub works : (reading next_reading : Reading) (turn : ReadStep) (keys : List (List ℕ)) (step : LogStep) → SessionStandsFor config (with_get reading) session → turn.came ≡ came.Working next_reading → after ≡ record (with_get next_reading) { moment = turn.moment } →
       context ≡ running.context → number ≡ running.number → running.action ≡ Fetch keys → HasTurned config (request_of session running) keys running.log step turn → HasStepped config session running step Working after
   works reading next_reading turn keys step stands came_is after_is same_context same_number action has =
       let here = subst (λ (c : Came). CameOf config (request_of session running) keys running.log step c) came_is has.came_is in
       record { shown_is = inl (sym here.0); stands = goes_on reading next_reading keys step turn stands after_is same_context same_number action has here.1 }
 
-  pub restarts : (reading next_reading : Reading) (turn : Turn) (keys : List (List ℕ)) (step : LogStep) → SessionStandsFor config (with_get reading) session → turn.came ≡ came.Restarted next_reading → after ≡ record (with_get next_reading) { moment = turn.moment } →
+  pub restarts : (reading next_reading : Reading) (turn : ReadStep) (keys : List (List ℕ)) (step : LogStep) → SessionStandsFor config (with_get reading) session → turn.came ≡ came.Restarted next_reading → after ≡ record (with_get next_reading) { moment = turn.moment } →
       context ≡ running.context → number ≡ running.number → running.action ≡ Fetch keys → HasTurned config (request_of session running) keys running.log step turn → HasStepped config session running step (Restarted next_reading.restarts) after
   restarts reading next_reading turn keys step stands came_is after_is same_context same_number action has =
       let here = subst (λ (c : Came). CameOf config (request_of session running) keys running.log step c) came_is has.came_is in
       record { shown_is = inl (sym here.0); stands = goes_on reading next_reading keys step turn stands after_is same_context same_number action has here.1 }
 
-  pub fails : (reading : Reading) (turn : Turn) (fault : Fault) (keys : List (List ℕ)) (step : LogStep) → SessionStandsFor config (with_get reading) session → turn.came ≡ came.Failed fault → after ≡ record kept { moment = turn.moment; running = None } →
+  pub fails : (reading : Reading) (turn : ReadStep) (fault : Fault) (keys : List (List ℕ)) (step : LogStep) → SessionStandsFor config (with_get reading) session → turn.came ≡ came.Failed fault → after ≡ record kept { moment = turn.moment; running = None } →
       running.action ≡ Fetch keys → HasTurned config (request_of session running) keys running.log step turn → HasStepped config session running step (Done (answer.Refused fault)) after
   fails reading turn fault keys step stands came_is after_is action has =
       let here = subst (λ (c : Came). CameOf config (request_of session running) keys running.log step c) came_is has.came_is in
@@ -196,7 +196,7 @@ module _ (config : TenantConfig) (kept after : Kept) (session : Session) (runnin
       shows (inl h) = inl (sym h)
       shows (inr h) = inr (ap (λ f. Done (answer.Refused f)) h)
 
-  pub completes : (reading : Reading) (turn : Turn) (reads : List Read) (ended : Answer) (keys : List (List ℕ)) (step : LogStep) → SessionStandsFor config (with_get reading) session → turn.came ≡ came.Complete reads →
+  pub completes : (reading : Reading) (turn : ReadStep) (reads : List Read) (ended : Answer) (keys : List (List ℕ)) (step : LogStep) → SessionStandsFor config (with_get reading) session → turn.came ≡ came.Complete reads →
       (ended ≡ values_or_full kept.setting.deps (obs_in context session.contexts) reads) ⊎ (ended ≡ answer.Refused OutOfMemory) →
       ContextsStandFor after.contexts.rows (context_extended context (seen_in ended) session.contexts) →
       after ≡ record kept { moment = turn.moment; contexts = record kept.contexts { rows = after.contexts.rows }; running = None } → context ≡ running.context →

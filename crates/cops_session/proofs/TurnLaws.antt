@@ -15,16 +15,16 @@ use Rattle.cops_node.specs.declared.NodeReply.TheVariants.{Gone as GoneAt}
 use Rattle.cops_node.specs.declared.Wanted.TheVariants.{Latest, Exactly}
 use Rattle.cops_node.specs.Log.{LogStep, Late, Replied, Next, Call, Restart, fault_in}
 use Rattle.cops_session.specs.declared.Answer.{Answer}
-use Rattle.cops_session.specs.declared.asking.Asked.{Asked as AskedFirst}
-use Rattle.cops_session.specs.declared.asking.Asked.TheVariants as first
-use Rattle.cops_session.specs.declared.asking.AskedAgain.{AskedAgain}
-use Rattle.cops_session.specs.declared.asking.AskedAgain.TheVariants as second
+use Rattle.cops_session.specs.declared.asking.FirstAnswer.{FirstAnswer}
+use Rattle.cops_session.specs.declared.asking.FirstAnswer.TheVariants as first
+use Rattle.cops_session.specs.declared.asking.SecondAnswer.{SecondAnswer}
+use Rattle.cops_session.specs.declared.asking.SecondAnswer.TheVariants as second
 use Rattle.cops_session.specs.declared.ongoing.Reading.{Reading}
 use Rattle.cops_session.specs.declared.ongoing.Round.{Round}
 use Rattle.cops_session.specs.declared.ongoing.Round.TheVariants.{First, Second}
 use Rattle.cops_session.specs.declared.reading.Came.{Came}
 use Rattle.cops_session.specs.declared.reading.Came.TheVariants.{Working, Restarted, Complete, Failed}
-use Rattle.cops_session.specs.declared.reading.Turn.{Turn}
+use Rattle.cops_session.specs.declared.reading.ReadStep.{ReadStep}
 use Rattle.cops_session.specs.declared.rounds.AfterFirst.TheVariants.{More as MoreFirst, Second as ToSecond, Complete as CompleteFirst}
 use Rattle.cops_session.specs.declared.rounds.AfterSecond.TheVariants.{More as MoreSecond, Complete as CompleteSecond}
 use Rattle.cops_session.specs.declared.rounds.Wish.{Wish}
@@ -36,7 +36,7 @@ use Rattle.cops_session.specs.Rounds.{FirstReads, SecondReads}
 use Rattle.cops_session.specs.Session.{has_restarted, raised}
 use Rattle.cops_session.specs.SessionStands.{IsSettingOf}
 use Rattle.cops_session.specs.Stands.{AreDistinct, IsFirstOf, IsOver, IsSecondOf}
-use Rattle.cops_session.specs.Transaction.{Asked, gets}
+use Rattle.cops_session.specs.Transaction.{ReadRequest, gets}
 use Rattle.cops_session.specs.Turns.{CameOf, HasTurned, TurnsNext}
 use Rattle.cops_session.proofs.ReadingLaws.{again_in_second, ends_with_fault, ends_with_reads, goes_on, goes_on_in_first, goes_on_unless_gone, next_call, next_late, not_gone_of_faulty, overruns, restarts}
 
@@ -44,14 +44,14 @@ abbrev pub begun_again : FirstReads → ℕ → ℕ → Came
 begun_again round times limit = if nat_lt times limit then Restarted (record { restarts = times + 1; start = None; round = First round }) else Failed Overrun
 
 -- what comes of asking in the first round
-abbrev pub came_first : ℕ → ℕ → AskedFirst → Came
+abbrev pub came_first : ℕ → ℕ → FirstAnswer → Came
 came_first times started (first.Went (MoreFirst round)) = Working (record { restarts = times; start = Some started; round = First round })
 came_first times started (first.Went (ToSecond round)) = Working (record { restarts = times; start = Some started; round = Second round })
 came_first times started (first.Went (CompleteFirst reads)) = Complete reads
 came_first times started (first.Failed fault) = Failed fault
 
 -- what comes of asking in the second round, and the moment after it
-abbrev pub turn_second : ℕ → ℕ → ℕ → ℕ → AskedAgain → Turn
+abbrev pub turn_second : ℕ → ℕ → ℕ → ℕ → SecondAnswer → ReadStep
 turn_second times started limit moment (second.Went (MoreSecond round)) = record { moment = moment; came = Working (record { restarts = times; start = Some started; round = Second round }) }
 turn_second times started limit moment (second.Went (CompleteSecond reads)) = record { moment = moment; came = Complete reads }
 turn_second times started limit moment (second.Gone round now) = record { moment = max moment now; came = begun_again round times limit }
@@ -72,7 +72,7 @@ module _ (config : TenantConfig) (setting : Setting) (obs : List Observation) (k
 
   module _ (called : NodeId → NodeCall → NodeReply → Type 0) (stays : Type 0) (moment : ℕ) where
     -- the step makes the call, and then turns
-    turned : (reading : Reading) → IsReading config request keys log reading → (asked : Asked) (reply : NodeReply) (turn : Turn) → is_past setting.trans_time reading.start moment ≡ false →
+    turned : (reading : Reading) → IsReading config request keys log reading → (asked : ReadRequest) (reply : NodeReply) (turn : ReadStep) → is_past setting.trans_time reading.start moment ≡ false →
         slice_get (gets keys replies) (length replies) ≡ Some asked → called (record { dc = setting.dc; shard = shard_of asked.key setting.shards }) (Get asked.key asked.wanted) reply → HasTurned config request keys log (replied moment reply) turn →
         TurnsNext called stays config request keys log moment turn (next config request log moment)
     turned reading stands asked reply turn in_time is answers has =
@@ -84,7 +84,7 @@ module _ (config : TenantConfig) (setting : Setting) (obs : List Observation) (k
         )
 
     -- with no other attempt the moment stays
-    module _ (reading : Reading) (stands : IsReading config request keys log reading) (started : ℕ) (started_is : started ≡ unwrap_or reading.start moment) (asked : Asked) (reply : NodeReply)
+    module _ (reading : Reading) (stands : IsReading config request keys log reading) (started : ℕ) (started_is : started ≡ unwrap_or reading.start moment) (asked : ReadRequest) (reply : NodeReply)
         (is : slice_get (gets keys replies) (length replies) ≡ Some asked) (stay : begins_again (Fetch keys) (length steps) (Replied reply) ≡ false) where
       works : (round : Round) → fault_in (Get asked.key asked.wanted) reply ≡ None → RoundStandsFor keys (replies ++ reply ∷ []) round →
           HasTurned config request keys log (replied moment reply) (record { moment = moment; came = Working (record { restarts = reading.restarts; start = Some started; round = round }) })
@@ -118,7 +118,7 @@ module _ (config : TenantConfig) (setting : Setting) (obs : List Observation) (k
         TurnsNext called stays config request keys log moment (record { moment = moment; came = begun_again round reading.restarts setting.restarts }) (next config request log moment)
     late_turned reading round stands stay is begun =
         let late = ap (λ t. is_past t reading.start moment) (sym setting_is.trans_time) ∙ is in
-        let turn : Turn = record { moment = moment; came = begun_again round reading.restarts setting.restarts } in
+        let turn : ReadStep = record { moment = moment; came = begun_again round reading.restarts setting.restarts } in
         subst (λ (n : Next Answer). TurnsNext called stays config request keys log moment turn n) (sym (next_late config setting.dc obs keys log reading stands moment late)) (
           stay,
           record { moment_is = refl; came_is = anew reading stands (record { moment = moment; outcome = Late }) round refl begun },
@@ -127,7 +127,7 @@ module _ (config : TenantConfig) (setting : Setting) (obs : List Observation) (k
     first_stays : (times : ℕ) (start : Option ℕ) (round : FirstReads) (reply : NodeReply) → IsReading config request keys log (record { restarts = times; start = start; round = First round }) → begins_again (Fetch keys) (length steps) (Replied reply) ≡ false
     first_stays times start round reply stands = goes_on_in_first keys (length steps) reply (subst (λ (n : ℕ). n < length keys) stands.all_replied stands.round_is.unfinished)
 
-    pub first_turned : (times : ℕ) (start : Option ℕ) (round : FirstReads) (started : ℕ) (key : List ℕ) (reply : NodeReply) (asked : AskedFirst) →
+    pub first_turned : (times : ℕ) (start : Option ℕ) (round : FirstReads) (started : ℕ) (key : List ℕ) (reply : NodeReply) (asked : FirstAnswer) →
         IsReading config request keys log (record { restarts = times; start = start; round = First round }) → started ≡ unwrap_or start moment → is_past setting.trans_time start moment ≡ false →
         called (record { dc = setting.dc; shard = shard_of key setting.shards }) (Get key Latest) reply →
         ((keys : List (List ℕ)) (replies : List NodeReply) → IsFirstOf keys replies round → StandsAfterAsking keys replies key reply asked) →
@@ -135,25 +135,25 @@ module _ (config : TenantConfig) (setting : Setting) (obs : List Observation) (k
     first_turned times start round started key reply (first.Went (MoreFirst next)) stands started_is in_time answers says =
         let said = says keys replies stands.round_is in
         let reading : Reading = record { restarts = times; start = start; round = First round } in
-        let what : Asked = record { key = key; wanted = Latest } in
+        let what : ReadRequest = record { key = key; wanted = Latest } in
         turned reading stands what reply _ in_time said.0 answers (works reading stands started started_is what reply said.0 (first_stays times start round reply stands) (First next) said.1 said.2)
     first_turned times start round started key reply (first.Went (ToSecond next)) stands started_is in_time answers says =
         let said = says keys replies stands.round_is in
         let reading : Reading = record { restarts = times; start = start; round = First round } in
-        let what : Asked = record { key = key; wanted = Latest } in
+        let what : ReadRequest = record { key = key; wanted = Latest } in
         turned reading stands what reply _ in_time said.0 answers (works reading stands started started_is what reply said.0 (first_stays times start round reply stands) (Second next) said.1 said.2)
     first_turned times start round started key reply (first.Went (CompleteFirst reads)) stands started_is in_time answers says =
         let said = says keys replies stands.round_is in
         let reading : Reading = record { restarts = times; start = start; round = First round } in
-        let what : Asked = record { key = key; wanted = Latest } in
+        let what : ReadRequest = record { key = key; wanted = Latest } in
         turned reading stands what reply _ in_time said.0 answers (completes reading stands started started_is what reply said.0 (first_stays times start round reply stands) reads said.1 said.2)
     first_turned times start round started key reply (first.Failed fault) stands started_is in_time answers says =
         let said = says keys replies stands.round_is in
         let reading : Reading = record { restarts = times; start = start; round = First round } in
-        let what : Asked = record { key = key; wanted = Latest } in
+        let what : ReadRequest = record { key = key; wanted = Latest } in
         turned reading stands what reply _ in_time said.0 answers (fails reading stands started started_is what reply said.0 (first_stays times start round reply stands) fault said.1)
 
-    pub second_turned : (times : ℕ) (start : Option ℕ) (round : SecondReads) (started : ℕ) (wish : Wish) (reply : NodeReply) (asked : AskedAgain) →
+    pub second_turned : (times : ℕ) (start : Option ℕ) (round : SecondReads) (started : ℕ) (wish : Wish) (reply : NodeReply) (asked : SecondAnswer) →
         IsReading config request keys log (record { restarts = times; start = start; round = Second round }) → started ≡ unwrap_or start moment → is_past setting.trans_time start moment ≡ false →
         called (record { dc = setting.dc; shard = shard_of wish.key setting.shards }) (Get wish.key (Exactly wish.version)) reply →
         ((keys : List (List ℕ)) (replies : List NodeReply) → AreDistinct keys → IsSecondOf keys replies round → StandsAfterAskingAgain keys replies wish reply asked) →
@@ -161,17 +161,17 @@ module _ (config : TenantConfig) (setting : Setting) (obs : List Observation) (k
     second_turned times start round started wish reply (second.Went (MoreSecond next)) stands started_is in_time answers says =
         let said = says keys replies stands.distinct stands.round_is in
         let reading : Reading = record { restarts = times; start = start; round = Second round } in
-        let what : Asked = record { key = wish.key; wanted = Exactly wish.version } in
+        let what : ReadRequest = record { key = wish.key; wanted = Exactly wish.version } in
         turned reading stands what reply _ in_time said.0 answers (works reading stands started started_is what reply said.0 (goes_on_unless_gone keys (length steps) reply said.2) (Second next) said.1 said.3)
     second_turned times start round started wish reply (second.Went (CompleteSecond reads)) stands started_is in_time answers says =
         let said = says keys replies stands.distinct stands.round_is in
         let reading : Reading = record { restarts = times; start = start; round = Second round } in
-        let what : Asked = record { key = wish.key; wanted = Exactly wish.version } in
+        let what : ReadRequest = record { key = wish.key; wanted = Exactly wish.version } in
         turned reading stands what reply _ in_time said.0 answers (completes reading stands started started_is what reply said.0 (goes_on_unless_gone keys (length steps) reply said.2) reads said.1 said.3)
     second_turned times start round started wish reply (second.Gone begun now) stands started_is in_time answers says =
         let said = says keys replies stands.distinct stands.round_is in
         let reading : Reading = record { restarts = times; start = start; round = Second round } in
-        let what : Asked = record { key = wish.key; wanted = Exactly wish.version } in
+        let what : ReadRequest = record { key = wish.key; wanted = Exactly wish.version } in
         let again : begins_again (Fetch keys) (length steps) (Replied (GoneAt now)) ≡ true =
         again_in_second keys (length steps) now (subst (λ (n : ℕ). length keys ≤ n) stands.all_replied stands.round_is.past_first) in
         let has : HasTurned config request keys log (replied moment (GoneAt now)) (record { moment = max moment now; came = begun_again begun times setting.restarts }) =
@@ -180,6 +180,6 @@ module _ (config : TenantConfig) (setting : Setting) (obs : List Observation) (k
     second_turned times start round started wish reply (second.Failed fault) stands started_is in_time answers says =
         let said = says keys replies stands.distinct stands.round_is in
         let reading : Reading = record { restarts = times; start = start; round = Second round } in
-        let what : Asked = record { key = wish.key; wanted = Exactly wish.version } in
+        let what : ReadRequest = record { key = wish.key; wanted = Exactly wish.version } in
         turned reading stands what reply _ in_time said.0 answers
         (fails reading stands started started_is what reply said.0 (goes_on_unless_gone keys (length steps) reply (not_gone_of_faulty wish.key reply wish fault said.1)) fault (inr said.1))

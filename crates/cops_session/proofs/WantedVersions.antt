@@ -10,7 +10,7 @@ use Rattle.cops_types.proofs.VersionOrder.{version_lt-irrefl, version_lt-le_tran
 use Rattle.cops_node.specs.declared.NodeReply.{NodeReply}
 use Rattle.cops_node.specs.declared.NodeReply.TheVariants.{Found}
 use Rattle.cops_node.specs.declared.Wanted.TheVariants.{Latest, Exactly}
-use Rattle.cops_session.specs.Transaction.{Asked, gets, first_round, second_round, wanted_version, outdated, read_of, reads_of}
+use Rattle.cops_session.specs.Transaction.{ReadRequest, gets, first_round, second_round, wanted_version, outdated, read_of, reads_of}
 use Rattle.cops_types.proofs.Elements.{Among, Among-cases, Among-filter, map-Among}
 use Rattle.cops_types.proofs.PairSets.{at, version_of-Among}
 
@@ -18,18 +18,18 @@ use Rattle.cops_types.proofs.PairSets.{at, version_of-Among}
 abbrev pub deps_read : List Read → List Pair
 deps_read reads = flat_map (λ r. r.deps) reads
 
-abbrev pub asked_latest : List ℕ → Asked
+abbrev pub asked_latest : List ℕ → ReadRequest
 asked_latest key = record { key = key; wanted = Latest }
 
-abbrev pub asked_exactly : List Read → Read → Asked
+abbrev pub asked_exactly : List Read → Read → ReadRequest
 asked_exactly reads read = record { key = read.key; wanted = Exactly (wanted_version reads read) }
 
 -- what is asked for: the latest version of a key, or the wanted one of an outdated read
-pub data IsAskedFor (keys : List (List ℕ)) (rs : List NodeReply) (q : Asked) : Type 0 where
+pub data IsAskedFor (keys : List (List ℕ)) (rs : List NodeReply) (q : ReadRequest) : Type 0 where
   IsFirst : (key : List ℕ) → Among key keys → asked_latest key ≡ q → IsAskedFor keys rs q
   IsSecond : (read : Read) → nat_lt (length rs) (length keys) ≡ false → Among read (outdated (reads_of keys rs)) → asked_exactly (reads_of keys rs) read ≡ q → IsAskedFor keys rs q
 
-pub asked_for : (keys : List (List ℕ)) (rs : List NodeReply) (q : Asked) → Among q (gets keys rs) → IsAskedFor keys rs q
+pub asked_for : (keys : List (List ℕ)) (rs : List NodeReply) (q : ReadRequest) → Among q (gets keys rs) → IsAskedFor keys rs q
 asked_for keys rs q at_q = by_more (nat_lt (length rs) (length keys)) refl at_q
   where
     first : Among q (first_round keys) → IsAskedFor keys rs q

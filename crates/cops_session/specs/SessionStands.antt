@@ -9,7 +9,7 @@ use Rattle.cops_handles.specs.declared.tables.Open.{Open}
 use Rattle.cops_session.specs.declared.ongoing.Ongoing.{Ongoing}
 use Rattle.cops_session.specs.declared.ongoing.Work.{Work}
 use Rattle.cops_session.specs.declared.ongoing.Work.TheVariants.{Put, Get}
-use Rattle.cops_session.specs.declared.ongoing.Writing.{Writing}
+use Rattle.cops_session.specs.declared.ongoing.PendingPut.{PendingPut}
 use Rattle.cops_session.specs.declared.settings.Setting.{Setting}
 use Rattle.cops_session.specs.Kept.{Kept}
 use Rattle.cops_session.specs.Reading.{IsReading}
@@ -36,7 +36,7 @@ abbrev pub obs_in : ℕ → List OpenContext → List Observation
 obs_in number contexts = unwrap_or (option_map (λ c. c.obs) (find (λ c. c.number == number) contexts)) []
 
 -- a put that has made no step, with the two lists of its context
-pub record IsWriting (request : Request) (log : List LogStep) (writing : Writing) : Type 0 where
+pub record IsWriting (request : Request) (log : List LogStep) (writing : PendingPut) : Type 0 where
   pub action_is : request.action ≡ Write writing.key writing.value
   pub no_step : log ≡ []
   pub deps_are : writing.deps ≡ all_of request.obs

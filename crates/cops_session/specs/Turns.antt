@@ -11,7 +11,7 @@ use Rattle.cops_session.specs.declared.Answer.TheVariants as answer
 use Rattle.cops_session.specs.declared.Progress.TheVariants as progress
 use Rattle.cops_session.specs.declared.reading.Came.{Came}
 use Rattle.cops_session.specs.declared.reading.Came.TheVariants.{Working, Restarted, Complete, Failed}
-use Rattle.cops_session.specs.declared.reading.Turn.{Turn}
+use Rattle.cops_session.specs.declared.reading.ReadStep.{ReadStep}
 use Rattle.cops_session.specs.Reading.{IsReading}
 use Rattle.cops_session.specs.Request.{Request, Fetch, values_or_full}
 use Rattle.cops_session.specs.Session.{has_restarted, raised}
@@ -25,12 +25,12 @@ CameOf config request keys log step (Restarted reading) =
 CameOf config request keys log step (Complete reads) = session.progress config request log step ≡ progress.Done (values_or_full config.quota.deps request.obs reads)
 CameOf config request keys log step (Failed fault) = (session.progress config request log step ≡ progress.Done (answer.Refused fault)) ⊎ (fault ≡ OutOfMemory)
 
-pub record HasTurned (config : TenantConfig) (request : Request) (keys : List (List ℕ)) (log : List LogStep) (step : LogStep) (turn : Turn) : Type 0 where
+pub record HasTurned (config : TenantConfig) (request : Request) (keys : List (List ℕ)) (log : List LogStep) (step : LogStep) (turn : ReadStep) : Type 0 where
   pub moment_is : turn.moment ≡ (if has_restarted (Fetch keys) log step then raised step.moment step.outcome else step.moment)
   pub came_is : CameOf config request keys log step turn.came
 
 -- the step does what comes next
-abbrev pub TurnsNext : (NodeId → NodeCall → NodeReply → Type 0) → Type 0 → TenantConfig → Request → List (List ℕ) → List LogStep → ℕ → Turn → Next Answer → Type 0
+abbrev pub TurnsNext : (NodeId → NodeCall → NodeReply → Type 0) → Type 0 → TenantConfig → Request → List (List ℕ) → List LogStep → ℕ → ReadStep → Next Answer → Type 0
 TurnsNext called stays config request keys log moment turn (Call directed) =
     (reply : NodeReply) × called directed.node directed.call reply × HasTurned config request keys log (record { moment = moment; outcome = Replied reply }) turn
 TurnsNext called stays config request keys log moment turn Restart = stays × HasTurned config request keys log (record { moment = moment; outcome = Late }) turn

@@ -14,13 +14,13 @@ pub struct Ongoing {
 /// What a request does.
 #[derive(Debug, Drop)]
 pub enum Work {
-    Put(Writing),
+    Put(PendingPut),
     Get(Reading),
 }
 
 /// A put: the pair to store, and the two lists of its context.
 #[derive(Debug, Drop)]
-pub struct Writing {
+pub struct PendingPut {
     pub key: Key,
     pub value: Value,
     pub deps: Deps,

@@ -14,7 +14,7 @@ ghost use Rattle.cops_session.specs.Turns.{TurnsNext};
 ghost use Rattle.cops_session.specs.declared.ongoing.Round.TheVariants.{First, Second};
 ghost use Rattle.cops_session.specs.declared.reading.Came.TheVariants.{Restarted, Failed};
 
-use crate::asking::{Asked, AskedAgain, ask_first, ask_second};
+use crate::asking::{FirstAnswer, SecondAnswer, ask_first, ask_second};
 use crate::ongoing::{Reading, Round};
 use crate::rounds::{AfterFirst, AfterSecond, FirstRound, SecondRound};
 use crate::settings::Setting;
@@ -37,7 +37,7 @@ pub enum Came {
 
 /// What came of a step of a get transaction, and the session's moment after it.
 #[derive(Drop)]
-pub struct Turn {
+pub struct ReadStep {
     pub moment: u64,
     pub came: Came,
 }
@@ -76,7 +76,7 @@ fn read_first<N: Nodes>(
     restarts: u64,
     start: Option<u64>,
     moment: u64,
-) -> Turn
+) -> ReadStep
     requires dc { setting.dc < (N.shape nodes.old).data_centres }
     requires shards { setting.shards ≡ (N.shape nodes.old).shards }
     requires some_shard { 0 < setting.shards }
@@ -91,7 +91,7 @@ fn read_first<N: Nodes>(
 {
     let started = Some(start.unwrap_or(moment));
     match ask_first(alloc, nodes, round, setting, moment) {
-        Asked::Went(AfterFirst::More(round)) => Turn {
+        FirstAnswer::Went(AfterFirst::More(round)) => ReadStep {
             moment,
             came: Came::Working(Reading {
                 restarts,
@@ -99,7 +99,7 @@ fn read_first<N: Nodes>(
                 round: Round::First(round),
             }),
         },
-        Asked::Went(AfterFirst::Second(round)) => Turn {
+        FirstAnswer::Went(AfterFirst::Second(round)) => ReadStep {
             moment,
             came: Came::Working(Reading {
                 restarts,
@@ -107,11 +107,11 @@ fn read_first<N: Nodes>(
                 round: Round::Second(round),
             }),
         },
-        Asked::Went(AfterFirst::Complete(reads)) => Turn {
+        FirstAnswer::Went(AfterFirst::Complete(reads)) => ReadStep {
             moment,
             came: Came::Complete(reads),
         },
-        Asked::Failed(fault) => Turn {
+        FirstAnswer::Failed(fault) => ReadStep {
             moment,
             came: Came::Failed(fault),
         },
@@ -126,7 +126,7 @@ fn read_second<N: Nodes>(
     restarts: u64,
     start: Option<u64>,
     moment: u64,
-) -> Turn
+) -> ReadStep
     requires dc { setting.dc < (N.shape nodes.old).data_centres }
     requires shards { setting.shards ≡ (N.shape nodes.old).shards }
     requires some_shard { 0 < setting.shards }
@@ -141,7 +141,7 @@ fn read_second<N: Nodes>(
 {
     let started = Some(start.unwrap_or(moment));
     match ask_second(nodes, round, setting, moment) {
-        AskedAgain::Went(AfterSecond::More(round)) => Turn {
+        SecondAnswer::Went(AfterSecond::More(round)) => ReadStep {
             moment,
             came: Came::Working(Reading {
                 restarts,
@@ -149,15 +149,15 @@ fn read_second<N: Nodes>(
                 round: Round::Second(round),
             }),
         },
-        AskedAgain::Went(AfterSecond::Complete(reads)) => Turn {
+        SecondAnswer::Went(AfterSecond::Complete(reads)) => ReadStep {
             moment,
             came: Came::Complete(reads),
         },
-        AskedAgain::Gone(round, now) => Turn {
+        SecondAnswer::Gone(round, now) => ReadStep {
             moment: moment.max(now),
             came: begin_again(round, restarts, setting.restarts),
         },
-        AskedAgain::Failed(fault) => Turn {
+        SecondAnswer::Failed(fault) => ReadStep {
             moment,
             came: Came::Failed(fault),
         },
@@ -183,7 +183,7 @@ pub(crate) fn read_step<N: Nodes>(
     setting: Setting,
     reading: Reading,
     moment: u64,
-) -> Turn
+) -> ReadStep
     requires dc { setting.dc < (N.shape nodes.old).data_centres }
     requires shards { setting.shards ≡ (N.shape nodes.old).shards }
     requires some_shard { 0 < setting.shards }
@@ -201,7 +201,7 @@ pub(crate) fn read_step<N: Nodes>(
         round,
     } = reading;
     if is_late(start, moment, setting.trans_time) {
-        return Turn {
+        return ReadStep {
             moment,
             came: begin_again(round.restart(), restarts, setting.restarts),
         };

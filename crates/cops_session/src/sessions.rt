@@ -13,8 +13,8 @@ ghost use Rattle.cops_session.specs.declared.ongoing.Work.TheVariants as work;
 
 use crate::contexts::{prepare_put, see_put, see_reads};
 use crate::kinds::{Contexts, Running};
-use crate::ongoing::{Ongoing, Reading, Round, Work, Writing};
-use crate::reading::{Came, Turn, read_step};
+use crate::ongoing::{Ongoing, PendingPut, Reading, Round, Work};
+use crate::reading::{Came, ReadStep, read_step};
 use crate::repeats::has_repeats;
 use crate::rounds::FirstRound;
 use crate::settings::Setting;
@@ -194,7 +194,7 @@ impl Session {
             &key,
             self.setting.deps,
         )?;
-        let writing = Writing {
+        let writing = PendingPut {
             key,
             value,
             deps,
@@ -314,7 +314,7 @@ impl Session {
         &mut self,
         nodes: &mut N,
         context: Handle<Contexts>,
-        writing: Writing,
+        writing: PendingPut,
         moment: u64,
     ) -> Progress
         requires data_centres { self.old.setting.data_centres ≡ (N.shape nodes.old).data_centres }
@@ -365,7 +365,7 @@ impl Session {
         ensures setting { self.new.setting ≡ self.old.setting }
     {
         let now = self.moment.max(moment);
-        let Turn { moment, came } = read_step(self.alloc, nodes, self.setting, reading, now);
+        let ReadStep { moment, came } = read_step(self.alloc, nodes, self.setting, reading, now);
         self.moment = moment;
         match came {
             Came::Working(reading) => {

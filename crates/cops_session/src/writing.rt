@@ -5,7 +5,7 @@ ghost use Rattle.cops_node.specs.declared.NodeReply.{NodeReply};
 ghost use Rattle.cops_session.specs.Writing.{answer_to_put};
 
 use crate::Answer;
-use crate::ongoing::Writing;
+use crate::ongoing::PendingPut;
 use crate::settings::Setting;
 use cops_node::{NodeCall, NodeId, NodeReply, Nodes};
 use cops_types::{Fault, Key, Pair};
@@ -25,7 +25,7 @@ fn answer_of(key: Key, reply: NodeReply) -> Answer
 pub(crate) fn write_step<N: Nodes>(
     nodes: &mut N,
     setting: Setting,
-    writing: Writing,
+    writing: PendingPut,
     moment: u64,
 ) -> Answer
     requires dc { setting.dc < (N.shape nodes.old).data_centres }
@@ -37,7 +37,7 @@ pub(crate) fn write_step<N: Nodes>(
         × (result ≡ answer_to_put writing.key reply) }
     ensures shape { N.shape nodes.new ≡ N.shape nodes.old }
 {
-    let Writing {
+    let PendingPut {
         key,
         value,
         deps,

@@ -8,7 +8,7 @@ use Rattle.std.proofs.lemmas.List.Elements.{filter-append}
 use Rattle.cops_types.specs.declared.records.Dated.{Dated}
 use Rattle.cops_store.specs.declared.notes.SlotNotes.{SlotNotes}
 use Rattle.cops_store.specs.declared.table.Due.{Due}
-use Rattle.cops_store.specs.declared.table.Place.{Place}
+use Rattle.cops_store.specs.declared.table.SlotKey.{SlotKey}
 use Rattle.cops_store.specs.declared.usage.InUse.{InUse}
 use Rattle.cops_store.specs.Chains.{IsChain}
 use Rattle.cops_store.specs.Contents.{size_of}
@@ -22,12 +22,12 @@ use Rattle.cops_store.proofs.Versions.{list_any-filter, list_any_weaker}
 
 -- ---- the chains
 
-pub chains_of-without : {Z : Type 0} (slot : ℕ) (es : List (Place × Vec Dated Z)) → chains_of (filter (λ (e : Place × Vec Dated Z). not (nat_eq e.0.slot slot)) es) ≡ without slot (chains_of es)
+pub chains_of-without : {Z : Type 0} (slot : ℕ) (es : List (SlotKey × Vec Dated Z)) → chains_of (filter (λ (e : SlotKey × Vec Dated Z). not (nat_eq e.0.slot slot)) es) ≡ without slot (chains_of es)
 chains_of-without slot [] = refl
 chains_of-without {Z} slot (e ∷ es) = by (not (nat_eq e.0.slot slot)) (chains_of-without slot es)
   where
-    by : (b : Bool) → chains_of (filter (λ (e : Place × Vec Dated Z). not (nat_eq e.0.slot slot)) es) ≡ without slot (chains_of es)
-        → chains_of (cond b (e ∷ filter (λ (e : Place × Vec Dated Z). not (nat_eq e.0.slot slot)) es) (filter (λ (e : Place × Vec Dated Z). not (nat_eq e.0.slot slot)) es)) ≡ cond b ((e.0, e.1.items) ∷ without slot (chains_of es)) (without slot (chains_of es))
+    by : (b : Bool) → chains_of (filter (λ (e : SlotKey × Vec Dated Z). not (nat_eq e.0.slot slot)) es) ≡ without slot (chains_of es)
+        → chains_of (cond b (e ∷ filter (λ (e : SlotKey × Vec Dated Z). not (nat_eq e.0.slot slot)) es) (filter (λ (e : SlotKey × Vec Dated Z). not (nat_eq e.0.slot slot)) es)) ≡ cond b ((e.0, e.1.items) ∷ without slot (chains_of es)) (without slot (chains_of es))
     by true rest = ap (λ cs. (e.0, e.1.items) ∷ cs) rest
     by false rest = rest
 
@@ -83,12 +83,12 @@ module _ (slot : ℕ) (slots : List SlotNotes) (s s' : SlotNotes) (h : AreOwn 0 
   notes_own = parts.owns s' (subst (AllByRecursion (λ d. (d.place.slot ≡ slot) × (s'.least ≤ d.stale))) (sym nothing) tt)
 
 -- a note of another slot is still there
-noted_stays : (slot : ℕ) (due : List Due) (place : Place) (o : Option ℕ) → not (nat_eq place.slot slot) ≡ true → IsNoted due place o → IsNoted (others_of slot due) place o
+noted_stays : (slot : ℕ) (due : List Due) (place : SlotKey) (o : Option ℕ) → not (nat_eq place.slot slot) ≡ true → IsNoted due place o → IsNoted (others_of slot due) place o
 noted_stays slot due place None other noted = tt
 noted_stays slot due place (Some m) other noted =
     list_any-filter (is_due place m) (λ d. not (nat_eq d.place.slot slot)) due
     ∙ list_any_weaker (is_due place m) (λ d. is_due place m d && not (nat_eq d.place.slot slot))
-    (λ d is. and_both (is_due place m d) (not (nat_eq d.place.slot slot)) is (ap (λ (p : Place). not (nat_eq p.slot slot)) (same_place_is d.place place (and_left _ _ is)) ∙ other)) due noted
+    (λ d is. and_both (is_due place m d) (not (nat_eq d.place.slot slot)) is (ap (λ (p : SlotKey). not (nat_eq p.slot slot)) (same_place_is d.place place (and_left _ _ is)) ∙ other)) due noted
 
 AreNoted-without : (slot : ℕ) (due : List Due) (chains : Chains) → AreNoted due chains → AreNoted (others_of slot due) (without slot chains)
 AreNoted-without slot due [] noted = tt
@@ -100,13 +100,13 @@ AreNoted-without slot due (e ∷ chains) noted = by (not (nat_eq e.0.slot slot))
 
 -- ---- the store
 
-pub store_dropped : (usage : List InUse) (due later : List Due) (slot : ℕ) (chains next : Chains) → IsStore usage due chains → next ≡ without slot chains → later ≡ others_of slot due → IsDistinct same_place (map (λ (e : Place × List Dated). e.0) next)
+pub store_dropped : (usage : List InUse) (due later : List Due) (slot : ℕ) (chains next : Chains) → IsStore usage due chains → next ≡ without slot chains → later ≡ others_of slot due → IsDistinct same_place (map (λ (e : SlotKey × List Dated). e.0) next)
     → IsStore (set usage slot (record { records = 0; bytes = 0 })) later next
 store_dropped usage due later slot chains next h is notes unique = record {
   table = record {
-    slots = subst (λ n. AllByRecursion (λ (e : Place × List Dated). e.0.slot < n) next) (sym (length-set usage slot _))
-        (subst (AllByRecursion (λ (e : Place × List Dated). e.0.slot < length usage)) (sym is) (each_filter (λ (e : Place × List Dated). e.0.slot < length usage) (λ e. not (nat_eq e.0.slot slot)) chains h.table.slots));
-    chained = subst (AllByRecursion (λ (e : Place × List Dated). IsChain e.0.key e.1)) (sym is) (each_filter (λ (e : Place × List Dated). IsChain e.0.key e.1) (λ e. not (nat_eq e.0.slot slot)) chains h.table.chained);
+    slots = subst (λ n. AllByRecursion (λ (e : SlotKey × List Dated). e.0.slot < n) next) (sym (length-set usage slot _))
+        (subst (AllByRecursion (λ (e : SlotKey × List Dated). e.0.slot < length usage)) (sym is) (each_filter (λ (e : SlotKey × List Dated). e.0.slot < length usage) (λ e. not (nat_eq e.0.slot slot)) chains h.table.slots));
+    chained = subst (AllByRecursion (λ (e : SlotKey × List Dated). IsChain e.0.key e.1)) (sym is) (each_filter (λ (e : SlotKey × List Dated). IsChain e.0.key e.1) (λ e. not (nat_eq e.0.slot slot)) chains h.table.chained);
     unique = unique;
   };
   noted = subst (λ ds. AreNoted ds next) (sym notes) (subst (AreNoted (others_of slot due)) (sym is) (AreNoted-without slot due chains h.noted));

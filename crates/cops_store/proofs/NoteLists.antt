@@ -6,7 +6,7 @@ use Rattle.std.proofs.lemmas.Bool.Decides.{nat_tests, Decides-eqb}
 use Rattle.std.proofs.lemmas.List.{length-set, length-map, map-append, get_or-map, get_or-set_same}
 use Rattle.std.proofs.lemmas.List.Elements.{filter-append}
 use Rattle.std.proofs.lemmas.List.Folds.{list_any-append}
-use Rattle.cops_store.specs.declared.table.Place.{Place}
+use Rattle.cops_store.specs.declared.table.SlotKey.{SlotKey}
 use Rattle.cops_store.specs.declared.table.Due.{Due}
 use Rattle.cops_store.specs.declared.notes.SlotNotes.{SlotNotes}
 use Rattle.cops_store.specs.Contents.{is_ripe}
@@ -33,7 +33,7 @@ later_others slot first (s ∷ slots) lt h =
     each_append _ s.list.items (notes_in slots) (each_weaker _ _ (λ d own. differs d.place.slot slot (λ same. let at = own.0 in absurd (omega arith))) s.list.items h.0)
     (later_others slot (suc first) slots (omega arith) h.1)
 
-others_miss : (slot now trans_time : ℕ) (place : Place) (notes : List Due) → AreOthers slot notes → hits slot now trans_time notes place ≡ false
+others_miss : (slot now trans_time : ℕ) (place : SlotKey) (notes : List Due) → AreOthers slot notes → hits slot now trans_time notes place ≡ false
 others_miss slot now trans_time place [] h = refl
 others_miss slot now trans_time place (d ∷ notes) h =
     ap (λ b. ((b && is_ripe now trans_time (Some d.stale)) && same_place d.place place) || hits slot now trans_time notes place) h.0 ∙ others_miss slot now trans_time place notes h.1
@@ -93,7 +93,7 @@ module _ (slot : ℕ) (slots : List SlotNotes) (s : SlotNotes) (h : AreOwn 0 slo
   abbrev pub here : Split 0 slot slots slot s
   here = let at : slot ≡ 0 + slot = omega arith in split 0 slot slots slot s at h lt read
 
-  around : (now trans_time : ℕ) (place : Place) (before own after : List Due) → AreOthers slot before → AreOthers slot after → hits slot now trans_time (before ++ (own ++ after)) place ≡ hits slot now trans_time own place
+  around : (now trans_time : ℕ) (place : SlotKey) (before own after : List Due) → AreOthers slot before → AreOthers slot after → hits slot now trans_time (before ++ (own ++ after)) place ≡ hits slot now trans_time own place
   around now trans_time place before own after b a =
       list_any-append (λ d. is_hit slot now trans_time d && same_place d.place place) before (own ++ after)
       ∙ ap (λ t. t || hits slot now trans_time (own ++ after) place) (others_miss slot now trans_time place before b)
@@ -106,11 +106,11 @@ module _ (slot : ℕ) (slots : List SlotNotes) (s : SlotNotes) (h : AreOwn 0 slo
       or-false false = refl
 
   -- what hits is of the slot
-  pub hits_own : (now trans_time : ℕ) (place : Place) → hits slot now trans_time (notes_in slots) place ≡ hits slot now trans_time s.list.items place
+  pub hits_own : (now trans_time : ℕ) (place : SlotKey) → hits slot now trans_time (notes_in slots) place ≡ hits slot now trans_time s.list.items place
   hits_own now trans_time place = ap (λ notes. hits slot now trans_time notes place) here.is ∙ around now trans_time place here.before s.list.items here.after here.before_others here.after_others
 
   -- where the least moment isn't ripe nothing hits
-  pub none_ripe : (now trans_time : ℕ) → now - s.least ≤ trans_time → (place : Place) → hits slot now trans_time (notes_in slots) place ≡ false
+  pub none_ripe : (now trans_time : ℕ) → now - s.least ≤ trans_time → (place : SlotKey) → hits slot now trans_time (notes_in slots) place ≡ false
   none_ripe now trans_time le place = hits_own now trans_time place ∙ none s.list.items here.own
     where
       none : (notes : List Due) → AllByRecursion (λ d. (d.place.slot ≡ slot) × (s.least ≤ d.stale)) notes → hits slot now trans_time notes place ≡ false

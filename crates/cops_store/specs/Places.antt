@@ -3,12 +3,12 @@ use Rattle.std.specs.Prelude.{◌≡◌, true, nat_eq}
 use Rattle.std.specs.Cmp.{first_so, second_so}
 use Rattle.std.specs.Cmp.Lexicographic.{bytes_decides}
 use Rattle.std.proofs.lemmas.Bool.Decides.{Decides-eqb}
-use Rattle.cops_store.specs.declared.table.Place.{Place}
+use Rattle.cops_store.specs.declared.table.SlotKey.{SlotKey}
 use Rattle.cops_types.specs.Key.{key_eq}
 use Rattle.cops_store.specs.Tables.{same_place}
 
 -- places that pass the test are one place
-pub same_place_is : (a b : Place) → same_place a b ≡ true → a ≡ b
+pub same_place_is : (a b : SlotKey) → same_place a b ≡ true → a ≡ b
 same_place_is a b h =
     let slot = (Decides-eqb a.slot b.slot).0 (first_so (nat_eq a.slot b.slot) (key_eq a.key b.key) h) in
     let key = (bytes_decides a.key b.key).0 (second_so (nat_eq a.slot b.slot) (key_eq a.key b.key) h) in

@@ -1,12 +1,12 @@
 //! What is noted as due, slot by slot: no slot walks another's notes.
 ghost use Rattle.std.specs.Prelude.{◌≡◌, ◌≤◌, ◌<◌, ℕ, [], false, not, nat_eq, map, filter, length, vec_len, vec_capacity, IfOk, OnOk, IsOk, IsTrue};
 ghost use Rattle.std.specs.List.{AllByRecursion};
-ghost use Rattle.cops_store.specs.declared.table.Place.{Place};
+ghost use Rattle.cops_store.specs.declared.table.SlotKey.{SlotKey};
 ghost use Rattle.cops_store.specs.Notes.{has_room, IsOneMore};
 ghost use Rattle.cops_store.specs.Tables.{chains_of, hits, is_hit as may_hit, renewed as renewed_note};
 
 use crate::seeds::Seeds;
-use crate::table::{self, Due, Place};
+use crate::table::{self, Due, SlotKey};
 use cops_types::Dated;
 use indexmap::IndexMap;
 use std::alloc::{AllocError, Global};
@@ -90,7 +90,7 @@ impl DueNotes {
     // Whether something of the slot may go.
     pub(crate) fn is_ripe(&self, slot: usize, now: u64, trans_time: u64) -> bool
         requires { slot < length self.now.rooms }
-        ensures { result ≡ false → (place : Place) → hits slot now trans_time self.now.items place ≡ false }
+        ensures { result ≡ false → (place : SlotKey) → hits slot now trans_time self.now.items place ≡ false }
     {
         let own = &self.slots[slot];
         now.saturating_sub(own.least) > trans_time
@@ -99,7 +99,7 @@ impl DueNotes {
     // The notes of the slot.
     pub(crate) fn of(&self, slot: usize) -> &[Due]
         requires { slot < length self.now.rooms }
-        ensures { (now trans_time : ℕ) (place : Place) → hits slot now trans_time self.now.items place ≡ hits slot now trans_time result.now place }
+        ensures { (now trans_time : ℕ) (place : SlotKey) → hits slot now trans_time self.now.items place ≡ hits slot now trans_time result.now place }
     {
         let own = &self.slots[slot];
         own.list.as_slice()
@@ -108,7 +108,7 @@ impl DueNotes {
     // Notes anew what is left at the places of the slot that were cleaned, and forgets the rest.
     pub(crate) fn put_off(
         &mut self,
-        table: &IndexMap<Place, Vec<Dated>, Seeds>,
+        table: &IndexMap<SlotKey, Vec<Dated>, Seeds>,
         slot: usize,
         now: u64,
         trans_time: u64,

@@ -3,7 +3,7 @@ use Rattle.std.proofs.Common.{◌≡◌, ℕ, List, [], ◌∷◌, ◌++◌, inl
 use Rattle.std.specs.Io.KnownBytes.{Consumes, IsAtEnd, Keeps}
 use Rattle.cops_types.specs.Sink.{AppendsFront}
 use Rattle.cops_types.specs.Lines.{cut_lines}
-use Rattle.cops_types.specs.LineRules.{Rules, Run}
+use Rattle.cops_types.specs.LineRules.{LineRules, Run}
 use Rattle.cops_types.specs.LineRuns.{IsWhole, StartsWithLines, StopsEarly}
 use Rattle.cops_types.specs.declared.line_runs.fault.RunFault.TheVariants.{WriteFault}
 
@@ -45,7 +45,7 @@ AppendsFront-nil (Some x) (Some y) (rest, p) = p.appended ∙ ap (λ l. x ++ l) 
 
 -- ---- a machine that answers nothing never sees the writer fail
 
-module _ {M F : Type 0} (rules : Rules M F) (silent : (old : M) (line text : List ℕ) (new : M) → rules.answers old line text new → text ≡ []) where
+module _ {M F : Type 0} (rules : LineRules M F) (silent : (old : M) (line text : List ℕ) (new : M) → rules.answers old line text new → text ≡ []) where
   pub Run-silent : (old : M) (lines : List (List ℕ)) (text : List ℕ) (new : M) → Run rules old lines text new → text ≡ []
   Run-silent old [] text new h = h.0
   Run-silent old (line ∷ lines) text new (first, mid, later, answered, run, whole) =

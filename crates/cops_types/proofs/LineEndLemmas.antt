@@ -12,13 +12,13 @@ use Rattle.cops_types.specs.Sink.{AppendsAllBut, AppendsFront}
 use Rattle.cops_types.proofs.Writing.{AppendsAllBut-start}
 use Rattle.cops_types.specs.Lines.{cut_lines}
 use Rattle.cops_types.specs.LineAnswers.{Answers, IfRefused}
-use Rattle.cops_types.specs.LineRules.{Rules, Run}
+use Rattle.cops_types.specs.LineRules.{LineRules, Run}
 use Rattle.cops_types.specs.RunFaults.{fault_of}
 use Rattle.cops_types.specs.LineRuns.{stage, SplitsOff, HasFirst, IsWhole, IsLineFront, IfRunRefused, Answered, Stops, StopsAtEnd, StopsEarly, Finishes, AnswersAll, last_line}
 use Rattle.cops_types.specs.declared.line_runs.machine.Stop.{Stop}
 use Rattle.cops_types.specs.declared.line_runs.machine.Stop.TheVariants as stop
 
-module _ {M F : Type 0} (rules : Rules M F) where
+module _ {M F : Type 0} (rules : LineRules M F) where
   -- nothing is written
   unwritten : (contents : Option (List ℕ)) (bytes : List ℕ) → AppendsFront contents contents bytes
   unwritten contents bytes = (bytes, AppendsAllBut-start contents bytes)
@@ -101,13 +101,13 @@ whole_lines limit input lines front split h =
     ap (cut_lines limit) (sym (append-nil input)) ∙ split [] ∙ ap (λ l. lines ++ cut_lines limit l) (append-nil front) ∙ ap (λ l. lines ++ l) (cut_lines-front limit front h)
 
 -- what was read since the run began, and how far it is answered
-pub record SoFar {M F : Type 0} (rules : Rules M F) (limit : ℕ) (start_remaining remaining : Option (List ℕ)) (start : M) (start_contents : Option (List ℕ))
+pub record SoFar {M F : Type 0} (rules : LineRules M F) (limit : ℕ) (start_remaining remaining : Option (List ℕ)) (start : M) (start_contents : Option (List ℕ))
     (front : List ℕ) (machine : M) (waiting : List ℕ) (contents : Option (List ℕ)) : Type 0 where
   pub input : List ℕ
   pub read : Consumes start_remaining remaining input
   pub answered : Answered rules limit input (stage start [] start_contents) front (stage machine waiting contents)
 
-module _ {M F : Type 0} (rules : Rules M F) (limit : ℕ) (start_remaining : Option (List ℕ)) (start : M) (start_contents : Option (List ℕ)) where
+module _ {M F : Type 0} (rules : LineRules M F) (limit : ℕ) (start_remaining : Option (List ℕ)) (start : M) (start_contents : Option (List ℕ)) where
   abbrev Now : Option (List ℕ) → List ℕ → M → List ℕ → Option (List ℕ) → Type 0
   Now remaining front machine waiting contents = SoFar rules limit start_remaining remaining start start_contents front machine waiting contents
 

@@ -8,7 +8,7 @@ use Rattle.std.specs.Result.{is_err, IsOk}
 use Rattle.cops_types.specs.Sink.{AppendsAllBut, AppendsFront}
 use Rattle.cops_types.specs.Lines.{cut_line, cut_lines, IsUnbroken}
 use Rattle.cops_types.specs.LineAnswers.{Answers, IfRefused}
-use Rattle.cops_types.specs.LineRules.{Rules, Run}
+use Rattle.cops_types.specs.LineRules.{LineRules, Run}
 use Rattle.cops_types.specs.RunFaults.{fault_of}
 use Rattle.cops_types.specs.LineRuns.{Stage, stage, SplitsOff, HasFirst, Advances, Answered, Stops, IfRunRefused, IfWriteFault, IsLineFront}
 use Rattle.cops_types.specs.declared.line_runs.machine.Stop.{Stop}
@@ -92,7 +92,7 @@ not_failed (Err x) e h = let clash : ⊥ = cc in clash
 
 -- ---- how far the answers are
 
-module _ {M F : Type 0} (rules : Rules M F) where
+module _ {M F : Type 0} (rules : LineRules M F) where
   pub Run-append : (old : M) (lines : List (List ℕ)) (text : List ℕ) (mid : M) (more : List (List ℕ)) (later : List ℕ) (new : M)
       → Run rules old lines text mid → Run rules mid more later new → Run rules old (lines ++ more) (text ++ later) new
   Run-append old [] text mid more later new p q =

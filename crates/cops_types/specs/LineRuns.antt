@@ -3,7 +3,7 @@ use Rattle.std.specs.Prelude.{◌≡◌, ◌≢◌, ℕ, ◌+◌, ◌≤◌, len
 use Rattle.std.specs.Io.KnownBytes.{Appends, Consumes, IsAtEnd}
 use Rattle.cops_types.specs.Sink.{AppendsFront}
 use Rattle.cops_types.specs.Lines.{cut_lines, IsUnbroken}
-use Rattle.cops_types.specs.LineRules.{Rules, Run}
+use Rattle.cops_types.specs.LineRules.{LineRules, Run}
 use Rattle.cops_types.specs.declared.line_runs.fault.RunFault.{RunFault}
 use Rattle.cops_types.specs.declared.line_runs.fault.RunFault.TheVariants.{Refused, OutOfMemory, ReadFault, WriteFault}
 
@@ -25,7 +25,7 @@ abbrev pub stage : {M : Type 0} → M → List ℕ → Option (List ℕ) → Sta
 stage machine waiting contents = record { machine = machine; waiting = waiting; contents = contents }
 
 -- from the one stage to the other the lines were answered, and a front of what was to be written was written
-pub record Advances {M F : Type 0} (rules : Rules M F) (old : Stage M) (lines : List (List ℕ)) (new : Stage M) : Type 0 where
+pub record Advances {M F : Type 0} (rules : LineRules M F) (old : Stage M) (lines : List (List ℕ)) (new : Stage M) : Type 0 where
   pub text : List ℕ
   pub written : List ℕ
   pub run : Run rules old.machine lines text new.machine
@@ -45,7 +45,7 @@ pub record IsLineFront (limit : ℕ) (bytes : List ℕ) : Type 0 where
   pub short : length bytes ≤ limit + 1
 
 -- some of the lines of old were answered, and new is what is left of it
-pub record Answered {M F : Type 0} (rules : Rules M F) (limit : ℕ) (old_bytes : List ℕ) (old : Stage M) (new_bytes : List ℕ) (new : Stage M) : Type 0 where
+pub record Answered {M F : Type 0} (rules : LineRules M F) (limit : ℕ) (old_bytes : List ℕ) (old : Stage M) (new_bytes : List ℕ) (new : Stage M) : Type 0 where
   pub lines : List (List ℕ)
   pub split : SplitsOff limit old_bytes lines new_bytes
   pub advanced : Advances rules old lines new
@@ -58,7 +58,7 @@ IfWriteFault OutOfMemory P = ⊤
 IfWriteFault ReadFault P = ⊤
 
 -- the first lines of the bytes were answered; a refusal was of the next line
-pub record Stops {M F : Type 0} (rules : Rules M F) (limit : ℕ) (bytes : List ℕ) (old : Stage M) (contents : Option (List ℕ)) (fault : RunFault F) : Type 0 where
+pub record Stops {M F : Type 0} (rules : LineRules M F) (limit : ℕ) (bytes : List ℕ) (old : Stage M) (contents : Option (List ℕ)) (fault : RunFault F) : Type 0 where
   pub lines : List (List ℕ)
   pub machine : M
   pub waiting : List ℕ
@@ -68,7 +68,7 @@ pub record Stops {M F : Type 0} (rules : Rules M F) (limit : ℕ) (bytes : List 
   pub to_write : IfWriteFault fault (old.waiting ++ advanced.text ≢ [])
 
 -- all was read, each line was answered and then the end of the input, and all of the answers were written
-pub record AnswersAll {M F : Type 0} (rules : Rules M F) (limit : ℕ) (old_remaining new_remaining : Option (List ℕ)) (old new : M) (old_contents new_contents : Option (List ℕ)) : Type 0 where
+pub record AnswersAll {M F : Type 0} (rules : LineRules M F) (limit : ℕ) (old_remaining new_remaining : Option (List ℕ)) (old new : M) (old_contents new_contents : Option (List ℕ)) : Type 0 where
   pub input : List ℕ
   pub read : Consumes old_remaining new_remaining input
   pub at_end : IsAtEnd new_remaining
@@ -90,7 +90,7 @@ IsWhole limit input remaining lines = IsAtEnd remaining × (cut_lines limit inpu
 
 -- some first lines of what was read were answered, perhaps all and then the end of the input, and a front of
 -- the answers was written; a refusal was of the next line, or of the end of the input
-pub record StopsEarly {M F : Type 0} (rules : Rules M F) (limit : ℕ) (old_remaining new_remaining : Option (List ℕ)) (old : M) (old_contents new_contents : Option (List ℕ)) (fault : RunFault F) : Type 0 where
+pub record StopsEarly {M F : Type 0} (rules : LineRules M F) (limit : ℕ) (old_remaining new_remaining : Option (List ℕ)) (old : M) (old_contents new_contents : Option (List ℕ)) (fault : RunFault F) : Type 0 where
   pub input : List ℕ
   pub read : Consumes old_remaining new_remaining input
   pub lines : List (List ℕ)
@@ -112,7 +112,7 @@ last_line [] = []
 last_line (byte ∷ bytes) = (byte ∷ bytes) ∷ []
 
 -- that line was answered and then the end of the input, and all of the answers were written
-pub record Finishes {M F : Type 0} (rules : Rules M F) (front : List ℕ) (old : Stage M) (new : M) (contents : Option (List ℕ)) : Type 0 where
+pub record Finishes {M F : Type 0} (rules : LineRules M F) (front : List ℕ) (old : Stage M) (new : M) (contents : Option (List ℕ)) : Type 0 where
   pub text : List ℕ
   pub machine : M
   pub run : Run rules old.machine (last_line front) text machine
@@ -121,7 +121,7 @@ pub record Finishes {M F : Type 0} (rules : Rules M F) (front : List ℕ) (old :
   pub written : Appends old.contents contents (old.waiting ++ (text ++ last))
 
 -- some of that was done, and a front of the answers was written
-pub record StopsAtEnd {M F : Type 0} (rules : Rules M F) (front : List ℕ) (old : Stage M) (contents : Option (List ℕ)) (fault : RunFault F) : Type 0 where
+pub record StopsAtEnd {M F : Type 0} (rules : LineRules M F) (front : List ℕ) (old : Stage M) (contents : Option (List ℕ)) (fault : RunFault F) : Type 0 where
   pub lines : List (List ℕ)
   pub others : List (List ℕ)
   pub split : last_line front ≡ lines ++ others

@@ -5,22 +5,28 @@ mod bytes;
 mod configs;
 mod contexts;
 mod deps;
+mod deps_builder;
 mod faults;
 mod fronts;
-mod growing_deps;
-mod growing_near;
 mod head_lines;
+#[cfg(test)]
+mod head_tests;
 mod heads;
 mod keys;
 mod laws;
+#[cfg(test)]
+mod line_run_tests;
 mod line_runs;
 mod machines;
 #[cfg(test)]
 mod memory_tests;
 mod names;
 mod near;
+mod near_builder;
 mod packed;
 mod pair_lists;
+#[cfg(test)]
+mod pair_tests;
 mod pairs;
 mod quotas;
 mod records;
@@ -33,13 +39,7 @@ mod test_pairs;
 #[cfg(test)]
 mod tests;
 #[cfg(test)]
-mod tests_of_heads;
-#[cfg(test)]
-mod tests_of_pairs;
-#[cfg(test)]
-mod tests_of_runs;
-#[cfg(test)]
-mod tests_of_texts;
+mod text_tests;
 pub mod texts;
 mod values;
 mod versions;
@@ -49,9 +49,8 @@ pub use bytes::{ByteLists, Bytes};
 pub use configs::{Config, Tenant};
 pub use contexts::{Read, Reads};
 pub use deps::Deps;
+pub use deps_builder::DepsBuilder;
 pub use faults::Fault;
-pub use growing_deps::GrowingDeps;
-pub use growing_near::GrowingNear;
 pub use heads::{ConfigReader, HeadLine};
 pub use keys::Key;
 pub use laws::{fault_numbers_are_read_back, head_is_read};
@@ -59,6 +58,7 @@ pub use line_runs::{LineMachine, RunFault, Stop, run_lines};
 pub use machines::Machine;
 pub use names::Name;
 pub use near::Near;
+pub use near_builder::NearBuilder;
 pub use pairs::Pair;
 pub use quotas::Quota;
 pub use records::{Dated, Entry, EntryParts, Record};

@@ -1,6 +1,6 @@
 use crate::test_pairs::{assert_deps, assert_near, deps, pair};
 use crate::{
-    Deps, Entry, EntryParts, Fault, GrowingDeps, GrowingNear, Key, Near, Pair, Value, Version,
+    Deps, DepsBuilder, Entry, EntryParts, Fault, Key, Near, NearBuilder, Pair, Value, Version,
 };
 use std::alloc::Global;
 use std::process::Abort;
@@ -76,7 +76,7 @@ fn a_newer_version_takes_the_place_of_the_older(rt: HostRuntime) {
 fn a_growing_join_over_the_limit_changes_nothing(rt: HostRuntime) {
     let x = pair(&rt, b"x", 1, 0);
     let more = newer_x_and_y(&rt, rt.alloc());
-    let mut list = GrowingDeps::empty(rt.alloc());
+    let mut list = DepsBuilder::empty(rt.alloc());
     list.add(x).expect(&rt, "memory");
     assert!(rt; matches!(list.join(&more, 1), Err(Fault::DependenciesFull)));
     assert_eq!(rt; list.pairs(), [x].as_slice());
@@ -86,7 +86,7 @@ fn a_growing_join_over_the_limit_changes_nothing(rt: HostRuntime) {
 fn growing_lists_join(rt: HostRuntime) {
     let (x1, x2) = (pair(&rt, b"x", 1, 0), pair(&rt, b"x", 2, 1));
     let more = newer_x_and_y(&rt, rt.alloc());
-    let mut list = GrowingDeps::empty(rt.alloc());
+    let mut list = DepsBuilder::empty(rt.alloc());
     list.add(x1).expect(&rt, "memory");
     list.join(&more, 2).expect(&rt, "room");
     assert_eq!(rt; list.pairs(), [x2, pair(&rt, b"y", 1, 0)].as_slice());
@@ -96,7 +96,7 @@ fn growing_lists_join(rt: HostRuntime) {
 
 #[test]
 fn a_growing_list_with_room(rt: HostRuntime) {
-    let mut list = GrowingDeps::empty(rt.alloc())
+    let mut list = DepsBuilder::empty(rt.alloc())
         .with_room(1)
         .expect(&rt, "memory");
     list.add_reserved(pair(&rt, b"x", 1, 0));
@@ -106,8 +106,8 @@ fn a_growing_list_with_room(rt: HostRuntime) {
 }
 
 /// The nearest pairs: versions 1.0 and 2.0 of x.
-fn two_nearest(rt: &impl Abort, alloc: Global) -> GrowingNear {
-    let mut near = GrowingNear::empty(alloc);
+fn two_nearest(rt: &impl Abort, alloc: Global) -> NearBuilder {
+    let mut near = NearBuilder::empty(alloc);
     near.add(pair(rt, b"x", 2, 0), 2).expect(rt, "room");
     near.add(pair(rt, b"x", 1, 0), 2).expect(rt, "room");
     near

@@ -17,7 +17,7 @@ use Rattle.cops_session.specs.declared.Progress.TheVariants as progress
 use Rattle.cops_session.specs.Request.{Action, Write, Fetch, Request, Attempt, answer_in, attempt_of, begins_again, calls_of, call_after, call_or_answer, complete, home_of, next, replies_of, unless_fault, unless_late, is_late}
 use Rattle.cops_session.specs.Session.{progress, has_restarted}
 use Rattle.cops_session.specs.Session as session
-use Rattle.cops_session.specs.Transaction.{Asked, gets}
+use Rattle.cops_session.specs.Transaction.{ReadRequest, gets}
 use Rattle.cops_session.proofs.Faults.{first_fault-push, fault_of_next, attempt_of-push}
 
 not_late : (late : Bool) (n : Next Answer) (d : Directed) → unless_late late n ≡ Call d → n ≡ Call d
@@ -46,9 +46,9 @@ refused_fault : (config : TenantConfig) (request : Request) (replies : List Node
     first_fault (calls_of config request (replies ++ node_reply.Refused fault ∷ []) action) (replies ++ node_reply.Refused fault ∷ []) ≡ Some fault
 refused_fault config request replies d fault (Write key value) none at = first_fault-push (calls_of config request replies (Write key value)) replies d (node_reply.Refused fault) none at
 refused_fault config request replies d fault (Fetch keys) none at =
-    let direct : Asked → Directed = λ g. record { node = home_of config request.dc g.key; call = Get g.key g.wanted } in
+    let direct : ReadRequest → Directed = λ g. record { node = home_of config request.dc g.key; call = Get g.key g.wanted } in
     let within = slice_get_within (map direct (gets keys replies)) (length replies) d at in
-    fault_of_next config request keys replies d (node_reply.Refused fault) none at (let size = length-map {A = Asked} {B = Directed} (gets keys replies) direct in omega (arith, within, size))
+    fault_of_next config request keys replies d (node_reply.Refused fault) none at (let size = length-map {A = ReadRequest} {B = Directed} (gets keys replies) direct in omega (arith, within, size))
 
 -- a request whose call is refused has ended
 pub request_refused : (config : TenantConfig) (request : Request) (log : List LogStep) (at moment : ℕ) (d : Directed) (fault : Fault) → next config request log at ≡ Call d →

@@ -31,7 +31,7 @@ use Rattle.cops_session.specs.declared.Progress.{Progress}
 use Rattle.cops_session.specs.declared.Progress.TheVariants as session_progress
 use Rattle.cops_session.specs.Request.{Action, Write, Fetch, begins_again, attempt_of, home_of, next, answer, call_after, is_late}
 use Rattle.cops_session.specs.Session.{Session, Running, new_session, is_open, is_busy, is_spent, has_repeats, obs_of, request_of, request_begun, context_created, context_deleted, context_extended, session_after, moment_after, shown, has_restarted, get_refusal}
-use Rattle.cops_session.specs.Transaction.{Asked, gets, read_of, final_reads}
+use Rattle.cops_session.specs.Transaction.{ReadRequest, gets, read_of, final_reads}
 use Rattle.cops_world.specs.Causal.{Traced, Operation, Effect, Wrote, Returned, pair_read, returned_by, past_after, answers_consistently}
 use Rattle.cops_world.specs.Cluster.{SoloCluster, Actor, OfSession, OfCarrier, new_cluster, find_session, with_actor, with_new_actor, call_node, session_stepped, carrier_stepped, reply_of_progress}
 use Rattle.cops_world.proofs.ActorsKeep.{EachActor, actor_found, session_actor, each-with_actor, each-with_new, each-without}
@@ -267,11 +267,11 @@ module _ (config : TenantConfig) (some : 0 < config.shards) (c : SoloCluster) (t
       ))
     where
       -- a version that is gone would begin another attempt
-      staying : (q : Asked) (reply : NodeReply) → slice_get (gets keys (replies_in keys log)) (length (replies_in keys log)) ≡ Some q → begins_again (Fetch keys) (length (attempt_of (Fetch keys) log).steps) (Replied reply) ≡ false →
+      staying : (q : ReadRequest) (reply : NodeReply) → slice_get (gets keys (replies_in keys log)) (length (replies_in keys log)) ≡ Some q → begins_again (Fetch keys) (length (attempt_of (Fetch keys) log).steps) (Replied reply) ≡ false →
           Stays config some c ts inv s.dc (past_in ts name context) (seen_here context is.in_open) q.key q.wanted reply
       staying q reply at_q stays = by_case (asked_for keys (replies_in keys log) q (slice_get-Among (gets keys (replies_in keys log)) (length (replies_in keys log)) q at_q))
         where
-          StaysAs : Asked → Type 0
+          StaysAs : ReadRequest → Type 0
           StaysAs a = Stays config some c ts inv s.dc (past_in ts name context) (seen_here context is.in_open) a.key a.wanted reply
 
           by_case : IsAskedFor keys (replies_in keys log) q → StaysAs q

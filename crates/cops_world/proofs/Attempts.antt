@@ -27,7 +27,7 @@ use Rattle.cops_session.specs.declared.Progress.TheVariants as session_progress
 use Rattle.cops_session.specs.Request.{Action, Write, Fetch, Attempt, begins_again, attempt_after, attempt_of, replies_of, home_of, next, call_after, is_late}
 use Rattle.cops_session.specs.Session.{Session, Running, new_session, obs_of, request_of, request_begun, context_created, context_deleted, session_after}
 use Rattle.cops_session.specs.Session as session
-use Rattle.cops_session.specs.Transaction.{Asked, gets, read_of}
+use Rattle.cops_session.specs.Transaction.{ReadRequest, gets, read_of}
 use Rattle.cops_session.proofs.ReplyCounts.{replies-push}
 use Rattle.cops_session.proofs.ReplyRounds.{Zipped-gets}
 use Rattle.cops_session.proofs.RequestReplies.{replies_in, get-next, get-begun, call_of}
@@ -50,15 +50,15 @@ use Rattle.cops_world.proofs.TracedIdle.{session_of}
 -- ---- the words
 
 -- since this start the node has committed each version of the key that is newer than this one
-abbrev pub AreSince : SoloNode → ℕ → List ℕ → Timestamp → Type 0
-AreSince solo start key version = (r : Record) → Among r (ever solo.recs) → r.entry.key ≡ key → version_lt version r.entry.version ≡ true → start ≤ r.at
+abbrev pub NewerRecordsAreSince : SoloNode → ℕ → List ℕ → Timestamp → Type 0
+NewerRecordsAreSince solo start key version = (r : Record) → Among r (ever solo.recs) → r.entry.key ≡ key → version_lt version r.entry.version ≡ true → start ≤ r.at
 
 abbrev pub IsReadAs : SoloNode → ℕ → List ℕ → Wanted → NodeReply → Type 0
-IsReadAs solo start key Latest reply = (start ≤ solo.moment) × AreSince solo start key (read_of key reply).version
+IsReadAs solo start key Latest reply = (start ≤ solo.moment) × NewerRecordsAreSince solo start key (read_of key reply).version
 IsReadAs solo start key (Exactly version) reply = Unit {0}
 
 -- the call was refused, or what it read was the latest at this start or later
-abbrev pub IsReadSince : TenantConfig → SoloCluster → ℕ → ℕ → Asked → NodeReply → Type 0
+abbrev pub IsReadSince : TenantConfig → SoloCluster → ℕ → ℕ → ReadRequest → NodeReply → Type 0
 IsReadSince config c dc start q reply = IsRefusal reply ⊎ IsReadAs (node_of config c (home_in config dc q.key)) start q.key q.wanted reply
 
 -- so it is of an attempt none of whose steps came before the start
@@ -109,7 +109,7 @@ module _ (config : TenantConfig) (c : SoloCluster) (id : NodeId) (moment : ℕ) 
   onward n =
       call_leaves config c id moment call IsOnward onward-same (λ solo. turn_onward (place_of config id) moment call solo) n
 
-  read_stays : (dc start : ℕ) (q : Asked) (reply : NodeReply) → IsReadSince config c dc start q reply → IsReadSince config after_call dc start q reply
+  read_stays : (dc start : ℕ) (q : ReadRequest) (reply : NodeReply) → IsReadSince config c dc start q reply → IsReadSince config after_call dc start q reply
   read_stays dc start q reply (inl refused) = inl refused
   read_stays dc start q reply (inr is) =
       inr (since_onward (node_of config c (home_in config dc q.key)) (node_of config after_call (home_in config dc q.key)) start q.key q.wanted reply (onward (home_in config dc q.key)) is)
@@ -170,7 +170,7 @@ module _ (config : TenantConfig) (some : 0 < config.shards) (c : SoloCluster) (t
   entries_same wanted (Taken same is) = absurd is
 
   -- nothing is newer than the latest
-  none_newer : ((p : Pair) → Among p there → p.key ≡ key → version_le p.version (read_of key (reply Latest)).version ≡ true) → (start : ℕ) → AreSince (next_solo Latest) start key (read_of key (reply Latest)).version
+  none_newer : ((p : Pair) → Among p there → p.key ≡ key → version_le p.version (read_of key (reply Latest)).version ≡ true) → (start : ℕ) → NewerRecordsAreSince (next_solo Latest) start key (read_of key (reply Latest)).version
   none_newer latest_is start r at same newer =
       let e = r.entry in
       let stored = subst (Among e) (entries_same Latest (called Latest)) (Among-map (λ (r : Record). r.entry) r (ever (next_solo Latest).recs) at) in
@@ -202,7 +202,7 @@ module _ (config : TenantConfig) (c : SoloCluster) (dc : ℕ) (keys : List (List
   none_read : (times : ℕ) → AttemptReads config c dc keys (record { restarts = times; steps = [] })
   none_read times start first = get-begun (IsReadSince config c dc start) keys
 
-  attempt_pushed : (moment : ℕ) (answered : NodeReply) (q : Asked) → AttemptReads config c dc keys attempt → slice_get (gets keys (replies_in keys log)) (length (replies_in keys log)) ≡ Some q →
+  attempt_pushed : (moment : ℕ) (answered : NodeReply) (q : ReadRequest) → AttemptReads config c dc keys attempt → slice_get (gets keys (replies_in keys log)) (length (replies_in keys log)) ≡ Some q →
       ((start : ℕ) → start ≤ moment → IsReadSince config c dc start q answered) → AttemptReads config c dc keys (attempt_of (Fetch keys) (log ++ record { moment = moment; outcome = Replied answered } ∷ []))
   attempt_pushed moment answered q are at new =
       subst (AttemptReads config c dc keys) (sym (fold-push (attempt_after (Fetch keys)) (record { restarts = 0; steps = [] }) log step)) (by_again (begins_again (Fetch keys) (length attempt.steps) (Replied answered)))

@@ -16,7 +16,7 @@ use Rattle.cops_node.specs.Step.{was_committed}
 use Rattle.cops_repl.specs.Carrier.{pair_of_entry}
 use Rattle.cops_session.specs.Request.{Action, Write, Fetch}
 use Rattle.cops_session.specs.Session.{Session, Running, OpenContext}
-use Rattle.cops_session.specs.Transaction.{Asked, gets}
+use Rattle.cops_session.specs.Transaction.{ReadRequest, gets}
 use Rattle.cops_world.specs.Causal.{Traced, put_by, past_of_put}
 use Rattle.cops_world.specs.Cluster.{SoloCluster, Actor, OfSession, OfCarrier}
 use Rattle.cops_world.proofs.ActorsKeep.{EachActor}
@@ -41,7 +41,7 @@ abbrev pub IsHere : TenantConfig → SoloCluster → ℕ → Pair → Type 0
 IsHere config c dc pair = Among pair (map pair_of_entry (entries (node_of config c (home_in config dc pair.key))))
 
 -- what a transaction found is in its data centre
-abbrev pub IsFoundHere : TenantConfig → SoloCluster → ℕ → Asked → NodeReply → Type 0
+abbrev pub IsFoundHere : TenantConfig → SoloCluster → ℕ → ReadRequest → NodeReply → Type 0
 IsFoundHere config c dc q (Found version value deps) = IsHere config c dc (at q.key version)
 IsFoundHere config c dc q reply = Unit {0}
 

@@ -16,7 +16,7 @@ use Rattle.cops_node.specs.Log.{LogStep}
 use Rattle.cops_node.specs.Place.{place_of, number_of}
 use Rattle.cops_repl.specs.Carrier.{pair_of_entry, Stream, check}
 use Rattle.cops_session.specs.Request.{Action, Write, Fetch}
-use Rattle.cops_session.specs.Transaction.{Asked, gets}
+use Rattle.cops_session.specs.Transaction.{ReadRequest, gets}
 use Rattle.cops_world.specs.Causal.{Traced, past_of_put}
 use Rattle.cops_world.specs.Cluster.{SoloCluster, NamedActor, Actor, OfSession, OfCarrier}
 use Rattle.cops_world.proofs.Closure.{IsHere, IsFoundHere, RepliesAreHere, IsActorAtHome, IsClosed, past-here}
@@ -39,11 +39,11 @@ module _ (config : TenantConfig) (c after : SoloCluster) (grows : (n : ℕ) → 
       let grown = grows n in
       subst (Among q) (sym (ap (map pair_of_entry) grown.1 ∙ map-append pair_of_entry (entries (node_of config c n)) grown.0)) (Among-left q (map pair_of_entry (entries (node_of config c n))) (map pair_of_entry grown.0) at)
 
-  pub found-grown : (dc : ℕ) (a : Asked) (reply : NodeReply) → IsFoundHere config c dc a reply → IsFoundHere config after dc a reply
+  pub found-grown : (dc : ℕ) (a : ReadRequest) (reply : NodeReply) → IsFoundHere config c dc a reply → IsFoundHere config after dc a reply
   found-grown dc a (Found version value deps) is = here-grown dc (record { key = a.key; version = version }) is
   found-grown dc a reply is = tt
 
-  zipped-grown : (dc : ℕ) (asked : List Asked) (rs : List NodeReply) → Zipped (IsFoundHere config c dc) asked rs → Zipped (IsFoundHere config after dc) asked rs
+  zipped-grown : (dc : ℕ) (asked : List ReadRequest) (rs : List NodeReply) → Zipped (IsFoundHere config c dc) asked rs → Zipped (IsFoundHere config after dc) asked rs
   zipped-grown dc [] rs z = tt
   zipped-grown dc (a ∷ asked) [] z = tt
   zipped-grown dc (a ∷ asked) (r ∷ rs) z = (found-grown dc a r z.0, zipped-grown dc asked rs z.1)

@@ -28,7 +28,7 @@ use Rattle.cops_session.specs.declared.Progress.{Progress}
 use Rattle.cops_session.specs.declared.Progress.TheVariants as session_progress
 use Rattle.cops_session.specs.Request.{Write, Fetch, home_of, answer, attempt_of}
 use Rattle.cops_session.specs.Session.{Session, Running, is_open, obs_of, request_of, session_after, moment_after, shown, has_restarted, context_extended}
-use Rattle.cops_session.specs.Transaction.{Asked, gets, read_of}
+use Rattle.cops_session.specs.Transaction.{ReadRequest, gets, read_of}
 use Rattle.cops_world.specs.Causal.{Traced, Wrote, Returned, put_by, pair_read, returned_by}
 use Rattle.cops_world.specs.Cluster.{SoloCluster, OfSession, find_session, with_actor, reply_of_progress, session_stepped}
 use Rattle.cops_world.proofs.Closure.{IsHere, IsFoundHere, RepliesAreHere, IsClosed}
@@ -56,7 +56,7 @@ abbrev IsReadHere : TenantConfig → SoloCluster → ℕ → Read → Type 0
 IsReadHere config c dc read = IsValueHere config c dc (at read.key read.version) read.value
 
 module _ (config : TenantConfig) (some : 0 < config.shards) (c : SoloCluster) (ts : List Traced) (closed : IsClosed config c ts) (name : List ℕ) (s : Session) (found : find_session name c ≡ Some s) where
-  read_here : (q : Asked) (reply : NodeReply) → IsFoundHere config c s.dc q reply → IsReadHere config c s.dc (read_of q.key reply)
+  read_here : (q : ReadRequest) (reply : NodeReply) → IsFoundHere config c s.dc q reply → IsReadHere config c s.dc (read_of q.key reply)
   read_here q (Found version value deps) is = is
   read_here q reply is = tt
 

@@ -10,7 +10,7 @@ use Rattle.cops_types.specs.Counts.{counted}
 use Rattle.cops_types.specs.Head.{Front, AtStart, Within, Begun, is_begun, Follows, front_after, Whole, BadAt, reading_from}
 use Rattle.cops_types.specs.HeadLines.{is_distinct, is_tenant}
 use Rattle.cops_types.specs.HeadReader.{front_with}
-use Rattle.cops_types.specs.LineRules.{Rules, Run}
+use Rattle.cops_types.specs.LineRules.{LineRules, Run}
 use Rattle.cops_types.specs.Lines.{cut_line, longest_line}
 use Rattle.cops_types.proofs.FrontLemmas.{front_after-is}
 use Rattle.cops_types.proofs.HeadLengths.{AreGood, front_after-short, follows-good, name_of_good}
@@ -161,7 +161,7 @@ refused_line W front count head line bad here refused = (sym (ap (λ r. front_wi
 
 -- ---- runs
 
-module _ {S W F : Type 0} (limit : ℕ) (wide : 8192 ≤ limit) (rules : Rules S F) (stage : S → Script W) (Same : S → Type 0) (Starts : Config → W → Type 0)
+module _ {S W F : Type 0} (limit : ℕ) (wide : 8192 ≤ limit) (rules : LineRules S F) (stage : S → Script W) (Same : S → Type 0) (Starts : Config → W → Type 0)
     (steps : (s : S) (head : HeadSoFar) → stage s ≡ Head head → Same s → (line text : List ℕ) (new : S) → rules.answers s line text new → Same new × HeadAnswers Starts head line text (stage new)) where
   -- a run that begins in the head ends in it, or past it
   pub data HeadRun (front : Front) (count : ℕ) (lines : List (List ℕ)) (text : List ℕ) (state : S) : Type 0 where

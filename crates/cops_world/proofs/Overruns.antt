@@ -22,7 +22,7 @@ use Rattle.cops_session.specs.declared.Answer.{Answer}
 use Rattle.cops_session.specs.declared.Answer.TheVariants as answer_is
 use Rattle.cops_session.specs.Request.{Fetch, Attempt, begins_again, attempt_of, home_of, values_or_full, call_or_answer, unless_fault, next, answer_in, answer}
 use Rattle.cops_session.specs.Session.{shown}
-use Rattle.cops_session.specs.Transaction.{Asked, gets, final_reads}
+use Rattle.cops_session.specs.Transaction.{ReadRequest, gets, final_reads}
 use Rattle.cops_session.proofs.ReplyCounts.{attempt-push}
 use Rattle.cops_session.proofs.RequestReplies.{replies_in, get_request, put_request, call_of, get-next, get-stepped, put-stored, put-refused, unspent}
 use Rattle.cops_repl.specs.declared.Delivery.{Delivery}
@@ -68,25 +68,25 @@ or_other (Some fault) b first second = first
 -- ---- transactions
 
 -- the reply to what was asked is no fault; or none that says that attempts ran out
-abbrev pub IsFaultless : Asked → NodeReply → Type 0
+abbrev pub IsFaultless : ReadRequest → NodeReply → Type 0
 IsFaultless q reply = fault_in (Get q.key q.wanted) reply ≡ None
 
-abbrev IsOtherReply : Asked → NodeReply → Type 0
+abbrev IsOtherReply : ReadRequest → NodeReply → Type 0
 IsOtherReply q reply = IsOther (fault_in (Get q.key q.wanted) reply)
 
 module _ (config : TenantConfig) (dc : ℕ) where
-  pub all_faultless : (asked : List Asked) (rs : List NodeReply) → first_fault (map (call_of config dc) asked) rs ≡ None → Zipped IsFaultless asked rs
+  pub all_faultless : (asked : List ReadRequest) (rs : List NodeReply) → first_fault (map (call_of config dc) asked) rs ≡ None → Zipped IsFaultless asked rs
   all_faultless [] rs none = tt
   all_faultless (q ∷ asked) [] none = tt
   all_faultless (q ∷ asked) (r ∷ rs) none =
       let both = or_none (fault_in (Get q.key q.wanted) r) (first_fault (map (call_of config dc) asked) rs) none in (both.0, all_faultless asked rs both.1)
 
-  faultless_other : (asked : List Asked) (rs : List NodeReply) → Zipped IsFaultless asked rs → Zipped IsOtherReply asked rs
+  faultless_other : (asked : List ReadRequest) (rs : List NodeReply) → Zipped IsFaultless asked rs → Zipped IsOtherReply asked rs
   faultless_other [] rs z = tt
   faultless_other (q ∷ asked) [] z = tt
   faultless_other (q ∷ asked) (r ∷ rs) z = (subst IsOther (sym z.0) tt, faultless_other asked rs z.1)
 
-  first_other : (asked : List Asked) (rs : List NodeReply) → Zipped IsOtherReply asked rs → IsOther (first_fault (map (call_of config dc) asked) rs)
+  first_other : (asked : List ReadRequest) (rs : List NodeReply) → Zipped IsOtherReply asked rs → IsOther (first_fault (map (call_of config dc) asked) rs)
   first_other [] rs z = tt
   first_other (q ∷ asked) [] z = tt
   first_other (q ∷ asked) (r ∷ rs) z = or_other (fault_in (Get q.key q.wanted) r) (first_fault (map (call_of config dc) asked) rs) z.0 (first_other asked rs z.1)
@@ -117,7 +117,7 @@ module _ (config : TenantConfig) (dc : ℕ) where
         rs : List NodeReply
         rs = replies_in keys (log ++ step ∷ [])
 
-        chosen : (q : Asked) × (slice_get (gets keys (replies_in keys log)) (length (replies_in keys log)) ≡ Some q) × (directed ≡ call_of config dc q) × Zipped IsFaultless (gets keys (replies_in keys log)) (replies_in keys log)
+        chosen : (q : ReadRequest) × (slice_get (gets keys (replies_in keys log)) (length (replies_in keys log)) ≡ Some q) × (directed ≡ call_of config dc q) × Zipped IsFaultless (gets keys (replies_in keys log)) (replies_in keys log)
         chosen = let n = get-next config dc obs keys log moment directed e in (n.asked, n.at, n.call, all_faultless (gets keys (replies_in keys log)) (replies_in keys log) n.no_fault)
 
         are : Zipped IsOtherReply (gets keys rs) rs

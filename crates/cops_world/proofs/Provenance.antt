@@ -13,7 +13,7 @@ use Rattle.cops_node.specs.declared.NodeReply.TheVariants.{Found, Pulled}
 use Rattle.cops_node.specs.Log.{LogStep, Outcome, Replied}
 use Rattle.cops_session.specs.Request.{Action, Write, Fetch, answer}
 use Rattle.cops_session.specs.Session.{Session, Running, OpenContext, is_open, request_of}
-use Rattle.cops_session.specs.Transaction.{Asked, gets}
+use Rattle.cops_session.specs.Transaction.{ReadRequest, gets}
 use Rattle.cops_repl.specs.Carrier.{Carrier, pair_of_entry}
 use Rattle.cops_world.specs.Causal.{Traced, Operation, put_by, past_of_put, past_after, deps_of}
 use Rattle.cops_world.specs.Cluster.{SoloCluster, Actor, OfSession, OfCarrier}
@@ -39,7 +39,7 @@ pub record IsPutEntry (ts : List Traced) (e : Entry) : Type 0 where
   pub covered : Covers (past_of_put ts) e.near (past_of_put ts (pair_of_entry e))
 
 -- what a reply to a read found was put
-abbrev pub IsFound : List Traced → Asked → NodeReply → Type 0
+abbrev pub IsFound : List Traced → ReadRequest → NodeReply → Type 0
 IsFound ts q (Found version value deps) = IsPut ts (at q.key version) deps
 IsFound ts q reply = Unit {0}
 
@@ -125,7 +125,7 @@ module _ (ts : List Traced) (t : Traced) (new : IsNew ts t) where
         covered = λ q at. IsCovered-grown e.near q (is.covered q (subst (Among q) (past_of_put-old (pair_of_entry e) is.put.was) at));
       }
 
-  IsFound-grown : (q : Asked) (reply : NodeReply) → IsFound ts q reply → IsFound (ts ++ t ∷ []) q reply
+  IsFound-grown : (q : ReadRequest) (reply : NodeReply) → IsFound ts q reply → IsFound (ts ++ t ∷ []) q reply
   IsFound-grown q (Found version value deps) is = IsPut-grown (at q.key version) deps is
   IsFound-grown q reply is = tt
 
@@ -133,7 +133,7 @@ module _ (ts : List Traced) (t : Traced) (new : IsNew ts t) where
   IsPulled-grown (Replied (Pulled e)) is = IsPutEntry-grown e is
   IsPulled-grown outcome is = tt
 
-  Zipped-grown : (qs : List Asked) (rs : List NodeReply) → Zipped (IsFound ts) qs rs → Zipped (IsFound (ts ++ t ∷ [])) qs rs
+  Zipped-grown : (qs : List ReadRequest) (rs : List NodeReply) → Zipped (IsFound ts) qs rs → Zipped (IsFound (ts ++ t ∷ [])) qs rs
   Zipped-grown [] rs z = tt
   Zipped-grown (q ∷ qs) [] z = tt
   Zipped-grown (q ∷ qs) (r ∷ rs) z = (IsFound-grown q r z.0, Zipped-grown qs rs z.1)

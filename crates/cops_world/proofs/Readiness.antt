@@ -20,7 +20,7 @@ use Rattle.cops_node.specs.Step.{was_committed, reply_pull}
 use Rattle.cops_repl.specs.Carrier.{Stream, pair_of_entry, pull, check, commit, acknowledge, is_foreign}
 use Rattle.cops_session.specs.Request.{Action, Write, Fetch, home_of, next}
 use Rattle.cops_session.specs.Session.{Session, Running, obs_of, request_of}
-use Rattle.cops_session.specs.Transaction.{Asked, gets, read_of, reads_of, wanted_version}
+use Rattle.cops_session.specs.Transaction.{ReadRequest, gets, read_of, reads_of, wanted_version}
 use Rattle.cops_world.specs.Causal.{Traced, past_of_put}
 use Rattle.cops_world.specs.Cluster.{SoloCluster, find_session, call_node, has_node}
 use Rattle.cops_node.proofs.Chains.{of_origin, mark-is, le-mark}
@@ -62,11 +62,11 @@ IsValueHere config c dc pair (Some value) = IsHere config c dc pair
 abbrev IsReadHere : TenantConfig → SoloCluster → ℕ → Read → Type 0
 IsReadHere config c dc read = IsValueHere config c dc (at read.key read.version) read.value
 
-read_here : (config : TenantConfig) (c : SoloCluster) (dc : ℕ) (q : Asked) (reply : NodeReply) → IsFoundHere config c dc q reply → IsReadHere config c dc (read_of q.key reply)
+read_here : (config : TenantConfig) (c : SoloCluster) (dc : ℕ) (q : ReadRequest) (reply : NodeReply) → IsFoundHere config c dc q reply → IsReadHere config c dc (read_of q.key reply)
 read_here config c dc q (Found version value deps) is = is
 read_here config c dc q reply is = tt
 
-pub read_put : (ts : List Traced) (q : Asked) (reply : NodeReply) → IsFound ts q reply → IsRead ts (read_of q.key reply)
+pub read_put : (ts : List Traced) (q : ReadRequest) (reply : NodeReply) → IsFound ts q reply → IsRead ts (read_of q.key reply)
 read_put ts q (Found version value deps) is = is
 read_put ts q reply is = tt
 
@@ -104,10 +104,10 @@ module _ (config : TenantConfig) (some : 0 < config.shards) (c : SoloCluster) (t
         (Every-at (λ (read : Read). IsBare read.value read.deps) r reads (reads_bare keys rs) by.1) q by.2
 
     -- so what is asked for exactly was committed at the node that is asked
-    pub get_ready : (q : Asked) → slice_get (gets keys rs) (length rs) ≡ Some q → IsReady (node_call.Get q.key q.wanted) (node_of config c (home_in config dc q.key))
+    pub get_ready : (q : ReadRequest) → slice_get (gets keys rs) (length rs) ≡ Some q → IsReady (node_call.Get q.key q.wanted) (node_of config c (home_in config dc q.key))
     get_ready q place = by_case (asked_for keys rs q (slice_get-Among (gets keys rs) (length rs) q place))
       where
-        Ready : Asked → Type 0
+        Ready : ReadRequest → Type 0
         Ready a = IsReady (node_call.Get a.key a.wanted) (node_of config c (home_in config dc a.key))
 
         by_case : IsAskedFor keys rs q → Ready q

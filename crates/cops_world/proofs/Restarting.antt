@@ -33,7 +33,7 @@ use Rattle.cops_session.specs.Request.{Action, Write, Fetch, Attempt, begins_aga
 use Rattle.cops_session.specs.Request as request
 use Rattle.cops_session.specs.Session.{Session, Running, obs_of, request_of, has_restarted, moment_at}
 use Rattle.cops_session.specs.Session as session
-use Rattle.cops_session.specs.Transaction.{Asked, gets, first_round, second_round, outdated, wanted_version, read_of, reads_of}
+use Rattle.cops_session.specs.Transaction.{ReadRequest, gets, first_round, second_round, outdated, wanted_version, read_of, reads_of}
 use Rattle.cops_session.proofs.DistinctKeys.{key-read_of}
 use Rattle.cops_session.proofs.RequestReplies.{replies_in, get-next, call_of, put-next}
 use Rattle.cops_session.proofs.WantedVersions.{IsAskedFor, IsFirst, IsSecond, asked_for, outdated-is, wanted-among}
@@ -48,7 +48,7 @@ use Rattle.cops_world.specs.Laws.{cluster_of, history_of}
 use Rattle.cops_world.specs.Restarts.{ActorStep, steps_from, steps_of, ends_attempt, start_of, attempt_start, has_passed, is_due, moment_in, moments_in, RestartsOnlyLate}
 use Rattle.cops_world.proofs.ActorsKeep.{actor_found, session_actor}
 use Rattle.cops_world.proofs.AfterActs.{after_acts}
-use Rattle.cops_world.proofs.Attempts.{Every-front, IsTimed, IsActorTimed, IsReadSince, AreSince, reads_before, timed_kept, timed_at_first}
+use Rattle.cops_world.proofs.Attempts.{Every-front, IsTimed, IsActorTimed, IsReadSince, NewerRecordsAreSince, reads_before, timed_kept, timed_at_first}
 use Rattle.cops_world.proofs.Closure.{home_in, IsHere}
 use Rattle.cops_world.proofs.ClosureSteps.{mine}
 use Rattle.cops_world.proofs.ClusterMoments.{IsAscending, IsActorWithin, IsWithin, AreUpTo, actor_step_within, all_within}
@@ -96,7 +96,7 @@ gone_long trans_time solo key version long missing e at is_key is_version =
 
 module _ (config : TenantConfig) (c : SoloCluster) (dc start : ℕ) where
   abbrev IsSince : Read → Type 0
-  IsSince read = AreSince (node_of config c (home_in config dc read.key)) start read.key read.version
+  IsSince read = NewerRecordsAreSince (node_of config c (home_in config dc read.key)) start read.key read.version
 
   first_since : (keys : List (List ℕ)) (rs : List NodeReply) → Zipped (IsReadSince config c dc start) (first_round keys) rs → Zipped IsFaultless (first_round keys) rs → (read : Read) → Among read (reads_of keys rs) → IsSince read
   first_since [] rs z none read there = absurd there
@@ -105,7 +105,7 @@ module _ (config : TenantConfig) (c : SoloCluster) (dc start : ℕ) where
   first_since (key ∷ keys) (r ∷ rs) z none read (inl same) =
       subst IsSince same (elim z.0 [
         | inl refused ↦ absurd (let never : Some refused.0 ≡ None = sym (ap (fault_in (node_call.Get key Latest)) refused.1) ∙ none.0 in cc)
-        | inr is ↦ subst (λ k. AreSince (node_of config c (home_in config dc k)) start k (read_of key r).version) (sym (key-read_of key r)) is.1
+        | inr is ↦ subst (λ k. NewerRecordsAreSince (node_of config c (home_in config dc k)) start k (read_of key r).version) (sym (key-read_of key r)) is.1
       ])
 
 -- an attempt without steps has read nothing
@@ -165,7 +165,7 @@ module _ (config : TenantConfig) (some : 0 < config.shards) (c : SoloCluster) (t
           deps_here config some c ts inv s.dc keys rs is.replies_are ((mine config some c ts inv.closed name s found).replies_here (run number context (Fetch keys) log) runs) (at read.key v) (wanted-among reads read older.1) in
           let e = map-Among carrier.pair_of_entry (at read.key v) (entries solo) here in
           let gone = gone_long config.trans_time solo read.key v (timed.long_there (home_in config s.dc read.key)) missing e.0 e.1 (ap (λ p. p.key) e.2) (ap (λ p. p.version) e.2) in
-          let split = λ (R : Asked → NodeReply → Type 0) (z : Zipped R (gets keys rs) rs). Zipped-left R (first_round keys) (second_round reads) rs (subst (λ b. Zipped R (cond b (first_round keys) (first_round keys ++ second_round reads)) rs) done z) in
+          let split = λ (R : ReadRequest → NodeReply → Type 0) (z : Zipped R (gets keys rs) rs). Zipped-left R (first_round keys) (second_round reads) rs (subst (λ b. Zipped R (cond b (first_round keys) (first_round keys ++ second_round reads)) rs) done z) in
           let since = first_since config c s.dc start keys rs
           (split (IsReadSince config c s.dc start) (reads_before config some c ts inv timed name s found (run number context (Fetch keys) log) runs start first))
           (split IsFaultless (all_faultless config s.dc (gets keys rs) rs none)) read older.0 in
@@ -180,10 +180,10 @@ module _ (config : TenantConfig) (some : 0 < config.shards) (c : SoloCluster) (t
           (call_node config directed.node moment directed.call c).reply ≡ Gone now → IsDue config c name moment
       gone_due moment directed now e gone = by_asked (asked_for keys rs q (slice_get-Among (gets keys rs) (length rs) q chosen.1))
         where
-          chosen : (q : Asked) × (slice_get (gets keys rs) (length rs) ≡ Some q) × (directed ≡ call_of config s.dc q) × (first_fault (map (call_of config s.dc) (gets keys rs)) rs ≡ None)
+          chosen : (q : ReadRequest) × (slice_get (gets keys rs) (length rs) ≡ Some q) × (directed ≡ call_of config s.dc q) × (first_fault (map (call_of config s.dc) (gets keys rs)) rs ≡ None)
           chosen = let n = get-next config s.dc (obs_of context s) keys log moment directed e in (n.asked, n.at, n.call, n.no_fault)
 
-          q : Asked
+          q : ReadRequest
           q = chosen.0
 
           sent : Directed
@@ -214,11 +214,11 @@ module _ (config : TenantConfig) (some : 0 < config.shards) (c : SoloCluster) (t
               }
 
           by_asked : IsAskedFor keys rs q → IsDue config c name moment
-          by_asked (IsFirst key among same) = let never : Latest ≡ Exactly is_gone.0 = ap (λ (a : Asked). a.wanted) same ∙ is_gone.1 in cc
+          by_asked (IsFirst key among same) = let never : Latest ≡ Exactly is_gone.0 = ap (λ (a : ReadRequest). a.wanted) same ∙ is_gone.1 in cc
           by_asked (IsSecond read done among same) =
               let v = wanted_version (reads_of keys rs) read in
-              let key_is : q.key ≡ read.key = sym (ap (λ (a : Asked). a.key) same) in
-              let both : Exactly v ≡ Exactly is_gone.0 = ap (λ (a : Asked). a.wanted) same ∙ is_gone.1 in
+              let key_is : q.key ≡ read.key = sym (ap (λ (a : ReadRequest). a.key) same) in
+              let both : Exactly v ≡ Exactly is_gone.0 = ap (λ (a : ReadRequest). a.wanted) same ∙ is_gone.1 in
               let version_is : is_gone.0 ≡ v = cc in
               let missing = subst (λ k. exact k v (node_of config c (home_in config s.dc k)).recs ≡ None) key_is (subst (λ w. exact q.key w (node_of config c (home_in config s.dc q.key)).recs ≡ None) version_is is_gone.2) in
               by_steps read among (gone_past chosen.3 done read among missing) attempt.steps refl

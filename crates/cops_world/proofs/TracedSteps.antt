@@ -19,7 +19,7 @@ use Rattle.cops_session.specs.declared.Progress.{Progress}
 use Rattle.cops_session.specs.declared.Progress.TheVariants as session_progress
 use Rattle.cops_session.specs.Request.{Fetch, answer, attempt_of}
 use Rattle.cops_session.specs.Session.{Session, Running, OpenContext, is_open, find_context, obs_of, request_of, context_extended, session_after, moment_after, shown, has_restarted}
-use Rattle.cops_session.specs.Transaction.{Asked, gets, read_of}
+use Rattle.cops_session.specs.Transaction.{ReadRequest, gets, read_of}
 use Rattle.cops_repl.specs.Carrier.{pair_of_entry}
 use Rattle.cops_world.specs.Causal.{Traced, Operation, Effect, Returned, put_by, past_after, past_of_put, operation_by}
 use Rattle.cops_world.specs.Cluster.{SoloCluster, OfSession, find_session, with_actor, reply_of_progress, session_stepped}
@@ -189,7 +189,7 @@ module _ (config : TenantConfig) (c : SoloCluster) (ts : List Traced) (inv : IsT
 
   -- ---- a step of a transaction
 
-  read_well : (q : Asked) (reply : NodeReply) → IsFound ts q reply → IsRead ts (read_of q.key reply)
+  read_well : (q : ReadRequest) (reply : NodeReply) → IsFound ts q reply → IsRead ts (read_of q.key reply)
   read_well q (Found version value deps) is = is
   read_well q reply is = tt
 

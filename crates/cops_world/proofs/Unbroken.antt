@@ -16,7 +16,7 @@ use Rattle.cops_session.specs.declared.Answer.{Answer}
 use Rattle.cops_session.specs.declared.Answer.TheVariants as answer_is
 use Rattle.cops_session.specs.Request.{Action, Write, Fetch, attempt_of, replies_of, values_or_full, call_or_answer, unless_fault, answer_in, answer}
 use Rattle.cops_session.specs.Session.{shown}
-use Rattle.cops_session.specs.Transaction.{Asked, gets, final_reads}
+use Rattle.cops_session.specs.Transaction.{ReadRequest, gets, final_reads}
 use Rattle.cops_repl.specs.declared.Delivery.{Delivery}
 use Rattle.cops_repl.specs.declared.Progress.{Progress as CarrierProgress}
 use Rattle.cops_repl.specs.declared.Progress.TheVariants as carrier_progress
@@ -34,7 +34,7 @@ use Rattle.cops_types.proofs.Zipped.{Zipped}
 -- ---- transactions
 
 -- the reply to what was asked is no unexpected fault
-abbrev pub IsFineReply : Asked → NodeReply → Type 0
+abbrev pub IsFineReply : ReadRequest → NodeReply → Type 0
 IsFineReply q reply = IsFineFault (fault_in (Get q.key q.wanted) reply)
 
 abbrev pub RepliesAreFine : Action → List LogStep → Type 0
@@ -45,7 +45,7 @@ or_fine : (a b : Option Fault) → IsFineFault a → IsFineFault b → IsFineFau
 or_fine None b first second = second
 or_fine (Some fault) b first second = first
 
-first_fault_fine : (config : TenantConfig) (dc : ℕ) (asked : List Asked) (rs : List NodeReply) → Zipped IsFineReply asked rs → IsFineFault (first_fault (map (call_of config dc) asked) rs)
+first_fault_fine : (config : TenantConfig) (dc : ℕ) (asked : List ReadRequest) (rs : List NodeReply) → Zipped IsFineReply asked rs → IsFineFault (first_fault (map (call_of config dc) asked) rs)
 first_fault_fine config dc [] rs z = tt
 first_fault_fine config dc (q ∷ asked) [] z = tt
 first_fault_fine config dc (q ∷ asked) (r ∷ rs) z =

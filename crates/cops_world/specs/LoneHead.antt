@@ -4,7 +4,7 @@ use Rattle.cops_types.specs.declared.configs.Config.{Config}
 use Rattle.cops_types.specs.Counts.{counted}
 use Rattle.cops_types.specs.Head.{Within, Begun}
 use Rattle.cops_types.specs.HeadReader.{front_with}
-use Rattle.cops_types.specs.LineRules.{Rules}
+use Rattle.cops_types.specs.LineRules.{LineRules}
 use Rattle.cops_world.specs.declared.heads.HeadEnd.{HeadEnd}
 use Rattle.cops_world.specs.declared.heads.HeadEnd.TheVariants.{Whole, Bad}
 use Rattle.cops_world.specs.declared.scripts.HeadSoFar.{HeadSoFar}
@@ -26,5 +26,5 @@ abbrev pub lone_refuses_end : HeadSoFar → HeadEnd → Type 0
 lone_refuses_end head (Whole config) = ⊥
 lone_refuses_end head (Bad bad) = bad.line ≡ counted head.lines
 
-abbrev pub lone_rules : Rules HeadSoFar HeadEnd
+abbrev pub lone_rules : LineRules HeadSoFar HeadEnd
 lone_rules = record { answers = lone_answers; refuses = lone_refuses; ends = λ old text new. ⊥; refuses_end = lone_refuses_end }

@@ -3,7 +3,7 @@ use Rattle.std.specs.Prelude.{◌≡◌, ℕ, List, [], Some, None, ⊤}
 use Rattle.cops_types.specs.declared.configs.Config.{Config}
 use Rattle.cops_types.specs.declared.faults.Fault.TheVariants.{Syntax}
 use Rattle.cops_types.specs.Counts.{counted}
-use Rattle.cops_types.specs.LineRules.{Rules}
+use Rattle.cops_types.specs.LineRules.{LineRules}
 use Rattle.cops_world.specs.declared.replies.Reply.{Reply}
 use Rattle.cops_world.specs.declared.replies.Reply.TheVariants.{Refused}
 use Rattle.cops_world.specs.declared.scripts.BadConfig.{BadConfig}
@@ -42,5 +42,5 @@ module _ {W : Type 0} (setup : W → Config) (StandsFor : W → ℕ → SoloClus
   end_refuses (Head head) bad = bad.line ≡ counted head.lines
   end_refuses (Running world) bad = ⊥
 
-  abbrev pub script_rules : Rules (Script W) BadConfig
+  abbrev pub script_rules : LineRules (Script W) BadConfig
   script_rules = record { answers = line_answers; refuses = line_refuses; ends = end_answers; refuses_end = end_refuses }

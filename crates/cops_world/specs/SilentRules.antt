@@ -2,7 +2,7 @@
 use Rattle.std.specs.Prelude.{◌≡◌, ℕ, IsFalse, List, []}
 use Rattle.cops_types.specs.declared.configs.Config.{Config}
 use Rattle.cops_types.specs.Counts.{counted}
-use Rattle.cops_types.specs.LineRules.{Rules}
+use Rattle.cops_types.specs.LineRules.{LineRules}
 use Rattle.cops_world.specs.declared.replies.Reply.{Reply}
 use Rattle.cops_world.specs.declared.scripts.BadConfig.{BadConfig}
 use Rattle.cops_world.specs.declared.scripts.Script.{Script}
@@ -49,5 +49,5 @@ module _ {W : Type 0} (setup : W → Config) (StandsFor : W → ℕ → SoloClus
   abbrev pub silent_end_refuses : SilentScript W → BadConfig → Type 0
   silent_end_refuses old bad = silent_end_refuses_in old.script bad
 
-  abbrev pub silent_rules : Rules (SilentScript W) BadConfig
+  abbrev pub silent_rules : LineRules (SilentScript W) BadConfig
   silent_rules = record { answers = silent_answers; refuses = silent_refuses; ends = silent_end_answers; refuses_end = silent_end_refuses }

@@ -6,7 +6,7 @@ use Rattle.cops_types.specs.declared.configs.Tenant.{Tenant}
 use Rattle.cops_types.specs.Counts.{counted}
 use Rattle.cops_types.specs.Head.{Begun}
 use Rattle.cops_types.specs.HeadReader.{front_with}
-use Rattle.cops_types.specs.LineRules.{Rules}
+use Rattle.cops_types.specs.LineRules.{LineRules}
 use Rattle.cops_types.specs.Words.{first_word}
 use Rattle.cops_world.specs.declared.scripts.HeadSoFar.{HeadSoFar}
 use Rattle.cops_world.specs.declared.scripts.Script.{Script}
@@ -67,5 +67,5 @@ module _ {W : Type 0} (setup : W → Config) (StandsFor : W → ℕ → SoloClus
   abbrev pub solo_end_refuses : SoloScript W → SoloRefusal → Type 0
   solo_end_refuses old refusal = solo_end_refuses_in old.script refusal
 
-  abbrev pub solo_rules : Rules (SoloScript W) SoloRefusal
+  abbrev pub solo_rules : LineRules (SoloScript W) SoloRefusal
   solo_rules = record { answers = solo_answers; refuses = solo_refuses; ends = solo_end_answers; refuses_end = solo_end_refuses }

@@ -42,7 +42,7 @@ pub fn answers_are_consistent()
 
 /// In every list of acts no reply says that a request was torn or an entry out of order, and no audit
 /// says so, or that a version has not come.
-pub fn nothing_unexpected_comes()
+pub fn nothing_is_torn_or_out_of_order()
     ensures { (config : TenantConfig) (acts : List Act) → 0 < config.shards → IsAsExpected config acts }
 {}
 

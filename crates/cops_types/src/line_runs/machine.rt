@@ -2,7 +2,7 @@
 ghost use Rattle.std.specs.Prelude.{◌≡◌, OnOk, IfErr};
 ghost use Rattle.cops_types.specs.declared.line_runs.machine.Stop.TheVariants.{OutOfMemory};
 ghost use Rattle.cops_types.specs.LineAnswers.{Answers, IfRefused};
-ghost use Rattle.cops_types.specs.LineRules.{Rules};
+ghost use Rattle.cops_types.specs.LineRules.{LineRules};
 
 use std::alloc::{AllocError, Global};
 
@@ -27,7 +27,7 @@ pub trait LineMachine {
     type Refusal;
 
     // What it may answer, and when it refuses.
-    ghost rules: { Rules Self Self.Refusal };
+    ghost rules: { LineRules Self Self.Refusal };
 
     /// Answers the next line, which comes without its newline, at the end of `out`.
     fn line(

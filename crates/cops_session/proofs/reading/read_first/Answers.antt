@@ -1,6 +1,6 @@
 use Rattle.std.proofs.Common.{◌≡◌, ◌∙◌, ap, sym, subst}
 use Rattle.std.specs.Prelude.{Some}
-use Rattle.cops_session.specs.declared.asking.Asked.TheVariants as asked
+use Rattle.cops_session.specs.declared.asking.FirstAnswer.TheVariants as asked
 use Rattle.cops_session.specs.declared.rounds.AfterFirst.TheVariants as after
 use Rattle.cops_session.proofs.TurnLaws.{first_turned}
 use Rattle.cops_session.proofs.reading.read_first.Goals as goal

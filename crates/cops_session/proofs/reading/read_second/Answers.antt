@@ -1,6 +1,6 @@
 use Rattle.std.proofs.Common.{◌≡◌, ◌∙◌, ap, sym, subst}
 use Rattle.std.specs.Prelude.{Some}
-use Rattle.cops_session.specs.declared.asking.AskedAgain.TheVariants as asked
+use Rattle.cops_session.specs.declared.asking.SecondAnswer.TheVariants as asked
 use Rattle.cops_session.specs.declared.rounds.AfterSecond.TheVariants as after
 use Rattle.cops_session.proofs.TurnLaws.{second_turned}
 use Rattle.cops_session.proofs.reading.read_second.Goals as goal

@@ -15,11 +15,11 @@ use std::marker::Model;
 /// The nearest dependencies, growing in place. Contracts see the pairs, strictly rising by key and
 /// then by version, and how many more fit without memory.
 #[derive(Debug, Drop)]
-pub struct GrowingNear {
+pub struct NearBuilder {
     pairs: Vec<Pair>,
 }
 
-impl Model for GrowingNear {
+impl Model for NearBuilder {
     ghost use Rattle.std.specs.Prelude.{◌-◌, vec_len, vec_capacity};
     ghost use Rattle.cops_types.specs.Growing.{Growing};
     ghost use Rattle.cops_types.specs.Pairs.{IsNear};
@@ -31,12 +31,12 @@ impl Model for GrowingNear {
     ghost invariant = { λ n. IsNear n.pairs.items };
 }
 
-impl GrowingNear {
+impl NearBuilder {
     /// No dependencies.
     pub fn empty(alloc: Global) -> Self
         ensures { result.pairs ≡ [] }
     {
-        GrowingNear {
+        NearBuilder {
             pairs: Vec::new(alloc),
         }
     }
@@ -46,7 +46,7 @@ impl GrowingNear {
         ensures pairs { IfOk result (λ copy. copy.pairs ≡ self.now.pairs) }
         ensures room { IfOk result (λ copy. more ≤ copy.spare) }
     {
-        Ok(GrowingNear {
+        Ok(NearBuilder {
             pairs: pair_lists::copy_with_room(
                 *self.pairs.allocator(),
                 self.pairs.as_slice(),

@@ -1,6 +1,6 @@
 //! Lists of short keys, of long ones, and of both.
 use crate::test_pairs::{assert_deps, assert_near, deps, pair};
-use crate::{Deps, Fault, GrowingDeps, Near, Pair};
+use crate::{Deps, DepsBuilder, Fault, Near, Pair};
 use std::alloc::Global;
 use std::process::Abort;
 
@@ -53,7 +53,7 @@ fn a_list_with_a_long_key_joins_one_of_short_keys(rt: HostRuntime) {
 
 #[test]
 fn growing_lists_take_long_keys(rt: HostRuntime) {
-    let mut list = GrowingDeps::empty(rt.alloc());
+    let mut list = DepsBuilder::empty(rt.alloc());
     list.add(first(&rt, 2)).expect(&rt, "memory");
     list.join(&mixed(&rt, rt.alloc()), 3).expect(&rt, "room");
     let all = [first(&rt, 2), short(&rt, 8), long(&rt, 3)];
