@@ -3,7 +3,7 @@
 # and, where it is installed, redis-server (Debian: apt-get install redis-server). Medians over so many rounds (5), in each of
 # which all of them run in turn. Then one tenant's latencies, alone and beside a neighbour who floods another worker.
 # It needs cargo and python3.
-#   bench/serve.sh crates/cops_cli/out/cops_cli
+#   bench/serve.sh out/cops
 set -eu
 here=$(cd "$(dirname "$0")" && pwd)
 if [ $# -lt 1 ]; then

@@ -7,7 +7,7 @@ from scripts import HERE, Script, answers, replies_to
 
 TENANT = neighbours.TENANT
 NEIGHBOUR = neighbours.NEIGHBOUR
-BUILT = HERE.parent / "crates" / "cops_cli" / "out" / "cops_cli"
+BUILT = HERE.parent / "out" / "cops"
 
 
 class Section:
