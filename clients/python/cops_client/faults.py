@@ -181,3 +181,13 @@ class ReadFault(Fault):
 @_numbered(27)
 class WriteFault(Fault):
     """The server could not write."""
+
+
+@_numbered(28)
+class NoSlot(Fault):
+    """No slot is free for a tenant, or this one has a tenant."""
+
+
+@_numbered(29)
+class ClockTooGreat(Fault):
+    """A clock of an old audit is greater than any that can be migrated."""

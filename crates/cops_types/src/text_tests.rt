@@ -20,7 +20,9 @@ fn texts_of_faults(rt: HostRuntime) -> Result<(), Fail> {
     assert_fault(&rt, rt.alloc(), Fault::Syntax, "E01")?;
     assert_fault(&rt, rt.alloc(), Fault::BadKey, "E10")?;
     assert_fault(&rt, rt.alloc(), Fault::OutOfMemory, "E23")?;
-    assert_fault(&rt, rt.alloc(), Fault::WriteFault, "E27")
+    assert_fault(&rt, rt.alloc(), Fault::WriteFault, "E27")?;
+    assert_fault(&rt, rt.alloc(), Fault::NoSlot, "E28")?;
+    assert_fault(&rt, rt.alloc(), Fault::ClockTooGreat, "E29")
 }
 
 #[test]
