@@ -7,6 +7,9 @@ use std::process::Command;
 use std::sync::Arc;
 use std::time::Instant;
 
+/// How many node numbers there are: a version is its clock, and then a node in 16 bits.
+const NODES: u64 = 1 << 16;
+
 #[derive(Clone, Copy)]
 struct Key {
     bytes: [u8; 64],
@@ -97,7 +100,7 @@ fn fill(chains: &mut Chains, keys: &[Key], count: u64) {
     for i in 0..count {
         state = next(state);
         let (slot, place) = drawn(state);
-        insert(chains, slot, keys[place], (i + 1) * 256, i);
+        insert(chains, slot, keys[place], (i + 1) * NODES, i);
     }
 }
 
@@ -120,7 +123,7 @@ fn read_exactly(chains: &Chains, keys: &[Key], count: u64, clocks: u64) -> u64 {
     for _ in 0..count {
         state = next(state);
         let (slot, place) = drawn(state);
-        let version = ((state >> 33) % clocks + 1) * 256;
+        let version = ((state >> 33) % clocks + 1) * NODES;
         if let Some(chain) = chains.get(&(slot, keys[place])) {
             hits += u64::from(
                 chain

@@ -4,14 +4,14 @@
 # peak memory, and their ratios A/B (over 1: A is slower or larger; for requests/s: A
 # is faster). On a shared machine trust processor time. A program may be a command with
 # arguments in one word:
-#   bench/programs.sh out/cops "bench/plain/target/release/plain --layout 1"
+#   bench/programs.sh out/cops "bench/plain/target/release/plain --fixed-tenants"
 #
 # Environment (defaults):
 #   REPS=3            repetitions of each case
 #   SCALE=100         percentage of each preset's events (10: a short run)
 #   CASES="run solo audit replay serve growth crowd"
 #   PRESETS="puts gets mixed deep wide"    scripts of `run`
-#   LAYOUT=1          2: the greeting of the second layout of versions
+#   LAYOUT=2          1: the greeting of the older layout of versions
 #   LIMIT=300         seconds for one run
 #   GROWTH="1000 10000 100000 1000000"     events of `growth`
 #   CROWD="1000 3000 10000 30000"          events of `crowd`, where one tenant
@@ -27,7 +27,7 @@ if [ $# -ne 2 ]; then
     exit 2
 fi
 A=$1 B=$2
-REPS=${REPS:-3} SCALE=${SCALE:-100} LAYOUT=${LAYOUT:-1} LIMIT=${LIMIT:-300}
+REPS=${REPS:-3} SCALE=${SCALE:-100} LAYOUT=${LAYOUT:-2} LIMIT=${LIMIT:-300}
 CASES=${CASES:-run solo audit replay serve growth crowd}
 PRESETS=${PRESETS:-puts gets mixed deep wide}
 GROWTH=${GROWTH:-1000 10000 100000 1000000}

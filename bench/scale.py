@@ -116,7 +116,7 @@ CASES = (
     ("a session", sessions, 50000),
     ("an empty context", contexts, 100000),
     ("a tenant, on 1 node", lambda count: tenants(count, 1, 1), 32),
-    ("a tenant, on 128 nodes", lambda count: tenants(count, 8, 16), 32),
+    ("a tenant, on 512 nodes", lambda count: tenants(count, 8, 64), 32),
 )
 
 
@@ -138,6 +138,8 @@ def main():
     print("| Of each | Bytes | Processor microseconds |")
     print("|---|---|---|")
     print(f"| the process, with one tenant on one node | {memory:,} | |")
+    memory, _ = min(measure(program, tenants(64, 8, 64)) for _ in range(3))
+    print(f"| the process, with 64 tenants on 512 nodes | {memory:,} | |")
     for title, lines, count in CASES:
         runs = [[measure(program, lines(number)) for _ in range(3)] for number in (count, 2 * count)]
         (less, short), (more, long) = ([min(column) for column in zip(*run)] for run in runs)

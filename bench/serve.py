@@ -64,7 +64,7 @@ class Service:
 
 
 def load_words(room, port, options):
-    return [f"{room}/load", str(port), "--layout", "1", "--keys", str(KEYS), "--value", "64", *map(str, options)]
+    return [f"{room}/load", str(port), "--keys", str(KEYS), "--value", "64", *map(str, options)]
 
 
 def serve_once(room, program, connections, depth, kind):

@@ -92,7 +92,7 @@ class ScriptMaker:
     def __init__(self, numbers: Random, most_lines: int = 160) -> None:
         self.numbers = numbers
         self.data_centres = numbers.choice([1, 1, 2, 2, 2, 3, 8])
-        self.shards = numbers.choice([1, 1, 2, 2, 3, 4, 16])
+        self.shards = numbers.choice([1, 1, 2, 2, 3, 4, 64])
         self.trans_time = numbers.choice([0, 1, 5, 100, 5_000, 5_000, MOST])
         self.restarts = numbers.choice([0, 1, 1, 2, 15])
         self.keys = numbers.sample(KEYS, numbers.choice([1, 2, 2, 2, 3, 3, 4, 8]))

@@ -35,7 +35,7 @@ class StreamMaker:
     def __init__(self, numbers: Random) -> None:
         self.numbers = numbers
         self.data_centres = numbers.choice([1, 1, 2, 3])
-        self.shards = numbers.choice([1, 2, 4, 16])
+        self.shards = numbers.choice([1, 2, 4, 64])
         count = numbers.choice([1, 2, 3, 4])
         self.places = {number: numbers.randrange(self.data_centres) for number in range(1, count + 1)}
         self.names = [f"t{number}" for number in self.places]

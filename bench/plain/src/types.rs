@@ -56,9 +56,9 @@ impl fmt::Display for Fault {
 /// How a version's 64 bits are split into clock and node.
 #[derive(Clone, Copy, PartialEq, Eq, Debug)]
 pub enum Layout {
-    /// 56 bits of clock, 8 of node; tenants are fixed by the head.
+    /// 56 bits of clock, 8 of node.
     One,
-    /// 48 bits of clock, 16 of node; tenants come and go.
+    /// 48 bits of clock, 16 of node.
     Two,
 }
 
@@ -89,13 +89,6 @@ impl Layout {
         match self {
             Layout::One => 0x01,
             Layout::Two => 0x07,
-        }
-    }
-
-    pub const fn fewest_tenants(self) -> usize {
-        match self {
-            Layout::One => 1,
-            Layout::Two => 0,
         }
     }
 }

@@ -34,14 +34,14 @@ ONE = Version(1, 0)
 
 #: A whole conversation: a greeting, a context, a put, a get, a delete, and a get that is refused.
 CONVERSATION = [
-    ("00000012 01 00000000000000000000000000000001 00", Hello(ACME, 0)),
+    ("00000012 07 00000000000000000000000000000001 00", Hello(ACME, 0)),
     ("00000001 81", Ready()),
     ("00000001 02", CreateContext()),
     ("0000000a 82 43 0000000000000001", Created(FIRST)),
     ("00000010 04 43 0000000000000001 01 78 0002 3130", Put(FIRST, b"x", b"10")),
-    ("0000000b 84 01 78 0000000000000100", Stored(b"x", ONE)),
+    ("0000000b 84 01 78 0000000000010000", Stored(b"x", ONE)),
     ("0000000d 05 43 0000000000000001 01 01 78", GetTrans(FIRST, (b"x",))),
-    ("00000013 85 01 01 78 01 0002 3130 0000000000000100 0000", Values((Read(b"x", b"10", ONE),))),
+    ("00000013 85 01 01 78 01 0002 3130 0000000000010000 0000", Values((Read(b"x", b"10", ONE),))),
     ("0000000a 03 43 0000000000000001", DeleteContext(FIRST)),
     ("00000001 83", Deleted()),
     ("0000000d 05 43 0000000000000001 01 01 78", GetTrans(FIRST, (b"x",))),
@@ -60,14 +60,14 @@ REFUSED = [
 #: An empty value, and how it is read.
 EMPTY_VALUE = [
     ("0000000e 04 43 0000000000000001 01 78 0000", Put(FIRST, b"x", b"")),
-    ("00000011 85 01 01 78 01 0000 0000000000000100 0000", Values((Read(b"x", b"", ONE),))),
+    ("00000011 85 01 01 78 01 0000 0000000000010000 0000", Values((Read(b"x", b"", ONE),))),
 ]
 
 #: Results with dependencies, and an absent key.
 RESULTS = [
     ("00000005 85 01 01 78 00", Values((Read(b"x"),))),
     (
-        "00000021 85 02 01 78 00 01 79 01 0002 3230 0000000000000201 0001 02 7a7a 0000000000000500",
+        "00000021 85 02 01 78 00 01 79 01 0002 3230 0000000000020001 0001 02 7a7a 0000000000050000",
         Values((Read(b"x"), Read(b"y", b"20", Version(2, 1), (Pair(b"zz", Version(5, 0)),)))),
     ),
 ]
@@ -86,7 +86,8 @@ BROKEN = [
     "00000002 ff 00",
     "00000003 ff 01 01",
     "00000005 85 01 01 78 02",
-    "00000011 01 00000000000000000000000000000001",
+    "00000011 07 00000000000000000000000000000001",
+    "00000012 01 00000000000000000000000000000001 00",
 ]
 
 
@@ -179,8 +180,8 @@ class Frames(unittest.TestCase):
             Put(FIRST, b"k" * 256, b""),
             Put(FIRST, b"k", b"v" * 65_536),
             GetTrans(FIRST, (b"k",) * 256),
-            Stored(b"x", Version(1 << 56, 0)),
-            Stored(b"x", Version(0, 256)),
+            Stored(b"x", Version(1 << 48, 0)),
+            Stored(b"x", Version(0, 65_536)),
             Refused(0),
             Refused(200),
         ):
@@ -199,8 +200,8 @@ class Frames(unittest.TestCase):
 class Versions(unittest.TestCase):
     def test_versions_are_ordered_by_clock_and_then_node(self):
         self.assertEqual(str(Version(1, 0)), "1.0")
-        self.assertEqual(Version(1, 0).number, 256)
-        self.assertEqual(Version.from_number(0x201), Version(2, 1))
+        self.assertEqual(Version(1, 0).number, 65_536)
+        self.assertEqual(Version.from_number(0x20001), Version(2, 1))
         self.assertLess(Version(1, 9), Version(2, 0))
         self.assertLess(Version(1, 0), Version(1, 1))
         self.assertEqual(NO_VERSION.number, 0)

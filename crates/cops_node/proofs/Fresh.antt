@@ -145,5 +145,5 @@ clocks_of (t ∷ tenants) h = (clock (nat_le t.first_clock last_clock) refl h, c
 pub numbers_fit : (config : Config) → IsTrue (are_sizes config) → config.data_centres * config.shards ≤ NODES
 numbers_fit config h =
     let dcs : config.data_centres ≤ 8 = grind (arith, nat_tests) in
-    let shards : config.shards ≤ 16 = grind (arith, nat_tests) in
+    let shards : config.shards ≤ 64 = grind (arith, nat_tests) in
     omega (arith, mul-le-mul_right config.shards dcs, mul-le-mul_left 8 shards)

@@ -4,10 +4,10 @@ ghost use Rattle.std.specs.List.{list_all};
 ghost use Rattle.cops_types.specs.Version.{last_clock};
 ghost use Rattle.cops_node.specs.Parts.{are_clocks};
 
-use cops_types::{Config, Tenant};
+use cops_types::{Config, Tenant, Version};
 
 /// The last number of a clock.
-const LAST_CLOCK: u64 = (1 << 56) - 1;
+const LAST_CLOCK: u64 = Version::LAST_CLOCK;
 
 // Whether each first clock is at most the last number of a clock.
 fn are_within(tenants: &[Tenant]) -> bool

@@ -95,7 +95,7 @@ pub(crate) fn key(rt: &impl Abort, bytes: &[u8]) -> Key {
 }
 
 pub(crate) fn version(rt: &impl Abort, clock: u64, node: u64) -> Version {
-    assert!(rt; clock <= 72057594037927935 && node < 256);
+    assert!(rt; clock <= Version::LAST_CLOCK && node < Version::NODES);
     Version::of(clock, node)
 }
 

@@ -12,7 +12,7 @@ use std::test::Fail;
 fn a_commit_at_the_last_clock(rt: HostRuntime) {
     let alloc = rt.alloc();
     let mut node = one_of_two(&rt, alloc, 1, 0, QUOTA);
-    let last = commit(&rt, alloc, 72057594037927935, 0);
+    let last = commit(&rt, alloc, 281474976710655, 0);
     says(&rt, &mut node, 0, last, ("committed", 0));
     says(
         &rt,
@@ -21,7 +21,7 @@ fn a_commit_at_the_last_clock(rt: HostRuntime) {
         put(&rt, alloc, b"x"),
         refused(Fault::ClockFull),
     );
-    says(&rt, &mut node, 1, put(&rt, alloc, b"x"), ("stored", 257));
+    says(&rt, &mut node, 1, put(&rt, alloc, b"x"), ("stored", 65537));
 }
 
 fn copy_of(rt: &impl Abort, alloc: Global, call: &NodeCall) -> NodeCall {
@@ -63,16 +63,23 @@ fn calls_under_want_of_memory(rt: HostRuntime) {
         &mut node,
         1,
         put(&rt, alloc, b"x"),
-        ("stored", 256),
+        ("stored", 65536),
     );
-    insists(&rt, alloc, &mut node, 1, latest(&rt, b"x"), ("found", 256));
+    insists(
+        &rt,
+        alloc,
+        &mut node,
+        1,
+        latest(&rt, b"x"),
+        ("found", 65536),
+    );
     insists(
         &rt,
         alloc,
         &mut node,
         1,
         get(&rt, b"x", 1, 0),
-        ("found", 256),
+        ("found", 65536),
     );
     insists(&rt, alloc, &mut node, 1, check(&rt, 1), ("checked", 1));
     insists(&rt, alloc, &mut node, 1, NodeCall::Pull(1), ("pulled", 0));
@@ -82,7 +89,7 @@ fn calls_under_want_of_memory(rt: HostRuntime) {
         &mut node,
         1,
         put(&rt, alloc, b"x"),
-        ("stored", 512),
+        ("stored", 131072),
     );
     insists(
         &rt,
@@ -146,7 +153,7 @@ fn turns_of_a_machine(rt: HostRuntime) -> Result<(), Fail> {
         let call = put(&rt, alloc, b"x");
         assert!(rt; 0 < node.slots() && node.fits(&call));
         let reply = node.turn(0, 0, call).expect(&rt, "memory");
-        assert_eq!(rt; in_short(&reply), ("stored", clock * 256));
+        assert_eq!(rt; in_short(&reply), ("stored", clock * 65536));
     }
     assert_eq!(rt; audit_len(&rt, &node, 0), 2);
     Ok(())
@@ -167,7 +174,7 @@ fn commits_in_order(rt: HostRuntime) {
     let alloc = rt.alloc();
     let mut node = after_two_commits(&rt, alloc);
     let other = commit(&rt, alloc, 4, 3);
-    says(&rt, &mut node, 0, other, ("out of order", 512));
+    says(&rt, &mut node, 0, other, ("out of order", 131072));
     says(&rt, &mut node, 0, commit(&rt, alloc, 1, 0), ("already", 0));
     assert_eq!(rt; audit_len(&rt, &node, 0), 5);
     assert_eq!(rt; audit_len(&rt, &node, 1), 0);

@@ -8,7 +8,7 @@ use std::alloc::Global;
 use std::process::Abort;
 
 fn version(rt: &impl Abort, clock: u64) -> Version {
-    assert!(rt; clock <= 72057594037927935);
+    assert!(rt; clock <= Version::LAST_CLOCK);
     Version::of(clock, 0)
 }
 

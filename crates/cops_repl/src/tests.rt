@@ -64,7 +64,7 @@ fn config(alloc: Global) -> Config
 }
 
 fn pair(rt: &impl Abort, key: &[u8], clock: u64, node: u64) -> Pair {
-    assert!(rt; clock < 1000 && node < 256);
+    assert!(rt; clock < 1000 && node < Version::NODES);
     Pair {
         key: Key::new(key).expect(rt, "a key"),
         version: Version::of(clock, node),

@@ -21,7 +21,7 @@ pub(crate) fn key(rt: &impl Abort, bytes: &[u8]) -> Key {
 }
 
 pub(crate) fn version(rt: &impl Abort, clock: u64) -> Version {
-    assert!(rt; clock <= 72057594037927935);
+    assert!(rt; clock <= Version::LAST_CLOCK);
     Version::of(clock, 0)
 }
 

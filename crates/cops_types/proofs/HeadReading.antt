@@ -11,7 +11,7 @@ use Rattle.cops_types.specs.declared.configs.Tenant.{Tenant}
 use Rattle.cops_types.specs.declared.quotas.Quota.{Quota}
 use Rattle.cops_types.specs.Head.{Front, Within, JoinsOrStays}
 use Rattle.cops_types.specs.HeadReader.{front_with}
-use Rattle.cops_types.specs.HeadLines.{begin_line, IsClusterLine, IsTenantLine, are_sizes, cluster_in, is_between, greatest_quota, is_quota, is_tenant, tenant_in}
+use Rattle.cops_types.specs.HeadLines.{begin_line, IsClusterLine, IsTenantLine, are_sizes, cluster_in, is_between, most_shards, greatest_quota, is_quota, is_tenant, tenant_in}
 use Rattle.cops_types.specs.HeadWords.{cluster_words, tenant_words}
 use Rattle.cops_types.specs.Key.{is_name}
 use Rattle.cops_types.specs.Version.{last_clock}
@@ -146,17 +146,17 @@ same_word word text copy b e are h = by_test (bytes_eq word copy) refl
     by_test false k = absurd (let clash : false ≡ true = sym h ∙ e ∙ ap not k in cc)
 
 -- the tests of sizes, without and with the limit of time
-pub sizes_within : (config : Config) → IsTrue (are_sizes config) → IsTrue (is_between 1 8 config.data_centres && is_between 1 16 config.shards && nat_le config.restarts 15)
+pub sizes_within : (config : Config) → IsTrue (are_sizes config) → IsTrue (is_between 1 8 config.data_centres && is_between 1 most_shards config.shards && nat_le config.restarts 15)
 sizes_within config h =
-    let x = both (is_between 1 8 config.data_centres && is_between 1 16 config.shards && is_u64 config.trans_time) (nat_le config.restarts 15) h in
-    let y = both (is_between 1 8 config.data_centres && is_between 1 16 config.shards) (is_u64 config.trans_time) x.0 in
-    and (is_between 1 8 config.data_centres && is_between 1 16 config.shards) (nat_le config.restarts 15) y.0 x.1
+    let x = both (is_between 1 8 config.data_centres && is_between 1 most_shards config.shards && is_u64 config.trans_time) (nat_le config.restarts 15) h in
+    let y = both (is_between 1 8 config.data_centres && is_between 1 most_shards config.shards) (is_u64 config.trans_time) x.0 in
+    and (is_between 1 8 config.data_centres && is_between 1 most_shards config.shards) (nat_le config.restarts 15) y.0 x.1
 
-pub are_within : (data_centres shards trans_time restarts : ℕ) → IsTrue (is_between 1 8 data_centres && is_between 1 16 shards && nat_le restarts 15) → IsTrue (is_u64 trans_time) →
-    IsTrue (is_between 1 8 data_centres && is_between 1 16 shards && is_u64 trans_time && nat_le restarts 15)
+pub are_within : (data_centres shards trans_time restarts : ℕ) → IsTrue (is_between 1 8 data_centres && is_between 1 most_shards shards && nat_le restarts 15) → IsTrue (is_u64 trans_time) →
+    IsTrue (is_between 1 8 data_centres && is_between 1 most_shards shards && is_u64 trans_time && nat_le restarts 15)
 are_within data_centres shards trans_time restarts h small =
-    let x = both (is_between 1 8 data_centres && is_between 1 16 shards) (nat_le restarts 15) h in
-    and (is_between 1 8 data_centres && is_between 1 16 shards && is_u64 trans_time) (nat_le restarts 15) (and (is_between 1 8 data_centres && is_between 1 16 shards) (is_u64 trans_time) x.0 small) x.1
+    let x = both (is_between 1 8 data_centres && is_between 1 most_shards shards) (nat_le restarts 15) h in
+    and (is_between 1 8 data_centres && is_between 1 most_shards shards && is_u64 trans_time) (nat_le restarts 15) (and (is_between 1 8 data_centres && is_between 1 most_shards shards) (is_u64 trans_time) x.0 small) x.1
 
 -- ---- the parts of a tenant
 

@@ -4,7 +4,7 @@ ghost use Rattle.cops_types.specs.declared.configs.Config.{Config};
 ghost use Rattle.cops_types.specs.declared.configs.Tenant.{Tenant};
 ghost use Rattle.cops_types.specs.declared.quotas.Quota.{Quota};
 ghost use Rattle.cops_types.specs.Head.{JoinsOrStays, may_join};
-ghost use Rattle.cops_types.specs.HeadLines.{IsClusterLine, IsTenantLine, cluster_in, is_between, is_quota, tenant_in};
+ghost use Rattle.cops_types.specs.HeadLines.{IsClusterLine, IsTenantLine, cluster_in, is_between, is_quota, most_shards, tenant_in};
 ghost use Rattle.cops_types.specs.HeadWords.{quota_words};
 ghost use Rattle.cops_types.specs.Version.{last_clock};
 ghost use Rattle.cops_types.specs.Words.{is_u64};
@@ -38,9 +38,13 @@ fn next_number(words: &mut Words) -> Option<u64>
 
 /// Whether a cluster may have these sizes and this many restarts.
 fn are_sizes(data_centres: u64, shards: u64, restarts: u64) -> bool
-    ensures { result ≡ (is_between 1 8 data_centres && is_between 1 16 shards && nat_le restarts 15) }
+    ensures { result ≡ (is_between 1 8 data_centres && is_between 1 most_shards shards && nat_le restarts 15) }
 {
-    1 <= data_centres && data_centres <= 8 && 1 <= shards && shards <= 16 && restarts <= 15
+    1 <= data_centres
+        && data_centres <= 8
+        && 1 <= shards
+        && shards <= Config::MOST_SHARDS
+        && restarts <= 15
 }
 
 /// The cluster that a line gives, with no tenant yet.

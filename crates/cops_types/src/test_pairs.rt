@@ -4,7 +4,7 @@ use std::alloc::Global;
 use std::process::Abort;
 
 pub(crate) fn pair(rt: &impl Abort, key: &[u8], clock: u64, node: u64) -> Pair {
-    assert!(rt; clock < 1000 && node < 256);
+    assert!(rt; clock < 1000 && node < Version::NODES);
     let key = Key::new(key).expect(rt, "a key");
     Pair {
         key,

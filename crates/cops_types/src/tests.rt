@@ -10,17 +10,17 @@ use std::thread::Threads;
 
 #[test]
 fn versions(rt: HostRuntime) {
-    assert!(rt; matches!(Version::next(0, 1, 1), Ok(version) if version.to_u64() == 2 * 256 + 1));
-    assert!(rt; matches!(Version::next(5, 3, 2), Ok(version) if version.to_u64() == 6 * 256 + 2));
-    let last = Version::next(72057594037927935, 0, 0);
+    assert!(rt; matches!(Version::next(0, 1, 1), Ok(version) if version.to_u64() == 2 * 65536 + 1));
+    assert!(rt; matches!(Version::next(5, 3, 2), Ok(version) if version.to_u64() == 6 * 65536 + 2));
+    let last = Version::next(281474976710655, 0, 0);
     assert!(rt; matches!(last, Err(Fault::ClockFull)));
 }
 
 #[test]
 fn numbers_of_versions(rt: HostRuntime) {
-    assert_eq!(rt; Version::of(1, 0).to_u64(), 256);
-    assert_eq!(rt; Version::from_u64(513).clock(), 2);
-    assert_eq!(rt; Version::from_u64(513).node(), 1);
+    assert_eq!(rt; Version::of(1, 0).to_u64(), 65536);
+    assert_eq!(rt; Version::from_u64(131073).clock(), 2);
+    assert_eq!(rt; Version::from_u64(131073).node(), 1);
 }
 
 #[test]

@@ -36,7 +36,7 @@ fn texts_of_numbers(rt: HostRuntime) -> Result<(), Fail> {
 
 #[test]
 fn texts_of_versions(rt: HostRuntime) -> Result<(), Fail> {
-    let version = Version::from_u64(513);
+    let version = Version::from_u64(131073);
     assert_eq!(rt; format!(in rt.alloc(); "{version}")?.as_str(), "2.1");
     let mut out = Vec::new(rt.alloc());
     push_version(&mut out, version)?;

@@ -33,11 +33,11 @@ impl Model for Version {
 }
 
 impl Version {
-    /// How many node numbers there are: a node has the last 8 bits of a version.
-    pub const NODES: u64 = 256;
+    /// How many node numbers there are: a node has the last 16 bits of a version.
+    pub const NODES: u64 = 1 << 16;
 
-    /// The greatest clock: it has the other 56 bits.
-    pub const LAST_CLOCK: u64 = (1 << 56) - 1;
+    /// The greatest clock: it has the other 48 bits.
+    pub const LAST_CLOCK: u64 = (1 << 48) - 1;
 
     /// The version 0.0, which means that there is none.
     pub fn none() -> Self

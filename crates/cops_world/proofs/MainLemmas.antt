@@ -5,7 +5,7 @@ use Rattle.std.proofs.lemmas.Bool.{leb-true}
 use Rattle.std.specs.List.{list_all}
 use Rattle.cops_types.specs.declared.configs.Config.{Config}
 use Rattle.cops_types.specs.declared.configs.Tenant.{Tenant}
-use Rattle.cops_types.specs.HeadLines.{are_sizes, is_between, is_tenant}
+use Rattle.cops_types.specs.HeadLines.{are_sizes, is_between, is_tenant, most_shards}
 use Rattle.cops_types.specs.TenantConfig.{TenantConfig}
 use Rattle.cops_types.specs.Words.{is_u64}
 use Rattle.cops_world.specs.declared.acts.Act.{Act}
@@ -43,11 +43,11 @@ and_right false b h = absurd (true≢false (sym h))
 
 pub some_shard : (config : Config) → IsTrue (is_good config) → 0 < config.shards
 some_shard config good =
-    let shards = is_between 1 16 config.shards in
+    let shards = is_between 1 most_shards config.shards in
     let sizes = and_left (are_sizes config) (list_all is_tenant config.tenants) good in
     let front = and_left (is_between 1 8 config.data_centres && shards && is_u64 config.trans_time) (nat_le config.restarts 15) sizes in
     let two = and_left (is_between 1 8 config.data_centres && shards) (is_u64 config.trans_time) front in
-    let low = and_left (nat_le 1 config.shards) (nat_le config.shards 16) (and_right (is_between 1 8 config.data_centres) shards two) in
+    let low = and_left (nat_le 1 config.shards) (nat_le config.shards most_shards) (and_right (is_between 1 8 config.data_centres) shards two) in
     leb-true 1 config.shards low
 
 -- a tenant has the shards of the whole cluster

@@ -4,7 +4,7 @@ use Rattle.std.specs.Prelude.{Option, Some, None, IsTrue, nat_le, replicate, sli
 use Rattle.std.specs.List.{IsDistinct, list_all}
 use Rattle.std.proofs.lemmas.Bool.{leb-false, leb-true}
 use Rattle.std.proofs.lemmas.List.{length-replicate}
-use Rattle.cops_types.specs.HeadLines.{are_sizes, greatest_quota, is_between, is_name, is_quota, is_tenant}
+use Rattle.cops_types.specs.HeadLines.{are_sizes, greatest_quota, is_between, is_name, is_quota, is_tenant, most_shards}
 use Rattle.cops_types.specs.Version.{last_clock}
 use Rattle.cops_types.specs.Words.{is_u64}
 use Rattle.cops_world.specs.GoodHeads.{is_good}
@@ -110,7 +110,7 @@ limits_at setup slot good within =
     let y = nat_le quota.contexts greatest_quota in
     let z = nat_le quota.deps 1024 in
     let u = nat_le quota.actors greatest_quota in
-    let sizes = is_between 1 8 setup.data_centres && is_between 1 16 setup.shards && is_u64 setup.trans_time in
+    let sizes = is_between 1 8 setup.data_centres && is_between 1 most_shards setup.shards && is_u64 setup.trans_time in
     let all = and_right (are_sizes setup) (list_all is_tenant setup.tenants) good in
     let own = tenant_within setup.tenants slot at.0 all at.1 in
     let quotas = and_right (is_name at.0.name && nat_le at.0.first_clock last_clock) (is_quota quota) own in

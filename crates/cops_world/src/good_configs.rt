@@ -1,7 +1,7 @@
 //! Whether a configuration keeps to the limits of a head, so that worlds and nodes can be made of it.
 ghost use Rattle.std.specs.Prelude.{◌≡◌, ◌&&◌, IsTrue, nat_le};
 ghost use Rattle.std.specs.List.{list_all};
-ghost use Rattle.cops_types.specs.HeadLines.{are_sizes, is_between, is_quota, is_tenant};
+ghost use Rattle.cops_types.specs.HeadLines.{are_sizes, is_between, is_quota, is_tenant, most_shards};
 ghost use Rattle.cops_types.specs.Key.{IsName};
 ghost use Rattle.cops_types.specs.Words.{is_u64};
 ghost use Rattle.cops_node.specs.Parts.{are_clocks};
@@ -49,9 +49,13 @@ fn are_tenants(tenants: &[Tenant]) -> bool
 
 /// Whether a cluster may have these sizes and this many restarts.
 fn are_sizes(data_centres: u64, shards: u64, trans_time: u64, restarts: u64) -> bool
-    ensures { result ≡ (is_between 1 8 data_centres && is_between 1 16 shards && is_u64 trans_time && nat_le restarts 15) }
+    ensures { result ≡ (is_between 1 8 data_centres && is_between 1 most_shards shards && is_u64 trans_time && nat_le restarts 15) }
 {
-    1 <= data_centres && data_centres <= 8 && 1 <= shards && shards <= 16 && restarts <= 15
+    1 <= data_centres
+        && data_centres <= 8
+        && 1 <= shards
+        && shards <= Config::MOST_SHARDS
+        && restarts <= 15
 }
 
 /// Whether the sizes, and each tenant, are within the limits.

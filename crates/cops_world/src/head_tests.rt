@@ -28,7 +28,7 @@ tenant beta 00000000-0000-0000-0000-000000000002 0 100 10000 10 4 20 8 1000
 #[test]
 fn a_head_is_bad_at_a_line(rt: HostRuntime) -> Result<(), Fail> {
     let heads: [(&[u8], u64); 4] = [
-        (b"cluster 1 17 5000 1\nbegin\n", 1),
+        (b"cluster 1 65 5000 1\nbegin\n", 1),
         (b"cluster 1 1 5000 1\nbegin\n", 2),
         (b"cluster 1 1 5000 1\n", 2),
         (b"", 1),

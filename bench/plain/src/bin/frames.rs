@@ -145,7 +145,7 @@ fn push_request(out: &mut Vec<u8>, gets: bool, context: u64, key: u64) {
 
 /// A greeting, and so many requests. Each eight have a context of their own.
 fn requests(gets: bool, count: u64) -> Vec<u8> {
-    let mut out = b"\x00\x00\x00\x12\x01".to_vec();
+    let mut out = b"\x00\x00\x00\x12\x07".to_vec();
     out.extend_from_slice(&1u128.to_be_bytes());
     out.push(0);
     for n in 0..count {
@@ -261,7 +261,7 @@ fn config() -> Config {
     let mut tenants = Tenants::default();
     tenants.admit(tenant).expect("a slot");
     let shape = Shape {
-        layout: Layout::One,
+        layout: Layout::Two,
         dcs: 1,
         shards: 1,
         trans_time: 5000,

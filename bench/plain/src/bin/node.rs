@@ -16,7 +16,7 @@ const QUOTA: Quota = Quota {
     actors: MOST,
     audit: MOST,
 };
-const LAYOUT: Layout = Layout::One;
+const LAYOUT: Layout = Layout::Two;
 const KEYS: usize = 10_000;
 const VALUE: &str = "a_value_of_thirty_two_bytes_0123";
 

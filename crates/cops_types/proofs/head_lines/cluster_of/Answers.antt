@@ -1,6 +1,6 @@
 use Rattle.std.proofs.Common.{◌≡◌, ◌∷◌, [], ◌&&◌, sym, ◌∙◌}
 use Rattle.std.specs.Prelude.{codes, decimal, nat_le}
-use Rattle.cops_types.specs.HeadLines.{is_between}
+use Rattle.cops_types.specs.HeadLines.{is_between, most_shards}
 use Rattle.cops_types.specs.HeadWords.{cluster_words}
 use Rattle.cops_types.specs.Words.{parts_at, space}
 use Rattle.cops_types.proofs.HeadLemmas.{sizes_fit}
@@ -59,7 +59,7 @@ returns-then-not-are_sizes-clause-none c = λ config is.
     let s2 = same_number c.in_ok-shards.shards config.shards c.in_ok-shards.ensures.small fits.shards e2 in
     let e4 : decimal c.in_ok-restarts.restarts ≡ decimal config.restarts = cc (words, c.in_ok-next_word.ensures, c.in_ok-data_centres.ensures.some, c.in_ok-shards.ensures.some, c.in_ok-trans_time.ensures.some, c.in_ok-restarts.ensures.some) in
     let s4 = same_number c.in_ok-restarts.restarts config.restarts c.in_ok-restarts.ensures.small fits.restarts e4 in
-    not_both c.are_sizes.result c.if-not-are_sizes.true (c.are_sizes.ensures ∙ (λ i. is_between 1 8 (s1 i) && is_between 1 16 (s2 i) && nat_le (s4 i) 15) ∙ sizes_within config is.within)
+    not_both c.are_sizes.result c.if-not-are_sizes.true (c.are_sizes.ensures ∙ (λ i. is_between 1 8 (s1 i) && is_between 1 most_shards (s2 i) && nat_le (s4 i) 15) ∙ sizes_within config is.within)
 
 pub returns-clause-some : goal.returns-clause-some
 returns-clause-some c =
