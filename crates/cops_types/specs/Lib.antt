@@ -25,6 +25,7 @@ pub mod Refusal
 pub mod RunFaults
 pub mod Same
 pub mod Search
+pub mod Seeds
 pub mod Sink
 pub mod Slots
 pub mod Source
