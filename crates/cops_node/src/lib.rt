@@ -15,7 +15,6 @@ mod parts;
 mod puts;
 mod queues;
 mod replies;
-mod seeds;
 #[cfg(test)]
 mod test_nodes;
 #[cfg(test)]

@@ -10,10 +10,10 @@ ghost use Rattle.cops_node.specs.Place.{is_home, is_other_dc, is_other_equivalen
 ghost use Rattle.cops_node.specs.Shape.{place_in};
 
 use crate::parts::{self, Audited, Part};
-use crate::{AuditEntry, NodeCall, NodeId, NodeReply, Place, calls, seeds};
+use crate::{AuditEntry, NodeCall, NodeId, NodeReply, Place, calls};
 use cops_outbox::Outbox;
 use cops_store::Store;
-use cops_types::{Config, Fault, Key, Machine};
+use cops_types::{Config, Fault, Key, Machine, Seeds};
 use std::alloc::{AllocError, Global};
 use std::marker::Model;
 
@@ -53,7 +53,7 @@ impl Node {
     {
         let parts = parts::fresh_parts(alloc, config, id)?;
         let tenants = parts.len();
-        let seeds = seeds::seeds_of(config.tenants.as_slice());
+        let seeds = Seeds::of_tokens(config.tenants.as_slice());
         let store = match Store::seeded(alloc, tenants, seeds) {
             Ok(store) => store,
             Err(_) => return Err(AllocError),

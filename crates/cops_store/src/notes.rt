@@ -5,9 +5,8 @@ ghost use Rattle.cops_store.specs.declared.table.SlotKey.{SlotKey};
 ghost use Rattle.cops_store.specs.Notes.{has_room, IsOneMore};
 ghost use Rattle.cops_store.specs.Tables.{chains_of, hits, is_hit as may_hit, renewed as renewed_note};
 
-use crate::seeds::Seeds;
 use crate::table::{self, Due, SlotKey};
-use cops_types::Dated;
+use cops_types::{Dated, Seeds};
 use indexmap::IndexMap;
 use std::alloc::{AllocError, Global};
 use std::marker::Model;
