@@ -24,7 +24,7 @@ use Rattle.cops_wire.specs.declared.messages.Message.TheVariants.{CreateContext,
 use Rattle.cops_wire.specs.Alone.{AreGiven, AreSpared, CallsAmid, CallsCluster, IsServedAt, IsToldAlone, OthersCall, ReplyAlone, SlotCall, StepAlone, answer_alone, does_alone, further, is_out_of_memory, replied, replies_after, replies_alone, runs_on, stepped, steps_alone, unless_told}
 use Rattle.cops_wire.specs.Requests.{Answers, AnswersSo, Backend, Becomes, DoesNext, EndsAfter, GoesOn, HasShown, Runs, UnlessRefused, backend, reply_to}
 use Rattle.cops_wire.specs.Serving.{Serves}
-use Rattle.cops_wire.proofs.RefusedReplies.{request_refused}
+use Rattle.cops_session.proofs.RefusedRequests.{request_refused}
 
 -- ---- moments
 

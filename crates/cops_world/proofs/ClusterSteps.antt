@@ -34,7 +34,8 @@ use Rattle.cops_world.specs.Actors.{AreDistinct}
 use Rattle.cops_world.specs.Cluster.{SoloCluster, Turn, Actor, OfSession, OfCarrier, find_actor, with_actor, without_actor, call_node, request_does, running_step, session_stepped, carrier_does, carrier_step, carrier_stepped, step_of, actor_step, reply_of_progress}
 use Rattle.cops_world.specs.Events.{is_out_of_memory}
 use Rattle.cops_world.proofs.ActorMoves.{with_actor-same}
-use Rattle.cops_world.proofs.RefusedSteps.{carrier_refused, request_refused}
+use Rattle.cops_session.proofs.RefusedRequests.{request_refused}
+use Rattle.cops_world.proofs.RefusedCarriers.{carrier_refused}
 
 not_spared : (reply : Reply) → IsFalse (is_out_of_memory reply) → reply ≡ Refused OutOfMemory → ⊥
 not_spared reply spared is = true≢false (ap is_out_of_memory (sym is) ∙ spared)
