@@ -1,9 +1,10 @@
 -- A new session has the sizes of its configuration, and what it serves is a conversation.
-use Rattle.std.proofs.Common.{◌≡◌, ℕ, ◌<◌, ◌∙◌, List, [], ◌∷◌, length, arith, ap, sym, subst, get_or}
-use Rattle.std.specs.Prelude.{slice_get, Option, Some, Ok, IsTrue}
+use Rattle.std.proofs.Common.{◌≡◌, ℕ, ◌<◌, ◌∙◌, List, [], ◌∷◌, inl, inr, length, arith, ap, sym, subst, append-nil, get_or}
+use Rattle.std.specs.Prelude.{◌⊎◌, slice_get, Option, Some, Ok, Err, IsTrue}
 use Rattle.std.proofs.lemmas.Option.{slice_get-get_or}
 use Rattle.cops_types.specs.declared.configs.Config.{Config}
 use Rattle.cops_types.specs.declared.configs.Tenant.{Tenant}
+use Rattle.cops_types.specs.declared.faults.Fault.{Fault}
 use Rattle.cops_types.specs.HeadLines.{are_sizes}
 use Rattle.cops_types.specs.TenantConfig.{tenant_config}
 use Rattle.cops_node.specs.Clusters.{shape_of}
@@ -16,11 +17,12 @@ use Rattle.cops_session.specs.Session.{Session, new_session}
 use Rattle.cops_session.specs.SessionStands.{SessionStandsFor}
 use Rattle.cops_wire.specs.declared.messages.Message.{Message}
 use Rattle.cops_wire.specs.declared.serving.Ended.{Ended}
-use Rattle.cops_wire.specs.Conversation.{HasConversed}
+use Rattle.cops_wire.specs.Conversation.{HasConversed, HasConversedInPart, IsGreetedInPart}
 use Rattle.cops_wire.specs.Decoding.{Kept as KeptBytes}
-use Rattle.cops_wire.specs.Greeting.{Greets}
+use Rattle.cops_wire.specs.Greeting.{Greets, GreetsInPart, IsStopped, greeting_reply}
 use Rattle.cops_wire.specs.Requests.{Answers, backend}
-use Rattle.cops_wire.specs.Serving.{HasServed, ServesAll}
+use Rattle.cops_wire.specs.Serving.{HasServed, HasServedInPart, ServesAll, ServesInPart}
+use Rattle.cops_wire.specs.Spelling.{spelling}
 use Rattle.cops_wire.proofs.Conversations.{few_restarts}
 
 pub there_is : (tenants : List Tenant) (slot : ℕ) → slot < length tenants → (tenant : Tenant) × (slice_get tenants slot ≡ Some tenant)
@@ -63,3 +65,49 @@ conversed Calls Gives config remaining greeted_remaining new_remaining contents 
       serves = subst (λ n. ServesAll (Answers Calls Gives (tenant_config config tenant) n) greets.came.input (hello ∷ []) greeted_remaining new_remaining greeted_contents new_contents
           (backend (new_session dc 1) nodes moments) (backend served.0 new_nodes new_moments) ended) slot_is served.2;
     }
+
+-- ---- where something failed
+
+-- why a greeting was refused or stopped, and what of its answer was written
+pub greeted_in_part : (tenants : List Tenant) (dcs : ℕ) (remaining new_remaining contents new_contents : Option (List ℕ)) (kept : KeptBytes) (waiting : List Message) (fault : Fault) (same read write : Type 0)
+    → (same → new_contents ≡ contents)
+    → (Greets tenants dcs remaining new_remaining contents new_contents kept waiting (Err fault) ⊎ IsStopped fault same (same × read) (write × GreetsInPart tenants dcs remaining new_remaining contents new_contents kept))
+    → IsGreetedInPart tenants dcs remaining contents new_contents
+greeted_in_part tenants dcs remaining new_remaining contents new_contents kept waiting fault same read write is (inl greets) =
+    inr (new_remaining, kept, record {
+      messages = greets.messages;
+      came = greets.came;
+      written = ([], record {
+        written = spelling (greeting_reply (Err fault));
+        whole = ap (λ a. spelling (greeting_reply a)) (sym greets.answer_is) ∙ sym (append-nil (spelling (greeting_reply (Err fault))));
+        appended = greets.written;
+      });
+    })
+greeted_in_part tenants dcs remaining new_remaining contents new_contents kept waiting fault same read write is (inr (inl stopped)) = inl (is stopped.1)
+greeted_in_part tenants dcs remaining new_remaining contents new_contents kept waiting fault same read write is (inr (inr (inl stopped))) = inl (is stopped.1.0)
+greeted_in_part tenants dcs remaining new_remaining contents new_contents kept waiting fault same read write is (inr (inr (inr stopped))) = inr (new_remaining, kept, stopped.1.1)
+
+pub conversed_in_part : {N M : Type 0} (Calls : N → NodeId → ℕ → ℕ → NodeCall → NodeReply → N → Type 0) (Gives : M → ℕ → M → Type 0) (config : Config) (remaining greeted_remaining contents greeted_contents new_contents : Option (List ℕ))
+    (nodes new_nodes : N) (moments new_moments : M) (slot dc : ℕ) (tenant : Tenant) (kept : KeptBytes) (waiting : List Message) (hello : Message) (session new_session_kept : Kept)
+    → IsTrue (are_sizes config) → slice_get config.tenants slot ≡ Some tenant → (greets : Greets config.tenants config.data_centres remaining greeted_remaining contents greeted_contents kept waiting (Ok (slot, dc)))
+    → greets.messages ≡ hello ∷ waiting → SessionStandsFor (tenant_config config tenant) session (new_session dc 1) → session.setting.slot ≡ slot
+    → HasServedInPart Calls Gives greets.came.input (hello ∷ []) greeted_remaining greeted_contents new_contents (backend session nodes moments) (backend new_session_kept new_nodes new_moments)
+    → HasConversedInPart Calls Gives config remaining contents new_contents nodes new_nodes moments new_moments
+conversed_in_part Calls Gives config remaining greeted_remaining contents greeted_contents new_contents nodes new_nodes moments new_moments slot dc tenant kept waiting hello session new_session_kept sizes is greets first stands slot_is h =
+    let served = h (tenant_config config tenant) (new_session dc 1) (few_restarts config tenant sizes) stands in
+    inr (record {
+      slot = slot;
+      dc = dc;
+      tenant = tenant;
+      tenant_is = is;
+      greeted_remaining = greeted_remaining;
+      greeted_contents = greeted_contents;
+      kept = kept;
+      waiting = waiting;
+      greets = greets;
+      hello = hello;
+      first = first;
+      after = served.0;
+      serves = subst (λ n. ServesInPart (Answers Calls Gives (tenant_config config tenant) n) greets.came.input (hello ∷ []) greeted_remaining greeted_contents new_contents
+          (backend (new_session dc 1) nodes moments) (backend served.0 new_nodes new_moments)) slot_is served.2;
+    })

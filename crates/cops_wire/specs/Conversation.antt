@@ -1,5 +1,5 @@
 -- A whole connection: from the bytes that a client sends to those that it receives.
-use Rattle.std.specs.Prelude.{◌≡◌, ℕ, Bool, true, false, ◌&&◌, List, [], ◌∷◌, ◌++◌, slice_get, Option, Some, Ok}
+use Rattle.std.specs.Prelude.{◌≡◌, ◌⊎◌, ℕ, Bool, true, false, ◌&&◌, List, [], ◌∷◌, ◌++◌, slice_get, Option, Some, Ok}
 use Rattle.std.specs.List.{flat_map}
 use Rattle.cops_types.specs.declared.configs.Config.{Config}
 use Rattle.cops_types.specs.declared.configs.Tenant.{Tenant}
@@ -15,9 +15,9 @@ use Rattle.cops_wire.specs.declared.serving.Ended.{Ended}
 use Rattle.cops_wire.specs.declared.serving.Ended.TheVariants.{Clean, Torn}
 use Rattle.cops_wire.specs.Alone.{Alone, AreGiven, AreSpared, replies_alone}
 use Rattle.cops_wire.specs.Decoding.{Kept}
-use Rattle.cops_wire.specs.Greeting.{Greets, greeted}
+use Rattle.cops_wire.specs.Greeting.{Greets, GreetsInPart, greeted}
 use Rattle.cops_wire.specs.Requests.{Answers, backend}
-use Rattle.cops_wire.specs.Serving.{ServesAll, is_request, last_reply}
+use Rattle.cops_wire.specs.Serving.{ServesAll, ServesInPart, is_request, last_reply}
 use Rattle.cops_wire.specs.Spelling.{spelling}
 use Rattle.cops_wire.specs.Streams.{Split, split_of}
 
@@ -72,6 +72,37 @@ pub record HasConversed {N M : Type 0} (Calls : N → NodeId → ℕ → ℕ →
   pub after : Session
   pub serves : ServesAll (Answers Calls Gives (tenant_config config tenant) slot) greets.came.input (hello ∷ []) greeted_remaining new_remaining greeted_contents new_contents
       (backend (new_session dc 1) nodes moments) (backend after new_nodes new_moments) ended
+
+-- nothing was written, or a front of the answer to the first message
+abbrev pub IsGreetedInPart : List Tenant → ℕ → Option (List ℕ) → Option (List ℕ) → Option (List ℕ) → Type 0
+IsGreetedInPart tenants dcs remaining contents new_contents =
+    (new_contents ≡ contents) ⊎ ((new_remaining : Option (List ℕ)) × (kept : Kept) × GreetsInPart tenants dcs remaining new_remaining contents new_contents kept)
+
+-- A client was greeted as the tenant of a slot, and then served with a new session of this tenant: a front of the requests was answered,
+-- and a front of the replies was written.
+pub record ConversesInPart {N M : Type 0} (Calls : N → NodeId → ℕ → ℕ → NodeCall → NodeReply → N → Type 0) (Gives : M → ℕ → M → Type 0) (config : Config)
+    (remaining contents new_contents : Option (List ℕ)) (nodes new_nodes : N) (moments new_moments : M) : Type 0 where
+  pub slot : ℕ
+  pub dc : ℕ
+  pub tenant : Tenant
+  pub tenant_is : slice_get config.tenants slot ≡ Some tenant
+  pub greeted_remaining : Option (List ℕ)
+  pub greeted_contents : Option (List ℕ)
+  pub kept : Kept
+  pub waiting : List Message
+  pub greets : Greets config.tenants config.data_centres remaining greeted_remaining contents greeted_contents kept waiting (Ok (slot, dc))
+  pub hello : Message
+  pub first : greets.messages ≡ hello ∷ waiting
+  pub after : Session
+  pub serves : ServesInPart (Answers Calls Gives (tenant_config config tenant) slot) greets.came.input (hello ∷ []) greeted_remaining greeted_contents new_contents
+      (backend (new_session dc 1) nodes moments) (backend after new_nodes new_moments)
+
+-- The conversation ended in its greeting, and no node was called; or behind it.
+abbrev pub HasConversedInPart : {N M : Type 0} → (N → NodeId → ℕ → ℕ → NodeCall → NodeReply → N → Type 0) → (M → ℕ → M → Type 0) → Config
+    → Option (List ℕ) → Option (List ℕ) → Option (List ℕ) → N → N → M → M → Type 0
+HasConversedInPart Calls Gives config remaining contents new_contents nodes new_nodes moments new_moments =
+    (IsGreetedInPart config.tenants config.data_centres remaining contents new_contents × (new_nodes ≡ nodes) × (new_moments ≡ moments))
+    ⊎ ConversesInPart Calls Gives config remaining contents new_contents nodes new_nodes moments new_moments
 
 -- A client sent these bytes and received those at the nodes of a cluster, and no reply says that memory was refused.
 pub record IsConversation {M : Type 0} (Calls : Cluster → NodeId → ℕ → ℕ → NodeCall → NodeReply → Cluster → Type 0) (Gives : M → ℕ → M → Type 0) (config : Config)

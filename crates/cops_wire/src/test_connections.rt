@@ -155,6 +155,22 @@ pub(crate) fn serve(
     exchange(rt, alloc, client, Vec::new(alloc))
 }
 
+/// Holds a whole conversation with a client, and gives how it ended and the writer.
+pub(crate) fn converse<R: Read + Drop, W: Write>(
+    rt: &impl Abort,
+    alloc: Global,
+    reader: R,
+    writer: W,
+) -> (Result<Ended, Fault>, W) {
+    let config = one_node(rt, alloc);
+    let mut nodes = Cluster0::new(alloc, &config).expect(rt, "memory");
+    let mut moments = Still { moment: 0 };
+    let mut connection = Connection::new(alloc, Source::new(reader), Sink::new(writer));
+    let ended = connection.converse(&config, &mut nodes, &mut moments);
+    let (_, sink) = connection.into_inner();
+    (ended, sink.into_inner())
+}
+
 /// A connection on which the client sends these bytes is answered by those, and ends so.
 pub(crate) fn assert_served(
     rt: &impl Abort,
