@@ -25,7 +25,8 @@ use Rattle.cops_node.specs.Place.{place_of, number_of, fits}
 use Rattle.cops_node.specs.Shape.{Shape, place_in}
 use Rattle.cops_node.specs.SoloNode.{SoloNode, new_node}
 use Rattle.cops_node.specs.Step.{Turn, node_step}
-use Rattle.cops_node.proofs.Slots.{AllFit-push}
+use Rattle.cops_node.proofs.Slots.{AuditFits-noted}
+use Rattle.cops_node.proofs.Fresh.{no_calls_fit, replicate_read}
 
 pub all_set : {A : Type 0} (P : A → Type 0) (xs : List A) (i : ℕ) (x y : A) → AllByRecursion P xs → (P x → P y) → x ≡ get_or xs i x → AllByRecursion P (set xs i y)
 all_set P [] i x y h keep is = tt
@@ -47,8 +48,8 @@ pub fits_next : (slot moment : ℕ) (call : NodeCall) (reply : NodeReply) (node 
 fits_next slot moment call reply node next fit home (inl same) before = subst AuditFits (sym same.1) before
 fits_next slot moment call reply node next fit home (inr more) before =
     let place : Place = place_in node.home.shape node.home.id in
-    subst (λ (h : Home). AllFit (place_in h.shape h.id) next.audit) (sym home)
-    (subst (AllFit place) (sym more) (AllFit-push place node.audit (record { slot = slot; entry = record { moment = moment; call = call; reply = reply } }) before fit))
+    subst (λ (h : Home). AllByRecursion (AllFit (place_in h.shape h.id)) next.audit) (sym home)
+    (subst (AllByRecursion (AllFit place)) (sym more) (AuditFits-noted place slot node.audit (record { moment = moment; call = call; reply = reply }) before fit))
 
 -- ---- a call
 
@@ -188,7 +189,7 @@ HoldsNodes-new config nodes numbers is = record {
   where
     none : (numbers : List ℕ) → AllByRecursion AuditFits (map (new_shared config) numbers)
     none [] = tt
-    none (n ∷ numbers) = (tt, none numbers)
+    none (n ∷ numbers) = (no_calls_fit (place_in (shape_of config) (id_of config.shards n)) (length config.tenants), none numbers)
 
 -- each tenant of the configuration has his slot
 pub tenant_new : (config : Config) (slot : ℕ) (tenant : Tenant) → slice_get config.tenants slot ≡ Some tenant → HasTenant (tenant_config config tenant) slot (new_nodes config)
@@ -205,4 +206,7 @@ solos_new config slot tenant = each 0 (config.data_centres * config.shards)
   where
     each : (at n : ℕ) → map (λ (s : Shared). solo_of slot (place_of (tenant_config config tenant) s.home.id) s) (map (new_shared config) (range_with_len at n)) ≡ replicate n (new_node config.data_centres)
     each at zero = refl
-    each at (suc n) = ap (λ ns. new_node config.data_centres ∷ ns) (each (at + 1) n)
+    each at (suc n) =
+        let none = replicate_read (length config.tenants) slot [] in
+        let rest = each (at + 1) n in
+        (λ i. left_by (place_of (tenant_config config tenant) (id_of config.shards at)) (none i) ∷ rest i)

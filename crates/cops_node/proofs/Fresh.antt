@@ -3,6 +3,7 @@ use Rattle.std.proofs.Common.{◌≡◌, ℕ, zero, suc, ◌*◌, ◌/◌, ◌%�
 use Rattle.std.specs.Prelude.{replicate, drop, nat_le, ◌&&◌, ◌==◌, if◌then◌else◌}
 use Rattle.std.specs.List.{AllClonesOf, AllByRecursion, list_all}
 use Rattle.std.proofs.lemmas.Bool.Decides.{nat_tests}
+use Rattle.std.proofs.lemmas.List.{length-map}
 use Rattle.std.proofs.Math.Nat.{mul-le-mul_left, mul-le-mul_right}
 use Rattle.cops_types.specs.declared.configs.Config.{Config}
 use Rattle.cops_types.specs.declared.configs.Tenant.{Tenant}
@@ -17,8 +18,10 @@ use Rattle.cops_outbox.specs.Queues.{Queues, queue_of}
 use Rattle.cops_node.specs.declared.NodeId.{NodeId}
 use Rattle.cops_node.specs.declared.Place.{Place}
 use Rattle.cops_node.specs.declared.parts.Part.{Part}
-use Rattle.cops_node.specs.Parts.{IsFresh, IsPart, IsNode, mark_in}
+use Rattle.cops_node.specs.Parts.{AllFit, IsFresh, IsPart, IsNode, StandsAt, home_of, left_by, mark_in, no_calls, trails_of}
 use Rattle.cops_node.specs.Place.{place_of}
+use Rattle.cops_node.specs.Shape.{place_in}
+use Rattle.cops_node.proofs.Slots.{view_of}
 
 -- a list of copies
 pub copies_are : (clones : Timestamp → Timestamp → Type 0) (x : Timestamp) (ys : List Timestamp) → ((y : Timestamp) → clones x y → y ≡ x) → AllClonesOf clones x ys → ys ≡ replicate (length ys) x
@@ -31,7 +34,24 @@ copies_are clones x (y ∷ ys) f h = let here : y ≡ x = one h.0 in let rest = 
 
 -- ---- a new node
 
-replicate_read : {A : Type 0} (n i : ℕ) (x : A) → get_or (replicate n x) i x ≡ x
+-- no slot has made a call
+fresh_trails : (parts : List Part) → AllByRecursion IsFresh parts → trails_of parts ≡ no_calls (length parts)
+fresh_trails [] fresh = refl
+fresh_trails (p ∷ parts) fresh = let first = fresh.0.trail in let rest = fresh_trails parts fresh.1 in (λ i. first i ∷ rest i)
+
+pub no_calls_fit : (place : Place) (slots : ℕ) → AllByRecursion (AllFit place) (no_calls slots)
+no_calls_fit place zero = tt
+no_calls_fit place (suc slots) = (tt, no_calls_fit place slots)
+
+-- what contracts see of a new node
+pub new_view : (config : Config) (id : NodeId) (parts : List Part) → AllByRecursion IsFresh parts → map (λ (p : Part). p.place) parts ≡ map (λ (t : Tenant). place_of (tenant_config config t) id) config.tenants
+    → view_of id config.data_centres config.shards parts ≡ record { home = home_of config id; audit = no_calls (length config.tenants) }
+new_view config id parts fresh places =
+    let long : length parts ≡ length config.tenants = sym (length-map parts (λ (p : Part). p.place)) ∙ ap length places ∙ length-map config.tenants (λ (t : Tenant). place_of (tenant_config config t) id) in
+    let trails = fresh_trails parts fresh ∙ ap no_calls long in
+    λ i. record { home = record { id = id; shape = record { data_centres = config.data_centres; shards = config.shards; slots = long i }; places = places i }; audit = trails i }
+
+pub replicate_read : {A : Type 0} (n i : ℕ) (x : A) → get_or (replicate n x) i x ≡ x
 replicate_read zero i x = refl
 replicate_read (suc n) zero x = refl
 replicate_read (suc n) (suc i) x = replicate_read n i x
@@ -83,49 +103,50 @@ nothing_waits (suc data_centres) slots (suc dc) slot = nothing_waits data_centre
 pub IsNode-new : (config : Config) (id : NodeId) (parts : List Part) (store : Contents) (outbox : Queues) → id.dc < config.data_centres → id.shard < config.shards → config.data_centres * config.shards ≤ NODES
     → AllByRecursion (λ (t : Tenant). t.first_clock ≤ last_clock) config.tenants → AllByRecursion IsFresh parts → map (λ (p : Part). p.place) parts ≡ map (λ (t : Tenant). place_of (tenant_config config t) id) config.tenants
     → store.tenants ≡ length parts → outbox ≡ record { own = id.dc; tenants = length parts; queues = replicate config.data_centres (replicate (length parts) []) }
-    → ((slot : ℕ) → StandsFor (rows_of slot store) []) → IsNode id config.data_centres config.shards parts store outbox []
+    → ((slot : ℕ) → StandsFor (rows_of slot store) []) → IsNode id config.data_centres config.shards parts store outbox
 IsNode-new config id parts store outbox dc shard numbers clocks fresh places stored outbox_is empty = record {
   shard_exists = shard;
   each = λ slot part lt is. by slot part lt (fresh_at parts slot part fresh lt is) (place_at config id parts config.tenants slot part places clocks lt is);
-  fitting = tt;
+  fitting = subst (AllByRecursion (AllFit (place_in (record { data_centres = config.data_centres; shards = config.shards; slots = length parts }) id))) (sym (fresh_trails parts fresh)) (no_calls_fit (place_in (record { data_centres = config.data_centres; shards = config.shards; slots = length parts }) id) (length parts));
 }
   where
-    by : (slot : ℕ) (part : Part) → slot < length parts → IsFresh part → PlaceOfSome config id part → IsPart id config.data_centres config.shards slot part store outbox []
+    by : (slot : ℕ) (part : Part) → slot < length parts → IsFresh part → PlaceOfSome config id part → IsPart id config.data_centres config.shards slot part store outbox
     by slot part lt h some =
         let is : part.place ≡ place_of (tenant_config config some.0) id = some.1 in
         let back = sym is in
         let clock : part.place.first_clock ≤ last_clock = subst (λ (q : Place). q.first_clock ≤ last_clock) back some.2 in
         let sizes : part.place.data_centres ≡ config.data_centres = ap (λ (q : Place). q.data_centres) is in
+        let none : [] ≡ part.trail.calls = sym h.trail in
+        let stands : StandsAt slot part.place part.counters store outbox (left_by part.place []) = record {
+          place_is = record {
+            dc_exists = subst (λ (q : Place). q.id.dc < q.data_centres) back dc;
+            shard_exists = subst (λ (q : Place). q.id.shard < q.shards) back shard;
+            numbers_fit = subst (λ (q : Place). q.data_centres * q.shards ≤ NODES) back numbers;
+            clock_fits = clock;
+          };
+          stored = subst (λ n. slot < n) (sym stored) lt;
+          queued = subst (λ (o : Queues). slot < o.tenants) (sym outbox_is) lt;
+          own_is = ap (λ (o : Queues). o.own) outbox_is ∙ subst (λ (q : Place). id.dc ≡ q.id.dc) back refl;
+          all_queues = ap (λ (o : Queues). length o.queues) outbox_is ∙ length_replicate config.data_centres (replicate (length parts) []) ∙ sym sizes;
+          rows = empty slot;
+          queues = λ dc other. ap (queue_of slot dc) outbox_is ∙ nothing_waits config.data_centres (length parts) dc slot ∙ sym (drop_nothing (get_or (replicate part.place.data_centres 0) dc 0));
+          all_acked = length_replicate part.place.data_centres 0;
+          acked = λ dc. subst (λ n. n ≤ 0) (sym (replicate_read part.place.data_centres dc 0)) (omega arith);
+          clock_is = h.clock_is;
+          clock_fits = subst (λ n. n ≤ last_clock) (sym h.clock_is) clock;
+          marks = record {
+            all = ap length h.marks ∙ length_replicate part.place.data_centres no_version;
+            each = λ node. ap (λ (ms : List Timestamp). mark_in part.place ms node) h.marks ∙ no_mark part.place part.place.data_centres node;
+          };
+          late = tt;
+        } in
         record {
           id_is = ap (λ (q : Place). q.id) is;
           data_centres_are = sizes;
           shards_are = ap (λ (q : Place). q.shards) is;
-          stands = record {
-            place_is = record {
-              dc_exists = subst (λ (q : Place). q.id.dc < q.data_centres) back dc;
-              shard_exists = subst (λ (q : Place). q.id.shard < q.shards) back shard;
-              numbers_fit = subst (λ (q : Place). q.data_centres * q.shards ≤ NODES) back numbers;
-              clock_fits = clock;
-            };
-            stored = subst (λ n. slot < n) (sym stored) lt;
-            queued = subst (λ (o : Queues). slot < o.tenants) (sym outbox_is) lt;
-            own_is = ap (λ (o : Queues). o.own) outbox_is ∙ subst (λ (q : Place). id.dc ≡ q.id.dc) back refl;
-            all_queues = ap (λ (o : Queues). length o.queues) outbox_is ∙ length_replicate config.data_centres (replicate (length parts) []) ∙ sym sizes;
-            rows = empty slot;
-            queues = λ dc other. ap (queue_of slot dc) outbox_is ∙ nothing_waits config.data_centres (length parts) dc slot ∙ sym (drop_nothing (get_or (replicate part.place.data_centres 0) dc 0));
-            all_acked = length_replicate part.place.data_centres 0;
-            acked = λ dc. subst (λ n. n ≤ 0) (sym (replicate_read part.place.data_centres dc 0)) (omega arith);
-            clock_is = h.clock_is;
-            clock_fits = subst (λ n. n ≤ last_clock) (sym h.clock_is) clock;
-            marks = record {
-              all = ap length h.marks ∙ length_replicate part.place.data_centres no_version;
-              each = λ node. ap (λ (ms : List Timestamp). mark_in part.place ms node) h.marks ∙ no_mark part.place part.place.data_centres node;
-            };
-            late = tt;
-          };
-          moment = sym h.moment;
-          trail_is = refl;
-          places = h.trail;
+          stands = subst (λ t. StandsAt slot part.place part.counters store outbox (left_by part.place t)) none stands;
+          moment = subst (λ t. (left_by part.place t).moment ≡ part.moment) none (sym h.moment);
+          trail_is = subst (λ t. (left_by part.place t).trail ≡ t) none refl;
         }
 
 -- what the test on first clocks says

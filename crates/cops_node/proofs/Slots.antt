@@ -1,10 +1,12 @@
 -- What one call of a slot does to what a node keeps of all slots.
-use Rattle.std.proofs.Common.{◌≡◌, ◌≢◌, ℕ, zero, suc, ◌+◌, ◌<◌, ◌≤◌, Bool, true, false, cond, not, List, [], ◌∷◌, ◌++◌, length, map, filter, refl, sym, ap, ◌∙◌, subst, arith, true≢false, nat_eq, nat_lt, max, get_or, set, append-nil}
-use Rattle.std.specs.Prelude.{if◌then◌else◌, ◌==◌, ◌&&◌, ◌-◌, ◌/◌, ◌%◌, IsTrue, slice_get, Option, Some, None}
+use Rattle.std.proofs.Common.{◌≡◌, ◌≢◌, ℕ, zero, suc, ◌<◌, Bool, true, false, cond, not, List, [], ◌∷◌, ◌++◌, length, map, refl, sym, ap, ◌∙◌, subst, arith, true≢false, nat_eq, nat_lt, max, get_or, set}
+use Rattle.std.specs.Prelude.{if◌then◌else◌, ◌==◌, ◌&&◌, ◌/◌, ◌%◌, IsTrue, slice_get, Option, Some, None}
 use Rattle.std.proofs.lemmas.Bool.Decides.{Decides-eqb}
-use Rattle.std.proofs.lemmas.List.{get_or-set_same, get_or-set_other, get_or_default, map-append}
+use Rattle.std.specs.List.{AllByRecursion}
+use Rattle.std.proofs.lemmas.List.{get_or-map, get_or-set_same, get_or-set_other, get_or_default, map-append, map-set}
 use Rattle.std.proofs.lemmas.Option.{get_or_from_slice_get}
 use Rattle.std.proofs.Math.ListN.{length-set}
+use Rattle.std.proofs.Math.Seq.{map-set_same}
 use Rattle.cops_types.specs.declared.faults.Fault.{Fault}
 use Rattle.cops_types.specs.declared.faults.Fault.TheVariants.{AuditFull}
 use Rattle.cops_types.specs.declared.pairs.Pair.{Pair}
@@ -21,10 +23,9 @@ use Rattle.cops_node.specs.declared.NodeId.{NodeId}
 use Rattle.cops_node.specs.declared.NodeReply.{NodeReply}
 use Rattle.cops_node.specs.declared.NodeReply.TheVariants.{Refused, Stored, Committed}
 use Rattle.cops_node.specs.declared.Place.{Place}
-use Rattle.cops_node.specs.declared.parts.Audited.{Audited}
 use Rattle.cops_node.specs.declared.parts.Counters.{Counters}
 use Rattle.cops_node.specs.declared.parts.Part.{Part}
-use Rattle.cops_node.specs.Parts.{AllFit, trail_of, left_by, places_from, StandsAt, HasSolo, OthersStay, IsDone, IsPart, IsNode, Shared}
+use Rattle.cops_node.specs.Parts.{AllFit, trail_of, trails_of, noted, left_by, StandsAt, HasSolo, OthersStay, IsDone, IsPart, IsNode, Shared}
 use Rattle.cops_node.specs.Place.{fits}
 use Rattle.cops_node.specs.Run.{node_after, calls_of}
 use Rattle.cops_node.specs.Shape.{place_in}
@@ -35,71 +36,22 @@ use Rattle.cops_node.proofs.Effects.{StandsAt-raised}
 
 -- ---- the audit
 
-differ_test : (a b : ℕ) → a ≢ b → nat_eq a b ≡ false
-differ_test a b h = by (nat_eq a b) refl
-  where
-    by : (t : Bool) → nat_eq a b ≡ t → t ≡ false
-    by true e = absurd (h ((Decides-eqb a b).0 e))
-    by false e = refl
+-- the trail of the slot that makes a call, and those of the others
+pub trail_own : (slot : ℕ) (audit : List (List AuditEntry)) (entry : AuditEntry) → slot < length audit → trail_of slot (noted slot entry audit) ≡ trail_of slot audit ++ entry ∷ []
+trail_own slot audit entry lt = get_or-set_same audit slot (trail_of slot audit ++ entry ∷ []) [] lt
 
-trail_of-push : (slot : ℕ) (audit : List Audited) (a : Audited) → trail_of slot (audit ++ a ∷ []) ≡ trail_of slot audit ++ (if nat_eq a.slot slot then a.entry ∷ [] else [])
-trail_of-push slot [] a = by (nat_eq a.slot slot)
-  where
-    by : (b : Bool) → map (λ (a : Audited). a.entry) (cond b (a ∷ []) []) ≡ (if b then a.entry ∷ [] else [])
-    by true = refl
-    by false = refl
-trail_of-push slot (x ∷ audit) a = by (nat_eq x.slot slot) (trail_of-push slot audit a)
-  where
-    by : (b : Bool) → trail_of slot (audit ++ a ∷ []) ≡ trail_of slot audit ++ (if nat_eq a.slot slot then a.entry ∷ [] else [])
-        → map (λ (a : Audited). a.entry) (cond b (x ∷ filter (λ a. nat_eq a.slot slot) (audit ++ a ∷ [])) (filter (λ a. nat_eq a.slot slot) (audit ++ a ∷ [])))
-        ≡ map (λ (a : Audited). a.entry) (cond b (x ∷ filter (λ a. nat_eq a.slot slot) audit) (filter (λ a. nat_eq a.slot slot) audit)) ++ (if nat_eq a.slot slot then a.entry ∷ [] else [])
-    by true k = ap (λ es. x.entry ∷ es) k
-    by false k = k
-
-pub trail_own : (slot : ℕ) (audit : List Audited) (a : Audited) → a.slot ≡ slot → trail_of slot (audit ++ a ∷ []) ≡ trail_of slot audit ++ a.entry ∷ []
-trail_own slot audit a own = trail_of-push slot audit a ∙ ap (λ b. trail_of slot audit ++ (if b then a.entry ∷ [] else [])) ((Decides-eqb a.slot slot).1 own)
-
-pub trail_other : (slot : ℕ) (audit : List Audited) (a : Audited) → a.slot ≢ slot → trail_of slot (audit ++ a ∷ []) ≡ trail_of slot audit
-trail_other slot audit a other = trail_of-push slot audit a ∙ ap (λ b. trail_of slot audit ++ (if b then a.entry ∷ [] else [])) (differ_test a.slot slot other) ∙ append-nil (trail_of slot audit)
-
--- where the calls stand
-places_from-push : (at slot : ℕ) (audit : List Audited) (a : Audited) → places_from at slot (audit ++ a ∷ []) ≡ places_from at slot audit ++ (if nat_eq a.slot slot then (at + length audit) ∷ [] else [])
-places_from-push at slot [] a = by (nat_eq a.slot slot)
-  where
-    by : (b : Bool) → (if b then at ∷ [] else []) ≡ (if b then (at + 0) ∷ [] else [])
-    by true = let e : at ≡ at + 0 = omega arith in ap (λ n. n ∷ []) e
-    by false = refl
-places_from-push at slot (x ∷ audit) a = by (nat_eq x.slot slot) (places_from-push (at + 1) slot audit a ∙ ap (λ n. places_from (at + 1) slot audit ++ (if nat_eq a.slot slot then n ∷ [] else [])) shift)
-  where
-    shift : at + 1 + length audit ≡ at + suc (length audit)
-    shift = omega arith
-
-    by : (b : Bool) → places_from (at + 1) slot (audit ++ a ∷ []) ≡ places_from (at + 1) slot audit ++ (if nat_eq a.slot slot then (at + suc (length audit)) ∷ [] else [])
-        → (if b then at ∷ places_from (at + 1) slot (audit ++ a ∷ []) else places_from (at + 1) slot (audit ++ a ∷ [])) ≡ (if b then at ∷ places_from (at + 1) slot audit else places_from (at + 1) slot audit) ++ (if nat_eq a.slot slot then (at + suc (length audit)) ∷ [] else [])
-    by true k = ap (λ ns. at ∷ ns) k
-    by false k = k
-
-pub places_own : (slot : ℕ) (audit : List Audited) (a : Audited) → a.slot ≡ slot → places_from 0 slot (audit ++ a ∷ []) ≡ places_from 0 slot audit ++ length audit ∷ []
-places_own slot audit a own =
-    let e : 0 + length audit ≡ length audit = omega arith in
-    places_from-push 0 slot audit a ∙ ap (λ b. places_from 0 slot audit ++ (if b then (0 + length audit) ∷ [] else [])) ((Decides-eqb a.slot slot).1 own) ∙ ap (λ n. places_from 0 slot audit ++ n ∷ []) e
-
-pub places_other : (slot : ℕ) (audit : List Audited) (a : Audited) → a.slot ≢ slot → places_from 0 slot (audit ++ a ∷ []) ≡ places_from 0 slot audit
-places_other slot audit a other = places_from-push 0 slot audit a ∙ ap (λ b. places_from 0 slot audit ++ (if b then (0 + length audit) ∷ [] else [])) (differ_test a.slot slot other) ∙ append-nil (places_from 0 slot audit)
-
-pub length_places : (at slot : ℕ) (audit : List Audited) → length (places_from at slot audit) ≡ length (trail_of slot audit)
-length_places at slot [] = refl
-length_places at slot (x ∷ audit) = by (nat_eq x.slot slot) (length_places (at + 1) slot audit)
-  where
-    by : (b : Bool) → length (places_from (at + 1) slot audit) ≡ length (trail_of slot audit)
-        → length (if b then at ∷ places_from (at + 1) slot audit else places_from (at + 1) slot audit) ≡ length (map (λ (a : Audited). a.entry) (cond b (x ∷ filter (λ a. nat_eq a.slot slot) audit) (filter (λ a. nat_eq a.slot slot) audit)))
-    by true k = ap suc k
-    by false k = k
+pub trail_other : (slot other : ℕ) (audit : List (List AuditEntry)) (entry : AuditEntry) → other ≢ slot → trail_of other (noted slot entry audit) ≡ trail_of other audit
+trail_other slot other audit entry differ = get_or-set_other audit slot other (trail_of slot audit ++ entry ∷ []) [] differ
 
 -- one more call that fits
-pub AllFit-push : (place : Place) (audit : List Audited) (a : Audited) → AllFit place audit → IsTrue (fits place a.entry.call) → AllFit place (audit ++ a ∷ [])
-AllFit-push place [] a all fit = (fit, tt)
-AllFit-push place (x ∷ audit) a all fit = (all.0, AllFit-push place audit a all.1 fit)
+AllFit-push : (place : Place) (trail : List AuditEntry) (e : AuditEntry) → AllFit place trail → IsTrue (fits place e.call) → AllFit place (trail ++ e ∷ [])
+AllFit-push place [] e all fit = (fit, tt)
+AllFit-push place (x ∷ trail) e all fit = (all.0, AllFit-push place trail e all.1 fit)
+
+pub AuditFits-noted : (place : Place) (slot : ℕ) (audit : List (List AuditEntry)) (e : AuditEntry) → AllByRecursion (AllFit place) audit → IsTrue (fits place e.call) → AllByRecursion (AllFit place) (noted slot e audit)
+AuditFits-noted place slot [] e all fit = tt
+AuditFits-noted place zero (trail ∷ audit) e all fit = (AllFit-push place trail e all.0 fit, all.1)
+AuditFits-noted place (suc slot) (trail ∷ audit) e all fit = (all.0, AuditFits-noted place slot audit e all.1 fit)
 
 -- one more call in the audit is one more turn
 left_by-push : (place : Place) (trail : List AuditEntry) (e : AuditEntry) → left_by place (trail ++ e ∷ []) ≡ (node_step place e.moment e.call (left_by place trail)).after
@@ -192,41 +144,50 @@ places_set [] slot old new read same = refl
 places_set (p ∷ parts) zero old new read same = ap (λ q. q ∷ map (λ (p : Part). p.place) parts) (same ∙ ap (λ (x : Part). x.place) read)
 places_set (p ∷ parts) (suc slot) old new read same = ap (λ qs. p.place ∷ qs) (places_set parts slot old new read same)
 
+-- the trails of the parts
+pub trail_read : (parts : List Part) (slot : ℕ) (part : Part) → slot < length parts → part ≡ get_or parts slot part → trail_of slot (trails_of parts) ≡ part.trail.calls
+trail_read parts slot part lt read = get_or-map (λ (p : Part). p.trail.calls) parts slot part [] lt ∙ ap (λ (p : Part). p.trail.calls) (sym read)
+
+trails_kept : (parts : List Part) (slot : ℕ) (old new : Part) → old ≡ get_or parts slot old → new.trail.calls ≡ old.trail.calls → trails_of (set parts slot new) ≡ trails_of parts
+trails_kept parts slot old new read same = map-set_same (λ (p : Part). p.trail.calls) parts slot new old (same ∙ ap (λ (p : Part). p.trail.calls) read)
+
+pub trails_noted : (parts : List Part) (slot : ℕ) (old new : Part) (entry : AuditEntry) → slot < length parts → old ≡ get_or parts slot old → new.trail.calls ≡ old.trail.calls ++ entry ∷ [] → trails_of (set parts slot new) ≡ noted slot entry (trails_of parts)
+trails_noted parts slot old new entry lt read more =
+    map-set (λ (p : Part). p.trail.calls) parts slot new
+    ∙ ap (set (trails_of parts) slot) (more ∙ ap (λ t. t ++ entry ∷ []) (sym (trail_read parts slot old lt read)))
+
 -- one part is another, and the other slots stay
-IsNode-set : (id : NodeId) (dcs shards : ℕ) (parts : List Part) (slot : ℕ) (new : Part) (store store' : Contents) (outbox outbox' : Queues) (audit audit' : List Audited) → IsNode id dcs shards parts store outbox audit → slot < length parts
-    → IsPart id dcs shards slot new store' outbox' audit' → OthersStay slot store outbox store' outbox'
-    → ((other : ℕ) → other ≢ slot → trail_of other audit' ≡ trail_of other audit) → ((other : ℕ) → other ≢ slot → places_from 0 other audit' ≡ places_from 0 other audit)
-    → AllFit (place_in (record { data_centres = dcs; shards = shards; slots = length parts }) id) audit'
-    → IsNode id dcs shards (set parts slot new) store' outbox' audit'
-IsNode-set id dcs shards parts slot new store store' outbox outbox' audit audit' h within own stay trails places fitting = record {
+IsNode-set : (id : NodeId) (dcs shards : ℕ) (parts : List Part) (slot : ℕ) (new : Part) (store store' : Contents) (outbox outbox' : Queues) → IsNode id dcs shards parts store outbox → slot < length parts
+    → IsPart id dcs shards slot new store' outbox' → OthersStay slot store outbox store' outbox'
+    → AllByRecursion (AllFit (place_in (record { data_centres = dcs; shards = shards; slots = length parts }) id)) (trails_of (set parts slot new))
+    → IsNode id dcs shards (set parts slot new) store' outbox'
+IsNode-set id dcs shards parts slot new store store' outbox outbox' h within own stay fitting = record {
   shard_exists = h.shard_exists;
   each = λ s part lt read. by s part (subst (λ m. s < m) (length-set parts slot new) lt) read (nat_eq s slot) refl;
   fitting = fitting;
 }
   where
-    by : (s : ℕ) (part : Part) → s < length parts → part ≡ get_or (set parts slot new) s part → (b : Bool) → nat_eq s slot ≡ b → IsPart id dcs shards s part store' outbox' audit'
+    by : (s : ℕ) (part : Part) → s < length parts → part ≡ get_or (set parts slot new) s part → (b : Bool) → nat_eq s slot ≡ b → IsPart id dcs shards s part store' outbox'
     by s part lt read true is =
         let same : s ≡ slot = (Decides-eqb s slot).0 is in
         let part_is : part ≡ new = read ∙ ap (λ m. get_or (set parts slot new) m part) same ∙ get_or-set_same parts slot new part within in
-        subst (λ m. IsPart id dcs shards m part store' outbox' audit') (sym same) (subst (λ (p : Part). IsPart id dcs shards slot p store' outbox' audit') (sym part_is) own)
+        subst (λ m. IsPart id dcs shards m part store' outbox') (sym same) (subst (λ (p : Part). IsPart id dcs shards slot p store' outbox') (sym part_is) own)
     by s part lt read false is =
         let differ : s ≢ slot = λ same. true≢false (sym ((Decides-eqb s slot).1 same) ∙ is) in
         let old = h.each s part lt (read ∙ get_or-set_other parts slot s new part differ) in
-        let trail = sym (trails s differ) in
         record {
           id_is = old.id_is;
           data_centres_are = old.data_centres_are;
           shards_are = old.shards_are;
-          stands = subst (λ t. StandsAt s part.place part.counters store' outbox' (left_by part.place t)) trail (StandsAt-other slot s part.place part.counters store store' outbox outbox' (left_by part.place (trail_of s audit)) differ stay old.stands);
-          moment = subst (λ t. (left_by part.place t).moment ≡ part.moment) trail old.moment;
-          trail_is = subst (λ t. (left_by part.place t).trail ≡ t) trail old.trail_is;
-          places = old.places ∙ sym (places s differ);
+          stands = StandsAt-other slot s part.place part.counters store store' outbox outbox' (left_by part.place part.trail.calls) differ stay old.stands;
+          moment = old.moment;
+          trail_is = old.trail_is;
         }
 
 -- memory was refused: room may have been made, and all stays
-module _ (slot : ℕ) (id : NodeId) (dcs shards : ℕ) (parts : List Part) (p new : Part) (store store' : Contents) (outbox outbox' : Queues) (audit : List Audited)
-    (node : IsNode id dcs shards parts store outbox audit) (within : slot < length parts) (read : p ≡ get_or parts slot p)
-    (place_is : new.place ≡ p.place) (moment_is : new.moment ≡ p.moment) (counters_are : new.counters ≡ p.counters) (trail_is : new.trail.items ≡ p.trail.items)
+module _ (slot : ℕ) (id : NodeId) (dcs shards : ℕ) (parts : List Part) (p new : Part) (store store' : Contents) (outbox outbox' : Queues)
+    (node : IsNode id dcs shards parts store outbox) (within : slot < length parts) (read : p ≡ get_or parts slot p)
+    (place_is : new.place ≡ p.place) (moment_is : new.moment ≡ p.moment) (counters_are : new.counters ≡ p.counters) (calls_are : new.trail.calls ≡ p.trail.calls)
     (rows : store'.rows ≡ store.rows) (tenants : store'.tenants ≡ store.tenants) (outbox_is : outbox' ≡ outbox) where
   stay : OthersStay slot store outbox store' outbox'
   stay = record {
@@ -238,18 +199,19 @@ module _ (slot : ℕ) (id : NodeId) (dcs shards : ℕ) (parts : List Part) (p ne
     data_centres = ap (λ (o : Queues). length o.queues) outbox_is;
   }
 
-  kept_part : IsPart id dcs shards slot new store' outbox' audit
+  kept_part : IsPart id dcs shards slot new store' outbox'
   kept_part =
       let old = node.each slot p within read in
       let place = sym place_is in
+      let calls = sym calls_are in
       let h = old.stands in
-      let stands : StandsAt slot p.place p.counters store' outbox' (left_by p.place (trail_of slot audit)) = record {
+      let stands : StandsAt slot p.place p.counters store' outbox' (left_by p.place p.trail.calls) = record {
         place_is = h.place_is;
         stored = subst (λ n. slot < n) (sym tenants) h.stored;
         queued = subst (λ (o : Queues). slot < o.tenants) (sym outbox_is) h.queued;
         own_is = ap (λ (o : Queues). o.own) outbox_is ∙ h.own_is;
         all_queues = ap (λ (o : Queues). length o.queues) outbox_is ∙ h.all_queues;
-        rows = subst (λ rs. StandsFor rs (left_by p.place (trail_of slot audit)).recs) (sym (ap (λ rs. rows_of slot (record store { rows = rs })) rows)) h.rows;
+        rows = subst (λ rs. StandsFor rs (left_by p.place p.trail.calls).recs) (sym (ap (λ rs. rows_of slot (record store { rows = rs })) rows)) h.rows;
         queues = λ dc is_other. ap (queue_of slot dc) outbox_is ∙ h.queues dc is_other;
         all_acked = h.all_acked;
         acked = h.acked;
@@ -262,20 +224,20 @@ module _ (slot : ℕ) (id : NodeId) (dcs shards : ℕ) (parts : List Part) (p ne
         id_is = ap (λ (q : Place). q.id) place_is ∙ old.id_is;
         data_centres_are = ap (λ (q : Place). q.data_centres) place_is ∙ old.data_centres_are;
         shards_are = ap (λ (q : Place). q.shards) place_is ∙ old.shards_are;
-        stands = subst (λ (q : Place). StandsAt slot q new.counters store' outbox' (left_by q (trail_of slot audit))) place (subst (λ (k : Counters). StandsAt slot p.place k store' outbox' (left_by p.place (trail_of slot audit))) (sym counters_are) stands);
-        moment = subst (λ (q : Place). (left_by q (trail_of slot audit)).moment ≡ new.moment) place (old.moment ∙ sym moment_is);
-        trail_is = subst (λ (q : Place). (left_by q (trail_of slot audit)).trail ≡ trail_of slot audit) place old.trail_is;
-        places = trail_is ∙ old.places;
+        stands = subst (λ t. StandsAt slot new.place new.counters store' outbox' (left_by new.place t)) calls
+            (subst (λ (q : Place). StandsAt slot q new.counters store' outbox' (left_by q p.trail.calls)) place (subst (λ (k : Counters). StandsAt slot p.place k store' outbox' (left_by p.place p.trail.calls)) (sym counters_are) stands));
+        moment = subst (λ t. (left_by new.place t).moment ≡ new.moment) calls (subst (λ (q : Place). (left_by q p.trail.calls).moment ≡ new.moment) place (old.moment ∙ sym moment_is));
+        trail_is = subst (λ t. (left_by new.place t).trail ≡ t) calls (subst (λ (q : Place). (left_by q p.trail.calls).trail ≡ p.trail.calls) place old.trail_is);
       }
 
-  pub IsNode-kept : IsNode id dcs shards (set parts slot new) store' outbox' audit
-  IsNode-kept = IsNode-set id dcs shards parts slot new store store' outbox outbox' audit audit node within kept_part stay (λ other differ. refl) (λ other differ. refl) node.fitting
+  pub IsNode-kept : IsNode id dcs shards (set parts slot new) store' outbox'
+  IsNode-kept = IsNode-set id dcs shards parts slot new store store' outbox outbox' node within kept_part stay
+      (subst (AllByRecursion (AllFit (place_in (record { data_centres = dcs; shards = shards; slots = length parts }) id))) (sym (trails_kept parts slot p new read calls_are)) node.fitting)
 
 -- whether the audit is full, as the part counts it
-audit_room : (id : NodeId) (dcs shards slot : ℕ) (p : Part) (store : Contents) (outbox : Queues) (audit : List Audited) → IsPart id dcs shards slot p store outbox audit
-    → nat_lt (length (left_by p.place (trail_of slot audit)).trail) p.place.quota.audit ≡ nat_lt (length p.trail.items) p.place.quota.audit
-audit_room id dcs shards slot p store outbox audit h =
-    ap (λ n. nat_lt n p.place.quota.audit) (ap length h.trail_is ∙ sym (length_places 0 slot audit) ∙ sym (ap length h.places))
+audit_room : (id : NodeId) (dcs shards slot : ℕ) (p : Part) (store : Contents) (outbox : Queues) → IsPart id dcs shards slot p store outbox
+    → nat_lt (length (left_by p.place p.trail.calls).trail) p.place.quota.audit ≡ nat_lt (length p.trail.calls) p.place.quota.audit
+audit_room id dcs shards slot p store outbox h = ap (λ t. nat_lt (length t) p.place.quota.audit) h.trail_is
 
 not_not : (b : Bool) → not b ≡ false → b ≡ true
 not_not true h = refl
@@ -285,57 +247,58 @@ not_yes : (b : Bool) → not b ≡ true → b ≡ false
 not_yes true h = absurd (true≢false (sym h))
 not_yes false h = refl
 
-full_turn : (id : NodeId) (dcs shards slot moment : ℕ) (call : NodeCall) (parts : List Part) (p : Part) (store : Contents) (outbox : Queues) (audit : List Audited) (full : Bool) → IsNode id dcs shards parts store outbox audit → slot < length parts → p ≡ get_or parts slot p
-    → full ≡ not (nat_lt (length p.trail.items) p.place.quota.audit) → full ≡ true → node_step p.place moment call (left_by p.place (trail_of slot audit)) ≡ unchanged (Refused AuditFull) (left_by p.place (trail_of slot audit))
-full_turn id dcs shards slot moment call parts p store outbox audit full node within read test closed =
-    step_full p.place moment call (left_by p.place (trail_of slot audit)) (audit_room id dcs shards slot p store outbox audit (node.each slot p within read) ∙ not_yes _ (sym test ∙ closed))
+full_turn : (id : NodeId) (dcs shards slot moment : ℕ) (call : NodeCall) (parts : List Part) (p : Part) (store : Contents) (outbox : Queues) (full : Bool) → IsNode id dcs shards parts store outbox → slot < length parts → p ≡ get_or parts slot p
+    → full ≡ not (nat_lt (length p.trail.calls) p.place.quota.audit) → full ≡ true → node_step p.place moment call (left_by p.place p.trail.calls) ≡ unchanged (Refused AuditFull) (left_by p.place p.trail.calls)
+full_turn id dcs shards slot moment call parts p store outbox full node within read test closed =
+    step_full p.place moment call (left_by p.place p.trail.calls) (audit_room id dcs shards slot p store outbox (node.each slot p within read) ∙ not_yes _ (sym test ∙ closed))
 
-pub full_done : (id : NodeId) (dcs shards slot moment : ℕ) (call : NodeCall) (parts : List Part) (p : Part) (store : Contents) (outbox : Queues) (audit : List Audited) (full : Bool) → IsNode id dcs shards parts store outbox audit → slot < length parts → p ≡ get_or parts slot p
-    → full ≡ not (nat_lt (length p.trail.items) p.place.quota.audit) → full ≡ true → (place : Place) (before : List Audited) → place ≡ p.place → audit ≡ before
+pub full_done : (id : NodeId) (dcs shards slot moment : ℕ) (call : NodeCall) (parts : List Part) (p : Part) (store : Contents) (outbox : Queues) (full : Bool) → IsNode id dcs shards parts store outbox → slot < length parts → p ≡ get_or parts slot p
+    → full ≡ not (nat_lt (length p.trail.calls) p.place.quota.audit) → full ≡ true → (place : Place) (before : List (List AuditEntry)) → place ≡ p.place → trails_of parts ≡ before
     → (Refused AuditFull ≡ (node_step place moment call (left_by place (trail_of slot before))).reply) × (left_by place (trail_of slot before) ≡ (node_step place moment call (left_by place (trail_of slot before))).after)
-full_done id dcs shards slot moment call parts p store outbox audit full node within read test closed place before place_is shown =
+full_done id dcs shards slot moment call parts p store outbox full node within read test closed place before place_is shown =
     let back : p.place ≡ place = sym place_is in
-    let hidden : before ≡ audit = sym shown in
+    let calls : p.trail.calls ≡ trail_of slot before = sym (trail_read parts slot p within read) ∙ ap (trail_of slot) shown in
+    let hidden : trail_of slot before ≡ p.trail.calls = sym calls in
     let turn : node_step place moment call (left_by place (trail_of slot before)) ≡ unchanged (Refused AuditFull) (left_by place (trail_of slot before)) =
-    (λ i. node_step (place_is i) moment call (left_by (place_is i) (trail_of slot (hidden i)))) ∙ full_turn id dcs shards slot moment call parts p store outbox audit full node within read test closed
-    ∙ (λ i. unchanged (Refused AuditFull) (left_by (back i) (trail_of slot (shown i)))) in
+    (λ i. node_step (place_is i) moment call (left_by (place_is i) (hidden i))) ∙ full_turn id dcs shards slot moment call parts p store outbox full node within read test closed
+    ∙ (λ i. unchanged (Refused AuditFull) (left_by (back i) (calls i))) in
     (sym (ap (λ (t : Turn). t.reply) turn), sym (ap (λ (t : Turn). t.after) turn))
 
 -- a call that is not refused for a full audit came to one that has room
-pub open_room : (id : NodeId) (dcs shards slot : ℕ) (parts : List Part) (p : Part) (store : Contents) (outbox : Queues) (audit : List Audited) (full : Bool) → IsNode id dcs shards parts store outbox audit → slot < length parts → p ≡ get_or parts slot p
-    → full ≡ not (nat_lt (length p.trail.items) p.place.quota.audit) → full ≡ false → (place : Place) (before : List Audited) → place ≡ p.place → audit ≡ before
+pub open_room : (id : NodeId) (dcs shards slot : ℕ) (parts : List Part) (p : Part) (store : Contents) (outbox : Queues) (full : Bool) → IsNode id dcs shards parts store outbox → slot < length parts → p ≡ get_or parts slot p
+    → full ≡ not (nat_lt (length p.trail.calls) p.place.quota.audit) → full ≡ false → (place : Place) (before : List (List AuditEntry)) → place ≡ p.place → trails_of parts ≡ before
     → nat_lt (length (left_by place (trail_of slot before)).trail) place.quota.audit ≡ true
-open_room id dcs shards slot parts p store outbox audit full node within read test open_is place before place_is shown =
-    (λ i. nat_lt (length (left_by (place_is i) (trail_of slot (sym shown i))).trail) (place_is i).quota.audit)
-    ∙ audit_room id dcs shards slot p store outbox audit (node.each slot p within read) ∙ not_not _ (sym test ∙ open_is)
+open_room id dcs shards slot parts p store outbox full node within read test open_is place before place_is shown =
+    let hidden : trail_of slot before ≡ p.trail.calls = sym (ap (trail_of slot) shown) ∙ trail_read parts slot p within read in
+    (λ i. nat_lt (length (left_by (place_is i) (hidden i)).trail) (place_is i).quota.audit)
+    ∙ audit_room id dcs shards slot p store outbox (node.each slot p within read) ∙ not_not _ (sym test ∙ open_is)
 
 -- some solo node is what the slot stands for, at the raised moment
-pub raised_solo : (id : NodeId) (dcs shards slot now moment : ℕ) (parts : List Part) (p : Part) (store : Contents) (outbox : Queues) (audit : List Audited) → IsNode id dcs shards parts store outbox audit → slot < length parts → p ≡ get_or parts slot p → now ≡ max p.moment moment
+pub raised_solo : (id : NodeId) (dcs shards slot now moment : ℕ) (parts : List Part) (p : Part) (store : Contents) (outbox : Queues) → IsNode id dcs shards parts store outbox → slot < length parts → p ≡ get_or parts slot p → now ≡ max p.moment moment
     → HasSolo slot now p.place p.counters store outbox
-raised_solo id dcs shards slot now moment parts p store outbox audit node within read now_is =
+raised_solo id dcs shards slot now moment parts p store outbox node within read now_is =
     let old = node.each slot p within read in
-    let solo : SoloNode = left_by p.place (trail_of slot audit) in
+    let solo : SoloNode = left_by p.place p.trail.calls in
     let low = old.moment in
     (record solo { moment = now }, refl, StandsAt-raised slot p.place p.counters store outbox solo now old.stands (omega arith))
 
 -- a call that has its effect
-module _ (slot moment now : ℕ) (call : NodeCall) (id : NodeId) (dcs shards : ℕ) (parts : List Part) (p new : Part) (store store' : Contents) (outbox outbox' : Queues) (audit audit' : List Audited) (told kept : NodeReply) (full : Bool)
-    (node : IsNode id dcs shards parts store outbox audit) (within : slot < length parts) (read : p ≡ get_or parts slot p)
-    (test : full ≡ not (nat_lt (length p.trail.items) p.place.quota.audit)) (open_is : full ≡ false) (now_is : now ≡ max p.moment moment)
-    (place_is : new.place ≡ p.place) (moment_is : new.moment ≡ now) (places_are : new.trail.items ≡ p.trail.items ++ length audit ∷ [])
+module _ (slot moment now : ℕ) (call : NodeCall) (id : NodeId) (dcs shards : ℕ) (parts : List Part) (p new : Part) (store store' : Contents) (outbox outbox' : Queues) (told kept : NodeReply) (full : Bool)
+    (node : IsNode id dcs shards parts store outbox) (within : slot < length parts) (read : p ≡ get_or parts slot p)
+    (test : full ≡ not (nat_lt (length p.trail.calls) p.place.quota.audit)) (open_is : full ≡ false) (now_is : now ≡ max p.moment moment)
+    (place_is : new.place ≡ p.place) (moment_is : new.moment ≡ now) (calls_are : new.trail.calls ≡ p.trail.calls ++ record { moment = moment; call = call; reply = kept } ∷ [])
     (done : IsDone slot now p.place call told p.counters store outbox new.counters store' outbox') (same : kept ≡ told)
-    (others : OthersStay slot store outbox store' outbox')
-    (audit_is : audit' ≡ audit ++ record { slot = slot; entry = record { moment = moment; call = call; reply = kept } } ∷ []) where
+    (others : OthersStay slot store outbox store' outbox') where
   abbrev entry : AuditEntry
   entry = record { moment = moment; call = call; reply = kept }
 
   abbrev solo : SoloNode
-  solo = left_by p.place (trail_of slot audit)
+  solo = left_by p.place p.trail.calls
 
   abbrev raised : SoloNode
-  raised = record (left_by p.place (trail_of slot audit)) { moment = max (left_by p.place (trail_of slot audit)).moment moment }
+  raised = record (left_by p.place p.trail.calls) { moment = max (left_by p.place p.trail.calls).moment moment }
 
-  part : IsPart id dcs shards slot p store outbox audit
+  part : IsPart id dcs shards slot p store outbox
   part = node.each slot p within read
 
   now_raised : raised.moment ≡ now
@@ -348,53 +311,61 @@ module _ (slot moment now : ℕ) (call : NodeCall) (id : NodeId) (dcs shards : �
   effect_is = done raised now_raised stands_raised
 
   turn_is : node_step p.place moment call solo ≡ audited moment call (effect p.place call raised)
-  turn_is = step_open p.place moment call solo (audit_room id dcs shards slot p store outbox audit part ∙ not_not _ (sym test ∙ open_is))
+  turn_is = step_open p.place moment call solo (audit_room id dcs shards slot p store outbox part ∙ not_not _ (sym test ∙ open_is))
 
   turn_reply : told ≡ (node_step p.place moment call solo).reply
   turn_reply = effect_is.0 ∙ sym (ap (λ (t : Turn). t.reply) turn_is)
 
-  trail_next : trail_of slot audit' ≡ trail_of slot audit ++ entry ∷ []
-  trail_next = ap (trail_of slot) audit_is ∙ trail_own slot audit (record { slot = slot; entry = entry }) refl
+  turn_after : left_by p.place new.trail.calls ≡ (node_step p.place moment call solo).after
+  turn_after = ap (left_by p.place) calls_are ∙ left_by-push p.place p.trail.calls entry
 
-  turn_after : left_by p.place (trail_of slot audit') ≡ (node_step p.place moment call solo).after
-  turn_after = ap (left_by p.place) trail_next ∙ left_by-push p.place (trail_of slot audit) entry
-
-  after_is : left_by p.place (trail_of slot audit') ≡ (audited moment call (effect p.place call raised)).after
+  after_is : left_by p.place new.trail.calls ≡ (audited moment call (effect p.place call raised)).after
   after_is = turn_after ∙ ap (λ (t : Turn). t.after) turn_is
 
-  next_part : IsPart id dcs shards slot new store' outbox' audit'
+  next_part : IsPart id dcs shards slot new store' outbox'
   next_part =
       let place = sym place_is in
       record {
         id_is = ap (λ (q : Place). q.id) place_is ∙ part.id_is;
         data_centres_are = ap (λ (q : Place). q.data_centres) place_is ∙ part.data_centres_are;
         shards_are = ap (λ (q : Place). q.shards) place_is ∙ part.shards_are;
-        stands = subst (λ (q : Place). StandsAt slot q new.counters store' outbox' (left_by q (trail_of slot audit'))) place
+        stands = subst (λ (q : Place). StandsAt slot q new.counters store' outbox' (left_by q new.trail.calls)) place
             (subst (λ (s : SoloNode). StandsAt slot p.place new.counters store' outbox' s) (sym after_is) (StandsAt-audited slot p.place new.counters store' outbox' (effect p.place call raised).after _ effect_is.1));
-        moment = subst (λ (q : Place). (left_by q (trail_of slot audit')).moment ≡ new.moment) place (ap (λ (s : SoloNode). s.moment) after_is ∙ moment_of_effect p.place call raised ∙ now_raised ∙ sym moment_is);
-        trail_is = subst (λ (q : Place). (left_by q (trail_of slot audit')).trail ≡ trail_of slot audit') place
+        moment = subst (λ (q : Place). (left_by q new.trail.calls).moment ≡ new.moment) place (ap (λ (s : SoloNode). s.moment) after_is ∙ moment_of_effect p.place call raised ∙ now_raised ∙ sym moment_is);
+        trail_is = subst (λ (q : Place). (left_by q new.trail.calls).trail ≡ new.trail.calls) place
             (ap (λ (s : SoloNode). s.trail) after_is
             ∙ ap (λ t. t ++ record { moment = moment; call = call; reply = (effect p.place call raised).reply } ∷ []) (trail_of_effect p.place call raised ∙ part.trail_is)
-            ∙ ap (λ r. trail_of slot audit ++ record { moment = moment; call = call; reply = r } ∷ []) (sym (same ∙ effect_is.0))
-            ∙ sym trail_next);
-        places = places_are ∙ ap (λ ns. ns ++ length audit ∷ []) part.places ∙ sym (ap (places_from 0 slot) audit_is ∙ places_own slot audit (record { slot = slot; entry = entry }) refl);
+            ∙ ap (λ r. p.trail.calls ++ record { moment = moment; call = call; reply = r } ∷ []) (sym (same ∙ effect_is.0))
+            ∙ sym calls_are);
       }
 
-  pub turn_done : (place : Place) (before : List Audited) → place ≡ p.place → audit ≡ before
-      → (told ≡ (node_step place moment call (left_by place (trail_of slot before))).reply) × (left_by place (trail_of slot audit') ≡ (node_step place moment call (left_by place (trail_of slot before))).after)
+  pub turn_done : (place : Place) (before : List (List AuditEntry)) → place ≡ p.place → trails_of parts ≡ before
+      → (told ≡ (node_step place moment call (left_by place (trail_of slot before))).reply) × (left_by place (trail_of slot (trails_of (set parts slot new))) ≡ (node_step place moment call (left_by place (trail_of slot before))).after)
   turn_done place before place_is shown =
-      let back : p.place ≡ place = sym place_is in (
-        turn_reply ∙ (λ i. (node_step (back i) moment call (left_by (back i) (trail_of slot (shown i)))).reply),
-        ap (λ (q : Place). left_by q (trail_of slot audit')) place_is ∙ turn_after ∙ (λ i. (node_step (back i) moment call (left_by (back i) (trail_of slot (shown i)))).after),
+      let back : p.place ≡ place = sym place_is in
+      let calls : p.trail.calls ≡ trail_of slot before = sym (trail_read parts slot p within read) ∙ ap (trail_of slot) shown in
+      let after : trail_of slot (trails_of (set parts slot new)) ≡ new.trail.calls =
+      trail_read (set parts slot new) slot new (subst (λ n. slot < n) (sym (length-set parts slot new)) within) (sym (get_or-set_same parts slot new new within)) in (
+        turn_reply ∙ (λ i. (node_step (back i) moment call (left_by (back i) (calls i))).reply),
+        (λ i. left_by (place_is i) (after i)) ∙ turn_after ∙ (λ i. (node_step (back i) moment call (left_by (back i) (calls i))).after),
       )
 
-  pub turn_node : IsTrue (fits (place_in (record { data_centres = dcs; shards = shards; slots = length parts }) id) call) → IsNode id dcs shards (set parts slot new) store' outbox' audit'
+  -- the trails with this call
+  pub turn_noted : (before : List (List AuditEntry)) → trails_of parts ≡ before → trails_of (set parts slot new) ≡ noted slot (record { moment = moment; call = call; reply = told }) before
+  turn_noted before shown =
+      trails_noted parts slot p new entry within read calls_are
+      ∙ (λ i. noted slot (record { moment = moment; call = call; reply = same i }) (shown i))
+
+  -- those of the other slots stay
+  pub turn_others : (before : List (List AuditEntry)) → trails_of parts ≡ before → (other : ℕ) → other ≢ slot → trail_of other (trails_of (set parts slot new)) ≡ trail_of other before
+  turn_others before shown other differ =
+      ap (trail_of other) (trails_noted parts slot p new entry within read calls_are) ∙ trail_other slot other (trails_of parts) entry differ ∙ ap (trail_of other) shown
+
+  pub turn_node : IsTrue (fits (place_in (record { data_centres = dcs; shards = shards; slots = length parts }) id) call) → IsNode id dcs shards (set parts slot new) store' outbox'
   turn_node fit =
       let home : Place = place_in (record { data_centres = dcs; shards = shards; slots = length parts }) id in
-      IsNode-set id dcs shards parts slot new store store' outbox outbox' audit audit' node within next_part others
-      (λ other differ. ap (trail_of other) audit_is ∙ trail_other other audit (record { slot = slot; entry = entry }) (λ is. differ (sym is)))
-      (λ other differ. ap (places_from 0 other) audit_is ∙ places_other other audit (record { slot = slot; entry = entry }) (λ is. differ (sym is)))
-      (subst (AllFit home) (sym audit_is) (AllFit-push home audit (record { slot = slot; entry = entry }) node.fitting fit))
+      IsNode-set id dcs shards parts slot new store store' outbox outbox' node within next_part others
+      (subst (AllByRecursion (AllFit home)) (sym (trails_noted parts slot p new entry within read calls_are)) (AuditFits-noted home slot (trails_of parts) entry node.fitting fit))
 
 -- ---- which calls fit
 
@@ -409,68 +380,31 @@ fits_same Collect a b ids dcs shards = refl
 
 -- ---- what contracts see
 
-abbrev pub view_of : NodeId → ℕ → ℕ → List Part → List Audited → Shared
-view_of id dcs shards parts audit = record { home = record { id = id; shape = record { data_centres = dcs; shards = shards; slots = length parts }; places = map (λ (p : Part). p.place) parts }; audit = audit }
+abbrev pub view_of : NodeId → ℕ → ℕ → List Part → Shared
+view_of id dcs shards parts = record { home = record { id = id; shape = record { data_centres = dcs; shards = shards; slots = length parts }; places = map (λ (p : Part). p.place) parts }; audit = trails_of parts }
 
--- a part that keeps its place does not show
-pub view_set : (id : NodeId) (dcs shards slot : ℕ) (parts : List Part) (p new : Part) (audit audit' : List Audited) → p ≡ get_or parts slot p → new.place ≡ p.place → audit' ≡ audit → view_of id dcs shards (set parts slot new) audit' ≡ view_of id dcs shards parts audit
-view_set id dcs shards slot parts p new audit audit' read same is =
+-- a part that keeps its place keeps the home
+pub home_set : (id : NodeId) (dcs shards slot : ℕ) (parts : List Part) (p new : Part) → p ≡ get_or parts slot p → new.place ≡ p.place → (view_of id dcs shards (set parts slot new)).home ≡ (view_of id dcs shards parts).home
+home_set id dcs shards slot parts p new read same =
     let long = length-set parts slot new in
     let places = places_set parts slot p new read same in
-    λ i. record { home = record { id = id; shape = record { data_centres = dcs; shards = shards; slots = long i }; places = places i }; audit = is i }
+    λ i. record { id = id; shape = record { data_centres = dcs; shards = shards; slots = long i }; places = places i }
+
+-- a part that keeps its place and its calls does not show
+pub view_set : (id : NodeId) (dcs shards slot : ℕ) (parts : List Part) (p new : Part) → p ≡ get_or parts slot p → new.place ≡ p.place → new.trail.calls ≡ p.trail.calls → view_of id dcs shards (set parts slot new) ≡ view_of id dcs shards parts
+view_set id dcs shards slot parts p new read same calls =
+    let home = home_set id dcs shards slot parts p new read same in
+    let trails = trails_kept parts slot p new read calls in
+    λ i. record { home = home i; audit = trails i }
 
 pub same_part : (parts : List Part) (slot : ℕ) (p q : Part) → slot < length parts → p ≡ get_or parts slot p → q ≡ get_or parts slot q → p ≡ q
 same_part parts slot p q within read again = read ∙ get_or_default parts slot p q within ∙ sym again
 
--- ---- the audit by place
-
--- the place in the audit of all slots that is found has the slot's call
-found_from : (at slot : ℕ) (audit : List Audited) (k n : ℕ) → slice_get (places_from at slot audit) k ≡ Some n → (at ≤ n) × (n < at + length audit) × ((d : Audited) → slice_get (trail_of slot audit) k ≡ Some (get_or audit (n - at) d).entry)
-found_from at slot [] k n h = absurd (none k h)
-  where
-    none : (k : ℕ) → (let empty : List ℕ = [] in slice_get empty k ≡ Some n) → ⊥
-    none zero h = cc
-    none (suc k) h = cc
-found_from at slot (x ∷ audit) k n h = by (nat_eq x.slot slot) k h (λ j. found_from (at + 1) slot audit j n)
-  where
-    later : (j : ℕ) → ((at + 1 ≤ n) × (n < at + 1 + length audit) × ((d : Audited) → slice_get (trail_of slot audit) j ≡ Some (get_or audit (n - (at + 1)) d).entry))
-        → (at ≤ n) × (n < at + suc (length audit)) × ((d : Audited) → slice_get (trail_of slot audit) j ≡ Some (get_or (x ∷ audit) (n - at) d).entry)
-    later j r =
-        let low : at + 1 ≤ n = r.0 in
-        let high : n < at + 1 + length audit = r.1 in
-        let step : suc (n - (at + 1)) ≡ n - at = omega arith in
-        (omega arith, omega arith, λ d. r.2 d ∙ ap (λ m. Some (get_or (x ∷ audit) m d).entry) step)
-
-    by : (b : Bool) (k : ℕ) → slice_get (if b then at ∷ places_from (at + 1) slot audit else places_from (at + 1) slot audit) k ≡ Some n
-        → ((j : ℕ) → slice_get (places_from (at + 1) slot audit) j ≡ Some n → (at + 1 ≤ n) × (n < at + 1 + length audit) × ((d : Audited) → slice_get (trail_of slot audit) j ≡ Some (get_or audit (n - (at + 1)) d).entry))
-        → (at ≤ n) × (n < at + suc (length audit)) × ((d : Audited) → slice_get (map (λ (a : Audited). a.entry) (cond b (x ∷ filter (λ a. nat_eq a.slot slot) audit) (filter (λ a. nat_eq a.slot slot) audit))) k ≡ Some (get_or (x ∷ audit) (n - at) d).entry)
-    by true zero h more = let same : at ≡ n = cc in let here : 0 ≡ n - at = omega arith in (omega arith, omega arith, λ d. ap (λ m. Some (get_or (x ∷ audit) m d).entry) here)
-    by true (suc k) h more = later k (more k h)
-    by false k h more = later k (more k h)
-
-pub audit_found : (slot : ℕ) (audit : List Audited) (k n : ℕ) → slice_get (places_from 0 slot audit) k ≡ Some n → (n < length audit) × ((d : Audited) → slice_get (trail_of slot audit) k ≡ Some (get_or audit n d).entry)
-audit_found slot audit k n h =
-    let r = found_from 0 slot audit k n h in
-    let high : n < 0 + length audit = r.1 in
-    let same : n - 0 ≡ n = omega arith in
-    (omega arith, λ d. r.2 d ∙ ap (λ m. Some (get_or audit m d).entry) same)
-
-pub audit_missing : (at slot : ℕ) (audit : List Audited) (k : ℕ) → slice_get (places_from at slot audit) k ≡ None → slice_get (trail_of slot audit) k ≡ None
-audit_missing at slot [] zero h = refl
-audit_missing at slot [] (suc k) h = refl
-audit_missing at slot (x ∷ audit) k h = by (nat_eq x.slot slot) k h (audit_missing (at + 1) slot audit)
-  where
-    by : (b : Bool) (k : ℕ) → slice_get (if b then at ∷ places_from (at + 1) slot audit else places_from (at + 1) slot audit) k ≡ None
-        → ((j : ℕ) → slice_get (places_from (at + 1) slot audit) j ≡ None → slice_get (trail_of slot audit) j ≡ None)
-        → slice_get (map (λ (a : Audited). a.entry) (cond b (x ∷ filter (λ a. nat_eq a.slot slot) audit) (filter (λ a. nat_eq a.slot slot) audit))) k ≡ None
-    by true zero h more = cc
-    by true (suc k) h more = more k h
-    by false k h more = more k h
-
--- the solo node's audit is the slot's
-pub solo_trail : (id : NodeId) (dcs shards slot : ℕ) (parts : List Part) (store : Contents) (outbox : Queues) (audit before : List Audited) (places : List Place) (place : Place) (part : Part) → IsNode id dcs shards parts store outbox audit → slot < length parts → part ≡ get_or parts slot part
-    → map (λ (p : Part). p.place) parts ≡ places → audit ≡ before → slice_get places slot ≡ Some place → trail_of slot before ≡ (left_by place (trail_of slot before)).trail
-solo_trail id dcs shards slot parts store outbox audit before places place part node within read shown same found =
+-- the solo node's audit is the slot's trail
+pub solo_trail : (id : NodeId) (dcs shards slot : ℕ) (parts : List Part) (store : Contents) (outbox : Queues) (before : List (List AuditEntry)) (places : List Place) (place : Place) (part : Part) → IsNode id dcs shards parts store outbox → slot < length parts → part ≡ get_or parts slot part
+    → map (λ (p : Part). p.place) parts ≡ places → trails_of parts ≡ before → slice_get places slot ≡ Some place → trail_of slot before ≡ (left_by place (trail_of slot before)).trail
+solo_trail id dcs shards slot parts store outbox before places place part node within read shown same found =
     let is : place ≡ part.place = place_read parts slot place part within (sym (ap (λ (ps : List Place). get_or ps slot place) shown ∙ get_or_from_slice_get places slot place place found)) read in
-    subst (λ (a : List Audited). trail_of slot a ≡ (left_by place (trail_of slot a)).trail) same
-    (subst (λ (p : Place). trail_of slot audit ≡ (left_by p (trail_of slot audit)).trail) (sym is) (sym (node.each slot part within read).trail_is))
+    let calls : part.trail.calls ≡ trail_of slot before = sym (trail_read parts slot part within read) ∙ ap (trail_of slot) same in
+    subst (λ t. t ≡ (left_by place t).trail) calls
+    (subst (λ (p : Place). part.trail.calls ≡ (left_by p part.trail.calls).trail) (sym is) (sym (node.each slot part within read).trail_is))

@@ -1,5 +1,5 @@
 -- A cluster of nodes as contracts see it, and what a call at one of them does for each tenant.
-use Rattle.std.specs.Prelude.{◌≡◌, ◌≢◌, ℕ, ◌*◌, ◌/◌, ◌%◌, ◌<◌, ◌≤◌, ◌⊎◌, false, nat_lt, List, [], map, length, slice_get, slice_index_or, slice_set, Some}
+use Rattle.std.specs.Prelude.{◌≡◌, ◌≢◌, ℕ, ◌*◌, ◌/◌, ◌%◌, ◌<◌, ◌≤◌, ◌⊎◌, false, nat_lt, List, map, length, slice_get, slice_index_or, slice_set, Some}
 use Rattle.std.specs.List.{AllByRecursion, range_with_len}
 use Rattle.cops_types.specs.declared.configs.Config.{Config}
 use Rattle.cops_types.specs.declared.faults.Fault.TheVariants.{OutOfMemory, AuditFull}
@@ -9,7 +9,7 @@ use Rattle.cops_node.specs.declared.NodeCall.{NodeCall}
 use Rattle.cops_node.specs.declared.NodeId.{NodeId}
 use Rattle.cops_node.specs.declared.NodeReply.{NodeReply}
 use Rattle.cops_node.specs.declared.NodeReply.TheVariants.{Refused}
-use Rattle.cops_node.specs.Parts.{AuditFits, Shared, home_of, solo_of}
+use Rattle.cops_node.specs.Parts.{AuditFits, Shared, home_of, no_calls, solo_of}
 use Rattle.cops_node.specs.Place.{place_of, number_of}
 use Rattle.cops_node.specs.Shape.{Shape}
 use Rattle.cops_node.specs.SoloNode.{SoloNode, new_node}
@@ -26,7 +26,7 @@ id_of shards number = record { dc = number / shards; shard = number % shards }
 
 -- a node of a configuration that no call has reached
 abbrev pub new_shared : Config → ℕ → Shared
-new_shared config number = record { home = home_of config (id_of config.shards number); audit = [] }
+new_shared config number = record { home = home_of config (id_of config.shards number); audit = no_calls (length config.tenants) }
 
 abbrev pub shape_of : Config → Shape
 shape_of config = record { data_centres = config.data_centres; shards = config.shards; slots = length config.tenants }

@@ -16,3 +16,4 @@ pub use Rattle.cops_types.specs.TenantConfig
 pub mod Parts
 pub mod Clusters
 pub mod Taken
+pub mod Trails

@@ -1,5 +1,5 @@
 -- What a node holds of all tenants, and what it stands for.
-use Rattle.std.specs.Prelude.{◌≡◌, ◌≢◌, ℕ, ◌+◌, ◌*◌, ◌/◌, ◌%◌, ◌<◌, ◌≤◌, ◌==◌, nat_eq, nat_le, nat_lt, Bool, IsTrue, List, [], ◌∷◌, ◌++◌, length, map, filter, slice_index, slice_index_or, ◌⊎◌, replicate, if◌then◌else◌}
+use Rattle.std.specs.Prelude.{◌≡◌, ◌≢◌, ℕ, ◌*◌, ◌/◌, ◌%◌, ◌<◌, ◌≤◌, ◌==◌, nat_le, nat_lt, Bool, IsTrue, List, [], ◌∷◌, ◌++◌, length, map, slice_index, slice_index_or, slice_set, ◌⊎◌, replicate, if◌then◌else◌}
 use Rattle.std.specs.List.{list_all, AllByRecursion}
 use Rattle.cops_types.specs.declared.configs.Config.{Config}
 use Rattle.cops_types.specs.declared.configs.Tenant.{Tenant}
@@ -16,7 +16,6 @@ use Rattle.cops_node.specs.declared.NodeId.{NodeId}
 use Rattle.cops_node.specs.declared.NodeReply.{NodeReply}
 use Rattle.cops_node.specs.declared.NodeReply.TheVariants.{Refused}
 use Rattle.cops_node.specs.declared.Place.{Place}
-use Rattle.cops_node.specs.declared.parts.Audited.{Audited}
 use Rattle.cops_node.specs.declared.parts.Counters.{Counters}
 use Rattle.cops_node.specs.declared.parts.Part.{Part}
 use Rattle.cops_node.specs.Place.{fits, is_other_dc, place_of}
@@ -33,22 +32,26 @@ pub record Home : Type 0 where
   pub shape : Shape
   pub places : List Place
 
--- the home, and the calls of all slots
+-- the home, and the trail of each slot: its calls, in order. Among slots there is no order.
 pub record Shared : Type 0 where
   pub home : Home
-  pub audit : List Audited
+  pub audit : List (List AuditEntry)
 
--- the audit of one slot
-abbrev pub trail_of : ℕ → List Audited → List AuditEntry
-trail_of slot audit = map (λ a. a.entry) (filter (λ a. nat_eq a.slot slot) audit)
+-- the trail of one slot
+abbrev pub trail_of : ℕ → List (List AuditEntry) → List AuditEntry
+trail_of slot audit = slice_index_or audit slot []
 
--- these calls of an audit could each come to a node at this place
-abbrev pub AllFit : Place → List Audited → Type 0
-AllFit place audit = AllByRecursion (λ (a : Audited). IsTrue (fits place a.entry.call)) audit
+-- no slot has made a call
+abbrev pub no_calls : ℕ → List (List AuditEntry)
+no_calls slots = replicate slots []
+
+-- these calls of a trail could each come to a node at this place
+abbrev pub AllFit : Place → List AuditEntry → Type 0
+AllFit place trail = AllByRecursion (λ (entry : AuditEntry). IsTrue (fits place entry.call)) trail
 
 -- the calls in a node's audit could each come to it
 abbrev pub AuditFits : Shared → Type 0
-AuditFits node = AllFit (place_in node.home.shape node.home.id) node.audit
+AuditFits node = AllByRecursion (AllFit (place_in node.home.shape node.home.id)) node.audit
 
 -- the solo node that an audit leaves
 abbrev pub left_by : Place → List AuditEntry → SoloNode
@@ -91,17 +94,21 @@ IsTurn slot moment call reply place old new = ((reply ≡ Refused OutOfMemory) �
 abbrev pub has_audit_room : ℕ → Place → Shared → Bool
 has_audit_room slot place node = nat_lt (length (solo_of slot place node).trail) place.quota.audit
 
--- the audit is longer by exactly this call and reply, or it was full, and nothing changed
+-- the audit with one more call, in the trail of this slot
+abbrev pub noted : ℕ → AuditEntry → List (List AuditEntry) → List (List AuditEntry)
+noted slot entry audit = slice_set audit slot (trail_of slot audit ++ entry ∷ [])
+
+-- the slot's trail is longer by exactly this call and reply, or it was full, and nothing changed
 abbrev pub IsNoted : ℕ → ℕ → NodeCall → NodeReply → Shared → Shared → Type 0
 IsNoted slot moment call reply old new =
     ((reply ≡ Refused AuditFull) × (new ≡ old))
-    ⊎ (new.audit ≡ old.audit ++ record { slot = slot; entry = record { moment = moment; call = call; reply = reply } } ∷ [])
+    ⊎ (new.audit ≡ noted slot (record { moment = moment; call = call; reply = reply }) old.audit)
 
--- the audit is longer by exactly this call and reply, or the call was refused before it, and nothing changed
+-- the slot's trail is longer by exactly this call and reply, or the call was refused before it, and nothing changed
 abbrev pub IsAudited : ℕ → ℕ → NodeCall → NodeReply → Shared → Shared → Type 0
 IsAudited slot moment call reply old new =
     (((reply ≡ Refused OutOfMemory) ⊎ (reply ≡ Refused AuditFull)) × (new ≡ old))
-    ⊎ (new.audit ≡ old.audit ++ record { slot = slot; entry = record { moment = moment; call = call; reply = reply } } ∷ [])
+    ⊎ (new.audit ≡ noted slot (record { moment = moment; call = call; reply = reply }) old.audit)
 
 -- ---- what is kept of a slot
 
@@ -158,36 +165,34 @@ IsDone slot now place call reply counters store outbox counters' store' outbox' 
 
 -- ---- all slots
 
--- where the calls of a slot stand in an audit, the first of which stands at this place
-abbrev pub places_from : ℕ → ℕ → List Audited → List ℕ
-places_from at slot [] = []
-places_from at slot (a ∷ audit) = if nat_eq a.slot slot then at ∷ places_from (at + 1) slot audit else places_from (at + 1) slot audit
+-- the trail of each slot
+abbrev pub trails_of : List Part → List (List AuditEntry)
+trails_of parts = map (λ part. part.trail.calls) parts
 
--- what is kept of a slot stands for what its audit leaves
-pub record IsPart (id : NodeId) (data_centres shards slot : ℕ) (part : Part) (store : Contents) (outbox : Queues) (audit : List Audited) : Type 0 where
+-- what is kept of a slot stands for what its trail leaves
+pub record IsPart (id : NodeId) (data_centres shards slot : ℕ) (part : Part) (store : Contents) (outbox : Queues) : Type 0 where
   pub id_is : part.place.id ≡ id
   pub data_centres_are : part.place.data_centres ≡ data_centres
   pub shards_are : part.place.shards ≡ shards
-  pub stands : StandsAt slot part.place part.counters store outbox (left_by part.place (trail_of slot audit))
-  pub moment : (left_by part.place (trail_of slot audit)).moment ≡ part.moment
-  pub trail_is : (left_by part.place (trail_of slot audit)).trail ≡ trail_of slot audit
-  pub places : part.trail.items ≡ places_from 0 slot audit
+  pub stands : StandsAt slot part.place part.counters store outbox (left_by part.place part.trail.calls)
+  pub moment : (left_by part.place part.trail.calls).moment ≡ part.moment
+  pub trail_is : (left_by part.place part.trail.calls).trail ≡ part.trail.calls
 
-pub record IsNode (id : NodeId) (data_centres shards : ℕ) (parts : List Part) (store : Contents) (outbox : Queues) (audit : List Audited) : Type 0 where
+pub record IsNode (id : NodeId) (data_centres shards : ℕ) (parts : List Part) (store : Contents) (outbox : Queues) : Type 0 where
   pub shard_exists : id.shard < shards
-  pub each : (slot : ℕ) (part : Part) → slot < length parts → part ≡ slice_index_or parts slot part → IsPart id data_centres shards slot part store outbox audit
-  pub fitting : AllFit (place_in (record { data_centres = data_centres; shards = shards; slots = length parts }) id) audit
+  pub each : (slot : ℕ) (part : Part) → slot < length parts → part ≡ slice_index_or parts slot part → IsPart id data_centres shards slot part store outbox
+  pub fitting : AllByRecursion (AllFit (place_in (record { data_centres = data_centres; shards = shards; slots = length parts }) id)) (trails_of parts)
 
 -- a part before any call
 pub record IsFresh (part : Part) : Type 0 where
   pub moment : part.moment ≡ 0
   pub clock_is : part.counters.clock ≡ part.place.first_clock
   pub marks : part.counters.marks.items ≡ replicate part.place.data_centres no_version
-  pub trail : part.trail.items ≡ []
+  pub trail : part.trail.calls ≡ []
 
 -- ---- turns of a machine
 
--- the turn of a slot's solo node, which joins the audit unless that is full, and changes no other slot
+-- the turn of a slot's solo node, which joins the slot's trail unless that is full, and changes no other slot
 pub record IsMachineTurn (old : Shared) (slot moment : ℕ) (call : NodeCall) (reply : NodeReply) (new : Shared) : Type 0 where
   pub own : (place : Place) → place ≡ slice_index_or old.home.places slot place → IsSoloTurn slot moment call reply place old new
   pub noted : IsNoted slot moment call reply old new
@@ -196,7 +201,7 @@ pub record IsMachineTurn (old : Shared) (slot moment : ℕ) (call : NodeCall) (r
 
 -- the node before any call
 abbrev pub before_calls : Shared → Shared
-before_calls node = record { home = node.home; audit = [] }
+before_calls node = record { home = node.home; audit = no_calls node.home.shape.slots }
 
 -- the slot is there, and the call may come to this node
 abbrev pub FitsNode : Shared → ℕ → NodeCall → Type 0

@@ -19,6 +19,7 @@ mod replies;
 mod test_nodes;
 #[cfg(test)]
 mod tests;
+mod trails;
 
 pub use cluster::Cluster0;
 use cops_types::{Deps, Entry, Fault, Key, Near, Quota, Value, Version};
@@ -26,8 +27,9 @@ pub use laws::{audit_tells_all, greatest_version_stays, marks_never_fall};
 pub use limits::has_clocks;
 pub use node::Node;
 pub use nodes::Nodes;
-pub use parts::{Audited, Counters, Part};
+pub use parts::{Counters, Part};
 pub use replies::Replies;
+pub use trails::Trail;
 
 /// A node, by its data centre and its shard.
 #[derive(Clone, Copy, Debug)]

@@ -1,15 +1,15 @@
-//! A node for many tenants: one store, one outbox and one audit for all.
-ghost use Rattle.std.specs.Prelude.{◌≡◌, ◌≢◌, ℕ, ◌<◌, ◌≤◌, length, map, slice_get, slice_index_or, false, List, [], Some, IsTrue, IfOk, OnErr};
+//! A node for many tenants: one store and one outbox for all, and a trail of the calls of each.
+ghost use Rattle.std.specs.Prelude.{◌≡◌, ◌≢◌, ℕ, ◌<◌, ◌≤◌, length, map, slice_get, slice_index_or, false, List, Some, IsTrue, IfOk, OnErr};
 ghost use Rattle.std.specs.List.{AllByRecursion};
 ghost use Rattle.std.specs.Option.{option_copied};
 ghost use Rattle.cops_types.specs.HeadLines.{are_sizes};
 ghost use Rattle.cops_types.specs.Version.{last_clock};
 ghost use Rattle.cops_node.specs.declared.Place.{Place};
-ghost use Rattle.cops_node.specs.Parts.{trail_of, solo_of, home_of, has_audit_room, are_clocks, IsTurn, IsSoloTurn, IsNoted, IsAudited, AuditFits};
+ghost use Rattle.cops_node.specs.Parts.{no_calls, trail_of, solo_of, home_of, has_audit_room, are_clocks, IsTurn, IsSoloTurn, IsNoted, IsAudited, AuditFits};
 ghost use Rattle.cops_node.specs.Place.{is_home, is_other_dc, is_other_equivalent, fits};
 ghost use Rattle.cops_node.specs.Shape.{place_in};
 
-use crate::parts::{self, Audited, Part};
+use crate::parts::{self, Part};
 use crate::{AuditEntry, NodeCall, NodeId, NodeReply, Place, calls};
 use cops_outbox::Outbox;
 use cops_store::Store;
@@ -17,8 +17,8 @@ use cops_types::{Config, Fault, Key, Machine, Seeds};
 use std::alloc::{AllocError, Global};
 use std::marker::Model;
 
-/// A node. Contracts see its home, which never changes, and the audit of all slots: a slot stands
-/// for the solo node that its own part of the audit leaves.
+/// A node. Contracts see its home, which never changes, and the audit: the trail of each slot. A slot
+/// stands for the solo node that its own trail leaves.
 #[derive(Drop)]
 pub struct Node {
     alloc: Global,
@@ -28,18 +28,17 @@ pub struct Node {
     parts: Vec<Part>,
     store: Store,
     outbox: Outbox,
-    audit: Vec<Audited>,
 }
 
 impl Model for Node {
     ghost use Rattle.std.specs.Prelude.{map, length};
-    ghost use Rattle.cops_node.specs.Parts.{Shared, IsNode};
+    ghost use Rattle.cops_node.specs.Parts.{Shared, IsNode, trails_of};
 
     ghost Value = { Shared };
 
-    ghost view = { λ n. record { home = record { id = n.id; shape = record { data_centres = n.data_centres; shards = n.shards; slots = length n.parts.items }; places = map (λ p. p.place) n.parts.items }; audit = n.audit.items } };
+    ghost view = { λ n. record { home = record { id = n.id; shape = record { data_centres = n.data_centres; shards = n.shards; slots = length n.parts.items }; places = map (λ p. p.place) n.parts.items }; audit = trails_of n.parts.items } };
 
-    ghost invariant = { λ n. IsNode n.id n.data_centres n.shards n.parts.items n.store n.outbox n.audit.items };
+    ghost invariant = { λ n. IsNode n.id n.data_centres n.shards n.parts.items n.store n.outbox };
 }
 
 impl Node {
@@ -49,7 +48,7 @@ impl Node {
         requires shard_exists { id.shard < config.now.shards }
         requires sizes { IsTrue (are_sizes config.now) }
         requires clocks { IsTrue (are_clocks config.now) }
-        ensures { IfOk result (λ node. node ≡ record { home = home_of config.now id; audit = [] }) }
+        ensures { IfOk result (λ node. node ≡ record { home = home_of config.now id; audit = no_calls (length config.now.tenants) }) }
     {
         let parts = parts::fresh_parts(alloc, config, id)?;
         let tenants = parts.len();
@@ -67,7 +66,6 @@ impl Node {
             parts,
             store,
             outbox,
-            audit: Vec::new(alloc),
         })
     }
 
@@ -116,37 +114,31 @@ impl Node {
         }
     }
 
-    /// How many calls are in the audit of a slot.
+    /// How many calls are in the trail of a slot.
     pub fn audit_len(&self, slot: u64) -> u64
         requires { slot < self.now.home.shape.slots }
         ensures calls { result ≡ length (trail_of slot self.now.audit) }
         ensures solo { (place : Place) → slice_get self.now.home.places slot ≡ Some place → result ≡ length (solo_of slot place self.now).trail }
     {
         let part = &self.parts[slot as usize];
-        part.trail.len() as u64
+        part.trail.len()
     }
 
-    /// The call at a place of the audit of a slot.
+    /// The call at a place of the trail of a slot.
     pub fn audit(&self, slot: u64, place: u64) -> Option<&AuditEntry>
         requires { slot < self.now.home.shape.slots }
         ensures call { option_copied result ≡ slice_get (trail_of slot self.now.audit) place }
         ensures solo { (own : Place) → slice_get self.now.home.places slot ≡ Some own → option_copied result ≡ slice_get (solo_of slot own self.now).trail place }
     {
         let part = &self.parts[slot as usize];
-        match part.trail.get(place as usize) {
-            Some(at) => {
-                let audited = &self.audit[*at];
-                Some(&audited.entry)
-            }
-            None => None,
-        }
+        part.trail.get(place)
     }
 
     /// Each call in the audit could come to this node.
     pub fn audit_fits(&self)
         ensures { AuditFits self.now }
     {
-        let _audit = &self.audit;
+        let _parts = &self.parts;
     }
 
     /// Makes a call for the tenant of a slot. Where the audit is full that is the reply, and nothing
@@ -162,16 +154,12 @@ impl Node {
         ensures room { OnErr result ((place : Place) → place ≡ slice_index_or self.old.home.places slot place → IsTrue (has_audit_room slot place self.old)) }
     {
         let slot = slot as usize;
-        let at = self.audit.len();
         let part = &self.parts[slot];
         if parts::is_audit_full(part) {
             return Ok(NodeReply::Refused(Fault::AuditFull));
         }
-        if self.audit.reserve(1).is_err() {
-            return Err(AllocError);
-        }
         let part = &mut self.parts[slot];
-        if part.trail.reserve(1).is_err() {
+        if part.trail.reserve().is_err() {
             return Err(AllocError);
         }
         let now = part.moment.max(moment);
@@ -188,13 +176,11 @@ impl Node {
             return Err(AllocError);
         };
         part.moment = now;
-        part.trail.push(at).unwrap();
-        let entry = AuditEntry {
+        part.trail.push(AuditEntry {
             moment,
             call,
             reply: replies.kept,
-        };
-        self.audit.push(Audited { slot, entry }).unwrap();
+        });
         Ok(replies.told)
     }
 

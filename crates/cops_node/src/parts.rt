@@ -1,5 +1,5 @@
 //! What a node keeps of one tenant beside the store and the outbox.
-ghost use Rattle.std.specs.Prelude.{◌≡◌, ◌/◌, ◌<◌, ◌≤◌, max, map, not, nat_lt, length, slice_set, List, IfOk};
+ghost use Rattle.std.specs.Prelude.{◌≡◌, ◌+◌, ◌/◌, ◌^◌, ◌<◌, ◌≤◌, false, max, map, not, nat_lt, length, slice_set, List, IfOk};
 ghost use Rattle.std.specs.List.{AllByRecursion};
 ghost use Rattle.cops_types.specs.Layout.{NODES};
 ghost use Rattle.cops_types.specs.Records.{Tracked, mark};
@@ -8,16 +8,10 @@ ghost use Rattle.cops_node.specs.Parts.{AreMarks, IsFresh, IsPlace, mark_in};
 ghost use Rattle.cops_node.specs.Place.{place_of, own_number as own_number_of};
 ghost use Rattle.cops_types.specs.TenantConfig.{tenant_config};
 
-use crate::{AuditEntry, NodeId, Place};
+use crate::trails::Trail;
+use crate::{NodeId, Place};
 use cops_types::{Config, Tenant, Version};
 use std::alloc::{AllocError, Global};
-
-/// A call in the audit, with the slot that it was for.
-#[derive(Debug, Drop)]
-pub struct Audited {
-    pub slot: usize,
-    pub entry: AuditEntry,
-}
 
 /// The clock of a slot, and its marks: the version committed last of each data centre's node with
 /// this shard.
@@ -27,14 +21,13 @@ pub struct Counters {
     pub marks: Vec<Version>,
 }
 
-/// What a node keeps of one slot: its place, its `now`, its counters, and where its calls stand in
-/// the audit of all slots.
+/// What a node keeps of one slot: its place, its `now`, its counters and its calls.
 #[derive(Debug, Drop)]
 pub struct Part {
     pub place: Place,
     pub moment: u64,
     pub counters: Counters,
-    pub trail: Vec<usize>,
+    pub trail: Trail,
 }
 
 // The part of a tenant before any call.
@@ -48,7 +41,7 @@ fn fresh(alloc: Global, place: Place) -> Result<Part, AllocError>
         place,
         moment: 0,
         counters: Counters { clock, marks },
-        trail: Vec::new(alloc),
+        trail: Trail::empty(alloc),
     })
 }
 
@@ -85,10 +78,11 @@ pub(crate) fn fresh_parts(
 
 // Whether the audit of the part is full.
 pub(crate) fn is_audit_full(part: &Part) -> bool
-    ensures { result ≡ not (nat_lt (length part.now.trail.items) part.now.place.quota.audit) }
+    ensures full { result ≡ not (nat_lt (length part.now.trail.calls) part.now.place.quota.audit) }
+    ensures countable { result ≡ false → length part.now.trail.calls + 1 < 2 ^ 64 }
 {
     let quota = part.place.quota;
-    part.trail.len() as u64 >= quota.audit
+    part.trail.len() >= quota.audit
 }
 
 // The number of the place's node.

@@ -1,0 +1,24 @@
+-- The calls of a slot at a node, in blocks of one length.
+use Rattle.std.specs.Prelude.{◌≡◌, ℕ, ◌≤◌, List, [], ◌∷◌, ◌++◌, length}
+use Rattle.std.specs.List.{AllByRecursion}
+use Rattle.cops_node.specs.declared.AuditEntry.{AuditEntry}
+
+-- the calls in order, and how many more can be noted without memory
+pub record Noted : Type 0 where
+  pub calls : List AuditEntry
+  pub spare : ℕ
+
+-- how many calls a full block has
+abbrev pub BLOCK : ℕ
+BLOCK = 32
+
+-- blocks one after another
+abbrev pub joined : List (List AuditEntry) → List AuditEntry
+joined [] = []
+joined (block ∷ blocks) = block ++ joined blocks
+
+-- all blocks but the last are full, and so many calls are in all of them
+pub record IsTrail (full : List (List AuditEntry)) (last : List AuditEntry) (count : ℕ) : Type 0 where
+  pub all_full : AllByRecursion (λ (block : List AuditEntry). length block ≡ BLOCK) full
+  pub last_fits : length last ≤ BLOCK
+  pub counted : count ≡ length (joined full ++ last)

@@ -1,0 +1,98 @@
+//! The calls that a node keeps of one slot.
+ghost use Rattle.std.specs.Prelude.{◌≡◌, ◌+◌, ◌^◌, ◌<◌, [], ◌∷◌, ◌++◌, length, slice_get, OnOk, OnErr};
+ghost use Rattle.std.specs.Option.{option_copied};
+
+use crate::AuditEntry;
+use std::alloc::{AllocError, Global};
+use std::marker::Model;
+use std::mem;
+
+/// How many calls a full block has.
+const BLOCK: usize = 32;
+
+/// The calls of a slot in order, with their replies. They stand in blocks: where the last is full, the
+/// next call asks for a new one, so no call is moved but those of a first block that still grows.
+/// Contracts see the calls, and how many more can be noted without memory.
+#[derive(Debug, Drop)]
+pub struct Trail {
+    full: Vec<Vec<AuditEntry>>,
+    last: Vec<AuditEntry>,
+    count: u64,
+}
+
+impl Model for Trail {
+    ghost use Rattle.std.specs.Prelude.{◌-◌, ◌++◌, map, min, vec_len, vec_capacity};
+    ghost use Rattle.cops_node.specs.Trails.{Noted, BLOCK, IsTrail, joined};
+
+    ghost Value = { Noted };
+
+    ghost view = { λ t. record { calls = joined (map (λ block. block.items) t.full.items) ++ t.last.items; spare = min (vec_capacity t.last) BLOCK - vec_len t.last } };
+
+    ghost invariant = { λ t. IsTrail (map (λ block. block.items) t.full.items) t.last.items t.count };
+}
+
+impl Trail {
+    /// No calls. It takes no memory.
+    pub fn empty(alloc: Global) -> Self
+        ensures { result.calls ≡ [] }
+    {
+        Trail {
+            full: Vec::new(alloc),
+            last: Vec::new(alloc),
+            count: 0,
+        }
+    }
+
+    /// How many calls there are.
+    pub fn len(&self) -> u64
+        ensures { result ≡ length self.now.calls }
+    {
+        self.count
+    }
+
+    /// The call at a place, which counts from 0.
+    pub fn get(&self, place: u64) -> Option<&AuditEntry>
+        ensures { option_copied result ≡ slice_get self.now.calls place }
+    {
+        let place = place as usize;
+        match self.full.get(place / BLOCK) {
+            Some(block) => block.get(place % BLOCK),
+            None => self.last.get(place - self.full.len() * BLOCK),
+        }
+    }
+
+    /// Takes the memory for one more call.
+    pub fn reserve(&mut self) -> Result<(), AllocError>
+        ensures ok { OnOk result (0 < self.new.spare) }
+        ensures calls { self.new.calls ≡ self.old.calls }
+        ensures err { OnErr result (self.new ≡ self.old) }
+    {
+        if self.last.len() < BLOCK {
+            return self.last.reserve(1);
+        }
+        self.full.reserve(1)?;
+        let alloc = *self.last.allocator();
+        let next = Vec::with_capacity(alloc, BLOCK)?;
+        let block = mem::replace(&mut self.last, next);
+        self.full.push(block).unwrap();
+        Ok(())
+    }
+
+    /// Notes one more call, for which there is memory.
+    pub fn push(&mut self, entry: AuditEntry)
+        requires room { 0 < self.old.spare }
+        requires countable { length self.old.calls + 1 < 2 ^ 64 }
+        ensures { self.new.calls ≡ self.old.calls ++ entry ∷ [] }
+    {
+        self.last.push(entry).unwrap();
+        self.count += 1;
+    }
+
+    /// Gives all calls back, with their memory. It takes none.
+    pub fn clear(&mut self)
+        ensures { self.new.calls ≡ [] }
+    {
+        let alloc = *self.last.allocator();
+        *self = Trail::empty(alloc);
+    }
+}
