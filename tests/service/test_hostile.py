@@ -63,7 +63,7 @@ class Hostile(unittest.TestCase):
         """Each bit of each byte, and some whole bytes: another tenant, another key, another length, no message."""
         stream, streams = frames(CONVERSATION), []
         for place in range(len(stream)):
-            others = {stream[place] ^ 1 << bit for bit in range(8)} | {0, 1, 5, 6, 0x43, 0x52, 0x58, 0x81, 0xFF}
+            others = {stream[place] ^ 1 << bit for bit in range(8)} | {0, 1, 5, 6, 7, 0x43, 0x52, 0x58, 0x81, 0xFF}
             streams += [[stream[:place] + bytes([other]) + stream[place + 1 :]] for other in others - {stream[place]}]
         self.hold(streams)
 

@@ -162,7 +162,7 @@ class Frames(unittest.TestCase):
         numbers = random.Random(1)
         read = 0
         for _ in range(20_000):
-            body = bytes([numbers.choice([1, 2, 3, 4, 5, 0x82, 0x84, 0x85, 0xFF])])
+            body = bytes([numbers.choice([1, 2, 3, 4, 5, 7, 0x82, 0x84, 0x85, 0xFF])])
             body += bytes(numbers.choice([0, 0, 1, 1, 2, 0x43, 0x78]) for _ in range(numbers.randrange(24)))
             try:
                 message = decode(body)
