@@ -16,8 +16,9 @@ import time
 
 ROOT = pathlib.Path(__file__).resolve().parents[1]
 sys.dont_write_bytecode = True
-sys.path[:0] = [str(ROOT / "tests" / "service"), str(ROOT / "clients" / "python")]
+sys.path[:0] = [str(ROOT / "tests" / "hostile"), str(ROOT / "tests" / "service"), str(ROOT / "clients" / "python")]
 
+import collisions  # noqa: E402
 import service  # noqa: E402
 from cops_client.frames import CreateContext, GetTrans, Handle, Hello, Put  # noqa: E402
 from service import Service, Tenant, frames, head, read_some, talk  # noqa: E402
@@ -25,7 +26,6 @@ from service import Service, Tenant, frames, head, read_some, talk  # noqa: E402
 ACME, BETA = Tenant("acme", 1), Tenant("beta", 2)
 HELLO = frames([Hello(ACME.token, 0)])
 CONVERSATION = frames([Hello(BETA.token, 0), CreateContext(), Put(Handle(1), b"x", b"10"), GetTrans(Handle(1), (b"x",))])
-MASK = (1 << 64) - 1
 
 
 def waits(held: Service, times: int = 200) -> str:
@@ -108,50 +108,19 @@ def unread() -> None:
         print("gone:", waits(held, 100), f"{held.memory() - before} bytes more")
 
 
-def folded_multiply(one: int, other: int) -> int:
-    return (one * other & MASK) ^ (one * other >> 64)
-
-
-def names_that_collide(count: int, bits: int) -> list[str]:
-    """Names whose hash ends in zeros, in a table that begins with the toolchain's fixed state and feeds bytes one by one."""
-    letters = "abcdefghijklmnopqrstuvwxyz0123456789_"
-    multiplier = 0x9E37_79B9_7F4A_7C15
-
-    def fed(state: int, word: int, size: int) -> int:
-        return folded_multiply(state ^ word, multiplier ^ 2 * size)
-
-    names, state = [], fed(fed(0x243F_6A88_85A3_08D3, 0, 8), 8, 8)
-    stack = [("", state)]
-    while stack and len(names) < count:
-        name, state = stack.pop()
-        if len(name) == 8:
-            if (state ^ state >> 32) & ((1 << bits) - 1) == 0:
-                names.append(name)
-            continue
-        stack += [(name + letter, fed(state, ord(letter) * 0x010101, 1)) for letter in letters]
-    return names
-
-
-def script_time(names: list[str], others: int) -> float:
-    """Opens sessions of these names, and then lets another tenant look at his own so often. Seconds."""
-    lines = ["cluster 1 1 5000 1", f"{ACME.line()}", f"{BETA.line()}", "begin"]
-    lines += [f"acme open {name} 0" for name in names]
-    for number in range(100):
-        lines.append(f"beta open b{number} 0")
-    lines += [f"beta step b{number % 100} 0" for number in range(others)]
-    text = ("\n".join(lines) + "\n").encode()
+def script_time(names: list[str], lines: int) -> float:
+    """Opens sessions of these names, and then lets another tenant take a step of his own so often. Seconds."""
+    text = collisions.script(ACME, names, BETA, lines)
     began = time.monotonic()
     subprocess.run([*service.PROGRAM, "run"], input=text, stdout=subprocess.DEVNULL, check=True)
     return time.monotonic() - began
 
 
-def collisions() -> None:
-    bits, count = 12, 5_000
-    bad = names_that_collide(count, bits)
-    good = [f"n{number}" for number in range(count)]
-    for name, names in (("other", good), ("colliding", bad)):
-        opened, looked = script_time(names, 0), script_time(names, 200_000)
-        print(f"{count} {name} names: opened in {1e3 * opened:.1f} ms; 200,000 lines of another tenant in {1e3 * (looked - opened):.1f} ms")
+def colliding() -> None:
+    count, lines = 100_000, 200_000
+    for kind, names in (("other", collisions.other_names(count)), ("colliding", collisions.colliding_names(count, 14))):
+        opened, stepped = script_time(names, 0), script_time(names, lines)
+        print(f"{count} {kind} names: opened in {1e3 * opened:.1f} ms; {lines} lines of another tenant in {1e3 * (stepped - opened):.1f} ms")
 
 
 def main() -> int:
@@ -162,7 +131,7 @@ def main() -> int:
     one_after_another()
     byte_by_byte(60)
     unread()
-    collisions()
+    colliding()
     return 0
 
 

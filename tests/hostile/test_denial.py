@@ -3,10 +3,12 @@
 Nobody else's replies change, nothing is kept after a client has gone, and other workers go on.
 """
 
+import resource
 import socket
 import time
 import unittest
 
+import collisions
 import pair
 from audits import check_replays
 from cops_client.frames import CreateContext, GetTrans, Handle, Hello, Message, Put
@@ -26,6 +28,14 @@ def large_replies() -> tuple[list[Message], bytes]:
     puts: list[Message] = [Put(FIRST, f"{number:064}".encode(), b"") for number in range(300)]
     puts += [Put(FIRST, key, bytes(4_096)) for key in keys]
     return puts, frames([GetTrans(Handle(2), keys)])
+
+
+def time_of_run(text: bytes) -> tuple[float, bytes]:
+    """Processor time of the program over a script, in seconds, and what it wrote."""
+    before = resource.getrusage(resource.RUSAGE_CHILDREN)
+    outcome = pair.program(["run"], text)
+    after = resource.getrusage(resource.RUSAGE_CHILDREN)
+    return after.ru_utime - before.ru_utime + after.ru_stime - before.ru_stime, outcome.output
 
 
 class Denial(unittest.TestCase):
@@ -120,3 +130,18 @@ class Denial(unittest.TestCase):
             self.converse(service, 10)
             self.assertLess(sizes[1] - sizes[0], 500_000, sizes)
             check_replays(self, service.audit(), [ACME, BETA])
+
+    def test_names_chosen_to_collide_take_no_longer_than_others(self):
+        """The table of actors is hashed with seeds that rest on the tokens; without them this takes ten times as long and more."""
+        count, lines, taken = 30_000, 30_000, []
+        told = b"acme opened\n" * count + b"beta opened\n" * 100 + b"beta E06\n" * lines
+        for names in (collisions.other_names(count), collisions.colliding_names(count, 13)):
+            text = collisions.script(ACME, names, BETA, lines)
+            times = []
+            for _ in range(3):
+                used, written = time_of_run(text)
+                self.assertEqual(written, told)
+                times.append(used)
+            taken.append(min(times))
+        print(f"{count} other names: {taken[0]:.3f} s, colliding names: {taken[1]:.3f} s")
+        self.assertLess(taken[1], 3 * taken[0] + 0.05)

@@ -20,13 +20,13 @@ ghost use Rattle.cops_world.specs.declared.replies.Reply.TheVariants.{Refused};
 use crate::Reply;
 use crate::actors::{Actor, ActorId, Deed, Stepped};
 use cops_node::Nodes;
-use cops_types::Fault;
+use cops_types::{Fault, Seeds};
 use indexmap::IndexMap;
 use std::alloc::Global;
 
 /// Has the actor do what is asked.
 pub(crate) fn act_at(
-    actors: &mut IndexMap<ActorId, Actor>,
+    actors: &mut IndexMap<ActorId, Actor, Seeds>,
     id: ActorId,
     alloc: Global,
     deed: Deed,
@@ -50,7 +50,7 @@ pub(crate) fn act_at(
 
 /// Takes a step of the actor at a place of the table.
 pub(crate) fn step_at<N: Nodes>(
-    actors: &mut IndexMap<ActorId, Actor>,
+    actors: &mut IndexMap<ActorId, Actor, Seeds>,
     place: usize,
     id: ActorId,
     nodes: &mut N,
@@ -76,7 +76,11 @@ pub(crate) fn step_at<N: Nodes>(
 }
 
 /// Puts in a new actor. Whether there was memory for it.
-pub(crate) fn put_new(actors: &mut IndexMap<ActorId, Actor>, id: ActorId, actor: Actor) -> bool
+pub(crate) fn put_new(
+    actors: &mut IndexMap<ActorId, Actor, Seeds>,
+    id: ActorId,
+    actor: Actor,
+) -> bool
     ensures ok { IsTrue result → PutsBack actors.old id actor actors.new }
     ensures lack { IsFalse result → actors.new.entries ≡ actors.old.entries }
     ensures unique { IsDistinct same_actor (keys actors.new) }
@@ -85,7 +89,7 @@ pub(crate) fn put_new(actors: &mut IndexMap<ActorId, Actor>, id: ActorId, actor:
 }
 
 /// Takes out an actor.
-pub(crate) fn take_out(actors: &mut IndexMap<ActorId, Actor>, id: ActorId)
+pub(crate) fn take_out(actors: &mut IndexMap<ActorId, Actor, Seeds>, id: ActorId)
     ensures out { Updates same_actor actors.old actors.new id None }
     ensures unique { IsDistinct same_actor (keys actors.new) }
 {

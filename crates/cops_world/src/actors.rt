@@ -157,7 +157,7 @@ fn show(alloc: Global, session: &Session, number: u64) -> Reply
     match session.context(Handle::of_number(number)) {
         Ok(context) => match lists_of(alloc, context) {
             Ok((all, near)) => Reply::Lists(all, near),
-            Err(_) => Reply::Refused(Fault::OutOfMemory),
+            Err(error) => Reply::Refused(Fault::from(error)),
         },
         Err(fault) => Reply::Refused(fault),
     }

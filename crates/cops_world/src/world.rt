@@ -30,7 +30,7 @@ use crate::{Act, Event, Reply, Tenancy};
 use cops_node::{AuditEntry, Cluster0, Node, NodeCall, NodeId, NodeReply, Nodes};
 use cops_repl::Carrier;
 use cops_session::Session;
-use cops_types::{ByteLists, Bytes, Config, Fault, Key, Name, Value};
+use cops_types::{ByteLists, Bytes, Config, Fault, Key, Name, Seeds, Value};
 use indexmap::IndexMap;
 use std::alloc::{AllocError, Global};
 use std::marker::Model;
@@ -41,7 +41,7 @@ pub struct World {
     alloc: Global,
     config: Config,
     nodes: Cluster0,
-    actors: IndexMap<ActorId, Actor>,
+    actors: IndexMap<ActorId, Actor, Seeds>,
     counts: Vec<u64>,
 }
 
@@ -378,11 +378,12 @@ impl World {
         let nodes = Cluster0::new(alloc, &config)?;
         let tenants = config.tenants.len();
         let counts = vec![in alloc; 0; tenants]?;
+        let seeds = Seeds::of_tokens(config.tenants.as_slice());
         Ok(World {
             alloc,
             config,
             nodes,
-            actors: IndexMap::new(alloc),
+            actors: IndexMap::with_hasher(alloc, seeds),
             counts,
         })
     }

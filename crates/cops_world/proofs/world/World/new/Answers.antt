@@ -9,13 +9,13 @@ new-requires-clause-clocks c = clocks_of_good c.args.config c.requires
 pub returns : goal.returns
 returns c = record {
   setup_is = refl;
-  empty = new_stands c.args.config c.in_ok-nodes.nodes (record { setup = c.args.config; nodes = c.in_ok-nodes.nodes; entries = c.new-2.result.entries; counts = c.in_ok-counts.counts.items })
-      refl refl (nothing_in c.new-2.result.entries c.new-2.ensures.len) (c.in_ok-counts.ensures.items_if_clones_equal (λ y same. same) ∙ ap (λ n. replicate n 0) c.len-tenants.ensures)
+  empty = new_stands c.args.config c.in_ok-nodes.nodes (record { setup = c.args.config; nodes = c.in_ok-nodes.nodes; entries = c.with_hasher.result.entries; counts = c.in_ok-counts.counts.items })
+      refl refl (nothing_in c.with_hasher.result.entries c.with_hasher.ensures.len) (c.in_ok-counts.ensures.items_if_clones_equal (λ y same. same) ∙ ap (λ n. replicate n 0) c.len-tenants.ensures)
       c.in_ok-nodes.ensures.tenants c.in_ok-nodes.ensures.fresh;
 }
 
 pub invariant_of-result : goal.invariant_of-result
 invariant_of-result c =
-    kept_at_first c.args.config c.in_ok-nodes.nodes c.new-2.result.entries c.in_ok-counts.counts.items c.requires c.in_ok-nodes.ensures.nodes
-    (nothing_in c.new-2.result.entries c.new-2.ensures.len)
+    kept_at_first c.args.config c.in_ok-nodes.nodes c.with_hasher.result.entries c.in_ok-counts.counts.items c.requires c.in_ok-nodes.ensures.nodes
+    (nothing_in c.with_hasher.result.entries c.with_hasher.ensures.len)
     (c.in_ok-counts.ensures.items_if_clones_equal (λ y same. same) ∙ ap (λ n. replicate n 0) c.len-tenants.ensures)
