@@ -19,6 +19,8 @@ mod replies;
 mod test_nodes;
 #[cfg(test)]
 mod tests;
+#[cfg(test)]
+mod trail_tests;
 mod trails;
 
 pub use cluster::Cluster0;

@@ -1,0 +1,57 @@
+use crate::{AuditEntry, NodeCall, NodeReply, Trail};
+use std::alloc::Global;
+use std::process::Abort;
+
+fn entry(moment: u64) -> AuditEntry {
+    AuditEntry {
+        moment,
+        call: NodeCall::Collect,
+        reply: NodeReply::Removed(moment),
+    }
+}
+
+/// Notes a call of this moment. Where memory is refused, which leaves the trail as it was, it is asked for again.
+fn note(rt: &impl Abort, trail: &mut Trail, moment: u64) {
+    let before = trail.len();
+    if trail.reserve().is_err() {
+        assert_eq!(rt; trail.len(), before);
+        trail.reserve().expect(rt, "memory");
+    }
+    assert!(rt; before < u64::MAX);
+    trail.push(entry(moment));
+}
+
+fn moment_at(rt: &impl Abort, trail: &Trail, place: u64) -> u64 {
+    trail.get(place).expect(rt, "a call").moment
+}
+
+/// A trail with calls of these moments, from 0 on.
+fn trail_of(rt: &impl Abort, alloc: Global, calls: u64) -> Trail {
+    let mut trail = Trail::empty(alloc);
+    for moment in 0..calls {
+        note(rt, &mut trail, moment);
+    }
+    trail
+}
+
+/// Each request for memory may be refused, also that for a new block.
+#[test]
+fn calls_keep_their_places_over_blocks(rt: HostRuntime) {
+    let trail = trail_of(&rt, rt.alloc(), 100);
+    assert_eq!(rt; trail.len(), 100);
+    for place in [0, 31, 32, 63, 64, 99] {
+        assert_eq!(rt; moment_at(&rt, &trail, place), place);
+    }
+    assert!(rt; trail.get(100).is_none());
+    assert!(rt; trail.get(u64::MAX).is_none());
+}
+
+#[test]
+fn a_cleared_trail_begins_again(rt: HostRuntime) {
+    let mut trail = trail_of(&rt, rt.alloc(), 40);
+    trail.clear();
+    assert_eq!(rt; trail.len(), 0);
+    assert!(rt; trail.get(0).is_none());
+    note(&rt, &mut trail, 7);
+    assert_eq!(rt; moment_at(&rt, &trail, 0), 7);
+}
