@@ -76,7 +76,7 @@ cluster-short line config is =
 
 tenant-short : (line : List ℕ) (tenant : Tenant) → IsTenantLine line tenant → length line ≤ longest_line
 tenant-short line tenant is =
-    let fits = tenant_fits tenant is.within in
+    let fits = tenant_fits last_clock (omega arith) tenant is.within in
     let q = tenant.quota in
     let name = name-short tenant.name fits.name in
     let token = token-short is.token tenant.token is.parses in
@@ -123,4 +123,4 @@ follows-good (Within config) line next good (inr ends) = subst AreGood (sym ends
 follows-good (Begun config) line next good f = absurd f
 
 pub name_of_good : (tenant : Tenant) → IsTrue (is_tenant tenant) → IsTrue (is_name tenant.name)
-name_of_good tenant h = (tenant_fits tenant h).name
+name_of_good tenant h = (tenant_fits last_clock (omega arith) tenant h).name

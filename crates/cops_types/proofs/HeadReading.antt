@@ -11,13 +11,13 @@ use Rattle.cops_types.specs.declared.configs.Tenant.{Tenant}
 use Rattle.cops_types.specs.declared.quotas.Quota.{Quota}
 use Rattle.cops_types.specs.Head.{Front, Within, JoinsOrStays}
 use Rattle.cops_types.specs.HeadReader.{front_with}
-use Rattle.cops_types.specs.HeadLines.{begin_line, IsClusterLine, IsTenantLine, are_sizes, cluster_in, is_between, most_shards, greatest_quota, is_quota, is_tenant, tenant_in}
+use Rattle.cops_types.specs.HeadLines.{begin_line, IsClusterLine, IsTenantLine, are_sizes, cluster_in, is_between, most_shards, greatest_quota, is_quota, is_tenant, tenant_in, IsTenantLineTo, is_tenant_to, tenant_in_to}
 use Rattle.cops_types.specs.HeadWords.{cluster_words, tenant_words}
 use Rattle.cops_types.specs.Key.{is_name}
-use Rattle.cops_types.specs.Version.{last_clock}
+use Rattle.cops_types.specs.OldHead.{old_front_with, old_tenant_in}
 use Rattle.cops_types.specs.declared.faults.Fault.TheVariants as Fault
 use Rattle.cops_types.specs.Words.{is_inside, is_u64, is_word, no_words, number_of, parts_at, space, spaced}
-use Rattle.cops_types.proofs.HeadLemmas.{cluster_in-finds, cluster_in-is, cluster_line-parts, tenant_in-finds, tenant_in-is, tenant_line-parts, u64_below}
+use Rattle.cops_types.proofs.HeadLemmas.{cluster_in-finds, cluster_in-is, cluster_line-parts, tenant_fits, tenant_in_to-finds, tenant_in_to-is, tenant_line-parts, u64_below}
 use Rattle.cops_types.proofs.WordLemmas.{Lacks, and, below, both, bytes_from_test, same_bytes, number_of-decimal, number_written, parts_back, parts_lack}
 
 -- ---- a number that was taken
@@ -43,8 +43,8 @@ taken_none None words word rest e first = λ n others small is.
 pub cluster_parts : (line : List ℕ) (config : Config) → IsClusterLine line config → parts_at space line ≡ cluster_words config
 cluster_parts line config is = ap (parts_at space) is.spelled ∙ cluster_line-parts config is.within
 
-pub tenant_parts : (line : List ℕ) (tenant : Tenant) (is : IsTenantLine line tenant) → parts_at space line ≡ tenant_words is.token tenant
-tenant_parts line tenant is = ap (parts_at space) is.spelled ∙ tenant_line-parts is.token tenant is.one_word is.within
+pub tenant_parts : (last : ℕ) → last < 2 ^ 64 → (line : List ℕ) (tenant : Tenant) (is : IsTenantLineTo last line tenant) → parts_at space line ≡ tenant_words is.token tenant
+tenant_parts last low line tenant is = ap (parts_at space) is.spelled ∙ tenant_line-parts is.token tenant is.one_word (tenant_fits last low tenant is.within)
 
 pub spelled_by : (line : List ℕ) (words : List (List ℕ)) → parts_at space line ≡ words → line ≡ spaced words
 spelled_by line words e = sym (parts_back space line) ∙ ap spaced e
@@ -59,13 +59,13 @@ cluster_found line None is none = by_found (cluster_in line) refl
     by_found None e = refl
     by_found (Some config) e = absurd (none config (cluster_in-is line config e))
 
-pub tenant_found : (line : List ℕ) (found : Option Tenant) → IfSome found (IsTenantLine line) → IfNone found ((tenant : Tenant) → IsTenantLine line tenant → ⊥) → found ≡ tenant_in line
-tenant_found line (Some tenant) is none = sym (tenant_in-finds line tenant is)
-tenant_found line None is none = by_found (tenant_in line) refl
+pub tenant_found : (last : ℕ) → last < 2 ^ 64 → (line : List ℕ) (found : Option Tenant) → IfSome found (IsTenantLineTo last line) → IfNone found ((tenant : Tenant) → IsTenantLineTo last line tenant → ⊥) → found ≡ tenant_in_to last line
+tenant_found last low line (Some tenant) is none = sym (tenant_in_to-finds last low line tenant is)
+tenant_found last low line None is none = by_found (tenant_in_to last line) refl
   where
-    by_found : (it : Option Tenant) → tenant_in line ≡ it → None ≡ it
+    by_found : (it : Option Tenant) → tenant_in_to last line ≡ it → None ≡ it
     by_found None e = refl
-    by_found (Some tenant) e = absurd (none tenant (tenant_in-is line tenant e))
+    by_found (Some tenant) e = absurd (none tenant (tenant_in_to-is last line tenant e))
 
 -- ---- the token's word
 
@@ -160,20 +160,20 @@ are_within data_centres shards trans_time restarts h small =
 
 -- ---- the parts of a tenant
 
-pub clock_within : (tenant : Tenant) → IsTrue (is_tenant tenant) → tenant.first_clock ≤ last_clock
-clock_within tenant h =
-    let parts = both (is_name tenant.name && nat_le tenant.first_clock last_clock) (is_quota tenant.quota) h in
-    let clock : nat_le tenant.first_clock last_clock ≡ true = (both (is_name tenant.name) (nat_le tenant.first_clock last_clock) parts.0).1 in
+pub clock_within : (last : ℕ) (tenant : Tenant) → IsTrue (is_tenant_to last tenant) → tenant.first_clock ≤ last
+clock_within last tenant h =
+    let parts = both (is_name tenant.name && nat_le tenant.first_clock last) (is_quota tenant.quota) h in
+    let clock : nat_le tenant.first_clock last ≡ true = (both (is_name tenant.name) (nat_le tenant.first_clock last) parts.0).1 in
     grind (arith, nat_tests)
 
-pub quota_of_tenant : (tenant : Tenant) → IsTrue (is_tenant tenant) → IsTrue (is_quota tenant.quota)
-quota_of_tenant tenant h = (both (is_name tenant.name && nat_le tenant.first_clock last_clock) (is_quota tenant.quota) h).1
+pub quota_of_tenant : (last : ℕ) (tenant : Tenant) → IsTrue (is_tenant_to last tenant) → IsTrue (is_quota tenant.quota)
+quota_of_tenant last tenant h = (both (is_name tenant.name && nat_le tenant.first_clock last) (is_quota tenant.quota) h).1
 
-pub is_tenant-made : (name token : List ℕ) (first_clock : ℕ) (quota : Quota) → IsTrue (is_name name) → first_clock ≤ last_clock → IsTrue (is_quota quota) →
-    IsTrue (is_name name && nat_le first_clock last_clock && is_quota quota)
-is_tenant-made name token first_clock quota named low is =
-    let clock : nat_le first_clock last_clock ≡ true = grind (arith, nat_tests) in
-    and (is_name name && nat_le first_clock last_clock) (is_quota quota) (and (is_name name) (nat_le first_clock last_clock) named clock) is
+pub is_tenant-made : (last : ℕ) (name token : List ℕ) (first_clock : ℕ) (quota : Quota) → IsTrue (is_name name) → first_clock ≤ last → IsTrue (is_quota quota) →
+    IsTrue (is_name name && nat_le first_clock last && is_quota quota)
+is_tenant-made last name token first_clock quota named low is =
+    let clock : nat_le first_clock last ≡ true = grind (arith, nat_tests) in
+    and (is_name name && nat_le first_clock last) (is_quota quota) (and (is_name name) (nat_le first_clock last) named clock) is
 
 -- what was made into a name is one
 pub name_of_made : (text name : List ℕ) → cond (is_name text) (Ok text) (Err Fault.Syntax) ≡ Ok name → (text ≡ name) × IsTrue (is_name name)
@@ -202,3 +202,7 @@ no_begin line copy b e are h = by_test (bytes_eq line begin_line) refl
     by_test : (t : Bool) → bytes_eq line begin_line ≡ t → bytes_eq line begin_line ≡ false
     by_test true k = absurd (other_word line begin_line copy b e are h (bytes_from_test line begin_line k))
     by_test false k = k
+
+-- the same in a head of layout 1
+pub old_front_joined : (old : Option Front) (config new : Config) (line : List ℕ) → old ≡ Some (Within config) → bytes_eq line begin_line ≡ false → JoinsOrStays config (old_tenant_in line) new true → old_front_with old line ≡ Some (Within new)
+old_front_joined old config new line at begins joins = ap (λ front. old_front_with front line) at ∙ rw begins joins.front

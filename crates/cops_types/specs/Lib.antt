@@ -15,6 +15,7 @@ pub mod LineAnswers
 pub mod LineRules
 pub mod LineRuns
 pub mod Lines
+pub mod OldHead
 pub mod OnLiterals
 pub mod Packed
 pub mod PackedRows

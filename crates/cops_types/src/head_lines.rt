@@ -4,16 +4,14 @@ ghost use Rattle.cops_types.specs.declared.configs.Config.{Config};
 ghost use Rattle.cops_types.specs.declared.configs.Tenant.{Tenant};
 ghost use Rattle.cops_types.specs.declared.quotas.Quota.{Quota};
 ghost use Rattle.cops_types.specs.Head.{JoinsOrStays, may_join};
-ghost use Rattle.cops_types.specs.HeadLines.{IsClusterLine, IsTenantLine, cluster_in, is_between, is_quota, most_shards, tenant_in};
+ghost use Rattle.cops_types.specs.HeadLines.{IsClusterLine, IsTenantLine, cluster_in, is_between, is_quota, most_shards, tenant_in, IsTenantLineTo, tenant_in_to};
 ghost use Rattle.cops_types.specs.HeadWords.{quota_words};
-ghost use Rattle.cops_types.specs.Version.{last_clock};
 ghost use Rattle.cops_types.specs.Words.{is_u64};
 
 use crate::configs::{Config, Tenant};
 use crate::names::Name;
 use crate::quotas::Quota;
 use crate::tenants::Tenants;
-use crate::versions::Version;
 use crate::words::{Words, parse_number};
 use std::alloc::{AllocError, Global};
 use uuid::Uuid;
@@ -23,9 +21,6 @@ const MOST_TENANTS: usize = 64;
 
 /// The greatest limit of a quota, but for that of `deps`.
 const GREATEST_QUOTA: u64 = 4294967295;
-
-/// The last number of a clock.
-const LAST_CLOCK: u64 = Version::LAST_CLOCK;
 
 /// Takes the next word, where it writes a number.
 fn next_number(words: &mut Words) -> Option<u64>
@@ -118,10 +113,10 @@ fn last_quota(words: &mut Words) -> Option<Quota>
     Some(quota)
 }
 
-/// The tenant that a line gives.
-fn tenant_of(line: &[u8]) -> Option<Tenant>
-    ensures some { IfSome result (IsTenantLine line.now) }
-    ensures none { IfNone result ((tenant : Tenant) → IsTenantLine line.now tenant → ⊥) }
+/// The tenant that a line gives, with a first clock up to this one.
+fn tenant_of(line: &[u8], last_clock: u64) -> Option<Tenant>
+    ensures some { IfSome result (IsTenantLineTo last_clock line.now) }
+    ensures none { IfNone result ((tenant : Tenant) → IsTenantLineTo last_clock line.now tenant → ⊥) }
 {
     let mut words = Words::of(line);
     if words.next_word()? != b"tenant".as_slice() {
@@ -134,7 +129,7 @@ fn tenant_of(line: &[u8]) -> Option<Tenant>
         return None;
     };
     let first_clock = next_number(&mut words)?;
-    if first_clock > LAST_CLOCK {
+    if first_clock > last_clock {
         return None;
     }
     let quota = last_quota(&mut words)?;
@@ -146,11 +141,11 @@ fn tenant_of(line: &[u8]) -> Option<Tenant>
     })
 }
 
-/// The tenant that a line gives.
-fn read_tenant(line: &[u8]) -> Option<Tenant>
-    ensures { result ≡ tenant_in line.now }
+/// The tenant that a line gives, with a first clock up to this one.
+fn read_tenant(line: &[u8], last_clock: u64) -> Option<Tenant>
+    ensures { result ≡ tenant_in_to last_clock line.now }
 {
-    tenant_of(line)
+    tenant_of(line, last_clock)
 }
 
 /// Whether one more tenant may join.
@@ -160,12 +155,13 @@ fn may_join(config: &Config, tenant: &Tenant) -> bool
     config.tenants.len() < MOST_TENANTS && config.tenants.is_distinct(tenant)
 }
 
-/// Gives the next slot to the tenant of a line, where it is one that may join.
-pub(crate) fn join(config: &mut Config, line: &[u8]) -> Result<bool, AllocError>
-    ensures ok { IfOk result (λ has_joined. JoinsOrStays config.old (tenant_in line.now) config.new has_joined) }
+/// Gives the next slot to the tenant of a line, where it is one that may join, with a first clock up to
+/// this one.
+pub(crate) fn join(config: &mut Config, line: &[u8], last_clock: u64) -> Result<bool, AllocError>
+    ensures ok { IfOk result (λ has_joined. JoinsOrStays config.old (tenant_in_to last_clock line.now) config.new has_joined) }
     ensures err { OnErr result (config.new ≡ config.old) }
 {
-    let Some(tenant) = read_tenant(line) else {
+    let Some(tenant) = read_tenant(line, last_clock) else {
         return Ok(false);
     };
     if !may_join(config, &tenant) {

@@ -1,4 +1,4 @@
-use crate::{ConfigReader, HeadLine};
+use crate::{ConfigReader, HeadLine, OldConfigReader};
 use std::alloc::Global;
 use std::process::Abort;
 
@@ -189,4 +189,53 @@ fn a_line_is_read_again_after_want_of_memory(rt: HostRuntime) {
     };
     assert!(rt; result);
     assert_eq!(rt; said(&rt, &mut reader, rt.alloc(), b"begin"), 3);
+}
+
+/// Asserts what a line of a head of layout 1 says, as `said` does.
+fn assert_old(
+    rt: &impl Abort,
+    reader: &mut OldConfigReader,
+    alloc: Global,
+    line: &[u8],
+    says: usize,
+) {
+    let said = match reader.line(alloc, line).expect(rt, "memory") {
+        HeadLine::More => 0,
+        HeadLine::BadLine => 1,
+        HeadLine::Begin(config) => config.tenants.len().saturating_add(2),
+    };
+    assert_eq!(rt; said, says);
+}
+
+const LAST: &[u8] =
+    b"tenant acme 00000000-0000-0000-0000-000000000001 72057594037927935 0 0 0 0 0 0 0";
+
+const PAST: &[u8] =
+    b"tenant acme 00000000-0000-0000-0000-000000000001 72057594037927936 0 0 0 0 0 0 0";
+
+#[test]
+fn heads_of_layout_1(rt: HostRuntime) {
+    let mut reader = ConfigReader::layout_1();
+    assert_old(&rt, &mut reader, rt.alloc(), b"cluster 8 16 5000 1", 0);
+    assert!(rt; reader.has_clocks_to(0));
+    assert_old(&rt, &mut reader, rt.alloc(), LAST, 0);
+    assert!(rt; !reader.has_clocks_to(72057594037927934));
+    assert_old(&rt, &mut reader, rt.alloc(), b"begin", 3);
+    let mut reader = ConfigReader::layout_1();
+    assert_old(&rt, &mut reader, rt.alloc(), b"cluster 1 17 5000 1", 1);
+    let mut reader = ConfigReader::layout_1();
+    assert_old(&rt, &mut reader, rt.alloc(), CLUSTER, 0);
+    assert_old(&rt, &mut reader, rt.alloc(), PAST, 1);
+}
+
+/// For runs in which one allocation fails: the line is read again, and says the same.
+#[test]
+fn an_old_line_is_read_again_after_want_of_memory(rt: HostRuntime) {
+    let mut reader = ConfigReader::layout_1();
+    assert_old(&rt, &mut reader, rt.alloc(), CLUSTER, 0);
+    match reader.line(rt.alloc(), ACME) {
+        Ok(line) => assert!(rt; matches!(line, HeadLine::More)),
+        Err(_) => assert_old(&rt, &mut reader, rt.alloc(), ACME, 0),
+    }
+    assert_old(&rt, &mut reader, rt.alloc(), b"begin", 3);
 }

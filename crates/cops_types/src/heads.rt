@@ -7,6 +7,8 @@ ghost use Rattle.cops_types.specs.HeadReader.{front_with, said_at, still_open};
 
 use crate::configs::Config;
 use crate::head_lines::{join, read_cluster};
+use crate::old_heads::OldConfigReader;
+use crate::versions::Version;
 use std::alloc::{AllocError, Global};
 use std::marker::Model;
 use std::mem;
@@ -24,7 +26,7 @@ pub enum HeadLine {
 
 /// How far a head has come. It is over after its end, and after a bad line.
 #[derive(Debug, Drop)]
-enum Progress {
+pub(crate) enum Progress {
     Start,
     Within(Config),
     Over,
@@ -59,7 +61,7 @@ fn start(alloc: Global, line: &[u8]) -> (Progress, HeadLine)
 }
 
 /// What the line `begin` says where the head has come to this configuration.
-fn begin(config: Config) -> HeadLine
+pub(crate) fn begin(config: Config) -> HeadLine
     ensures { result ≡ said_at (next_within config begin_line) }
 {
     if config.tenants.len() == 0 {
@@ -78,6 +80,13 @@ impl ConfigReader {
         }
     }
 
+    /// A reader of a head of layout 1 that has read no line: old audit files have such heads.
+    pub fn layout_1() -> OldConfigReader
+        ensures { result ≡ Some AtStart }
+    {
+        OldConfigReader::new()
+    }
+
     /// Reads the next line, which comes without its newline. After an `Err` it may be read again.
     pub fn line(&mut self, alloc: Global, line: &[u8]) -> Result<HeadLine, AllocError>
         ensures said { IfOk result (λ said. said ≡ said_at (front_with self.old line.now)) }
@@ -86,7 +95,7 @@ impl ConfigReader {
     {
         if line != b"begin".as_slice() {
             if let Progress::Within(config) = &mut self.progress {
-                if join(config, line)? {
+                if join(config, line, Version::LAST_CLOCK)? {
                     return Ok(HeadLine::More);
                 }
             }

@@ -23,6 +23,7 @@ mod memory_tests;
 mod names;
 mod near;
 mod near_builder;
+mod old_heads;
 mod packed;
 mod pair_lists;
 #[cfg(test)]
@@ -60,6 +61,7 @@ pub use machines::Machine;
 pub use names::Name;
 pub use near::Near;
 pub use near_builder::NearBuilder;
+pub use old_heads::OldConfigReader;
 pub use pairs::Pair;
 pub use quotas::Quota;
 pub use records::{Dated, Entry, EntryParts, Record};
