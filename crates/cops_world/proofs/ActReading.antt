@@ -1,16 +1,17 @@
 -- Acts are read from the words of a line.
-use Rattle.std.proofs.Common.{◌≡◌, ℕ, ◌<◌, ◌≤◌, Bool, true, false, cond, ◌&&◌, List, [], ◌∷◌, ◌++◌, length, refl, sym, subst, ap, ◌∙◌, append_assoc, append-nil, arith}
+use Rattle.std.proofs.Common.{◌≡◌, ℕ, ◌<◌, ◌≤◌, Bool, true, false, cond, not, ◌&&◌, List, [], ◌∷◌, ◌++◌, length, refl, sym, subst, ap, ◌∙◌, append_assoc, append-nil, arith}
 use Rattle.std.specs.Prelude.{IsTrue, ◌==◌, codes, decimal, nat_le, nat_lt, Option, Some, None, IfNone, MatchOption}
 use Rattle.std.specs.Borrow.{Bor}
 use Rattle.std.specs.List.{AllByRecursion, list_all, join_with_byte}
 use Rattle.std.specs.Option.{option_map, option_and_then}
 use Rattle.std.specs.Str.{bytes_eq}
+use Rattle.std.proofs.lemmas.Bool.{eqb-true}
 use Rattle.std.proofs.lemmas.Bool.Decides.{nat_tests}
 use Rattle.std.proofs.lemmas.List.Folds.{list_all-append}
 use Rattle.std.proofs.lemmas.Slice.Eq.{bytes_eq-Decides}
 use Rattle.cops_types.specs.HeadLines.{is_name, is_between}
 use Rattle.cops_types.specs.Lines.{longest_line}
-use Rattle.cops_types.specs.Words.{first_word, is_inside, is_u64, is_word, number_of, parts_at, space}
+use Rattle.cops_types.specs.Words.{first_word, is_inside, is_u64, is_word, no_words, number_of, parts_at, space}
 use Rattle.cops_types.proofs.WordLemmas.{Lacks, and, both, bytes_from_test, first_word-more, number_of-decimal, number_written, parts_back, parts_lack, same_value}
 use Rattle.cops_world.specs.declared.acts.Act.{Act}
 use Rattle.cops_world.specs.declared.acts.Act.TheVariants.{Open, Create, Delete, Put, Get, Show, Carry, Step, Done, Collect}
@@ -248,11 +249,11 @@ get_read words rest name n begin = by_test (nat_lt 0 (length rest) && list_all i
     by_test true = refl
     by_test false = refl
 
-pub get_found : (words rest keys : List (List ℕ)) (name : List ℕ) (n : ℕ) (read : Option (List (List ℕ))) → read ≡ keys_of rest → read ≡ Some keys → BeginNamed words name n rest → Some (Get name n keys) ≡ option_and_then with_line (get_of words)
-get_found words rest keys name n read is some begin = ap (option_map (λ ks. Get name n ks)) (sym some ∙ is) ∙ get_read words rest name n begin
+pub get_found : (words rest keys : List (List ℕ)) (name : List ℕ) (n : ℕ) → Some keys ≡ keys_of rest → BeginNamed words name n rest → Some (Get name n keys) ≡ option_and_then with_line (get_of words)
+get_found words rest keys name n read begin = ap (option_map (λ ks. Get name n ks)) read ∙ get_read words rest name n begin
 
-pub get_without_keys : (words rest : List (List ℕ)) (name : List ℕ) (n : ℕ) (read : Option (List (List ℕ))) → read ≡ keys_of rest → read ≡ None → BeginNamed words name n rest → None ≡ option_and_then with_line (get_of words)
-get_without_keys words rest name n read is none begin = ap (option_map (λ ks. Get name n ks)) (sym none ∙ is) ∙ get_read words rest name n begin
+pub get_without_keys : (words rest : List (List ℕ)) (name : List ℕ) (n : ℕ) → None ≡ keys_of rest → BeginNamed words name n rest → None ≡ option_and_then with_line (get_of words)
+get_without_keys words rest name n read begin = ap (option_map (λ ks. Get name n ks)) read ∙ get_read words rest name n begin
 
 -- ---- values
 
@@ -276,44 +277,48 @@ value_word (byte ∷ word) some = by_test (list_all (is_between 33 126) (byte �
     by_test false true h = refl
     by_test false false h = refl
 
+pub value_test : (word : List ℕ) (empty : Bool) → list_all (is_between 33 126) word ≡ true → empty ≡ (length word == 0) → not empty ≡ is_value_word word
+value_test [] empty seen is = ap not is
+value_test (byte ∷ word) true seen is = absurd (omega (arith, eqb-true (length (byte ∷ word)) 0 (sym is)))
+value_test (byte ∷ word) false seen is = sym seen ∙ value_word (byte ∷ word) (omega arith)
+
 -- ---- keys
 
--- these words are keys, and with the rest they are all words
-abbrev pub AreKeys : List (List ℕ) → List (List ℕ) → List (List ℕ) → Type 0
-AreKeys all keys rest = IsTrue (list_all is_word keys) × AreUnspaced rest × (all ≡ keys ++ rest)
+-- whether the words are keys is left to those that are still to come
+abbrev pub AreKeys : List (List ℕ) → List (List ℕ) → Type 0
+AreKeys all rest = (list_all is_word all ≡ list_all is_word rest) × AreUnspaced rest
 
-word_inside : (word : List ℕ) → 0 < length word → IsTrue (list_all is_inside word) → IsTrue (is_word word)
+pub word_inside : (word : List ℕ) → 0 < length word → IsTrue (list_all is_inside word) → IsTrue (is_word word)
 word_inside [] some h = absurd (omega arith)
 word_inside (byte ∷ word) some h = h
 
-pub one_key_more : (all keys rest more : List (List ℕ)) (word : List ℕ) (later : List (List ℕ)) → AreKeys all keys rest → rest ≡ word ∷ later → 0 < length word → more ≡ keys ++ word ∷ [] → AreKeys all more later
-one_key_more all keys rest more word later are first some e =
-    let inside : AreUnspaced (word ∷ later) = subst AreUnspaced first are.1 in (
-      ap (list_all is_word) e ∙ list_all-append is_word keys (word ∷ []) ∙ and (list_all is_word keys) (is_word word && true) are.0 (and (is_word word) true (word_inside word some inside.0) refl),
-      inside.1,
-      are.2 ∙ ap (λ ws. keys ++ ws) first ∙ sym (append_assoc keys (word ∷ []) later) ∙ ap (λ ws. ws ++ later) (sym e),
-    )
+pub one_key_more : (all rest : List (List ℕ)) (word : List ℕ) (later : List (List ℕ)) → AreKeys all rest → rest ≡ word ∷ later → 0 < length word → AreKeys all later
+one_key_more all rest word later are first some =
+    let inside : AreUnspaced (word ∷ later) = subst AreUnspaced first are.1 in
+    (are.0 ∙ ap (list_all is_word) first ∙ ap (λ t. t && list_all is_word later) (word_inside word some inside.0), inside.1)
 
-pub empty_key : (all keys rest : List (List ℕ)) (word : List ℕ) (later : List (List ℕ)) → AreKeys all keys rest → rest ≡ word ∷ later → length word ≡ 0 → keys_of all ≡ None
-empty_key all keys rest (byte ∷ word) later are first none = absurd (omega arith)
-empty_key all keys rest [] later are first none =
-    let fails : list_all is_word all ≡ false = ap (list_all is_word) (are.2 ∙ ap (λ ws. keys ++ ws) first) ∙ list_all-append is_word keys ([] ∷ later) ∙ and_false (list_all is_word keys) in
+pub empty_key : (all rest : List (List ℕ)) (word : List ℕ) (later : List (List ℕ)) → AreKeys all rest → rest ≡ word ∷ later → length word ≡ 0 → None ≡ keys_of all
+empty_key all rest (byte ∷ word) later are first none = absurd (omega arith)
+empty_key all rest [] later are first none =
+    let fails : list_all is_word all ≡ false = are.0 ∙ ap (list_all is_word) first in
     rw fails (by_test (nat_lt 0 (length all)))
   where
-    and_false : (t : Bool) → (t && false) ≡ false
-    and_false true = refl
-    and_false false = refl
-
-    by_test : (t : Bool) → cond (t && false) (Some all) None ≡ None
+    by_test : (t : Bool) → None ≡ cond (t && false) (Some all) None
     by_test true = refl
     by_test false = refl
 
-pub all_keys : (all keys rest : List (List ℕ)) → AreKeys all keys rest → rest ≡ [] → 0 < length all → keys_of all ≡ Some keys
-all_keys all keys rest are none some =
-    let same : all ≡ keys = are.2 ∙ ap (λ ws. keys ++ ws) none ∙ append-nil keys in
-    let words : list_all is_word all ≡ true = ap (list_all is_word) same ∙ are.0 in
-    let one : nat_lt 0 (length all) ≡ true = grind (arith, nat_tests) in
-    rw one (rw words (ap Some same))
+some_words : (words : List (List ℕ)) → no_words words ≡ false → 0 < length words
+some_words [] e = absurd cc
+some_words (word ∷ words) e = omega arith
+
+pub all_keys : (all keys rest : List (List ℕ)) → AreKeys all rest → rest ≡ [] → no_words all ≡ false → keys ≡ all → Some keys ≡ keys_of all
+all_keys all keys rest are none some same = by_count (some_words all some)
+  where
+    by_count : 0 < length all → Some keys ≡ keys_of all
+    by_count filled =
+        let words : list_all is_word all ≡ true = are.0 ∙ ap (list_all is_word) none in
+        let one : nat_lt 0 (length all) ≡ true = grind (arith, nat_tests) in
+        rw one (rw words (ap Some same))
 
 -- ---- verbs
 

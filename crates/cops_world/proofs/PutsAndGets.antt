@@ -1,14 +1,17 @@
 -- Puts and gets whose keys and values are some, and those that are refused for them.
-use Rattle.std.proofs.Common.{◌≡◌, ◌⊎◌, inl, inr, ℕ, Bool, true, false, not, cond, List, [], ◌∷◌, length, refl, sym, subst, ap, ◌∙◌, true≢false}
+use Rattle.std.proofs.Common.{◌≡◌, ◌⊎◌, inl, inr, ℕ, Bool, true, false, not, cond, ◌&&◌, List, [], ◌∷◌, ◌++◌, length, refl, sym, subst, ap, ◌∙◌, append_assoc, append-nil, true≢false, arith}
 use Rattle.std.specs.Prelude.{Some, None, Result, Ok, Err, nat_lt}
 use Rattle.std.specs.List.{list_all}
+use Rattle.std.proofs.lemmas.List.Folds.{list_all-append}
 use Rattle.std.proofs.lemmas.Bool.{leb-false, lt-leb, lt-ltb, ltb-true}
+use Rattle.std.proofs.lemmas.Bool.Decides.{nat_tests}
 use Rattle.cops_types.specs.declared.faults.Fault.{Fault}
 use Rattle.cops_types.specs.declared.faults.Fault.TheVariants.{Syntax, BadKey, ValueTooLong, OutOfMemory}
 use Rattle.cops_types.specs.Key.{is_key}
 use Rattle.cops_types.specs.Refusal.{refused_if}
 use Rattle.cops_types.specs.Search.{first_refusal}
 use Rattle.cops_types.specs.Value.{is_value, is_too_long}
+use Rattle.cops_types.specs.Words.{no_words}
 use Rattle.cops_session.specs.Request.{Write, Fetch}
 use Rattle.cops_session.specs.Session.{put_refusal, get_refusal, request_begun}
 use Rattle.cops_world.specs.declared.acts.Act.TheVariants as acts
@@ -39,6 +42,29 @@ good_key bytes key h = by (is_key bytes) refl h
     by : (t : Bool) → is_key bytes ≡ t → Ok key ≡ cond t (Ok bytes) (Err BadKey) → (key ≡ bytes) × (is_key bytes ≡ true)
     by true e h = (cc, e)
     by false e h = cc
+
+-- the keys so far, before the slices that are left
+abbrev pub AreKeysOf : List (List ℕ) → List (List ℕ) → List (List ℕ) → Type 0
+AreKeysOf slices made left = (slices ≡ made ++ left) × (list_all is_key made ≡ true)
+
+pub keys_so_far : (slices made left more later : List (List ℕ)) (slice key : List ℕ) → AreKeysOf slices made left → left ≡ slice ∷ later → Ok key ≡ key_or_fault slice → more ≡ made ++ key ∷ [] → AreKeysOf slices more later
+keys_so_far slices made left more later slice key are first good e =
+    let is = good_key slice key good in (
+      are.0 ∙ (λ i. made ++ first i) ∙ sym (append_assoc made (slice ∷ []) later) ∙ (λ i. (made ++ sym is.0 i ∷ []) ++ later) ∙ ap (λ ks. ks ++ later) (sym e),
+      ap (list_all is_key) e ∙ list_all-append is_key made (key ∷ []) ∙ (λ i. are.1 i && (is_key (is.0 i) && true)) ∙ ap (λ t. t && true) is.1,
+    )
+
+pub keys_fail : (slices made left later : List (List ℕ)) (slice : List ℕ) (fault : Fault) → AreKeysOf slices made left → left ≡ slice ∷ later → Err fault ≡ key_or_fault slice → (fault ≡ OutOfMemory) ⊎ (refused_if (not (list_all is_key slices)) BadKey ≡ Some fault)
+keys_fail slices made left later slice fault are first bad =
+    let is = bad_key slice fault bad in
+    let fails : list_all is_key slices ≡ false =
+    ap (list_all is_key) (are.0 ∙ ap (λ ls. made ++ ls) first) ∙ list_all-append is_key made (slice ∷ later) ∙ (λ i. are.1 i && (is.1 i && list_all is_key later)) in
+    inr (rw fails (ap Some (sym is.0)))
+
+pub keys_end : (slices made left : List (List ℕ)) → AreKeysOf slices made left → left ≡ [] → (made ≡ slices) × (list_all is_key slices ≡ true)
+keys_end slices made left are none =
+    let same : slices ≡ made = are.0 ∙ ap (λ ls. made ++ ls) none ∙ append-nil made in
+    (sym same, ap (list_all is_key) same ∙ are.1)
 
 -- ---- values
 
@@ -79,6 +105,13 @@ module _ (old : World) (slot : ℕ) (name : List ℕ) (number : ℕ) (key value 
       (λ cluster i. put_if (sym good i) (sym short i) cluster)
 
 -- ---- gets
+
+pub counts_none : (keys : List (List ℕ)) (t : Bool) → no_words keys ≡ t → nat_lt (length keys) 1 ≡ t
+counts_none [] t is = is
+counts_none (key ∷ keys) t is = some ∙ is
+  where
+    some : nat_lt (length (key ∷ keys)) 1 ≡ false
+    some = grind (arith, nat_tests)
 
 module _ (old : World) (slot : ℕ) (name : List ℕ) (number : ℕ) (keys : List (List ℕ)) where
   abbrev get_if : Bool → Bool → SoloCluster → Turn

@@ -59,19 +59,19 @@ acme step a 12 > x=10@1.0 y=20@2.1
 acme show a 1 > all x:1.0,y:2.1 near y:2.1";
 
 /// The events of the rows that begin with this.
-fn events_of(
+fn events_of<'a>(
     rt: &impl Abort,
     alloc: Global,
     tenants: &Tenants,
-    rows: &str,
+    rows: &'a str,
     begin: &str,
-) -> Result<Vec<Event>, AllocError>
+) -> Result<Vec<Event<'a>>, AllocError>
     ensures { IfOk result (λ events. All (λ e. e.slot < length tenants.now) events.items) }
 {
     let mut events = Vec::new(alloc);
     for line in rows.lines() {
         if line.starts_with(begin) {
-            let event = event_of(rt, alloc, tenants, row(rt, line).0);
+            let event = event_of(rt, tenants, row(rt, line).0);
             events.push(event)?;
         }
     }

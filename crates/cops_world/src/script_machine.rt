@@ -15,25 +15,19 @@ use cops_types::{Fault, LineMachine, Stop};
 use std::alloc::{AllocError, Global};
 
 /// What the tenant of the slot is told of the act that the line writes.
-fn reply_to<W: Tenancy>(
-    alloc: Global,
-    world: &mut W,
-    slot: u64,
-    line: &[u8],
-) -> Result<Reply, AllocError>
+fn reply_to<W: Tenancy>(world: &mut W, slot: u64, line: &[u8]) -> Reply
     requires { slot < length (W.setup world.old).tenants }
-    ensures { IfOk result (λ reply. IsAnswered W.setup W.StandsFor world.old (said_by slot (act_in (first_word line.now) line.now))
-        (answer_line (W.setup world.old).tenants (Some (slot, reply))) world.new) }
+    ensures { IsAnswered W.setup W.StandsFor world.old (said_by slot (act_in (first_word line.now) line.now))
+        (answer_line (W.setup world.old).tenants (Some (slot, result))) world.new }
 {
-    let Some(act) = parse_act(alloc, line)? else {
-        return Ok(Reply::Refused(Fault::Syntax));
+    let Some(act) = parse_act(line) else {
+        return Reply::Refused(Fault::Syntax);
     };
-    Ok(world.apply(&Event { slot, act }))
+    world.apply(&Event { slot, act })
 }
 
 /// Answers a line after the head at the end of the output.
 pub(crate) fn answer<W: Tenancy>(
-    alloc: Global,
     world: &mut W,
     line: &[u8],
     out: &mut Vec<u8>,
@@ -46,7 +40,7 @@ pub(crate) fn answer<W: Tenancy>(
         return push_nobody(out);
     };
     let name = tenants.tenant(slot).name;
-    let reply = reply_to(alloc, world, slot, line)?;
+    let reply = reply_to(world, slot, line);
     push_answer(out, &name, &reply)
 }
 
@@ -96,7 +90,7 @@ impl<W: Tenancy + Drop> LineMachine for Script<W> {
         match self {
             Script::Head(_) => read_head_line(alloc, self, line),
             Script::Running(world) => {
-                if answer(alloc, world, line, out).is_err() {
+                if answer(world, line, out).is_err() {
                     return Err(Stop::OutOfMemory);
                 }
                 Ok(())

@@ -30,16 +30,11 @@ fn is_out_of_memory(reply: &Reply) -> bool
 }
 
 /// Has the tenant of the slot do what the line says.
-fn act_for<W: Tenancy>(
-    alloc: Global,
-    world: &mut W,
-    slot: u64,
-    line: &[u8],
-) -> Result<(), AllocError>
+fn act_for<W: Tenancy>(world: &mut W, slot: u64, line: &[u8]) -> Result<(), AllocError>
     requires { slot < length (W.setup world.old).tenants }
     ensures { OnOk result (IsDone W.setup W.StandsFor world.old (said_by slot (act_in (first_word line.now) line.now)) world.new) }
 {
-    let Some(act) = parse_act(alloc, line)? else {
+    let Some(act) = parse_act(line) else {
         return Ok(());
     };
     let reply = world.apply(&Event { slot, act });
@@ -50,7 +45,7 @@ fn act_for<W: Tenancy>(
 }
 
 /// Does what a line after the head says.
-fn act<W: Tenancy>(alloc: Global, world: &mut W, line: &[u8]) -> Result<(), AllocError>
+fn act<W: Tenancy>(world: &mut W, line: &[u8]) -> Result<(), AllocError>
     ensures { OnOk result (IsDone W.setup W.StandsFor world.old (said_in (W.setup world.old).tenants line.now) world.new) }
 {
     let (name, _rest) = split_word(line);
@@ -58,7 +53,7 @@ fn act<W: Tenancy>(alloc: Global, world: &mut W, line: &[u8]) -> Result<(), Allo
     let Some(slot) = tenants.slot_of_name(name) else {
         return Ok(());
     };
-    act_for(alloc, world, slot, line)
+    act_for(world, slot, line)
 }
 
 impl<W: Tenancy + Drop> LineMachine for SilentScript<W> {
@@ -85,7 +80,7 @@ impl<W: Tenancy + Drop> LineMachine for SilentScript<W> {
                 self.script = Script::Running(world);
             }
             Script::Running(world) => {
-                if act(alloc, world, line).is_err() {
+                if act(world, line).is_err() {
                     return Err(Stop::OutOfMemory);
                 }
             }

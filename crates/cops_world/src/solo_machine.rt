@@ -99,7 +99,6 @@ fn read_head_line<W: Tenancy>(
 
 /// Answers a line after the head, where the tenant says it.
 fn answer_own<W: Tenancy>(
-    alloc: Global,
     name: &[u8],
     world: &mut W,
     line: &[u8],
@@ -111,7 +110,7 @@ fn answer_own<W: Tenancy>(
     if word != name {
         return Ok(());
     }
-    answer(alloc, world, line, out)
+    answer(world, line, out)
 }
 
 impl<W: Tenancy + Drop> LineMachine for SoloScript<W> {
@@ -136,7 +135,7 @@ impl<W: Tenancy + Drop> LineMachine for SoloScript<W> {
                 self.script = Script::Running(world);
             }
             Script::Running(world) => {
-                if answer_own(alloc, name, world, line, out).is_err() {
+                if answer_own(name, world, line, out).is_err() {
                     return Err(Stop::OutOfMemory);
                 }
             }

@@ -47,19 +47,15 @@ pub(crate) fn new_world(rt: &impl Abort, alloc: Global, head: &str) -> World {
     }
 }
 
-fn act_of(rt: &impl Abort, alloc: Global, line: &[u8]) -> Act {
-    let parsed = match parse_act(alloc, line) {
-        Ok(parsed) => parsed,
-        Err(_) => parse_act(alloc, line).expect(rt, "memory"),
-    };
-    match parsed {
+fn act_of<'a>(rt: &impl Abort, line: &'a [u8]) -> Act<'a> {
+    match parse_act(line) {
         Some(act) => act,
         None => panic!(rt; "a line of some form"),
     }
 }
 
 /// The event that a line writes.
-pub(crate) fn event_of(rt: &impl Abort, alloc: Global, tenants: &Tenants, line: &str) -> Event
+pub(crate) fn event_of<'a>(rt: &impl Abort, tenants: &Tenants, line: &'a str) -> Event<'a>
     ensures { result.slot < length tenants.now }
 {
     let (name, _rest) = split_word(line.as_bytes());
@@ -67,7 +63,7 @@ pub(crate) fn event_of(rt: &impl Abort, alloc: Global, tenants: &Tenants, line: 
     assert!(rt; slot < tenants.len() as u64);
     Event {
         slot,
-        act: act_of(rt, alloc, line.as_bytes()),
+        act: act_of(rt, line.as_bytes()),
     }
 }
 
@@ -103,7 +99,7 @@ pub(crate) fn row<'a>(rt: &impl Abort, row: &'a str) -> (&'a str, &'a str) {
 fn goes_through(rt: &impl Abort, alloc: Global, world: &mut World, rows: &str) -> bool {
     for line in rows.lines() {
         let (line, texts) = row(rt, line);
-        let event = event_of(rt, alloc, &world.config().tenants, line);
+        let event = event_of(rt, &world.config().tenants, line);
         let reply = world.apply(&event);
         if matches!(reply, Reply::Refused(Fault::OutOfMemory)) {
             return false;

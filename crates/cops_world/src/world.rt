@@ -26,11 +26,11 @@ ghost use Rattle.cops_world.specs.declared.replies.Reply.TheVariants.{Refused};
 
 use crate::actor_table::{act_at, put_new, step_at, take_out};
 use crate::actors::{Actor, ActorId, Deed, Keys, Stepped};
-use crate::{Act, Event, Reply, Tenancy};
+use crate::{Act, ByteSlice, ByteSlices, Event, Reply, Tenancy};
 use cops_node::{AuditEntry, Cluster0, Node, NodeCall, NodeId, NodeReply, Nodes};
 use cops_repl::Carrier;
 use cops_session::Session;
-use cops_types::{ByteLists, Bytes, Config, Fault, Key, Name, Seeds, Value};
+use cops_types::{Config, Fault, Key, Name, Seeds, Value};
 use indexmap::IndexMap;
 use std::alloc::{AllocError, Global};
 use std::marker::Model;
@@ -56,14 +56,14 @@ impl Model for World {
 }
 
 /// The keys, where each is one.
-fn keys_of(alloc: Global, lists: &ByteLists) -> Result<Keys, Fault>
-    ensures ok { IfOk result (λ keys. keys ≡ lists.now) }
-    ensures refused { IsAnswer (refused_if (not (list_all is_key lists.now)) BadKey) result }
+fn keys_of(alloc: Global, slices: &ByteSlices) -> Result<Keys, Fault>
+    ensures ok { IfOk result (λ keys. keys ≡ slices.now) }
+    ensures refused { IsAnswer (refused_if (not (list_all is_key slices.now)) BadKey) result }
 {
-    let lists = lists.as_slice();
-    let mut keys = Vec::with_capacity(alloc, lists.len())?;
-    for list in lists {
-        let key = Key::new(list.as_slice())?;
+    let mut keys = Vec::new(alloc);
+    let mut left = slices.again();
+    while let Some(slice) = left.next_slice() {
+        let key = Key::new(slice)?;
         if keys.push(key).is_err() {
             return Err(Fault::OutOfMemory);
         }
@@ -288,7 +288,14 @@ impl World {
     }
 
     /// Begins a put of a session, where the key and the value are some.
-    fn put(&mut self, slot: u64, name: Name, number: u64, key: &Bytes, value: &Bytes) -> Reply
+    fn put(
+        &mut self,
+        slot: u64,
+        name: Name,
+        number: u64,
+        key: &ByteSlice,
+        value: &ByteSlice,
+    ) -> Reply
         ensures moves { Moves (λ config. cluster_step config (acts.Put name number key.now value.now)) (world_of self.old) slot result (world_of self.new) }
         ensures lack { Leaves Stays (world_of self.old) slot result (world_of self.new) }
     {
@@ -303,11 +310,11 @@ impl World {
     }
 
     /// Begins a get transaction of a session, where there are keys and each is one.
-    fn get(&mut self, slot: u64, name: Name, number: u64, keys: &ByteLists) -> Reply
+    fn get(&mut self, slot: u64, name: Name, number: u64, keys: &ByteSlices) -> Reply
         ensures moves { Moves (λ config. cluster_step config (acts.Get name number keys.now)) (world_of self.old) slot result (world_of self.new) }
         ensures lack { Leaves Stays (world_of self.old) slot result (world_of self.new) }
     {
-        if keys.len() == 0 {
+        if keys.is_empty() {
             return Reply::Refused(Fault::Syntax);
         }
         match keys_of(self.alloc, keys) {

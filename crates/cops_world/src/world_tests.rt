@@ -1,9 +1,9 @@
 //! Worlds act by act: that calls succeed, that replies are those of the worked examples, and that
 //! refused memory is as if the act had not been. Run with the Nth request refused, for each N.
 use crate::test_worlds::{check, new_world};
-use crate::{Act, Event, Reply, World};
+use crate::{Act, ByteSlice, ByteSlices, Event, Reply, World};
 use cops_node::Node;
-use cops_types::{ByteLists, Fault, Name};
+use cops_types::{Fault, Name};
 use std::alloc::Global;
 use std::process::Abort;
 
@@ -85,11 +85,27 @@ fn a_get_of_no_keys_has_no_form(rt: HostRuntime) {
         act: Act::Get(
             Name::new(b"z").expect(&rt, "a name"),
             9,
-            ByteLists::new(rt.alloc()),
+            ByteSlices::of(&[]),
         ),
     };
     assert!(rt; event.slot < world.config().tenants.len() as u64);
     assert!(rt; matches!(world.apply(&event), Reply::Refused(Fault::Syntax)));
+}
+
+#[test]
+fn keys_come_without_a_line(rt: HostRuntime) {
+    let mut world = new_world(&rt, rt.alloc(), NARROW);
+    let keys = [ByteSlice::of(b"x"), ByteSlice::of(b"no key")];
+    let event = Event {
+        slot: 1,
+        act: Act::Get(
+            Name::new(b"z").expect(&rt, "a name"),
+            9,
+            ByteSlices::of(&keys),
+        ),
+    };
+    assert!(rt; event.slot < world.config().tenants.len() as u64);
+    assert!(rt; matches!(world.apply(&event), Reply::Refused(Fault::BadKey)));
 }
 
 /// Each part may be begun anew: a request or a carrier that met refused memory has ended.

@@ -1,7 +1,6 @@
 use Rattle.std.proofs.Common.{◌∙◌, ap, sym}
 use Rattle.std.specs.Prelude.{codes}
 use Rattle.std.specs.Option.{option_and_then}
-use Rattle.std.proofs.lemmas.Result.{IfOk-weaker}
 use Rattle.cops_world.specs.ActLines.{act_of_verb}
 use Rattle.cops_world.specs.ActWords.{with_line}
 use Rattle.cops_world.proofs.ActReading.{verb_is}
@@ -10,12 +9,12 @@ use Rattle.cops_world.proofs.lines.read_act.Goals as goal
 pub returns-then-eq : goal.returns-then-eq
 returns-then-eq c =
     let is = verb_is c.args.verb.now c.as_slice.result.now (codes "put") c.eq.result c.eq.ensures c.as_slice.ensures c.if-eq.true in
-    IfOk-weaker c.read_put.result _ _ (λ act e. e ∙ sym (ap (λ v. option_and_then with_line (act_of_verb v c.args.words.now)) is)) c.read_put.ensures
+    c.read_put.ensures ∙ sym (ap (λ v. option_and_then with_line (act_of_verb v c.args.words.now)) is)
 
 pub returns-then-eq-2 : goal.returns-then-eq-2
 returns-then-eq-2 c =
     let is = verb_is c.args.verb.now c.as_slice-2.result.now (codes "get") c.eq-2.result c.eq-2.ensures c.as_slice-2.ensures c.if-eq-2.true in
-    IfOk-weaker c.read_get.result _ _ (λ act e. e ∙ sym (ap (λ v. option_and_then with_line (act_of_verb v c.args.words.now)) is)) c.read_get.ensures
+    c.read_get.ensures ∙ sym (ap (λ v. option_and_then with_line (act_of_verb v c.args.words.now)) is)
 
 pub returns-then-eq-3 : goal.returns-then-eq-3
 returns-then-eq-3 c =

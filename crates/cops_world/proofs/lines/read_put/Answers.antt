@@ -3,5 +3,5 @@ use Rattle.cops_world.proofs.lines.read_put.Goals as goal
 
 pub returns : goal.returns
 returns c =
-    copies_put c.args.words.now c.name_and_number.new.words _ _ c.in-Some-last_key_and_value.key.now c.in-Some-last_key_and_value.value.now c.in_ok-key.key c.in_ok-value.value
-    c.in_ok-key.ensures c.in_ok-value.ensures c.in-Some.ensures.some c.in-Some-last_key_and_value.ensures.some
+    copies_put c.args.words.now c.name_and_number.new.words _ _ c.in_ok-key.key.now c.in_ok-key.value.now c.of-key.result c.of-value.result
+    c.of-key.ensures c.of-value.ensures c.in_ok-name.ensures.some c.in_ok-key.ensures.some

@@ -12,7 +12,7 @@ returns-in_default g c =
 pub returns : goal.returns
 returns g c =
     on_ok_weaker c.push_answer.result
-    (λ appended. answers_told g.W.Tenancy.setup g.W.Tenancy.StandsFor c.args.world.now c.reply_to.new.world c.setup.result.now c.args.line.now c.split_word.result.0.now c.slot_of_name.result c.in-Some.slot c.tenant.result.now
-    c.in_ok-reply.reply c.args.out.now.items c.push_answer.new.out.items
-    c.setup.ensures c.split_word.ensures.word c.slot_of_name.ensures c.in-Some.is c.tenant.ensures c.in_ok-reply.ensures appended)
+    (λ appended. answers_told g.W.Tenancy.setup g.W.Tenancy.StandsFor c.args.world.now c.reply_to-reply.new.world c.setup.result.now c.args.line.now c.split_word.result.0.now c.slot_of_name.result c.in-Some.slot c.tenant.result.now
+    c.reply_to-reply.result c.args.out.now.items c.push_answer.new.out.items
+    c.setup.ensures c.split_word.ensures.word c.slot_of_name.ensures c.in-Some.is c.tenant.ensures c.reply_to-reply.ensures appended)
     c.push_answer.ensures

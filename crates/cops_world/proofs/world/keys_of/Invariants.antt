@@ -1,11 +1,9 @@
-use Rattle.std.proofs.Common.{◌≡◌, true, take}
-use Rattle.std.specs.List.{list_all}
-use Rattle.cops_types.specs.Key.{is_key}
+use Rattle.std.proofs.Common.{length}
+use Rattle.cops_world.proofs.PutsAndGets.{AreKeysOf}
 use Rattle.cops_world.proofs.world.keys_of.Given as goal
 
--- the keys so far are the lists so far, and each of those is one
-abbrev pub invariant-loop-list : goal.invariant-loop-list
-invariant-loop-list l = record {
-  made : l.keys.items ≡ take l.list-index l.lists;
-  all : list_all is_key (take l.list-index l.lists) ≡ true;
-}
+abbrev pub invariant-loop-slice : goal.invariant-loop-slice
+invariant-loop-slice l = AreKeysOf l.slices l.keys.items l.left
+
+abbrev pub decreases-loop-slice : goal.decreases-loop-slice
+decreases-loop-slice l = length l.left
