@@ -74,15 +74,22 @@ pub greeted_in_part : (tenants : List Tenant) (dcs : ℕ) (remaining new_remaini
     → (Greets tenants dcs remaining new_remaining contents new_contents kept waiting (Err fault) ⊎ IsStopped fault same (same × read) (write × GreetsInPart tenants dcs remaining new_remaining contents new_contents kept))
     → IsGreetedInPart tenants dcs remaining contents new_contents
 greeted_in_part tenants dcs remaining new_remaining contents new_contents kept waiting fault same read write is (inl greets) =
-    inr (new_remaining, kept, record {
-      messages = greets.messages;
-      came = greets.came;
-      written = ([], record {
-        written = spelling (greeting_reply (Err fault));
-        whole = ap (λ a. spelling (greeting_reply a)) (sym greets.answer_is) ∙ sym (append-nil (spelling (greeting_reply (Err fault))));
-        appended = greets.written;
-      });
-    })
+    inr (
+      new_remaining,
+      kept,
+      record {
+        messages = greets.messages;
+        came = greets.came;
+        written = (
+          [],
+          record {
+            written = spelling (greeting_reply (Err fault));
+            whole = ap (λ a. spelling (greeting_reply a)) (sym greets.answer_is) ∙ sym (append-nil (spelling (greeting_reply (Err fault))));
+            appended = greets.written;
+          },
+        );
+      },
+    )
 greeted_in_part tenants dcs remaining new_remaining contents new_contents kept waiting fault same read write is (inr (inl stopped)) = inl (is stopped.1)
 greeted_in_part tenants dcs remaining new_remaining contents new_contents kept waiting fault same read write is (inr (inr (inl stopped))) = inl (is stopped.1.0)
 greeted_in_part tenants dcs remaining new_remaining contents new_contents kept waiting fault same read write is (inr (inr (inr stopped))) = inr (new_remaining, kept, stopped.1.1)

@@ -7,7 +7,7 @@ use Rattle.cops_types.specs.declared.faults.Fault.{Fault}
 use Rattle.cops_node.specs.declared.NodeReply.{NodeReply}
 use Rattle.cops_node.specs.declared.NodeReply.TheVariants as node_reply
 use Rattle.cops_node.specs.declared.NodeReply.TheVariants.{Pulled}
-use Rattle.cops_node.specs.Log.{LogStep, Replied, reply_in, Directed, Next, Call, Ended}
+use Rattle.cops_node.specs.Log.{LogStep, Replied, reply_in, Directed, Call, Ended}
 use Rattle.cops_repl.specs.declared.Delivery.{Delivery}
 use Rattle.cops_repl.specs.declared.Delivery.TheVariants as delivery
 use Rattle.cops_repl.specs.Carrier.{Stream, call_or_end, end_of, first_end, next_after, unless_end}
