@@ -116,6 +116,7 @@ CASES = (
     ("a session", sessions, 50000),
     ("an empty context", contexts, 100000),
     ("a tenant, on 1 node", lambda count: tenants(count, 1, 1), 32),
+    ("a tenant, on 128 nodes", lambda count: tenants(count, 8, 16), 32),
     ("a tenant, on 512 nodes", lambda count: tenants(count, 8, 64), 32),
 )
 
