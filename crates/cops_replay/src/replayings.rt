@@ -8,6 +8,7 @@ ghost use Rattle.cops_replay.specs.Replays.{IsAlone, IsReplayed};
 ghost use Rattle.cops_replay.specs.Replayings.{IsFresh, IsNoted, IsReplayedLine, found_of};
 ghost use Rattle.cops_replay.specs.ReplayText.{told_in};
 
+use crate::layouts::Layout;
 use crate::reading::parse_record;
 use crate::replaying::{agrees, with_tenant_alone};
 use crate::{Record, Replayed};
@@ -46,7 +47,7 @@ fn told_by(alloc: Global, line: &[u8]) -> Result<Option<Record>, AllocError>
     if line.len() > LONGEST_RECORD {
         return Ok(None);
     }
-    let Some((_name, told)) = parse_record(alloc, line)? else {
+    let Some((_name, told)) = parse_record(alloc, Layout::Today, line)? else {
         return Ok(None);
     };
     Ok(Some(told))
