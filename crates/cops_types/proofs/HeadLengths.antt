@@ -11,6 +11,7 @@ use Rattle.cops_types.specs.Head.{Front, AtStart, Within, Begun, Follows, front_
 use Rattle.cops_types.specs.HeadLines.{is_name, is_tenant, IsClusterLine, IsTenantLine}
 use Rattle.cops_types.specs.Key.{is_key}
 use Rattle.cops_types.specs.Lines.{longest_line}
+use Rattle.cops_types.specs.Version.{last_clock}
 use Rattle.cops_types.specs.Words.{spaced, is_u64}
 use Rattle.cops_types.proofs.FrontLemmas.{front_after-is}
 use Rattle.cops_types.proofs.HeadLemmas.{sizes_fit, tenant_fits}

@@ -1,7 +1,6 @@
 use Rattle.std.proofs.Common.{◌≡◌, take}
 use Rattle.std.specs.List.{list_all}
 use Rattle.cops_types.specs.HeadLines.{is_between}
-use Rattle.cops_world.proofs.ActReading.{value_word}
 use Rattle.cops_world.proofs.lines.is_value_word.Given as goal
 
 -- whether all bytes so far can be seen
