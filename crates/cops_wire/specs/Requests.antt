@@ -1,7 +1,7 @@
 -- How a request of a client is answered: by its session, at the nodes, at the moments that come.
-use Rattle.std.specs.Prelude.{◌≡◌, ◌⊎◌, ℕ, ◌<◌, ◌^◌, Bool, not, ◌&&◌, ◌==◌, zero, suc, nat_lt, nat_le, List, [], ◌∷◌, map, drop, length, slice_index, Option, Some, None, if◌then◌else◌}
+use Rattle.std.specs.Prelude.{◌≡◌, ◌⊎◌, ℕ, ◌<◌, ◌≤◌, ◌^◌, Bool, not, ◌&&◌, ◌==◌, zero, suc, nat_lt, nat_le, List, [], ◌∷◌, map, drop, length, slice_index, Option, Some, None, if◌then◌else◌}
 use Rattle.std.specs.Int.{w64, from_be_bytes}
-use Rattle.std.specs.List.{list_all}
+use Rattle.std.specs.List.{list_all, AllByRecursion}
 use Rattle.std.specs.Option.{option_map, option_map_or, option_or}
 use Rattle.cops_types.specs.declared.contexts.Read.{Read}
 use Rattle.cops_types.specs.declared.faults.Fault.{Fault}
@@ -89,8 +89,17 @@ values_of reads = Values (map outcome_of_read reads)
 abbrev pub is_one_frame : List Read → Bool
 is_one_frame reads = are_counted reads && nat_le (length (body_of (values_of reads))) longest_body
 
+-- What a read is within the limits of a head: its key, its value and the keys that it depends on aren't too long, and it depends on few.
+abbrev pub IsLimited : Read → Type 0
+IsLimited read =
+    (length read.key ≤ 64) × (option_map_or length read.value 0 ≤ 4096) × (length read.deps ≤ 1024) × AllByRecursion (λ pair. length pair.key ≤ 64) read.deps
+
+-- a transaction reads few keys, and each read is within those limits
+abbrev pub AreLimited : List Read → Type 0
+AreLimited reads = (length reads ≤ 32) × AllByRecursion IsLimited reads
+
 -- The message that gives the answer of a request. What no frame can hold counts as too many dependencies; within the limits of a head
--- every answer fits.
+-- every answer fits (`limited_answers_fit`).
 abbrev pub reply_to : Answer → Message
 reply_to (answer.Stored pair) = Stored pair.key pair.version
 reply_to (answer.Values reads) = if is_one_frame reads then values_of reads else Refused DependenciesFull
