@@ -123,7 +123,7 @@ def rich(script):
 def old(script):
     """The neighbour's clocks begin just before their end."""
     words = script.tenant(NEIGHBOUR).split(" ")
-    words[3] = str(2**56 - 3)
+    words[3] = str(2**48 - 3)
     yield before_each(script, MEDDLING).with_tenants([script.tenant(TENANT), " ".join(words)])
 
 
