@@ -1,6 +1,9 @@
 use Rattle.std.proofs.Common.{◌≡◌}
 use Rattle.cops_node.specs.Clusters.{shape_of}
+use Rattle.cops_service.specs.Calling.{CallsOnlyFor}
 use Rattle.cops_service.proofs.carrying.carry_stream.Given as goal
 
 abbrev pub invariant-loop : goal.invariant-loop
-invariant-loop g l = g.N.Nodes.shape l.nodes ≡ shape_of l.config
+invariant-loop g l =
+    (g.N.Nodes.shape l.nodes ≡ shape_of l.config)
+    × CallsOnlyFor g.N.Nodes.Answers l.stream.from.slot l.initial.nodes l.nodes

@@ -1,0 +1,16 @@
+use Rattle.std.proofs.Common.{◌∙◌, sym}
+use Rattle.cops_service.proofs.Calling.{both}
+use Rattle.cops_service.proofs.carrying.carry_stream.Goals as goal
+
+pub returns-in_default-came : goal.returns-in_default-came
+returns-in_default-came g c =
+    record {
+      shape = c.deliver.ensures.shape ∙ (c.loop.invariant.0 ∙ sym c.requires.shape);
+      slot = both g.N.Nodes.Answers c.args.stream.now.from.slot c.args.nodes.now c.loop.nodes c.deliver.new.nodes c.loop.invariant.1 c.deliver.ensures.slot;
+    }
+
+pub loop-preserved : goal.loop-preserved
+loop-preserved g c = (
+  c.deliver.ensures.shape ∙ c.loop.invariant.0,
+  both g.N.Nodes.Answers c.args.stream.now.from.slot c.args.nodes.now c.loop.nodes c.deliver.new.nodes c.loop.invariant.1 c.deliver.ensures.slot,
+)

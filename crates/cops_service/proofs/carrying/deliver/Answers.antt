@@ -1,0 +1,23 @@
+use Rattle.std.proofs.Common.{◌∙◌}
+use Rattle.std.specs.Prelude.{max}
+use Rattle.cops_service.proofs.Calling.{one_more}
+use Rattle.cops_service.proofs.carrying.deliver.Goals as goal
+
+pub returns-in-Done-clause-slot : goal.returns-in-Done-clause-slot
+returns-in-Done-clause-slot g c =
+    let called = c.step.ensures.called in
+    one_more g.N.Nodes.Answers c.args.stream.now.from.slot c.args.nodes.now c.loop.nodes c.step.new.nodes c.loop.invariant.6
+    (called.0.node, max c.loop.carrier.moment c.now.result, called.0.call, called.1, called.2)
+
+pub loop-preserved : goal.loop-preserved
+loop-preserved g c =
+    let called = c.step.ensures.called in (
+      tt,
+      tt,
+      c.in_default.ensures.ended,
+      c.step.ensures.stream ∙ c.loop.invariant.3,
+      c.step.ensures.shards ∙ c.loop.invariant.4,
+      c.step.ensures.shape ∙ c.loop.invariant.5,
+      one_more g.N.Nodes.Answers c.args.stream.now.from.slot c.args.nodes.now c.loop.nodes c.step.new.nodes c.loop.invariant.6
+          (called.0.node, max c.loop.carrier.moment c.now.result, called.0.call, called.1, called.2),
+    )
