@@ -47,9 +47,7 @@ fn put_entry<W: Write>(
         (page out.old.items (W.contents (sink_writer sink.old)) (sink_failures sink.old)) result
         (page out.new.items (W.contents (sink_writer sink.new)) (sink_failures sink.new)) }
 {
-    if push_entry(out, name, id, entry).is_err() {
-        return Err(Fault::OutOfMemory);
-    }
+    push_entry(out, name, id, entry)?;
     drain_full(out, sink)
 }
 
@@ -145,9 +143,7 @@ fn put_tenant_line<W: Write>(
         (page out.old.items (W.contents (sink_writer sink.old)) (sink_failures sink.old)) result
         (page out.new.items (W.contents (sink_writer sink.new)) (sink_failures sink.new)) }
 {
-    if push_tenant(out, tenant).is_err() {
-        return Err(Fault::OutOfMemory);
-    }
+    push_tenant(out, tenant)?;
     drain_full(out, sink)
 }
 
@@ -175,15 +171,11 @@ fn put_head<W: Write>(out: &mut Vec<u8>, sink: &mut Sink<W>, config: &Config) ->
         (page out.old.items (W.contents (sink_writer sink.old)) (sink_failures sink.old)) result
         (page out.new.items (W.contents (sink_writer sink.new)) (sink_failures sink.new)) }
 {
-    if push_cluster(out, config).is_err() {
-        return Err(Fault::OutOfMemory);
-    }
+    push_cluster(out, config)?;
     if let Err(fault) = put_tenant_lines(out, sink, config.tenants.as_slice()) {
         return Err(fault);
     }
-    if push_begin(out).is_err() {
-        return Err(Fault::OutOfMemory);
-    }
+    push_begin(out)?;
     Ok(())
 }
 
