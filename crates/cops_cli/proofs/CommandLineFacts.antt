@@ -15,7 +15,7 @@ use Rattle.clap.specs.Faults.{check_fault, defaults_fault, entered_fault, fault_
 use Rattle.clap.specs.declared.parser.matches.ArgMatches.{ArgMatches}
 use Rattle.clap.specs.declared.parser.matches.ArgMatches.TheViews.{out-ArgMatches}
 use Rattle.clap.proofs.OnLiterals.{clap_on_literals}
-use Rattle.cops_cli.specs.CommandLine.{IsSpelledBy, IsSubcommand, cops, subcommand_named, tenant_in, with_tenant}
+use Rattle.cops_cli.specs.CommandLine.{IsSpelledBy, IsSubcommand, cops, subcommand_named, tenant_word, with_tenant_word}
 
 pub is_simple_cops : is_simple cops ≡ true
 unfolding clap_on_literals
@@ -95,19 +95,19 @@ name_in m = sym (option_map-twice _ (λ (p : Text × List Row). p.0) (out-ArgMat
 
 -- where the subcommand is this one, its words name the tenant
 pub named_with_tenant : (word : Text) (found : Option (Text × List Row)) (rows : List Row) → option_map (λ (p : Text × List Row). p.0) found ≡ Some word → option_map (λ (p : Text × List Row). p.1) found ≡ Some rows
-    → option_map with_tenant found ≡ Some (word, tenant_in rows)
+    → option_map with_tenant_word found ≡ Some (word, tenant_word rows)
 named_with_tenant word None rows named with_rows = absurd (none_is_some named)
 named_with_tenant word (Some p) rows named with_rows =
     let name : p.0 ≡ word = ap (λ o. unwrap_or o []) named in
     let its : p.1 ≡ rows = ap (λ o. unwrap_or o []) with_rows in
-    ap₂ (λ (n : Text) (r : List Row). Some (with_tenant (n, r))) name its
+    ap₂ (λ (n : Text) (r : List Row). Some (with_tenant_word (n, r))) name its
 
 -- a subcommand that is named with a tenant is named
-pub word_of_named : (word other tenant : Text) (found : Option (Text × List Row)) → option_map (λ (p : Text × List Row). p.0) found ≡ Some word → option_map with_tenant found ≡ Some (other, tenant) → word ≡ other
+pub word_of_named : (word other tenant : Text) (found : Option (Text × List Row)) → option_map (λ (p : Text × List Row). p.0) found ≡ Some word → option_map with_tenant_word found ≡ Some (other, tenant) → word ≡ other
 word_of_named word other tenant None named with_name = absurd (none_is_some named)
 word_of_named word other tenant (Some p) named with_name =
     let name : p.0 ≡ word = ap (λ o. unwrap_or o []) named in
-    let its : with_tenant p ≡ (other, tenant) = ap (λ (o : Option (Text × Text)). unwrap_or o (other, tenant)) with_name in
+    let its : with_tenant_word p ≡ (other, tenant) = ap (λ (o : Option (Text × Text)). unwrap_or o (other, tenant)) with_name in
     sym name ∙ ap (λ (t : Text × Text). t.0) its
 
 -- where the subcommand is `serve`, these are the rows of what follows it

@@ -6,7 +6,7 @@ use Rattle.cops_world.specs.SoloRuns.{WritesSoloFront}
 use Rattle.cops_cli.specs.Faults.{IsOfWords, UnlessOfWords}
 use Rattle.cops_replay.proofs.AuditRunLemmas.{none_audited}
 use Rattle.cops_replay.proofs.ReplayRunLemmas.{nothing_replayed}
-use Rattle.cops_cli.specs.Runs.{Audits, Replays, Runs, RunsAlone, Serves}
+use Rattle.cops_cli.specs.Runs.{Audits, Replays, Runs, RunsAlone, ServesOrFails}
 use Rattle.cops_cli.specs.declared.faults.CliFault.{CliFault}
 use Rattle.cops_cli.specs.declared.faults.CliFault.TheVariants.{CommandLine, NoText, BadHead, UnknownTenant, OutOfMemory, ReadFault, WriteFault, Torn}
 
@@ -79,7 +79,7 @@ replays_nothing name remaining contents (Err WriteFault) e = absurd e
 replays_nothing name remaining contents (Err Torn) e = absurd e
 
 -- the same before anything is served
-pub ends_unserved : {T : Type 0} → (remaining contents : Option (List ℕ)) (result : Result T CliFault) → IsErrAnd result IsOfWords → UnlessOfWords result (Serves remaining contents contents result)
+pub ends_unserved : {T : Type 0} → (remaining contents : Option (List ℕ)) (result : Result T CliFault) → IsErrAnd result IsOfWords → UnlessOfWords result (ServesOrFails remaining contents contents result)
 ends_unserved remaining contents (Ok done) e = absurd e
 ends_unserved remaining contents (Err (CommandLine error)) e = tt
 ends_unserved remaining contents (Err NoText) e = tt

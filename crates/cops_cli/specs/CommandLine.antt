@@ -60,16 +60,16 @@ abbrev pub subcommand_named : List Text → Option Text
 subcommand_named words = option_map (λ (found : Text × List Row). found.0) (subcommand_of cops words)
 
 -- the tenant that the words after `solo` or `replay` name
-abbrev pub tenant_in : List Row → Text
-tenant_in rows = unwrap_or (first_of (codes "TENANT") rows) []
+abbrev pub tenant_word : List Row → Text
+tenant_word rows = unwrap_or (first_of (codes "TENANT") rows) []
 
 -- a subcommand with the tenant after it
-abbrev pub with_tenant : Text × List Row → Text × Text
-with_tenant found = (found.0, tenant_in found.1)
+abbrev pub with_tenant_word : Text × List Row → Text × Text
+with_tenant_word found = (found.0, tenant_word found.1)
 
 -- the same, of the subcommand that words name
 abbrev pub alone_named : List Text → Option (Text × Text)
-alone_named words = option_map with_tenant (subcommand_of cops words)
+alone_named words = option_map with_tenant_word (subcommand_of cops words)
 
 -- the address that the words after `serve` name
 abbrev pub address_in : List Row → Text

@@ -101,6 +101,6 @@ pub record EndsServing (old_remaining old_contents new_contents : Option (List �
   pub bad : IfBadHead fault (λ line. IfSome old_remaining (λ bytes. head_of (lines_of bytes) ≡ BadAt line))
   pub unwritten : IfBadHead fault (λ line. Keeps old_contents new_contents)
 
-abbrev pub Serves : {T : Type 0} → (old_remaining old_contents new_contents : Option (List ℕ)) → Result T CliFault → Type 0
-Serves old_remaining old_contents new_contents (Ok done) = ServesClients old_remaining old_contents new_contents
-Serves old_remaining old_contents new_contents (Err fault) = EndsServing old_remaining old_contents new_contents fault
+abbrev pub ServesOrFails : {T : Type 0} → (old_remaining old_contents new_contents : Option (List ℕ)) → Result T CliFault → Type 0
+ServesOrFails old_remaining old_contents new_contents (Ok done) = ServesClients old_remaining old_contents new_contents
+ServesOrFails old_remaining old_contents new_contents (Err fault) = EndsServing old_remaining old_contents new_contents fault

@@ -4,7 +4,7 @@ ghost use Rattle.clap.specs.Matches.{found_of};
 ghost use Rattle.clap.specs.Walk.{rows_of};
 ghost use Rattle.clap.specs.Words.{app_of, new_app, one_of, rule_of};
 ghost use Rattle.clap.specs.declared.builder.command.Command.TheViews.{out-Command};
-ghost use Rattle.cops_cli.specs.CommandLine.{IsAskedBy, IsServiceIn, IsSpelledBy, address, audit, cops, number, replay, serve, solo, tenant_in, with_audit, with_replay, with_run, with_solo};
+ghost use Rattle.cops_cli.specs.CommandLine.{IsAskedBy, IsServiceIn, IsSpelledBy, address, audit, cops, number, replay, serve, solo, tenant_word, with_audit, with_replay, with_run, with_solo};
 ghost use Rattle.cops_cli.specs.Faults.{IsOfWords};
 
 use crate::faults::CliFault;
@@ -181,7 +181,7 @@ fn command_line<'a>(alloc: Global) -> Result<Command<'a>, AllocError>
 
 /// The tenant that the words after a subcommand name.
 fn tenant_in<'a>(matches: &ArgMatches<'a>) -> &'a str
-    ensures { result.now ≡ tenant_in (rows_of (found_of matches.now)) }
+    ensures { result.now ≡ tenant_word (rows_of (found_of matches.now)) }
 {
     matches.get_str(TENANT).unwrap_or("")
 }

@@ -6,7 +6,7 @@ ghost use Rattle.cops_types.specs.Sink.{sink_failures, sink_writer};
 ghost use Rattle.cops_types.specs.Source.{source_failures, source_reader, source_reads};
 ghost use Rattle.cops_cli.specs.CommandLine.{IsSubcommand, alone_named, subcommand_named};
 ghost use Rattle.cops_cli.specs.Faults.{IfOfWords, UnlessOfWords};
-ghost use Rattle.cops_cli.specs.Runs.{Audits, Replays, Runs, RunsAlone, Serves};
+ghost use Rattle.cops_cli.specs.Runs.{Audits, Replays, Runs, RunsAlone, ServesOrFails};
 
 use crate::command_line::{Task, read_words};
 use crate::faults::CliFault;
@@ -115,7 +115,7 @@ where
         UnlessOfWords result (Replays tenant (R.remaining (source_reader source.old)) (R.remaining (source_reader source.new))
         (O.contents (sink_writer sink.old)) (O.contents (sink_writer sink.new)) result) }
     ensures serve { subcommand_named (map S.text words.now) ≡ Some (codes "serve") →
-        UnlessOfWords result (Serves (R.remaining (source_reader source.old))
+        UnlessOfWords result (ServesOrFails (R.remaining (source_reader source.old))
         (O.contents (sink_writer sink.old)) (O.contents (sink_writer sink.new)) result) }
     ensures asked { OnOk result (IsSubcommand (subcommand_named (map S.text words.now))) }
     ensures words { IfErr result (λ fault. IfOfWords fault (

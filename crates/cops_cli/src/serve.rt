@@ -3,7 +3,7 @@ ghost use Rattle.std.specs.Prelude.{◌≡◌, ◌⊎◌, ◌^◌, IsErrOf};
 ghost use Rattle.cops_types.specs.Counts.{HasRisen};
 ghost use Rattle.cops_types.specs.Sink.{sink_failures, sink_writer};
 ghost use Rattle.cops_types.specs.Source.{source_reader};
-ghost use Rattle.cops_cli.specs.Runs.{Serves};
+ghost use Rattle.cops_cli.specs.Runs.{ServesOrFails};
 
 use crate::command_line::Service;
 use crate::faults::CliFault;
@@ -46,7 +46,7 @@ pub(crate) fn serve<R, I: Read, O: Write>(
 ) -> Result<(), CliFault>
 where
     R: Net<Listener = TcpListener, Stream = TcpStream> + Threads + Wait + Clock + Sync,
-    ensures serves { Serves (I.remaining (source_reader source.old)) (O.contents (sink_writer sink.old)) (O.contents (sink_writer sink.new)) result }
+    ensures serves { ServesOrFails (I.remaining (source_reader source.old)) (O.contents (sink_writer sink.old)) (O.contents (sink_writer sink.new)) result }
     ensures write_fault { IsErrOf result CliFault.WriteFault → HasRisen (sink_failures sink.old) (sink_failures sink.new) }
 {
     let config = read_config(alloc, source)?;

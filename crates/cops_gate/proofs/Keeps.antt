@@ -16,9 +16,9 @@ use Rattle.cops_gate.specs.declared.board.Stage.{Stage}
 use Rattle.cops_gate.specs.declared.board.Stage.TheVariants.{Idle, Waits, Holds}
 use Rattle.cops_gate.specs.declared.board.View.{View}
 use Rattle.cops_gate.specs.History.{turn, turns_of, StartsWith, Leads, IsLegal}
-use Rattle.cops_gate.specs.Rule.{newcomer, HasTicket, Queues, Knows, Apart, IsOut, Rests, Kept}
+use Rattle.cops_gate.specs.Rule.{Apart, HasTicket, HoldsItsTicket, IsOut, Kept, Knows, Rests, newcomer}
 use Rattle.cops_gate.specs.Plays.{Sat, at_stage, spent_view, published_view, fresh_view, numbered_view, told_view, ended_view, HasRoom, learned, glanced, drawn, published, looked}
-use Rattle.cops_gate.specs.Seats.{Origin, Known, Ends}
+use Rattle.cops_gate.specs.Seats.{ClosesWith, Known, Origin}
 use Rattle.cops_gate.proofs.Histories.{starts_on, turns_other, none_before}
 
 -- lists read by `get_elem?`
@@ -96,12 +96,12 @@ unfolding ticket_of
 holds_same t u e = ap ticket_of e
 
 module _ {C R : Type 0} where
-  queues_grow : (ticket ticket' serving : ℕ) (log seen : List (Turn C R)) (st : Stage) → ticket ≤ ticket' → Queues ticket serving log seen st → Queues ticket' serving log seen st
+  queues_grow : (ticket ticket' serving : ℕ) (log seen : List (Turn C R)) (st : Stage) → ticket ≤ ticket' → HoldsItsTicket ticket serving log seen st → HoldsItsTicket ticket' serving log seen st
   queues_grow ticket ticket' serving log seen Idle l q = tt
   queues_grow ticket ticket' serving log seen (Waits t) l q = let a = q.0 in let b = q.1 in (q.0, omega arith)
   queues_grow ticket ticket' serving log seen (Holds t) l q = let b = q.1 in (q.0, omega arith, q.2)
 
-  has_below : (ticket serving t : ℕ) (log seen : List (Turn C R)) (st : Stage) → Queues ticket serving log seen st → HasTicket t st → t < ticket
+  has_below : (ticket serving t : ℕ) (log seen : List (Turn C R)) (st : Stage) → HoldsItsTicket ticket serving log seen st → HasTicket t st → t < ticket
   has_below ticket serving t log seen Idle q h = absurd h
   has_below ticket serving t log seen (Waits u) q h = let b = q.1 in omega arith
   has_below ticket serving t log seen (Holds u) q h = let b = q.1 in omega arith
@@ -259,7 +259,7 @@ module _ {M C R P : Type 0} (turns : M → ℕ → ℕ → C → R → M → Typ
         keeps,
         tt,
         unmoved s r 0 id me.1 v (seeing r.log v) at
-            record { same = k.same; seen = ([], sym (append-nil r.log)); told = k.told; owns = ((λ e. ((k.owns.0 e).0, refl)), k.owns.1); queues = subst (Queues r.ticket r.serving r.log r.log) (sym idle) tt; spent = k.spent } refl,
+            record { same = k.same; seen = ([], sym (append-nil r.log)); told = k.told; owns = ((λ e. ((k.owns.0 e).0, refl)), k.owns.1); queues = subst (HoldsItsTicket r.ticket r.serving r.log r.log) (sym idle) tt; spent = k.spent } refl,
         (
           refl,
           (refl, refl, numbered, refl, k.seen, k.told, subst (λ n. turns_of n r.log ≡ turns_of n v.seen) (sym (k.owns.0 numbered).0) (k.owns.0 numbered).1),
@@ -334,7 +334,7 @@ module _ {M C R P : Type 0} (turns : M → ℕ → ℕ → C → R → M → Typ
       → Rule (stepped s 1 (get_or s.words 1 0) id cs (holding r.log t v) (takes 0 h))
   taken s r id t cs v h at waits now home =
       let w : V = holding r.log t v in let k = r.each_seat id v at in
-      let q : (r.serving ≤ t) × (t < r.ticket) = subst (Queues r.ticket r.serving r.log v.seen) waits k.queues in record {
+      let q : (r.serving ≤ t) × (t < r.ticket) = subst (HoldsItsTicket r.ticket r.serving r.log v.seen) waits k.queues in record {
         ticket = r.ticket;
         serving = r.serving;
         log = r.log;
@@ -398,7 +398,7 @@ module _ {M C R P : Type 0} (turns : M → ℕ → ℕ → C → R → M → Typ
       (λ miss. (v, keeps, tt, unmoved s r 1 id me.1 v v at k refl, (λ o u _ e numbered. ((λ hit. absurd (miss (hit ∙ sym (same u e)))), (λ _. refl)))))
 
   -- what a seat that waits knows, once the ticket before is served
-  queues_on : (ticket serving n : ℕ) (log log' seen : List (Turn C R)) (st : Stage) → n ≡ serving + 1 → (HasTicket serving st → ⊥) → Queues ticket serving log seen st → Queues ticket n log' seen st
+  queues_on : (ticket serving n : ℕ) (log log' seen : List (Turn C R)) (st : Stage) → n ≡ serving + 1 → (HasTicket serving st → ⊥) → HoldsItsTicket ticket serving log seen st → HoldsItsTicket ticket n log' seen st
   queues_on ticket serving n log log' seen Idle next other q = tt
   queues_on ticket serving n log log' seen (Waits t) next other q = let a = q.0 in let b = q.1 in dite (ℕ_discrete t serving) (λ e. absurd (other e)) (λ ne. (omega arith, b))
   queues_on ticket serving n log log' seen (Holds t) next other q = absurd (other (sym q.0))
@@ -410,7 +410,7 @@ module _ {M C R P : Type 0} (turns : M → ℕ → ℕ → C → R → M → Typ
       let x : Turn C R = turn v.number e in
       let w : V = published_view e v in
       let k = r.each_seat id v at in
-      let q : (r.serving ≡ t) × (t < r.ticket) × (r.log ≡ v.seen) = subst (Queues r.ticket r.serving r.log v.seen) holds k.queues in
+      let q : (r.serving ≡ t) × (t < r.ticket) × (r.log ≡ v.seen) = subst (HoldsItsTicket r.ticket r.serving r.log v.seen) holds k.queues in
       let now : r.serving ≡ t = q.0 in let below : t < r.ticket = q.1 in
       let log : List (Turn C R) = r.log ++ x ∷ [] in
       let all : log ≡ w.seen = ap (λ l. l ++ x ∷ []) q.2 in
@@ -455,7 +455,7 @@ module _ {M C R P : Type 0} (turns : M → ℕ → ℕ → C → R → M → Typ
   -- a turn under way has its number below 2^62
   room : (s : St) (r : Rule s) (id t : ℕ) (v : V) (x : Turn C R) → get_elem? s.views id ≡ some v → v.stage ≡ Holds t → from.ticket + length (v.seen ++ x ∷ []) ≤ 2 ^ 62
   room s r id t v x at holds =
-      let q : (r.serving ≡ t) × (t < r.ticket) × (r.log ≡ v.seen) = subst (Queues r.ticket r.serving r.log v.seen) holds (r.each_seat id v at).queues in
+      let q : (r.serving ≡ t) × (t < r.ticket) × (r.log ≡ v.seen) = subst (HoldsItsTicket r.ticket r.serving r.log v.seen) holds (r.each_seat id v at).queues in
       let now : r.serving ≡ t = q.0 in let below : t < r.ticket = q.1 in let most = r.most in let count = r.count in
       let long : length r.log ≡ length v.seen = ap length q.2 in let more = length-append v.seen (x ∷ []) in omega arith
 
@@ -535,7 +535,7 @@ module _ {M C R P : Type 0} (turns : M → ℕ → ℕ → C → R → M → Typ
       ))
       (λ (out : (s.homes ≡ none ∷ []) × IsOut r.serving s.views).
       let o = out.1 in
-      let q : (r.serving ≡ r.serving) × (r.serving < r.ticket) × (r.log ≡ o.1.seen) = subst (Queues r.ticket r.serving r.log o.1.seen) o.3 (r.each_seat o.0 o.1 o.2).queues in
+      let q : (r.serving ≡ r.serving) × (r.serving < r.ticket) × (r.log ≡ o.1.seen) = subst (HoldsItsTicket r.ticket r.serving r.log o.1.seen) o.3 (r.each_seat o.0 o.1 o.2).queues in
       let below : r.serving < r.ticket = q.1 in absurd (omega arith))
       r.slot
 
@@ -543,11 +543,11 @@ module _ {M C R P : Type 0} (turns : M → ℕ → ℕ → C → R → M → Typ
   pub gives_back : (id : ℕ) (v : V) (ws : List ℕ) (hs : List H) (n k : ℕ) (h : H) (answer : Option M) (gate : Origin M) (seat : Known M C R) → v.numbered ≡ true → Final (Seen Rule id v) ws hs
       → get_elem? ws 0 ≡ some n → get_elem? ws 1 ≡ some k → n ≡ k → get_elem? hs 0 ≡ some h → answer ≡ h
       → first ≡ gate.opening → from.ticket ≡ gate.ticket → v.seen ≡ seat.history → v.number ≡ seat.number → v.spent ≡ seat.spent
-      → IfSome answer (λ m. Ends turns gate seat m) × IfSome answer (λ m. place m ≡ place gate.opening)
+      → IfSome answer (λ m. ClosesWith turns gate seat m) × IfSome answer (λ m. place m ≡ place gate.opening)
   gives_back id v ws hs n k h answer gate seat numbered final ticket serving same there is opened start saw number spent =
       let r = closes id v ws hs n h numbered final ticket (serving ∙ ap some (sym same)) there in
       let answered : answer ≡ Some r.0 = is ∙ r.1 in (
-        subst (λ (x : Option M). IfSome x (λ m. Ends turns gate seat m)) (sym answered)
+        subst (λ (x : Option M). IfSome x (λ m. ClosesWith turns gate seat m)) (sym answered)
             (subst (λ (x : M × ℕ × List (Turn C R) × ℕ × Bool). Left x.0 x.1 x.2 x.3 x.4 r.0) (λ i. (opened i, start i, saw i, number i, spent i)) r.3),
         subst (λ (x : Option M). IfSome x (λ m. place m ≡ place gate.opening)) (sym answered) (r.2 ∙ ap place opened),
       )

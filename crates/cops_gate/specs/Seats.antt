@@ -17,8 +17,8 @@ pub record GateHome (M : Type 0) : Type 0 where
   pub table : TableId
   pub opening : Option (Beginning M)
 
-abbrev pub home_of : {M : Type 0} → Origin M → GateHome M
-home_of gate = record { table = gate.table; opening = Some (record { state = gate.opening; ticket = gate.ticket }) }
+abbrev pub gate_home : {M : Type 0} → Origin M → GateHome M
+gate_home gate = record { table = gate.table; opening = Some (record { state = gate.opening; ticket = gate.ticket }) }
 
 -- a seat: its number, the history that it has seen, and whether it has met the ticket word at 2^62
 pub record Known (M C R : Type 0) : Type 0 where
@@ -33,12 +33,12 @@ Extends turns opening old e new = Grows turns opening old.number old.history e n
 
 -- The machine is one that a history leaves which begins with all that the seat has seen, and has no other turn of it.
 -- Where the seat has met the ticket word at 2^62, each ticket below that had its turn
-abbrev pub Ends : {M C R : Type 0} → (M → ℕ → ℕ → C → R → M → Type 0) → Origin M → Known M C R → M → Type 0
-Ends {M} {C} {R} turns gate seat machine =
+abbrev pub ClosesWith : {M C R : Type 0} → (M → ℕ → ℕ → C → R → M → Type 0) → Origin M → Known M C R → M → Type 0
+ClosesWith {M} {C} {R} turns gate seat machine =
     (log : List (Turn C R)) × StartsWith log seat.history × Leads turns gate.opening log machine
     × (turns_of seat.number log ≡ turns_of seat.number seat.history)
     × (seat.spent ≡ true → gate.ticket + length log ≡ 2 ^ 62)
 
 -- the seat 0 of a gate
 abbrev pub first_seat : {M C R : Type 0} → Origin M → Known M C R
-first_seat gate = record { gate = home_of gate; number = 0; history = []; spent = false }
+first_seat gate = record { gate = gate_home gate; number = 0; history = []; spent = false }

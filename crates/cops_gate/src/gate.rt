@@ -3,7 +3,7 @@ ghost use Rattle.std.specs.Prelude.{◌≡◌, ◌≢◌, ◌+◌, ◌^◌, leng
 ghost use Rattle.cops_types.specs.declared.faults.Fault.TheVariants.{GateSpent, OutOfMemory};
 ghost use Rattle.cops_gate.specs.declared.board.Stage.TheVariants.{Idle};
 ghost use Rattle.cops_gate.specs.History.{entry, turns_of, StartsWith, IsLegal};
-ghost use Rattle.cops_gate.specs.Seats.{Origin, Known, Extends, Ends, first_seat, home_of};
+ghost use Rattle.cops_gate.specs.Seats.{ClosesWith, Extends, Known, Origin, first_seat, gate_home};
 
 use crate::board::{Beginning, Board, BoardSeat};
 use crate::meetings::{hear, learn, note};
@@ -91,7 +91,7 @@ impl<M: Machine> Gate<M> {
         moment: u64,
         call: M::Call,
     ) -> Result<M::Reply, Fault>
-        requires seat { seat.old.gate ≡ home_of self.now }
+        requires seat { seat.old.gate ≡ gate_home self.now }
         requires fits { M.fits (M.place self.now.opening) slot call }
         ensures same { (seat.new.gate ≡ seat.old.gate) × (seat.new.number ≡ seat.old.number) }
         ensures reply { IfOk result (λ r. Extends M.turns self.now.opening seat.old (Some (entry slot moment call r)) seat.new) }
@@ -120,7 +120,7 @@ impl<M: Machine> Gate<M> {
 
     /// A new seat, which has seen the same and has made no turn.
     pub fn split(&self, seat: &mut GateSeat<M>) -> GateSeat<M>
-        requires { seat.old.gate ≡ home_of self.now }
+        requires { seat.old.gate ≡ gate_home self.now }
         ensures same { seat.new ≡ seat.old }
         ensures new { (result.gate ≡ seat.old.gate) × (result.history ≡ seat.old.history) × (result.spent ≡ seat.old.spent) }
         ensures no_turn { turns_of result.number result.history ≡ [] }
@@ -132,8 +132,8 @@ impl<M: Machine> Gate<M> {
 
     /// The second seat sees all that the first has seen.
     pub fn meet(&self, from: &mut GateSeat<M>, to: &mut GateSeat<M>)
-        requires from { from.old.gate ≡ home_of self.now }
-        requires to { to.old.gate ≡ home_of self.now }
+        requires from { from.old.gate ≡ gate_home self.now }
+        requires to { to.old.gate ≡ gate_home self.now }
         ensures from { from.new ≡ from.old }
         ensures same { (to.new.gate ≡ to.old.gate) × (to.new.number ≡ to.old.number) × (to.new.spent ≡ to.old.spent) }
         ensures seen { StartsWith to.new.history from.old.history × StartsWith to.new.history to.old.history }
@@ -149,8 +149,8 @@ impl<M: Machine> Gate<M> {
 impl<M: Machine + Drop> Gate<M> {
     /// The machine, if each ticket that was drawn has been served.
     pub fn close(self, seat: GateSeat<M>) -> Option<M>
-        requires { seat.gate ≡ home_of self }
-        ensures history { IfSome result (λ m. Ends M.turns self seat m) }
+        requires { seat.gate ≡ gate_home self }
+        ensures history { IfSome result (λ m. ClosesWith M.turns self seat m) }
         ensures place { IfSome result (λ m. M.place m ≡ M.place self.opening) }
     {
         let Gate { board, sleepers: _ } = self;

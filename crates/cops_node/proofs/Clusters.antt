@@ -21,10 +21,10 @@ use Rattle.cops_node.specs.declared.NodeReply.TheVariants.{Refused}
 use Rattle.cops_node.specs.declared.Place.{Place}
 use Rattle.cops_node.specs.Clusters.{Cluster, nodes_of, HasTenant, solo_at, turn_at, IsTurnOf, IsCall, IsCluster, id_of, new_shared, new_nodes, shape_of, HoldsNodes}
 use Rattle.cops_node.specs.Parts.{Home, Shared, trail_of, solo_of, left_by, has_audit_room, IsTurn, AllFit, AuditFits, IsAudited}
-use Rattle.cops_node.specs.Place.{place_of, number_of, fits}
+use Rattle.cops_node.specs.Place.{fits, node_number, place_of}
 use Rattle.cops_node.specs.Shape.{Shape, place_in}
 use Rattle.cops_node.specs.SoloNode.{SoloNode, new_node}
-use Rattle.cops_node.specs.Step.{Turn, node_step}
+use Rattle.cops_node.specs.Step.{CallEffect, node_step}
 use Rattle.cops_node.proofs.Slots.{AuditFits-noted}
 use Rattle.cops_node.proofs.Fresh.{no_calls_fit, replicate_read}
 
@@ -54,19 +54,19 @@ fits_next slot moment call reply node next fit home (inr more) before =
 -- ---- a call
 
 module _ (shape : Shape) (nodes : List Shared) (id : NodeId) (slot moment : ℕ) (call : NodeCall) (reply : NodeReply) (node next : Shared)
-    (within : number_of shape.shards id < length nodes) (read : node ≡ get_or nodes (number_of shape.shards id) node) (here : node.home.id ≡ id)
+    (within : node_number shape.shards id < length nodes) (read : node ≡ get_or nodes (node_number shape.shards id) node) (here : node.home.id ≡ id)
     (turn : (place : Place) → place ≡ get_or node.home.places slot place → IsTurn slot moment call reply place node next)
     (full : (place : Place) → place ≡ get_or node.home.places slot place → has_audit_room slot place node ≡ false → reply ≡ Refused AuditFull)
     (stay : (other : ℕ) → other ≢ slot → trail_of other next.audit ≡ trail_of other node.audit)
     (home : next.home ≡ node.home) where
   abbrev number : ℕ
-  number = number_of shape.shards id
+  number = node_number shape.shards id
 
   abbrev old : Cluster
   old = record { shape = shape; nodes = nodes }
 
   abbrev new : Cluster
-  new = record { shape = shape; nodes = set nodes (number_of shape.shards id) next }
+  new = record { shape = shape; nodes = set nodes (node_number shape.shards id) next }
 
   homes : map (λ (n : Shared). n.home) (set nodes number next) ≡ map (λ (n : Shared). n.home) nodes
   homes = map-set_same (λ (n : Shared). n.home) nodes number next node (home ∙ ap (λ (n : Shared). n.home) read)
@@ -85,7 +85,7 @@ module _ (shape : Shape) (nodes : List Shared) (id : NodeId) (slot moment : ℕ)
   abbrev place : Place
   place = get_or node.home.places slot (place_in shape id)
 
-  same_number : (config : TenantConfig) → config.shards ≡ shape.shards → number ≡ number_of config.shards id
+  same_number : (config : TenantConfig) → config.shards ≡ shape.shards → number ≡ node_number config.shards id
   same_number config same_shards = ap (λ n. id.dc * n + id.shard) (sym same_shards)
 
   found : (config : TenantConfig) → HasTenant config slot old → slice_get node.home.places slot ≡ Some (place_of config node.home.id)
@@ -104,7 +104,7 @@ module _ (shape : Shape) (nodes : List Shared) (id : NodeId) (slot moment : ℕ)
   by_tenant : (reply ≡ (node_step place moment call (solo_of slot place node)).reply) × (solo_of slot place next ≡ (node_step place moment call (solo_of slot place node)).after)
       → (config : TenantConfig) → config.shards ≡ shape.shards → HasTenant config slot old → IsTurnOf config id slot moment call reply old new
   by_tenant t config same_shards has = record {
-    reply_is = t.0 ∙ ap (λ (u : Turn). u.reply) turn_is;
+    reply_is = t.0 ∙ ap (λ (u : CallEffect). u.reply) turn_is;
     after = map-set solos nodes number next ∙ (λ i. set (map solos nodes) (same_number config same_shards i) (next_is i));
   }
     where
@@ -115,7 +115,7 @@ module _ (shape : Shape) (nodes : List Shared) (id : NodeId) (slot moment : ℕ)
       turn_is = (λ i. node_step (place_is config has i) moment call (solo_is config same_shards has i))
 
       next_is : solo_of slot (place_of config next.home.id) next ≡ (turn_at config id slot moment call old).after
-      next_is = ap (λ p. solo_of slot p next) (ap (place_of config) (ap (λ (h : Home). h.id) home ∙ here) ∙ sym (place_is config has)) ∙ t.1 ∙ ap (λ (u : Turn). u.after) turn_is
+      next_is = ap (λ p. solo_of slot p next) (ap (place_of config) (ap (λ (h : Home). h.id) home ∙ here) ∙ sym (place_is config has)) ∙ t.1 ∙ ap (λ (u : CallEffect). u.after) turn_is
 
   refused_full : (config : TenantConfig) → config.shards ≡ shape.shards → HasTenant config slot old → nat_lt (length (solo_at config id slot old).trail) config.quota.audit ≡ false → reply ≡ Refused AuditFull
   refused_full config same_shards has closed =
@@ -157,10 +157,10 @@ module _ (shape : Shape) (nodes : List Shared) (id : NodeId) (slot moment : ℕ)
 
 -- ---- the node of a number
 
-pub number_within : (shape : Shape) (id : NodeId) → id.dc < shape.data_centres → id.shard < shape.shards → number_of shape.shards id < shape.data_centres * shape.shards
+pub number_within : (shape : Shape) (id : NodeId) → id.dc < shape.data_centres → id.shard < shape.shards → node_number shape.shards id < shape.data_centres * shape.shards
 number_within shape id dc shard = omega (arith, mul-add-lt id.dc shape.shards id.shard shape.data_centres dc shard)
 
-pub id_is : (shards : ℕ) (id : NodeId) → id.shard < shards → id_of shards (number_of shards id) ≡ id
+pub id_is : (shards : ℕ) (id : NodeId) → id.shard < shards → id_of shards (node_number shards id) ≡ id
 id_is shards id lt =
     let dc : (id.dc * shards + id.shard) / shards ≡ id.dc = div-mul-add id.dc shards id.shard lt in
     let shard : (id.dc * shards + id.shard) % shards ≡ id.shard = mod-mul-add id.dc shards id.shard lt in

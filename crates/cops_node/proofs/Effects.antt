@@ -23,7 +23,7 @@ use Rattle.cops_node.specs.declared.NodeReply.TheVariants.{Acked, NotFront, Refu
 use Rattle.cops_node.specs.Parts.{StandsAt, AreMarks, mark_in}
 use Rattle.cops_node.specs.Place.{is_other_dc, own_number}
 use Rattle.cops_node.specs.SoloNode.{SoloNode, queue, issued}
-use Rattle.cops_node.specs.Step.{committed, is_outbox_full, acknowledge, Turn, version_of_put, put, put_at, put_refusal, store_unless, entry_of_put, unchanged}
+use Rattle.cops_node.specs.Step.{CallEffect, acknowledge, committed, entry_of_put, is_outbox_full, node_put_refusal, put, put_with_version, store_unless, unchanged, version_of_put}
 use Rattle.cops_node.proofs.NewRecords.{AreMarks-push, NoneLater-push, NoneLater-raised, clock-push}
 use Rattle.cops_node.proofs.MarkLaws.{ever-collected}
 
@@ -127,7 +127,7 @@ within_drop : {A : Type 0} (n : ℕ) (xs : List A) (y : A) (ys : List A) → dro
 within_drop n xs y ys h = let long = ap length h in let short = length-drop n xs in omega arith
 
 -- the turn with which the front is taken out or not
-abbrev pub ack_turn : Bool → ℕ → SoloNode → Turn
+abbrev pub ack_turn : Bool → ℕ → SoloNode → CallEffect
 ack_turn b dc solo = if b then record { reply = Acked; after = record solo { acked = set solo.acked dc (get_or solo.acked dc 0 + 1) } } else record { reply = NotFront; after = solo }
 
 pub acknowledge_is : (dc : ℕ) (version : Timestamp) (solo : SoloNode) (first : Option Entry) → acknowledge dc version solo first ≡ ack_turn (is_front version first) dc solo
@@ -248,6 +248,6 @@ version_found slot place counters store outbox solo deps version h is =
     by None e = cc
 
 -- a put that is refused changes nothing
-pub refused_put : (place : Place) (solo : SoloNode) (key value : List ℕ) (deps near : List Pair) (version : Timestamp) (fault : Fault) → version_of_put place solo deps ≡ Some version → put_refusal place solo key value ≡ Some fault → put place solo key value deps near ≡ unchanged (Refused fault) solo
+pub refused_put : (place : Place) (solo : SoloNode) (key value : List ℕ) (deps near : List Pair) (version : Timestamp) (fault : Fault) → version_of_put place solo deps ≡ Some version → node_put_refusal place solo key value ≡ Some fault → put place solo key value deps near ≡ unchanged (Refused fault) solo
 refused_put place solo key value deps near version fault is refused =
-    ap (put_at place solo key value deps near) is ∙ ap (λ o. store_unless o (Stored version) (entry_of_put place solo version key value deps near) solo) refused
+    ap (put_with_version place solo key value deps near) is ∙ ap (λ o. store_unless o (Stored version) (entry_of_put place solo version key value deps near) solo) refused

@@ -16,9 +16,10 @@ use Rattle.cops_node.specs.declared.NodeReply.{NodeReply}
 use Rattle.cops_node.specs.declared.NodeReply.TheVariants.{Stored, Checked, Committed, Already, OutOfOrder, Acked, NotFront, Removed, Refused}
 use Rattle.cops_node.specs.declared.Place.{Place}
 use Rattle.cops_node.specs.declared.Wanted.TheVariants.{Latest, Exactly}
-use Rattle.cops_node.specs.SoloNode.{SoloNode, queue, front}
-use Rattle.cops_node.specs.Step.{Turn, node_step, effect, audited, unchanged, was_committed, reply_latest, reply_exact, reply_pull, is_versions_full, is_bytes_full, is_outbox_full, store_unless, put_at, put_refusal, commit_refusal, committed, acknowledge, entry_of_put, version_of_put}
+use Rattle.cops_node.specs.SoloNode.{SoloNode, queue}
+use Rattle.cops_node.specs.Step.{CallEffect, acknowledge, audited, commit_refusal, committed, effect, entry_of_put, is_bytes_full, is_outbox_full, is_versions_full, node_put_refusal, node_step, put_with_version, reply_exact, reply_latest, reply_pull, store_unless, unchanged, version_of_put, was_committed}
 use Rattle.cops_node.proofs.MarkLaws.{ever-collected}
+use Rattle.cops_outbox.specs.Queues.{front}
 
 -- the entries that the node ever committed, in order
 abbrev pub entries : SoloNode → List Entry
@@ -88,10 +89,10 @@ commit_fault false true fault e = let same : ByteQuota ≡ fault = cc in subst (
 commit_fault false false fault e = cc
 
 module _ (place : Place) where
-  abbrev ChangeBy : NodeCall → SoloNode → Turn → Type 0
+  abbrev ChangeBy : NodeCall → SoloNode → CallEffect → Type 0
   ChangeBy call solo turn = Change place call solo turn.reply turn.after
 
-  put_stored : (solo : SoloNode) (key value : List ℕ) (deps near : List Pair) (version : Timestamp) (fault : Option Fault) → version_of_put place solo deps ≡ Some version → put_refusal place solo key value ≡ fault →
+  put_stored : (solo : SoloNode) (key value : List ℕ) (deps near : List Pair) (version : Timestamp) (fault : Option Fault) → version_of_put place solo deps ≡ Some version → node_put_refusal place solo key value ≡ fault →
       ChangeBy (Put key value deps near) solo (store_unless fault (Stored version) (entry_of_put place solo version key value deps near) solo)
   put_stored solo key value deps near version (Some fault) next refused =
       IsRefused refl refl (fault, refl, put_fault (is_versions_full place solo) (is_bytes_full place key value solo) (is_outbox_full place solo) fault refused)
@@ -99,9 +100,9 @@ module _ (place : Place) where
       Joined (entry_of_put place solo version key value deps near) (entries-committed (entry_of_put place solo version key value deps near) solo) refl (version, refl, next, refl)
 
   put_changes : (solo : SoloNode) (key value : List ℕ) (deps near : List Pair) (version : Option Timestamp) → version_of_put place solo deps ≡ version →
-      ChangeBy (Put key value deps near) solo (put_at place solo key value deps near version)
+      ChangeBy (Put key value deps near) solo (put_with_version place solo key value deps near version)
   put_changes solo key value deps near None next = IsRefused refl refl (ClockFull, refl, refl)
-  put_changes solo key value deps near (Some version) next = put_stored solo key value deps near version (put_refusal place solo key value) next refl
+  put_changes solo key value deps near (Some version) next = put_stored solo key value deps near version (node_put_refusal place solo key value) next refl
 
   commit_stored : (solo : SoloNode) (e : Entry) (fault : Option Fault) → was_committed e.version solo ≡ false → version_eq e.prev (mark e.version.node solo.recs) ≡ true → commit_refusal place solo e ≡ fault →
       ChangeBy (Commit e) solo (store_unless fault Committed e solo)
@@ -172,7 +173,7 @@ module _ (place : Place) where
       raised : SoloNode
       raised = record solo { moment = max solo.moment moment }
 
-      audited_changes : (turn : Turn) → ChangeBy call raised turn → ChangeBy call solo (audited moment call turn)
+      audited_changes : (turn : CallEffect) → ChangeBy call raised turn → ChangeBy call solo (audited moment call turn)
       audited_changes turn (IsRefused same acked is) = IsRefused same acked is
       audited_changes turn (Answers same acked is) = Answers same acked (reply_raised (max solo.moment moment) call solo turn.reply is)
       audited_changes turn (Joined e more acked is) = Joined e more acked (stores_raised (max solo.moment moment) call solo turn.reply e is)

@@ -15,7 +15,7 @@ use Rattle.cops_types.specs.Key.{shard_of}
 use Rattle.cops_types.specs.Records.{StandsFor, mark}
 use Rattle.cops_types.specs.Version.{Timestamp, version_eq}
 use Rattle.cops_store.specs.Contents.{Contents, rows_of}
-use Rattle.cops_outbox.specs.Queues.{Queues, queue_of}
+use Rattle.cops_outbox.specs.Queues.{Queues, front, queue_of}
 use Rattle.cops_node.specs.declared.AuditEntry.{AuditEntry}
 use Rattle.cops_node.specs.declared.NodeCall.{NodeCall}
 use Rattle.cops_node.specs.declared.NodeCall.TheVariants.{Get, Put, DepCheck, Pull, Commit, Ack, Collect}
@@ -27,10 +27,10 @@ use Rattle.cops_node.specs.declared.parts.Counters.{Counters}
 use Rattle.cops_node.specs.declared.parts.Part.{Part}
 use Rattle.cops_node.specs.Parts.{AllFit, trail_of, trails_of, noted, left_by, StandsAt, HasSolo, OthersStay, IsDone, IsPart, IsNode, Shared}
 use Rattle.cops_node.specs.Place.{fits}
-use Rattle.cops_node.specs.Run.{node_after, calls_of}
+use Rattle.cops_node.specs.Run.{calls_in_trail, node_after}
 use Rattle.cops_node.specs.Shape.{place_in}
-use Rattle.cops_node.specs.SoloNode.{SoloNode, new_node, queue, front}
-use Rattle.cops_node.specs.Step.{Turn, node_step, audited, effect, unchanged, was_committed, store_unless, put_at, put_refusal, commit_refusal, acknowledge, entry_of_put, version_of_put}
+use Rattle.cops_node.specs.SoloNode.{SoloNode, new_node, queue}
+use Rattle.cops_node.specs.Step.{CallEffect, acknowledge, audited, commit_refusal, effect, entry_of_put, node_put_refusal, node_step, put_with_version, store_unless, unchanged, version_of_put, was_committed}
 use Rattle.cops_node.proofs.AuditLaws.{node_after-push, trail_of_effect}
 use Rattle.cops_node.proofs.Effects.{StandsAt-raised}
 
@@ -57,7 +57,7 @@ AuditFits-noted place (suc slot) (trail ∷ audit) e all fit = (all.0, AuditFits
 left_by-push : (place : Place) (trail : List AuditEntry) (e : AuditEntry) → left_by place (trail ++ e ∷ []) ≡ (node_step place e.moment e.call (left_by place trail)).after
 left_by-push place trail e =
     ap (λ cs. node_after place cs (new_node place.data_centres)) (map-append (λ (e : AuditEntry). record { moment = e.moment; call = e.call }) trail (e ∷ []))
-    ∙ node_after-push place (calls_of trail) (record { moment = e.moment; call = e.call }) (new_node place.data_centres)
+    ∙ node_after-push place (calls_in_trail trail) (record { moment = e.moment; call = e.call }) (new_node place.data_centres)
 
 -- ---- a turn, by whether the audit is full
 
@@ -69,7 +69,7 @@ step_open : (place : Place) (moment : ℕ) (call : NodeCall) (solo : SoloNode) �
 step_open place moment call solo e = ap (λ b. if b then audited moment call (effect place call (record solo { moment = max solo.moment moment })) else unchanged (Refused AuditFull) solo) e
 
 -- what a call does leaves the moment as it was raised
-branch : (b : Bool) (one other : Turn) (moment : ℕ) → one.after.moment ≡ moment → other.after.moment ≡ moment → (cond b one other).after.moment ≡ moment
+branch : (b : Bool) (one other : CallEffect) (moment : ℕ) → one.after.moment ≡ moment → other.after.moment ≡ moment → (cond b one other).after.moment ≡ moment
 branch true one other moment p q = p
 branch false one other moment p q = q
 
@@ -77,9 +77,9 @@ moment_of_store : (fault : Option Fault) (reply : NodeReply) (entry : Entry) (so
 moment_of_store (Some fault) reply entry solo = refl
 moment_of_store None reply entry solo = refl
 
-moment_of_put : (place : Place) (solo : SoloNode) (key value : List ℕ) (deps near : List Pair) (version : Option Timestamp) → (put_at place solo key value deps near version).after.moment ≡ solo.moment
+moment_of_put : (place : Place) (solo : SoloNode) (key value : List ℕ) (deps near : List Pair) (version : Option Timestamp) → (put_with_version place solo key value deps near version).after.moment ≡ solo.moment
 moment_of_put place solo key value deps near None = refl
-moment_of_put place solo key value deps near (Some version) = moment_of_store (put_refusal place solo key value) (Stored version) (entry_of_put place solo version key value deps near) solo
+moment_of_put place solo key value deps near (Some version) = moment_of_store (node_put_refusal place solo key value) (Stored version) (entry_of_put place solo version key value deps near) solo
 
 moment_of_ack : (dc : ℕ) (version : Timestamp) (solo : SoloNode) (first : Option Entry) → (acknowledge dc version solo first).after.moment ≡ solo.moment
 moment_of_ack dc version solo None = refl
@@ -262,7 +262,7 @@ full_done id dcs shards slot moment call parts p store outbox full node within r
     let turn : node_step place moment call (left_by place (trail_of slot before)) ≡ unchanged (Refused AuditFull) (left_by place (trail_of slot before)) =
     (λ i. node_step (place_is i) moment call (left_by (place_is i) (hidden i))) ∙ full_turn id dcs shards slot moment call parts p store outbox full node within read test closed
     ∙ (λ i. unchanged (Refused AuditFull) (left_by (back i) (calls i))) in
-    (sym (ap (λ (t : Turn). t.reply) turn), sym (ap (λ (t : Turn). t.after) turn))
+    (sym (ap (λ (t : CallEffect). t.reply) turn), sym (ap (λ (t : CallEffect). t.after) turn))
 
 -- a call that is not refused for a full audit came to one that has room
 pub open_room : (id : NodeId) (dcs shards slot : ℕ) (parts : List Part) (p : Part) (store : Contents) (outbox : Queues) (full : Bool) → IsNode id dcs shards parts store outbox → slot < length parts → p ≡ get_or parts slot p
@@ -314,13 +314,13 @@ module _ (slot moment now : ℕ) (call : NodeCall) (id : NodeId) (dcs shards : �
   turn_is = step_open p.place moment call solo (audit_room id dcs shards slot p store outbox part ∙ not_not _ (sym test ∙ open_is))
 
   turn_reply : told ≡ (node_step p.place moment call solo).reply
-  turn_reply = effect_is.0 ∙ sym (ap (λ (t : Turn). t.reply) turn_is)
+  turn_reply = effect_is.0 ∙ sym (ap (λ (t : CallEffect). t.reply) turn_is)
 
   turn_after : left_by p.place new.trail.calls ≡ (node_step p.place moment call solo).after
   turn_after = ap (left_by p.place) calls_are ∙ left_by-push p.place p.trail.calls entry
 
   after_is : left_by p.place new.trail.calls ≡ (audited moment call (effect p.place call raised)).after
-  after_is = turn_after ∙ ap (λ (t : Turn). t.after) turn_is
+  after_is = turn_after ∙ ap (λ (t : CallEffect). t.after) turn_is
 
   next_part : IsPart id dcs shards slot new store' outbox'
   next_part =

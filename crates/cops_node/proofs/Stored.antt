@@ -10,7 +10,7 @@ use Rattle.cops_types.specs.Pairs.{greatest_clock}
 use Rattle.cops_types.specs.Records.{Tracked, StandsFor, clock, mark}
 use Rattle.cops_types.specs.Version.{Timestamp, version_le, version_eq, next_version, last_clock}
 use Rattle.cops_store.specs.Contents.{Contents, rows_of, rows_in, NoneLater, LacksVersion}
-use Rattle.cops_outbox.specs.Queues.{Queues, queue_of, is_front}
+use Rattle.cops_outbox.specs.Queues.{Queues, front, is_front, queue_of}
 use Rattle.cops_outbox.specs.Queues as outbox_queues
 use Rattle.cops_outbox.specs.declared.outbox.Ack.{Ack as Answer}
 use Rattle.cops_outbox.specs.declared.outbox.Ack.TheVariants as answer
@@ -21,8 +21,8 @@ use Rattle.cops_node.specs.declared.NodeReply.{NodeReply}
 use Rattle.cops_node.specs.declared.NodeReply.TheVariants.{Stored, Committed, Already, OutOfOrder, Refused, Acked, NotFront}
 use Rattle.cops_node.specs.Parts.{IsPlace, StandsAt}
 use Rattle.cops_node.specs.Place.{is_other_dc, is_other_equivalent, own_number}
-use Rattle.cops_node.specs.SoloNode.{SoloNode, queue, front}
-use Rattle.cops_node.specs.Step.{Turn, committed, version_of_put, put, put_at, put_refusal, commit, commit_refusal, store_unless, entry_of_put, effect, unchanged, was_committed}
+use Rattle.cops_node.specs.SoloNode.{SoloNode, queue}
+use Rattle.cops_node.specs.Step.{CallEffect, commit, commit_refusal, committed, effect, entry_of_put, node_put_refusal, put, put_with_version, store_unless, unchanged, version_of_put, was_committed}
 use Rattle.cops_node.proofs.Effects.{StandsAt-committed, sent, StandsAt-acked, ack_turn, acknowledge_is}
 use Rattle.cops_node.proofs.NewRecords.{is_new, above_marks}
 
@@ -83,7 +83,7 @@ put_is_new slot place counters store outbox solo key deps version h is = is_new 
 
 module _ (slot now : ℕ) (place : Place) (counters counters' : Counters) (store middle store' : Contents) (outbox outbox' : Queues) (solo : SoloNode) (key value : List ℕ) (deps near : List Pair) (version prev : Timestamp) (entry : Entry)
     (moment : solo.moment ≡ now) (h : StandsAt slot place counters store outbox solo)
-    (version_is : version_of_put place solo deps ≡ Some version) (allowed : put_refusal place solo key value ≡ None)
+    (version_is : version_of_put place solo deps ≡ Some version) (allowed : node_put_refusal place solo key value ≡ None)
     (prev_is : prev ≡ mark (own_number place) solo.recs)
     (entry_is : entry ≡ record { key = key; version = version; value = value; deps = deps; near = near; prev = prev })
     (rows : middle.rows ≡ store.rows) (tenants : middle.tenants ≡ store.tenants)
@@ -100,7 +100,7 @@ module _ (slot now : ℕ) (place : Place) (counters counters' : Counters) (store
 
   turn_is : put place solo key value deps near ≡ record { reply = Stored version; after = committed entry solo }
   turn_is =
-      ap (put_at place solo key value deps near) version_is
+      ap (put_with_version place solo key value deps near) version_is
       ∙ ap (λ o. store_unless o (Stored version) (entry_of_put place solo version key value deps near) solo) allowed
       ∙ ap (λ (e : Entry). record { reply = Stored version; after = committed e solo }) (sym same_entry)
 
@@ -115,7 +115,7 @@ module _ (slot now : ℕ) (place : Place) (counters counters' : Counters) (store
 
   put_stands : StandsAt slot place counters' store' outbox' (effect place (Put key value deps near) solo).after
   put_stands =
-      subst (λ (t : Turn). StandsAt slot place counters' store' outbox' t.after) (sym turn_is)
+      subst (λ (t : CallEffect). StandsAt slot place counters' store' outbox' t.after) (sym turn_is)
       (StandsAt-committed slot place counters counters' store store' outbox outbox' solo entry h
       (ap (λ (v : Timestamp). version_le v (mark v.node solo.recs)) same_version ∙ put_above place solo deps version version_is) clock_fits
       (λ tracked s late. subst (λ m. StandsFor (rows_of slot store') (tracked ++ record { record_of = record { entry = entry; at = m }; removed = false } ∷ [])) (sym moment)
@@ -192,7 +192,7 @@ module _ (slot now : ℕ) (place : Place) (counters counters' : Counters) (store
 
   commit_stands : StandsAt slot place counters' store' outbox (effect place (Commit entry) solo).after
   commit_stands =
-      subst (λ (t : Turn). StandsAt slot place counters' store' outbox t.after) (sym commit_turn)
+      subst (λ (t : CallEffect). StandsAt slot place counters' store' outbox t.after) (sym commit_turn)
       (StandsAt-committed slot place counters counters' store store' outbox outbox solo entry h above (subst (λ (e : Entry). e.version.clock ≤ last_clock) same clock_fits)
       (λ tracked s late. subst (λ m. StandsFor (rows_of slot store') (tracked ++ record { record_of = record { entry = entry; at = m }; removed = false } ∷ [])) (sym moment)
       (subst (λ (e : Entry). StandsFor (rows_of slot store') (tracked ++ record { record_of = record { entry = e; at = now }; removed = false } ∷ [])) same
@@ -225,8 +225,8 @@ pub ack_done : (slot dc : ℕ) (version : Timestamp) (b : Bool) (place : Place) 
 ack_done slot dc version b place counters store outbox outbox' solo told h other found entry elsewhere own queued dcs is =
     let test : b ≡ is_front version (front (queue place dc solo)) = found ∙ ap (λ es. is_front version (outbox_queues.front es)) (h.queues dc other) ∙ ap (is_front version) (sym (same_front (queue place dc solo))) in
     let turn : ack_turn b dc solo ≡ effect place (Ack dc version) solo = ap (λ t. ack_turn t dc solo) test ∙ sym (acknowledge_is dc version solo (front (queue place dc solo))) in (
-      is ∙ reply b ∙ ap (λ (t : Turn). t.reply) turn,
-      subst (λ (t : Turn). StandsAt slot place counters store outbox' t.after) turn (StandsAt-acked slot dc version b place counters store outbox outbox' solo h other found entry elsewhere own queued dcs (other_dc place dc other).0),
+      is ∙ reply b ∙ ap (λ (t : CallEffect). t.reply) turn,
+      subst (λ (t : CallEffect). StandsAt slot place counters store outbox' t.after) turn (StandsAt-acked slot dc version b place counters store outbox outbox' solo h other found entry elsewhere own queued dcs (other_dc place dc other).0),
     )
   where
     reply : (t : Bool) → (if t then Acked else NotFront) ≡ (ack_turn t dc solo).reply

@@ -10,10 +10,10 @@ use Rattle.cops_node.specs.declared.NodeId.{NodeId}
 use Rattle.cops_node.specs.declared.NodeReply.{NodeReply}
 use Rattle.cops_node.specs.declared.NodeReply.TheVariants.{Refused}
 use Rattle.cops_node.specs.Parts.{AuditFits, Shared, home_of, no_calls, solo_of}
-use Rattle.cops_node.specs.Place.{place_of, number_of}
+use Rattle.cops_node.specs.Place.{node_number, place_of}
 use Rattle.cops_node.specs.Shape.{Shape}
 use Rattle.cops_node.specs.SoloNode.{SoloNode, new_node}
-use Rattle.cops_node.specs.Step.{Turn, node_step}
+use Rattle.cops_node.specs.Step.{CallEffect, node_step}
 
 -- the sizes, and the nodes by number
 pub record Cluster : Type 0 where
@@ -47,16 +47,16 @@ HasTenant config slot cluster = AllByRecursion (λ node. slice_get node.home.pla
 
 -- the tenant's solo node of an id
 abbrev pub solo_at : TenantConfig → NodeId → ℕ → Cluster → SoloNode
-solo_at config id slot cluster = slice_index_or (nodes_of config slot cluster) (number_of config.shards id) (new_node config.data_centres)
+solo_at config id slot cluster = slice_index_or (nodes_of config slot cluster) (node_number config.shards id) (new_node config.data_centres)
 
 -- the turn of the tenant's solo node
-abbrev pub turn_at : TenantConfig → NodeId → ℕ → ℕ → NodeCall → Cluster → Turn
+abbrev pub turn_at : TenantConfig → NodeId → ℕ → ℕ → NodeCall → Cluster → CallEffect
 turn_at config id slot moment call cluster = node_step (place_of config id) moment call (solo_at config id slot cluster)
 
 -- the reply is that of the tenant's solo node, which alone of his nodes changes
 pub record IsTurnOf (config : TenantConfig) (id : NodeId) (slot moment : ℕ) (call : NodeCall) (reply : NodeReply) (old new : Cluster) : Type 0 where
   pub reply_is : reply ≡ (turn_at config id slot moment call old).reply
-  pub after : nodes_of config slot new ≡ slice_set (nodes_of config slot old) (number_of config.shards id) (turn_at config id slot moment call old).after
+  pub after : nodes_of config slot new ≡ slice_set (nodes_of config slot old) (node_number config.shards id) (turn_at config id slot moment call old).after
 
 -- a call at a node for the tenant of a slot: the turn of his solo node, or memory was refused and nothing changed; other tenants' nodes stay; where his audit is full that is the reply, whatever memory there is
 pub record IsCall (old : Cluster) (id : NodeId) (slot moment : ℕ) (call : NodeCall) (reply : NodeReply) (new : Cluster) : Type 0 where

@@ -19,7 +19,7 @@ use Rattle.cops_node.specs.declared.Place.{Place}
 use Rattle.cops_node.specs.declared.parts.Counters.{Counters}
 use Rattle.cops_node.specs.declared.parts.Part.{Part}
 use Rattle.cops_node.specs.Place.{fits, is_other_dc, place_of}
-use Rattle.cops_node.specs.Run.{node_after, calls_of}
+use Rattle.cops_node.specs.Run.{calls_in_trail, node_after}
 use Rattle.cops_node.specs.Shape.{Shape, place_in}
 use Rattle.cops_node.specs.SoloNode.{SoloNode, new_node, queue, issued}
 use Rattle.cops_node.specs.Step.{node_step, effect}
@@ -55,7 +55,7 @@ AuditFits node = AllByRecursion (AllFit (place_in node.home.shape node.home.id))
 
 -- the solo node that an audit leaves
 abbrev pub left_by : Place → List AuditEntry → SoloNode
-left_by place trail = node_after place (calls_of trail) (new_node place.data_centres)
+left_by place trail = node_after place (calls_in_trail trail) (new_node place.data_centres)
 
 -- the solo node that a slot stands for: the one that its audit leaves
 abbrev pub solo_of : ℕ → Place → Shared → SoloNode
@@ -99,8 +99,8 @@ abbrev pub noted : ℕ → AuditEntry → List (List AuditEntry) → List (List 
 noted slot entry audit = slice_set audit slot (trail_of slot audit ++ entry ∷ [])
 
 -- the slot's trail is longer by exactly this call and reply, or it was full, and nothing changed
-abbrev pub IsNoted : ℕ → ℕ → NodeCall → NodeReply → Shared → Shared → Type 0
-IsNoted slot moment call reply old new =
+abbrev pub JoinsTrail : ℕ → ℕ → NodeCall → NodeReply → Shared → Shared → Type 0
+JoinsTrail slot moment call reply old new =
     ((reply ≡ Refused AuditFull) × (new ≡ old))
     ⊎ (new.audit ≡ noted slot (record { moment = moment; call = call; reply = reply }) old.audit)
 
@@ -195,7 +195,7 @@ pub record IsFresh (part : Part) : Type 0 where
 -- the turn of a slot's solo node, which joins the slot's trail unless that is full, and changes no other slot
 pub record IsMachineTurn (old : Shared) (slot moment : ℕ) (call : NodeCall) (reply : NodeReply) (new : Shared) : Type 0 where
   pub own : (place : Place) → place ≡ slice_index_or old.home.places slot place → IsSoloTurn slot moment call reply place old new
-  pub noted : IsNoted slot moment call reply old new
+  pub noted : JoinsTrail slot moment call reply old new
   pub others : (other : ℕ) → other ≢ slot → trail_of other new.audit ≡ trail_of other old.audit
   pub home : new.home ≡ old.home
 

@@ -13,12 +13,12 @@ abbrev pub BLOCK : ℕ
 BLOCK = 32
 
 -- blocks one after another
-abbrev pub joined : List (List AuditEntry) → List AuditEntry
-joined [] = []
-joined (block ∷ blocks) = block ++ joined blocks
+abbrev pub concat_blocks : List (List AuditEntry) → List AuditEntry
+concat_blocks [] = []
+concat_blocks (block ∷ blocks) = block ++ concat_blocks blocks
 
 -- all blocks but the last are full, and so many calls are in all of them
 pub record IsTrail (full : List (List AuditEntry)) (last : List AuditEntry) (count : ℕ) : Type 0 where
   pub all_full : AllByRecursion (λ (block : List AuditEntry). length block ≡ BLOCK) full
   pub last_fits : length last ≤ BLOCK
-  pub counted : count ≡ length (joined full ++ last)
+  pub counted : count ≡ length (concat_blocks full ++ last)

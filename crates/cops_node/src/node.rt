@@ -5,7 +5,7 @@ ghost use Rattle.std.specs.Option.{option_copied};
 ghost use Rattle.cops_types.specs.HeadLines.{are_sizes};
 ghost use Rattle.cops_types.specs.Version.{last_clock};
 ghost use Rattle.cops_node.specs.declared.Place.{Place};
-ghost use Rattle.cops_node.specs.Parts.{no_calls, trail_of, solo_of, home_of, has_audit_room, are_clocks, IsTurn, IsSoloTurn, IsNoted, IsAudited, AuditFits};
+ghost use Rattle.cops_node.specs.Parts.{AuditFits, IsAudited, IsSoloTurn, IsTurn, JoinsTrail, are_clocks, has_audit_room, home_of, no_calls, solo_of, trail_of};
 ghost use Rattle.cops_node.specs.Place.{is_home, is_other_dc, is_other_equivalent, fits};
 ghost use Rattle.cops_node.specs.Shape.{place_in};
 
@@ -147,7 +147,7 @@ impl Node {
         requires slot_exists { slot < self.old.home.shape.slots }
         requires call_fits { IsTrue (fits (place_in self.old.home.shape self.old.home.id) call) }
         ensures turn { IfOk result (λ reply. (place : Place) → place ≡ slice_index_or self.old.home.places slot place → IsSoloTurn slot moment call reply place self.old self.new) }
-        ensures noted { IfOk result (λ reply. IsNoted slot moment call reply self.old self.new) }
+        ensures noted { IfOk result (λ reply. JoinsTrail slot moment call reply self.old self.new) }
         ensures others { (other : ℕ) → other ≢ slot → trail_of other self.new.audit ≡ trail_of other self.old.audit }
         ensures home { self.new.home ≡ self.old.home }
         ensures err { OnErr result (self.new ≡ self.old) }

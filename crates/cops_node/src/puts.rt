@@ -12,7 +12,7 @@ ghost use Rattle.cops_node.specs.declared.NodeReply.{NodeReply};
 ghost use Rattle.cops_node.specs.Parts.{IsPlace, StandsAt, HasSolo, IsDone, OthersStay, IsUnchanged};
 ghost use Rattle.cops_node.specs.Place.{own_number as own_number_of, fits};
 ghost use Rattle.cops_node.specs.SoloNode.{SoloNode};
-ghost use Rattle.cops_node.specs.Step.{version_of_put, put_refusal, put as put_turn, unchanged};
+ghost use Rattle.cops_node.specs.Step.{node_put_refusal, put as put_turn, unchanged, version_of_put};
 
 use crate::parts::{self, Counters};
 use crate::replies::Replies;
@@ -46,7 +46,7 @@ fn version_for(
 ) -> Result<Version, Fault>
     requires { (solo : SoloNode) × StandsAt slot place.now counters.now store.now outbox.now solo }
     ensures version { IfOk result (λ version. (solo : SoloNode) → StandsAt slot place.now counters.now store.now outbox.now solo → version_of_put place.now solo deps.now ≡ Some version) }
-    ensures unrefused { IfOk result (λ version. (solo : SoloNode) → StandsAt slot place.now counters.now store.now outbox.now solo → put_refusal place.now solo key.now value.now ≡ None) }
+    ensures unrefused { IfOk result (λ version. (solo : SoloNode) → StandsAt slot place.now counters.now store.now outbox.now solo → node_put_refusal place.now solo key.now value.now ≡ None) }
     ensures room { IfOk result (λ version. refusal place.now.quota (length key.now + length value.now) (use_of (rows_of slot store.now)) ≡ None) }
     ensures sendable { OnOk result (is_full slot place.now.quota.outbox outbox.now ≡ false) }
     ensures refused { IfErr result (λ fault. (solo : SoloNode) → StandsAt slot place.now counters.now store.now outbox.now solo → (near : List Pair) → put_turn place.now solo key.now value.now deps.now near ≡ unchanged (NodeReply.Refused fault) solo) }

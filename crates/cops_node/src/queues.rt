@@ -1,8 +1,7 @@
 //! What a node answers of its queues.
 ghost use Rattle.std.specs.Prelude.{◌≡◌, ◌<◌, length, IfOk};
-ghost use Rattle.cops_node.specs.SoloNode.{front};
 ghost use Rattle.cops_node.specs.Step.{reply_pull};
-ghost use Rattle.cops_outbox.specs.Queues.{queue_of};
+ghost use Rattle.cops_outbox.specs.Queues.{front, queue_of};
 
 use crate::NodeReply;
 use crate::replies::Replies;

@@ -22,11 +22,11 @@ pub struct Trail {
 
 impl Model for Trail {
     ghost use Rattle.std.specs.Prelude.{◌-◌, ◌++◌, map, min, vec_len, vec_capacity};
-    ghost use Rattle.cops_node.specs.Trails.{Noted, BLOCK, IsTrail, joined};
+    ghost use Rattle.cops_node.specs.Trails.{BLOCK, IsTrail, Noted, concat_blocks};
 
     ghost Value = { Noted };
 
-    ghost view = { λ t. record { calls = joined (map (λ block. block.items) t.full.items) ++ t.last.items; spare = min (vec_capacity t.last) BLOCK - vec_len t.last } };
+    ghost view = { λ t. record { calls = concat_blocks (map (λ block. block.items) t.full.items) ++ t.last.items; spare = min (vec_capacity t.last) BLOCK - vec_len t.last } };
 
     ghost invariant = { λ t. IsTrail (map (λ block. block.items) t.full.items) t.last.items t.count };
 }

@@ -5,56 +5,56 @@ use Rattle.std.proofs.lemmas.Bool.Decides.{nat_tests}
 use Rattle.cops_types.specs.declared.records.EntryParts.{EntryParts as Entry}
 use Rattle.cops_outbox.specs.declared.rows.Row.{Row}
 use Rattle.cops_outbox.specs.declared.rows.Span.{Span}
-use Rattle.cops_outbox.specs.Lines.{row_at, entry_in, next_in, entries_from, entries_in, IsRowOf, IsChain, IsAdded, IsGone, extended}
+use Rattle.cops_outbox.specs.Lines.{IsAdded, IsGone, IsQueueChain, IsRowOf, cell_at, entries_from, entries_in, entry_in, extended, next_in}
 
 -- ---- one chain
-pub chain_head : (rows : List (Option Row)) (slot last n at : ℕ) → IsChain rows slot last (suc n) at → IsRowOf rows slot at
+pub chain_head : (rows : List (Option Row)) (slot last n at : ℕ) → IsQueueChain rows slot last (suc n) at → IsRowOf rows slot at
 chain_head rows slot last zero at h = h.0
 chain_head rows slot last (suc n) at h = h.0
 
-pub chain_last : (rows : List (Option Row)) (slot last n at : ℕ) → IsChain rows slot last (suc n) at → IsRowOf rows slot last
+pub chain_last : (rows : List (Option Row)) (slot last n at : ℕ) → IsQueueChain rows slot last (suc n) at → IsRowOf rows slot last
 chain_last rows slot last zero at h = subst (IsRowOf rows slot) h.1 h.0
-chain_last rows slot last (suc n) at h = chain_last rows slot last n (next_in (row_at rows at)) h.2
+chain_last rows slot last (suc n) at h = chain_last rows slot last n (next_in (cell_at rows at)) h.2
 
 -- a place is so far from the last in one way
-pub chain_unique : (rows : List (Option Row)) (slot last n m at : ℕ) → IsChain rows slot last (suc n) at → IsChain rows slot last (suc m) at → n ≡ m
+pub chain_unique : (rows : List (Option Row)) (slot last n m at : ℕ) → IsQueueChain rows slot last (suc n) at → IsQueueChain rows slot last (suc m) at → n ≡ m
 chain_unique rows slot last zero zero at h k = refl
 chain_unique rows slot last zero (suc m) at h k = absurd (k.1 h.1)
 chain_unique rows slot last (suc n) zero at h k = absurd (h.1 k.1)
-chain_unique rows slot last (suc n) (suc m) at h k = ap suc (chain_unique rows slot last n m (next_in (row_at rows at)) h.2 k.2)
+chain_unique rows slot last (suc n) (suc m) at h k = ap suc (chain_unique rows slot last n m (next_in (cell_at rows at)) h.2 k.2)
 
-row_kept : (rows rows' : List (Option Row)) (slot at : ℕ) → row_at rows' at ≡ row_at rows at → IsRowOf rows slot at → IsRowOf rows' slot at
+row_kept : (rows rows' : List (Option Row)) (slot at : ℕ) → cell_at rows' at ≡ cell_at rows at → IsRowOf rows slot at → IsRowOf rows' slot at
 row_kept rows rows' slot at same h = (h.0, same ∙ h.1, h.2)
 
 -- a chain stays where its rows stay
-pub chain_kept : (rows rows' : List (Option Row)) (slot last n at : ℕ) → ((m x : ℕ) → m < n → IsChain rows slot last (suc m) x → row_at rows' x ≡ row_at rows x) → IsChain rows slot last n at
-    → IsChain rows' slot last n at × (entries_from rows' n at ≡ entries_from rows n at)
+pub chain_kept : (rows rows' : List (Option Row)) (slot last n at : ℕ) → ((m x : ℕ) → m < n → IsQueueChain rows slot last (suc m) x → cell_at rows' x ≡ cell_at rows x) → IsQueueChain rows slot last n at
+    → IsQueueChain rows' slot last n at × (entries_from rows' n at ≡ entries_from rows n at)
 chain_kept rows rows' slot last zero at same h = (tt, refl)
 chain_kept rows rows' slot last (suc zero) at same h =
     let here = same 0 at (omega arith) h in
     ((row_kept rows rows' slot at here h.0, h.1), ap (λ r. entry_in r ++ []) here)
 chain_kept rows rows' slot last (suc (suc n)) at same h =
     let here = same (suc n) at (omega arith) h in
-    let rest = chain_kept rows rows' slot last (suc n) (next_in (row_at rows at)) (λ m x lt. same m x (omega arith)) h.2 in (
-      (row_kept rows rows' slot at here h.0, h.1, subst (λ r. IsChain rows' slot last (suc n) (next_in r)) (sym here) rest.0),
-      ap (λ r. entry_in r ++ entries_from rows' (suc n) (next_in r)) here ∙ ap (λ es. entry_in (row_at rows at) ++ es) rest.1,
+    let rest = chain_kept rows rows' slot last (suc n) (next_in (cell_at rows at)) (λ m x lt. same m x (omega arith)) h.2 in (
+      (row_kept rows rows' slot at here h.0, h.1, subst (λ r. IsQueueChain rows' slot last (suc n) (next_in r)) (sym here) rest.0),
+      ap (λ r. entry_in r ++ entries_from rows' (suc n) (next_in r)) here ∙ ap (λ es. entry_in (cell_at rows at) ++ es) rest.1,
     )
 
 -- as many entries as rows
-pub chain_length : (rows : List (Option Row)) (slot last n at : ℕ) → IsChain rows slot last n at → length (entries_from rows n at) ≡ n
+pub chain_length : (rows : List (Option Row)) (slot last n at : ℕ) → IsQueueChain rows slot last n at → length (entries_from rows n at) ≡ n
 chain_length rows slot last zero at h = refl
 chain_length rows slot last (suc zero) at h = ap (λ r. length (entry_in r ++ [])) h.0.1
 chain_length rows slot last (suc (suc n)) at h =
-    ap (λ r. length (entry_in r ++ entries_from rows (suc n) (next_in (row_at rows at)))) h.0.1 ∙ ap suc (chain_length rows slot last (suc n) (next_in (row_at rows at)) h.2)
+    ap (λ r. length (entry_in r ++ entries_from rows (suc n) (next_in (cell_at rows at)))) h.0.1 ∙ ap suc (chain_length rows slot last (suc n) (next_in (cell_at rows at)) h.2)
 
 -- the first entry
-pub chain_front : (rows : List (Option Row)) (slot last n at : ℕ) → IsChain rows slot last (suc n) at → (r : Row) × (row_at rows at ≡ Some r) × (entries_from rows (suc n) at ≡ r.entry ∷ entries_from rows n r.next)
+pub chain_front : (rows : List (Option Row)) (slot last n at : ℕ) → IsQueueChain rows slot last (suc n) at → (r : Row) × (cell_at rows at ≡ Some r) × (entries_from rows (suc n) at ≡ r.entry ∷ entries_from rows n r.next)
 chain_front rows slot last n at h =
     let head = chain_head rows slot last n at h in
     (head.0, head.1, ap (λ r. entry_in r ++ entries_from rows n (next_in r)) head.1)
 
 -- without its first
-pub chain_rest : (rows : List (Option Row)) (slot last n at : ℕ) → IsChain rows slot last (suc n) at → IsChain rows slot last n (next_in (row_at rows at))
+pub chain_rest : (rows : List (Option Row)) (slot last n at : ℕ) → IsQueueChain rows slot last (suc n) at → IsQueueChain rows slot last n (next_in (cell_at rows at))
 chain_rest rows slot last zero at h = tt
 chain_rest rows slot last (suc n) at h = h.2
 
@@ -63,68 +63,68 @@ some_none r h = cc
 
 -- ---- one more row
 
-pub apart : (rows : List (Option Row)) (slot at x : ℕ) → row_at rows at ≡ None → IsRowOf rows slot x → x ≢ at
-apart rows slot at x vacant h same = some_none h.0 (sym h.1 ∙ ap (row_at rows) same ∙ vacant)
+pub apart : (rows : List (Option Row)) (slot at x : ℕ) → cell_at rows at ≡ None → IsRowOf rows slot x → x ≢ at
+apart rows slot at x vacant h same = some_none h.0 (sym h.1 ∙ ap (cell_at rows) same ∙ vacant)
 
-longer : (rows rows' : List (Option Row)) (slot last count at : ℕ) (entry : Entry) → IsAdded rows rows' slot last count at entry → 0 < count → (n x : ℕ) → IsChain rows slot last (suc n) x
-    → IsChain rows' slot at (suc (suc n)) x × (entries_from rows' (suc (suc n)) x ≡ entries_from rows (suc n) x ++ entry ∷ [])
+longer : (rows rows' : List (Option Row)) (slot last count at : ℕ) (entry : Entry) → IsAdded rows rows' slot last count at entry → 0 < count → (n x : ℕ) → IsQueueChain rows slot last (suc n) x
+    → IsQueueChain rows' slot at (suc (suc n)) x × (entries_from rows' (suc (suc n)) x ≡ entries_from rows (suc n) x ++ entry ∷ [])
 longer rows rows' slot last count at entry is some zero x h =
     let r : Row = h.0.0 in
-    let moved : row_at rows' x ≡ Some (record r { next = at }) = ap (row_at rows') h.1 ∙ is.linked r some (ap (row_at rows) (sym h.1) ∙ h.0.1) in (
-      ((record r { next = at }, moved, h.0.2), apart rows slot at x is.vacant h.0, subst (λ o. IsChain rows' slot at (suc zero) (next_in o)) (sym moved) (is.added, refl)),
-      ap (λ o. entry_in o ++ (entry_in (row_at rows' (next_in o)) ++ [])) moved ∙ ap (λ es. r.entry ∷ es ++ []) is.holds ∙ ap (λ o. (entry_in o ++ []) ++ entry ∷ []) (sym h.0.1),
+    let moved : cell_at rows' x ≡ Some (record r { next = at }) = ap (cell_at rows') h.1 ∙ is.linked r some (ap (cell_at rows) (sym h.1) ∙ h.0.1) in (
+      ((record r { next = at }, moved, h.0.2), apart rows slot at x is.vacant h.0, subst (λ o. IsQueueChain rows' slot at (suc zero) (next_in o)) (sym moved) (is.added, refl)),
+      ap (λ o. entry_in o ++ (entry_in (cell_at rows' (next_in o)) ++ [])) moved ∙ ap (λ es. r.entry ∷ es ++ []) is.holds ∙ ap (λ o. (entry_in o ++ []) ++ entry ∷ []) (sym h.0.1),
     )
 longer rows rows' slot last count at entry is some (suc n) x h =
-    let same : row_at rows' x ≡ row_at rows x = is.others x (apart rows slot at x is.vacant h.0) (λ e. absurd (h.1 e)) in
-    let rest = longer rows rows' slot last count at entry is some n (next_in (row_at rows x)) h.2 in (
-      (row_kept rows rows' slot x same h.0, apart rows slot at x is.vacant h.0, subst (λ o. IsChain rows' slot at (suc (suc n)) (next_in o)) (sym same) rest.0),
+    let same : cell_at rows' x ≡ cell_at rows x = is.others x (apart rows slot at x is.vacant h.0) (λ e. absurd (h.1 e)) in
+    let rest = longer rows rows' slot last count at entry is some n (next_in (cell_at rows x)) h.2 in (
+      (row_kept rows rows' slot x same h.0, apart rows slot at x is.vacant h.0, subst (λ o. IsQueueChain rows' slot at (suc (suc n)) (next_in o)) (sym same) rest.0),
       ap (λ o. entry_in o ++ entries_from rows' (suc (suc n)) (next_in o)) same
-          ∙ ap (λ o. entry_in o ++ entries_from rows' (suc (suc n)) (next_in (row_at rows x))) h.0.1
+          ∙ ap (λ o. entry_in o ++ entries_from rows' (suc (suc n)) (next_in (cell_at rows x))) h.0.1
           ∙ ap (λ es. h.0.0.entry ∷ es) rest.1
-          ∙ ap (λ o. (entry_in o ++ entries_from rows (suc n) (next_in (row_at rows x))) ++ entry ∷ []) (sym h.0.1),
+          ∙ ap (λ o. (entry_in o ++ entries_from rows (suc n) (next_in (cell_at rows x))) ++ entry ∷ []) (sym h.0.1),
     )
 
 -- a span of the line with the row behind it
-pub span_longer : (rows rows' : List (Option Row)) (slot last count at : ℕ) (entry : Entry) (span : Span) → IsAdded rows rows' slot last count at entry → span.count ≤ count → IsChain rows slot last span.count span.first
-    → IsChain rows' slot at (extended at span).count (extended at span).first × (entries_in rows' (extended at span) ≡ entries_in rows span ++ entry ∷ [])
+pub span_longer : (rows rows' : List (Option Row)) (slot last count at : ℕ) (entry : Entry) (span : Span) → IsAdded rows rows' slot last count at entry → span.count ≤ count → IsQueueChain rows slot last span.count span.first
+    → IsQueueChain rows' slot at (extended at span).count (extended at span).first × (entries_in rows' (extended at span) ≡ entries_in rows span ++ entry ∷ [])
 span_longer rows rows' slot last count at entry span is within h = by span.count refl
   where
     Goal : ℕ → Type 0
-    Goal n = IsChain rows' slot at (n + 1) (if n == 0 then at else span.first) × (entries_from rows' (n + 1) (if n == 0 then at else span.first) ≡ entries_from rows n span.first ++ entry ∷ [])
+    Goal n = IsQueueChain rows' slot at (n + 1) (if n == 0 then at else span.first) × (entries_from rows' (n + 1) (if n == 0 then at else span.first) ≡ entries_from rows n span.first ++ entry ∷ [])
 
     by : (n : ℕ) → span.count ≡ n → Goal span.count
     by zero e = subst Goal (sym e) ((is.added, refl), ap (λ es. es ++ []) is.holds)
     by (suc n) e =
         let some : 0 < count = omega arith in
-        let long = longer rows rows' slot last count at entry is some n span.first (subst (λ m. IsChain rows slot last m span.first) e h) in
+        let long = longer rows rows' slot last count at entry is some n span.first (subst (λ m. IsQueueChain rows slot last m span.first) e h) in
         let one : suc n + 1 ≡ suc (suc n) = omega arith in
         let test : (suc n == 0) ≡ false = grind (arith, nat_tests) in
         subst Goal (sym e) (rw (test, one) long)
 
 -- a chain of another slot
-pub added_elsewhere : (rows rows' : List (Option Row)) (slot last count at : ℕ) (entry : Entry) (first other end n x : ℕ) → IsAdded rows rows' slot last count at entry → IsChain rows slot last count first → other ≢ slot → IsChain rows other end n x
-    → IsChain rows' other end n x × (entries_from rows' n x ≡ entries_from rows n x)
+pub added_elsewhere : (rows rows' : List (Option Row)) (slot last count at : ℕ) (entry : Entry) (first other end n x : ℕ) → IsAdded rows rows' slot last count at entry → IsQueueChain rows slot last count first → other ≢ slot → IsQueueChain rows other end n x
+    → IsQueueChain rows' other end n x × (entries_from rows' n x ≡ entries_from rows n x)
 added_elsewhere rows rows' slot last count at entry first other end n x is own differ h = chain_kept rows rows' other end n x (λ m y lt k. let head = chain_head rows other end m y k in is.others y (apart rows other at y is.vacant head) (λ same. none count own y head same)) h
   where
-    none : (c : ℕ) → IsChain rows slot last c first → (y : ℕ) → IsRowOf rows other y → y ≡ last → c ≡ 0
+    none : (c : ℕ) → IsQueueChain rows slot last c first → (y : ℕ) → IsRowOf rows other y → y ≡ last → c ≡ 0
     none zero own y head same = refl
     none (suc c) own y head same =
         let end : IsRowOf rows slot last = chain_last rows slot last c first own in
-        let rows_same : Some head.0 ≡ Some end.0 = sym head.1 ∙ ap (row_at rows) same ∙ end.1 in
+        let rows_same : Some head.0 ≡ Some end.0 = sym head.1 ∙ ap (cell_at rows) same ∙ end.1 in
         let row_same : head.0 ≡ end.0 = cc in
         absurd (differ (sym head.2 ∙ ap (λ (r : Row). r.slot) row_same ∙ end.2))
 
 -- ---- one row less
 
 -- a shorter span of the line
-pub gone_behind : (rows rows' : List (Option Row)) (slot last n first m x : ℕ) → IsGone rows rows' first → IsChain rows slot last (suc n) first → m ≤ n → IsChain rows slot last m x
-    → IsChain rows' slot last m x × (entries_from rows' m x ≡ entries_from rows m x)
-gone_behind rows rows' slot last n first m x is own le h = chain_kept rows rows' slot last m x (λ k y lt c. is.others y (λ same. let far = chain_unique rows slot last k n first (subst (IsChain rows slot last (suc k)) same c) own in absurd (omega arith))) h
+pub gone_behind : (rows rows' : List (Option Row)) (slot last n first m x : ℕ) → IsGone rows rows' first → IsQueueChain rows slot last (suc n) first → m ≤ n → IsQueueChain rows slot last m x
+    → IsQueueChain rows' slot last m x × (entries_from rows' m x ≡ entries_from rows m x)
+gone_behind rows rows' slot last n first m x is own le h = chain_kept rows rows' slot last m x (λ k y lt c. is.others y (λ same. let far = chain_unique rows slot last k n first (subst (IsQueueChain rows slot last (suc k)) same c) own in absurd (omega arith))) h
 
 -- a chain of another slot
-pub gone_elsewhere : (rows rows' : List (Option Row)) (slot last n first other end m x : ℕ) → IsGone rows rows' first → IsChain rows slot last (suc n) first → other ≢ slot → IsChain rows other end m x
-    → IsChain rows' other end m x × (entries_from rows' m x ≡ entries_from rows m x)
+pub gone_elsewhere : (rows rows' : List (Option Row)) (slot last n first other end m x : ℕ) → IsGone rows rows' first → IsQueueChain rows slot last (suc n) first → other ≢ slot → IsQueueChain rows other end m x
+    → IsQueueChain rows' other end m x × (entries_from rows' m x ≡ entries_from rows m x)
 gone_elsewhere rows rows' slot last n first other end m x is own differ h = chain_kept rows rows' other end m x (λ k y lt c. is.others y (λ same. let head = chain_head rows other end k y c in let start = chain_head rows slot last n first own in
-    let rows_same : Some head.0 ≡ Some start.0 = sym head.1 ∙ ap (row_at rows) same ∙ start.1 in
+    let rows_same : Some head.0 ≡ Some start.0 = sym head.1 ∙ ap (cell_at rows) same ∙ start.1 in
     let row_same : head.0 ≡ start.0 = cc in
     absurd (differ (sym head.2 ∙ ap (λ (r : Row). r.slot) row_same ∙ start.2)))) h

@@ -12,7 +12,7 @@ use Rattle.cops_outbox.specs.declared.rows.Row.{Row}
 use Rattle.cops_outbox.specs.declared.rows.Span.{Span}
 use Rattle.cops_outbox.specs.declared.rows.Line.{Line}
 use Rattle.cops_outbox.specs.Queues.{front}
-use Rattle.cops_outbox.specs.Lines.{row_at, entry_in, next_in, entries_from, entries_in, IsRowOf, IsChain, IsLine, IsNeeded, IsAdded, IsGone, IsTurn, IsLonger, IsShorter, extended, nowhere, span_at}
+use Rattle.cops_outbox.specs.Lines.{IsAdded, IsGone, IsLine, IsLineChange, IsLonger, IsNeeded, IsQueueChain, IsRowOf, IsShorter, cell_at, entries_from, entries_in, entry_in, extended, next_in, nowhere, span_at}
 use Rattle.cops_outbox.proofs.Chains.{apart, chain_head, chain_last, chain_rest, chain_front, span_longer, added_elsewhere, gone_behind, gone_elsewhere}
 
 -- spans written over all of a vector
@@ -21,43 +21,43 @@ refilled n new old long = ap (λ m. take m (new ++ drop (length new) old)) (sym 
 
 -- ---- where rows are
 
-pub some_there : (rows : List (Option Row)) (slot at : ℕ) → IsRowOf rows slot at → IsSome (row_at rows at)
+pub some_there : (rows : List (Option Row)) (slot at : ℕ) → IsRowOf rows slot at → IsSome (cell_at rows at)
 some_there rows slot at h = subst IsSome (sym h.1) refl
 
-within : (rows : List (Option Row)) (at : ℕ) (r : Row) → row_at rows at ≡ Some r → at < length rows
+within : (rows : List (Option Row)) (at : ℕ) (r : Row) → cell_at rows at ≡ Some r → at < length rows
 within rows at r read = elim (cases_lt at (length rows)) [
   | inl lt ↦ lt
-  | inr past ↦ let none : row_at rows at ≡ None = get_or_past rows at None past in let both : Some r ≡ None = sym read ∙ none in absurd (cc)
+  | inr past ↦ let none : cell_at rows at ≡ None = get_or_past rows at None past in let both : Some r ≡ None = sym read ∙ none in absurd (cc)
 ]
 
 -- the first row of a span that has some
-pub span_head : (rows : List (Option Row)) (slot last : ℕ) (span : Span) → 0 < span.count → IsChain rows slot last span.count span.first → IsRowOf rows slot span.first
+pub span_head : (rows : List (Option Row)) (slot last : ℕ) (span : Span) → 0 < span.count → IsQueueChain rows slot last span.count span.first → IsRowOf rows slot span.first
 span_head rows slot last span some h = by span.count some h
   where
-    by : (n : ℕ) → 0 < n → IsChain rows slot last n span.first → IsRowOf rows slot span.first
+    by : (n : ℕ) → 0 < n → IsQueueChain rows slot last n span.first → IsRowOf rows slot span.first
     by zero lt h = absurd (omega arith)
     by (suc n) lt h = chain_head rows slot last n span.first h
 
-span_last : (rows : List (Option Row)) (slot last n first : ℕ) → 0 < n → IsChain rows slot last n first → IsRowOf rows slot last
+span_last : (rows : List (Option Row)) (slot last n first : ℕ) → 0 < n → IsQueueChain rows slot last n first → IsRowOf rows slot last
 span_last rows slot last zero first lt h = absurd (omega arith)
 span_last rows slot last (suc n) first lt h = chain_last rows slot last n first h
 
 -- ---- one more row
 
 -- the last row of a line, once the table has a new one
-pub last_there : (rows rows1 : List (Option Row)) (slot last n first at : ℕ) → row_at rows at ≡ None → ((x : ℕ) → x ≢ at → row_at rows1 x ≡ row_at rows x) → 0 < n → IsChain rows slot last n first → IsSome (row_at rows1 last)
+pub last_there : (rows rows1 : List (Option Row)) (slot last n first at : ℕ) → cell_at rows at ≡ None → ((x : ℕ) → x ≢ at → cell_at rows1 x ≡ cell_at rows x) → 0 < n → IsQueueChain rows slot last n first → IsSome (cell_at rows1 last)
 last_there rows rows1 slot last n first at vacant others some h =
     let there = span_last rows slot last n first some h in
     subst IsSome (sym (others last (apart rows slot at last vacant there) ∙ there.1)) refl
 
-pub linked_is_added : (rows rows1 : List (Option Row)) (slot last n first at : ℕ) (entry : Entry) (r : Row) → row_at rows at ≡ None → row_at rows1 at ≡ Some (record { slot = slot; entry = entry; next = 0 })
-    → ((x : ℕ) → x ≢ at → row_at rows1 x ≡ row_at rows x) → row_at rows1 last ≡ Some r → 0 < n → IsChain rows slot last n first
+pub linked_is_added : (rows rows1 : List (Option Row)) (slot last n first at : ℕ) (entry : Entry) (r : Row) → cell_at rows at ≡ None → cell_at rows1 at ≡ Some (record { slot = slot; entry = entry; next = 0 })
+    → ((x : ℕ) → x ≢ at → cell_at rows1 x ≡ cell_at rows x) → cell_at rows1 last ≡ Some r → 0 < n → IsQueueChain rows slot last n first
     → IsAdded rows (set rows1 last (Some (record r { next = at }))) slot last n at entry
 linked_is_added rows rows1 slot last n first at entry r vacant new others read some h =
     let there = span_last rows slot last n first some h in
     let differ : last ≢ at = apart rows slot at last vacant there in
-    let new' : row_at (set rows1 last (Some (record r { next = at }))) at ≡ Some (record { slot = slot; entry = entry; next = 0 }) = get_or-set_other rows1 last at (Some (record r { next = at })) None (λ same. differ (sym same)) ∙ new in
-    let was : row_at rows last ≡ Some r = sym (others last differ) ∙ read in
+    let new' : cell_at (set rows1 last (Some (record r { next = at }))) at ≡ Some (record { slot = slot; entry = entry; next = 0 }) = get_or-set_other rows1 last at (Some (record r { next = at })) None (λ same. differ (sym same)) ∙ new in
+    let was : cell_at rows last ≡ Some r = sym (others last differ) ∙ read in
     record {
       vacant = vacant;
       added = (record { slot = slot; entry = entry; next = 0 }, new', refl);
@@ -72,8 +72,8 @@ linked_is_added rows rows1 slot last n first at entry r vacant new others read s
       ];
     }
 
-pub empty_chain : (rows : List (Option Row)) (slot last : ℕ) (span : Span) → span.count ≡ 0 → IsChain rows slot last span.count span.first
-empty_chain rows slot last span none = subst (λ n. IsChain rows slot last n span.first) (sym none) tt
+pub empty_chain : (rows : List (Option Row)) (slot last : ℕ) (span : Span) → span.count ≡ 0 → IsQueueChain rows slot last span.count span.first
+empty_chain rows slot last span none = subst (λ n. IsQueueChain rows slot last n span.first) (sym none) tt
 
 pub empty_entries : (rows : List (Option Row)) (span : Span) → span.count ≡ 0 → entries_in rows span ≡ []
 empty_entries rows span none = ap (λ n. entries_from rows n span.first) none
@@ -105,15 +105,15 @@ module _ (rows rows' : List (Option Row)) (own slot at : ℕ) (entry : Entry) (l
   own_none : (span_at own line').count ≡ 0
   own_none = ap (λ (s : Span). s.count) own_stays ∙ h.itself
 
-  grown : (dc : ℕ) → dc < length line.waits.items → dc ≢ own → IsChain rows' slot at (span_at dc line').count (span_at dc line').first × (entries_in rows' (span_at dc line') ≡ entries_in rows (span_at dc line) ++ entry ∷ [])
-  grown dc lt differ = subst (λ (s : Span). IsChain rows' slot at s.count s.first × (entries_in rows' s ≡ entries_in rows (span_at dc line) ++ entry ∷ [])) (sym (longer_at dc lt differ))
+  grown : (dc : ℕ) → dc < length line.waits.items → dc ≢ own → IsQueueChain rows' slot at (span_at dc line').count (span_at dc line').first × (entries_in rows' (span_at dc line') ≡ entries_in rows (span_at dc line) ++ entry ∷ [])
+  grown dc lt differ = subst (λ (s : Span). IsQueueChain rows' slot at s.count s.first × (entries_in rows' s ≡ entries_in rows (span_at dc line) ++ entry ∷ [])) (sym (longer_at dc lt differ))
       (span_longer rows rows' slot line.last line.kept.count at entry (span_at dc line) is (h.within dc) (h.waits dc))
 
-  waits_after : (dc : ℕ) → IsChain rows' slot at (span_at dc line').count (span_at dc line').first
+  waits_after : (dc : ℕ) → IsQueueChain rows' slot at (span_at dc line').count (span_at dc line').first
   waits_after dc = elim (cases_lt dc (length line.waits.items)) [
     | inr past ↦ empty_chain rows' slot at (span_at dc line') (past_at dc past)
     | inl lt ↦ elim (cases_eq dc own) [
-      | inl same ↦ subst (λ n. IsChain rows' slot at (span_at n line').count (span_at n line').first) (sym same) (empty_chain rows' slot at (span_at own line') own_none)
+      | inl same ↦ subst (λ n. IsQueueChain rows' slot at (span_at n line').count (span_at n line').first) (sym same) (empty_chain rows' slot at (span_at own line') own_none)
       | inr differ ↦ (grown dc lt differ).0
     ]
   ]
@@ -133,10 +133,10 @@ module _ (rows rows' : List (Option Row)) (own slot at : ℕ) (entry : Entry) (l
   line_longer = record {
     turn = record {
       stays = record {
-        kept = subst (λ m. IsChain rows' slot m line'.kept.count line'.kept.first) (sym last_is) (subst (λ (s : Span). IsChain rows' slot at s.count s.first) (sym kept_is)
+        kept = subst (λ m. IsQueueChain rows' slot m line'.kept.count line'.kept.first) (sym last_is) (subst (λ (s : Span). IsQueueChain rows' slot at s.count s.first) (sym kept_is)
             (span_longer rows rows' slot line.last line.kept.count at entry line.kept is (omega arith) h.kept).0);
         all = long;
-        waits = λ dc. subst (λ m. IsChain rows' slot m (span_at dc line').count (span_at dc line').first) (sym last_is) (waits_after dc);
+        waits = λ dc. subst (λ m. IsQueueChain rows' slot m (span_at dc line').count (span_at dc line').first) (sym last_is) (waits_after dc);
         within = within_after;
         itself = own_none;
       };
@@ -168,17 +168,17 @@ module _ (rows rows' : List (Option Row)) (own slot at : ℕ) (entry : Entry) (l
 
 -- ---- one row less
 
-shorter_chain : (rows : List (Option Row)) (slot last n first : ℕ) → 0 < n → IsChain rows slot last n first → IsChain rows slot last (n - 1) (next_in (row_at rows first)) × (entries_from rows (n - 1) (next_in (row_at rows first)) ≡ drop 1 (entries_from rows n first))
+shorter_chain : (rows : List (Option Row)) (slot last n first : ℕ) → 0 < n → IsQueueChain rows slot last n first → IsQueueChain rows slot last (n - 1) (next_in (cell_at rows first)) × (entries_from rows (n - 1) (next_in (cell_at rows first)) ≡ drop 1 (entries_from rows n first))
 shorter_chain rows slot last zero first lt h = absurd (omega arith)
 shorter_chain rows slot last (suc n) first lt h =
     let e : n ≡ suc n - 1 = omega arith in
     let front = chain_front rows slot last n first h in
-    subst (λ m. IsChain rows slot last m (next_in (row_at rows first)) × (entries_from rows m (next_in (row_at rows first)) ≡ drop 1 (entries_from rows (suc n) first))) e
+    subst (λ m. IsQueueChain rows slot last m (next_in (cell_at rows first)) × (entries_from rows m (next_in (cell_at rows first)) ≡ drop 1 (entries_from rows (suc n) first))) e
     (chain_rest rows slot last n first h, ap (λ o. entries_from rows n (next_in o)) front.1 ∙ ap (drop 1) (sym front.2))
 
 -- a data centre's place goes on by one
 pub line_passed : (rows : List (Option Row)) (own slot dc : ℕ) (span : Span) (line line' : Line) → IsLine rows own (length line.waits.items) slot line → dc < length line.waits.items → 0 < (span_at dc line).count
-    → span ≡ record { first = next_in (row_at rows (span_at dc line).first); count = (span_at dc line).count - 1 }
+    → span ≡ record { first = next_in (cell_at rows (span_at dc line).first); count = (span_at dc line).count - 1 }
     → line'.last ≡ line.last → line'.kept ≡ line.kept → line'.waits.items ≡ set line.waits.items dc span → IsShorter rows rows own slot dc line line'
 line_passed rows own slot dc span line line' h lt some span_is last_is kept_is waits_are =
     let here : span_at dc line' ≡ span = ap (λ (ss : List Span). get_or ss dc nowhere) waits_are ∙ get_or-set_same line.waits.items dc span nowhere lt in
@@ -189,11 +189,11 @@ line_passed rows own slot dc span line line' h lt some span_is last_is kept_is w
     record {
       turn = record {
         stays = record {
-          kept = subst (λ m. IsChain rows slot m line'.kept.count line'.kept.first) (sym last_is) (subst (λ (s : Span). IsChain rows slot line.last s.count s.first) (sym kept_is) h.kept);
+          kept = subst (λ m. IsQueueChain rows slot m line'.kept.count line'.kept.first) (sym last_is) (subst (λ (s : Span). IsQueueChain rows slot line.last s.count s.first) (sym kept_is) h.kept);
           all = ap (λ (ss : List Span). length ss) waits_are ∙ length-set line.waits.items dc span;
-          waits = λ at. subst (λ m. IsChain rows slot m (span_at at line').count (span_at at line').first) (sym last_is) (elim (cases_eq at dc) [
-            | inl same ↦ subst (λ (s : Span). IsChain rows slot line.last s.count s.first) (sym (ap (λ n. span_at n line') same ∙ here ∙ span_is)) chain.0
-            | inr differ ↦ subst (λ (s : Span). IsChain rows slot line.last s.count s.first) (sym (elsewhere at differ)) (h.waits at)
+          waits = λ at. subst (λ m. IsQueueChain rows slot m (span_at at line').count (span_at at line').first) (sym last_is) (elim (cases_eq at dc) [
+            | inl same ↦ subst (λ (s : Span). IsQueueChain rows slot line.last s.count s.first) (sym (ap (λ n. span_at n line') same ∙ here ∙ span_is)) chain.0
+            | inr differ ↦ subst (λ (s : Span). IsQueueChain rows slot line.last s.count s.first) (sym (elsewhere at differ)) (h.waits at)
           ]);
           within = λ at. elim (cases_eq at dc) [
             | inl same ↦ let fewer : (span_at at line').count ≡ (span_at dc line').count = ap (λ n. (span_at n line').count) same in omega (arith, h.within dc)
@@ -216,31 +216,31 @@ module _ (rows rows' : List (Option Row)) (own slot dc : ℕ) (line line1 line2 
     (is : IsGone rows rows' line1.kept.first)
     (counted : count_by is_some rows' + 1 ≡ count_by is_some rows)
     (last_is : line2.last ≡ line1.last)
-    (kept_is : line2.kept ≡ record { first = next_in (row_at rows line1.kept.first); count = line1.kept.count - 1 })
+    (kept_is : line2.kept ≡ record { first = next_in (cell_at rows line1.kept.first); count = line1.kept.count - 1 })
     (waits_are : line2.waits.items ≡ line1.waits.items) where
-  whole : (n : ℕ) → line1.kept.count ≡ suc n → IsChain rows slot line1.last (suc n) line1.kept.first
-  whole n e = subst (λ m. IsChain rows slot line1.last m line1.kept.first) e h.turn.stays.kept
+  whole : (n : ℕ) → line1.kept.count ≡ suc n → IsQueueChain rows slot line1.last (suc n) line1.kept.first
+  whole n e = subst (λ m. IsQueueChain rows slot line1.last m line1.kept.first) e h.turn.stays.kept
 
   same_span : (at : ℕ) → span_at at line2 ≡ span_at at line1
   same_span at = ap (λ (ss : List Span). get_or ss at nowhere) waits_are
 
-  behind : (n m x : ℕ) → line1.kept.count ≡ suc n → m ≤ n → IsChain rows slot line1.last m x → IsChain rows' slot line1.last m x × (entries_from rows' m x ≡ entries_from rows m x)
+  behind : (n m x : ℕ) → line1.kept.count ≡ suc n → m ≤ n → IsQueueChain rows slot line1.last m x → IsQueueChain rows' slot line1.last m x × (entries_from rows' m x ≡ entries_from rows m x)
   behind n m x e le c = gone_behind rows rows' slot line1.last n line1.kept.first m x is (whole n e) le c
 
   released_by : (n : ℕ) → line1.kept.count ≡ suc n → IsShorter rows rows' own slot dc line line2
   released_by n e =
-      let stays : (at : ℕ) → IsChain rows' slot line1.last (span_at at line2).count (span_at at line2).first × (entries_in rows' (span_at at line2) ≡ entries_in rows (span_at at line1)) = λ at.
-      subst (λ (s : Span). IsChain rows' slot line1.last s.count s.first × (entries_in rows' s ≡ entries_in rows (span_at at line1))) (sym (same_span at))
+      let stays : (at : ℕ) → IsQueueChain rows' slot line1.last (span_at at line2).count (span_at at line2).first × (entries_in rows' (span_at at line2) ≡ entries_in rows (span_at at line1)) = λ at.
+      subst (λ (s : Span). IsQueueChain rows' slot line1.last s.count s.first × (entries_in rows' s ≡ entries_in rows (span_at at line1))) (sym (same_span at))
       (behind n (span_at at line1).count (span_at at line1).first e (let le = h.turn.stays.within at in let differ = unwanted at in omega arith) (h.turn.stays.waits at)) in
       let count_is : line2.kept.count ≡ n = ap (λ (s : Span). s.count) kept_is ∙ (let less : line1.kept.count - 1 ≡ n = omega arith in less) in
-      let rest = behind n n (next_in (row_at rows line1.kept.first)) e (omega arith) (chain_rest rows slot line1.last n line1.kept.first (whole n e)) in
-      let kept_as : line2.kept ≡ record { first = next_in (row_at rows line1.kept.first); count = n } = kept_is ∙ ap (λ m. record { first = next_in (row_at rows line1.kept.first); count = m }) (let less : line1.kept.count - 1 ≡ n = omega arith in less) in
+      let rest = behind n n (next_in (cell_at rows line1.kept.first)) e (omega arith) (chain_rest rows slot line1.last n line1.kept.first (whole n e)) in
+      let kept_as : line2.kept ≡ record { first = next_in (cell_at rows line1.kept.first); count = n } = kept_is ∙ ap (λ m. record { first = next_in (cell_at rows line1.kept.first); count = m }) (let less : line1.kept.count - 1 ≡ n = omega arith in less) in
       record {
         turn = record {
           stays = record {
-            kept = subst (λ m. IsChain rows' slot m line2.kept.count line2.kept.first) (sym last_is) (subst (λ (s : Span). IsChain rows' slot line1.last s.count s.first) (sym kept_as) rest.0);
+            kept = subst (λ m. IsQueueChain rows' slot m line2.kept.count line2.kept.first) (sym last_is) (subst (λ (s : Span). IsQueueChain rows' slot line1.last s.count s.first) (sym kept_as) rest.0);
             all = ap (λ (ss : List Span). length ss) waits_are ∙ h.turn.stays.all;
-            waits = λ at. subst (λ m. IsChain rows' slot m (span_at at line2).count (span_at at line2).first) (sym last_is) (stays at).0;
+            waits = λ at. subst (λ m. IsQueueChain rows' slot m (span_at at line2).count (span_at at line2).first) (sym last_is) (stays at).0;
             within = λ at. let as_many : (span_at at line2).count ≡ (span_at at line1).count = ap (λ (s : Span). s.count) (same_span at) in let le = h.turn.stays.within at in let differ = unwanted at in omega arith;
             itself = ap (λ (s : Span). s.count) (same_span own) ∙ h.turn.stays.itself;
           };
@@ -268,10 +268,10 @@ none_waited line none dc = elim (cases_lt dc (length line.waits.items)) [
 ]
 
 pub line_forgotten : (rows : List (Option Row)) (own slot : ℕ) (line line' : Line) → IsLine rows own (length line.waits.items) slot line → line'.last ≡ line.last → line'.kept ≡ line.kept → length line'.waits.items ≡ length line.waits.items → ((dc : ℕ) → (span_at dc line').count ≡ 0)
-    → IsTurn rows rows own slot line line'
+    → IsLineChange rows rows own slot line line'
 line_forgotten rows own slot line line' h last_is kept_is long none = record {
   stays = record {
-    kept = subst (λ m. IsChain rows slot m line'.kept.count line'.kept.first) (sym last_is) (subst (λ (s : Span). IsChain rows slot line.last s.count s.first) (sym kept_is) h.kept);
+    kept = subst (λ m. IsQueueChain rows slot m line'.kept.count line'.kept.first) (sym last_is) (subst (λ (s : Span). IsQueueChain rows slot line.last s.count s.first) (sym kept_is) h.kept);
     all = long;
     waits = λ dc. empty_chain rows slot line'.last (span_at dc line') (none dc);
     within = λ dc. let zero_is = none dc in omega arith;
@@ -282,24 +282,24 @@ line_forgotten rows own slot line line' h last_is kept_is long none = record {
 }
 
 -- the first row of a line that nothing waits for leaves the table
-pub turn_released : (rows0 rows rows' : List (Option Row)) (own slot : ℕ) (line line1 line2 : Line) → IsTurn rows0 rows own slot line line1 → ((dc : ℕ) → (span_at dc line1).count ≡ 0) → 0 < line1.kept.count → IsGone rows rows' line1.kept.first → count_by is_some rows' + 1 ≡ count_by is_some rows
-    → line2.last ≡ line1.last → line2.kept ≡ record { first = next_in (row_at rows line1.kept.first); count = line1.kept.count - 1 } → line2.waits.items ≡ line1.waits.items → IsTurn rows0 rows' own slot line line2
+pub turn_released : (rows0 rows rows' : List (Option Row)) (own slot : ℕ) (line line1 line2 : Line) → IsLineChange rows0 rows own slot line line1 → ((dc : ℕ) → (span_at dc line1).count ≡ 0) → 0 < line1.kept.count → IsGone rows rows' line1.kept.first → count_by is_some rows' + 1 ≡ count_by is_some rows
+    → line2.last ≡ line1.last → line2.kept ≡ record { first = next_in (cell_at rows line1.kept.first); count = line1.kept.count - 1 } → line2.waits.items ≡ line1.waits.items → IsLineChange rows0 rows' own slot line line2
 turn_released rows0 rows rows' own slot line line1 line2 turn none some is counted last_is kept_is waits_are = by line1.kept.count refl
   where
     still : (dc : ℕ) → (span_at dc line2).count ≡ 0
     still dc = ap (λ (ss : List Span). (get_or ss dc nowhere).count) waits_are ∙ none dc
 
-    by : (n : ℕ) → line1.kept.count ≡ n → IsTurn rows0 rows' own slot line line2
+    by : (n : ℕ) → line1.kept.count ≡ n → IsLineChange rows0 rows' own slot line line2
     by zero e = absurd (omega arith)
     by (suc n) e =
-        let whole : IsChain rows slot line1.last (suc n) line1.kept.first = subst (λ m. IsChain rows slot line1.last m line1.kept.first) e turn.stays.kept in
+        let whole : IsQueueChain rows slot line1.last (suc n) line1.kept.first = subst (λ m. IsQueueChain rows slot line1.last m line1.kept.first) e turn.stays.kept in
         let less : line1.kept.count - 1 ≡ n = omega arith in
-        let kept_as : line2.kept ≡ record { first = next_in (row_at rows line1.kept.first); count = n } = kept_is ∙ ap (λ m. record { first = next_in (row_at rows line1.kept.first); count = m }) less in
+        let kept_as : line2.kept ≡ record { first = next_in (cell_at rows line1.kept.first); count = n } = kept_is ∙ ap (λ m. record { first = next_in (cell_at rows line1.kept.first); count = m }) less in
         let count_is : line2.kept.count ≡ n = ap (λ (s : Span). s.count) kept_as in
-        let rest = gone_behind rows rows' slot line1.last n line1.kept.first n (next_in (row_at rows line1.kept.first)) is whole (omega arith) (chain_rest rows slot line1.last n line1.kept.first whole) in
+        let rest = gone_behind rows rows' slot line1.last n line1.kept.first n (next_in (cell_at rows line1.kept.first)) is whole (omega arith) (chain_rest rows slot line1.last n line1.kept.first whole) in
         record {
           stays = record {
-            kept = subst (λ m. IsChain rows' slot m line2.kept.count line2.kept.first) (sym last_is) (subst (λ (s : Span). IsChain rows' slot line1.last s.count s.first) (sym kept_as) rest.0);
+            kept = subst (λ m. IsQueueChain rows' slot m line2.kept.count line2.kept.first) (sym last_is) (subst (λ (s : Span). IsQueueChain rows' slot line1.last s.count s.first) (sym kept_as) rest.0);
             all = ap (λ (ss : List Span). length ss) waits_are ∙ turn.stays.all;
             waits = λ dc. empty_chain rows' slot line2.last (span_at dc line2) (still dc);
             within = λ dc. let zero_is = still dc in omega arith;
@@ -366,11 +366,11 @@ row_at_span rows own slot dc line span h lt read some =
     let is = read_at line dc span lt read in
     subst (λ (s : Span). IsRowOf rows slot s.first) (sym is) (span_head rows slot line.last (span_at dc line) (subst (λ (s : Span). 0 < s.count) is some) (h.waits dc))
 
-pub there_at : (rows : List (Option Row)) (own slot dc : ℕ) (line : Line) (span : Span) → IsLine rows own (length line.waits.items) slot line → dc < length line.waits.items → span ≡ get_or line.waits.items dc span → (span.count ≡ 0 → ⊥) → IsSome (row_at rows span.first)
+pub there_at : (rows : List (Option Row)) (own slot dc : ℕ) (line : Line) (span : Span) → IsLine rows own (length line.waits.items) slot line → dc < length line.waits.items → span ≡ get_or line.waits.items dc span → (span.count ≡ 0 → ⊥) → IsSome (cell_at rows span.first)
 there_at rows own slot dc line span h lt read some = some_there rows slot span.first (row_at_span rows own slot dc line span h lt read (omega arith))
 
 -- it has the first entry
-pub first_is : (rows : List (Option Row)) (own slot dc : ℕ) (line : Line) (span : Span) (r : Row) → IsLine rows own (length line.waits.items) slot line → dc < length line.waits.items → span ≡ get_or line.waits.items dc span → (span.count ≡ 0 → ⊥) → row_at rows span.first ≡ Some r
+pub first_is : (rows : List (Option Row)) (own slot dc : ℕ) (line : Line) (span : Span) (r : Row) → IsLine rows own (length line.waits.items) slot line → dc < length line.waits.items → span ≡ get_or line.waits.items dc span → (span.count ≡ 0 → ⊥) → cell_at rows span.first ≡ Some r
     → Some r.entry ≡ front (entries_in rows (span_at dc line))
 first_is rows own slot dc line span r h lt read some is = by (span_at dc line).count refl
   where
@@ -380,8 +380,8 @@ first_is rows own slot dc line span r h lt read some is = by (span_at dc line).c
     by : (n : ℕ) → (span_at dc line).count ≡ n → Some r.entry ≡ front (entries_from rows (span_at dc line).count (span_at dc line).first)
     by zero e = absurd (some (ap (λ (s : Span). s.count) same ∙ e))
     by (suc n) e =
-        let chain = chain_front rows slot line.last n (span_at dc line).first (subst (λ m. IsChain rows slot line.last m (span_at dc line).first) e (h.waits dc)) in
-        let found : row_at rows (span_at dc line).first ≡ Some r = ap (λ (s : Span). row_at rows s.first) (sym same) ∙ is in
+        let chain = chain_front rows slot line.last n (span_at dc line).first (subst (λ m. IsQueueChain rows slot line.last m (span_at dc line).first) e (h.waits dc)) in
+        let found : cell_at rows (span_at dc line).first ≡ Some r = ap (λ (s : Span). cell_at rows s.first) (sym same) ∙ is in
         let both : Some r ≡ Some chain.0 = sym found ∙ chain.1 in
         let one : r ≡ chain.0 = cc in
         ap (λ (x : Row). Some x.entry) one ∙ sym (ap (λ m. front (entries_from rows m (span_at dc line).first)) e ∙ ap front chain.2)
@@ -415,7 +415,7 @@ needed_released dc line line1 line2 (inr (at, all)) some kept_is elsewhere less 
     ]
 
 -- it passes the first
-pub passed_less : (rows : List (Option Row)) (dc : ℕ) (span : Span) (line line' : Line) → dc < length line.waits.items → span ≡ record { first = next_in (row_at rows (span_at dc line).first); count = (span_at dc line).count - 1 } → line'.waits.items ≡ set line.waits.items dc span
+pub passed_less : (rows : List (Option Row)) (dc : ℕ) (span : Span) (line line' : Line) → dc < length line.waits.items → span ≡ record { first = next_in (cell_at rows (span_at dc line).first); count = (span_at dc line).count - 1 } → line'.waits.items ≡ set line.waits.items dc span
     → ((span_at dc line').count ≡ (span_at dc line).count - 1) × ((at : ℕ) → at ≢ dc → span_at at line' ≡ span_at at line)
 passed_less rows dc span line line' lt span_is waits_are = (
   ap (λ (ss : List Span). (get_or ss dc nowhere).count) waits_are ∙ ap (λ (s : Span). s.count) (get_or-set_same line.waits.items dc span nowhere lt ∙ span_is),

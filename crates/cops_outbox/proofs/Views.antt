@@ -10,7 +10,7 @@ use Rattle.cops_outbox.specs.declared.rows.Row.{Row}
 use Rattle.cops_outbox.specs.declared.rows.Span.{Span}
 use Rattle.cops_outbox.specs.declared.rows.Line.{Line}
 use Rattle.cops_outbox.specs.Queues.{Queues, Waiting, queue_of, is_full, with_last, without_front, pushed, without_slot}
-use Rattle.cops_outbox.specs.Lines.{entries_in, IsLine, AreLines, IsNeeded, IsEmpty, IsTurn, IsLonger, IsShorter, IsCleared, span_at, entries_by_slot, queues_in}
+use Rattle.cops_outbox.specs.Lines.{AreLines, IsCleared, IsEmpty, IsLine, IsLineChange, IsLonger, IsNeeded, IsShorter, entries_by_slot, entries_in, queues_in, span_at}
 use Rattle.cops_outbox.proofs.Chains.{chain_length}
 use Rattle.cops_outbox.proofs.Lines.{empty_chain, empty_entries, test_false}
 
@@ -127,7 +127,7 @@ module _ (rows rows' : List (Option Row)) (own tenants data_centres slot : ℕ) 
   here : IsLine rows own data_centres slot line
   here = h.each slot line lt is
 
-  other_line : IsTurn rows rows' own slot line line' → (other : ℕ) (l : Line) → other ≢ slot → IsLine rows own data_centres other l → IsLine rows' own data_centres other l
+  other_line : IsLineChange rows rows' own slot line line' → (other : ℕ) (l : Line) → other ≢ slot → IsLine rows own data_centres other l → IsLine rows' own data_centres other l
   other_line turn other l differ k = record {
     kept = (turn.others other l.last l.kept.count l.kept.first differ k.kept).0;
     all = k.all;
@@ -136,7 +136,7 @@ module _ (rows rows' : List (Option Row)) (own tenants data_centres slot : ℕ) 
     itself = k.itself;
   }
 
-  pub lines_after : IsTurn rows rows' own slot line line' → IsNeeded line' → AreLines rows' own tenants data_centres (set lines slot line')
+  pub lines_after : IsLineChange rows rows' own slot line line' → IsNeeded line' → AreLines rows' own tenants data_centres (set lines slot line')
   lines_after turn needed = record {
     all = length-set lines slot line' ∙ h.all;
     counted =
@@ -157,7 +157,7 @@ module _ (rows rows' : List (Option Row)) (own tenants data_centres slot : ℕ) 
     ];
   }
 
-  slots_after : IsTurn rows rows' own slot line line' → (dc : ℕ) → entries_by_slot rows' (set lines slot line') dc ≡ set (entries_by_slot rows lines dc) slot (entries_in rows' (span_at dc line'))
+  slots_after : IsLineChange rows rows' own slot line line' → (dc : ℕ) → entries_by_slot rows' (set lines slot line') dc ≡ set (entries_by_slot rows lines dc) slot (entries_in rows' (span_at dc line'))
   slots_after turn dc =
       map-set (λ (l : Line). entries_in rows' (span_at dc l)) lines slot line'
       ∙ set_same (λ (l : Line). entries_in rows' (span_at dc l)) (λ (l : Line). entries_in rows (span_at dc l)) lines slot (entries_in rows' (span_at dc line'))
@@ -363,8 +363,8 @@ module _ (rows : List (Option Row)) (own tenants data_centres : ℕ) (lines : Li
   pub line_needed : (slot : ℕ) (line : Line) → slot < v.tenants → line ≡ get_or lines slot line → IsNeeded line
   line_needed slot line lt read = h.needed slot line (slot_within slot lt) read
 
-  pub turn_lines : (rows1 rows' : List (Option Row)) (slot : ℕ) (line line' : Line) → rows1 ≡ rows → slot < v.tenants → line ≡ get_or lines slot line → IsTurn rows1 rows' own slot line line' → IsNeeded line' → AreLines rows' own tenants data_centres (set lines slot line')
-  turn_lines rows1 rows' slot line line' same lt read turn needed = lines_after rows rows' own tenants data_centres slot lines line line' h (slot_within slot lt) read (subst (λ rs. IsTurn rs rows' own slot line line') same turn) needed
+  pub turn_lines : (rows1 rows' : List (Option Row)) (slot : ℕ) (line line' : Line) → rows1 ≡ rows → slot < v.tenants → line ≡ get_or lines slot line → IsLineChange rows1 rows' own slot line line' → IsNeeded line' → AreLines rows' own tenants data_centres (set lines slot line')
+  turn_lines rows1 rows' slot line line' same lt read turn needed = lines_after rows rows' own tenants data_centres slot lines line line' h (slot_within slot lt) read (subst (λ rs. IsLineChange rs rows' own slot line line') same turn) needed
 
   pub alone_shown : (least : ℕ) (w : Waiting) → ((dc : ℕ) → dc ≢ own → least ≤ dc) → data_centres ≤ least → v ≡ record v { queues = pushed 0 v.own w v.queues }
   alone_shown least w far le = subst (λ (u : Queues). u ≡ record u { queues = pushed 0 u.own w u.queues }) is (ap (λ qs. record { own = own; tenants = tenants; queues = qs }) (alone own least w (entries_by_slot rows lines) data_centres far le))

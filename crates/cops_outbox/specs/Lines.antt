@@ -7,8 +7,8 @@ use Rattle.cops_outbox.specs.declared.rows.Span.{Span}
 use Rattle.cops_outbox.specs.declared.rows.Line.{Line}
 
 -- what is in the table at a place
-abbrev pub row_at : List (Option Row) → ℕ → Option Row
-row_at rows at = slice_index_or rows at None
+abbrev pub cell_at : List (Option Row) → ℕ → Option Row
+cell_at rows at = slice_index_or rows at None
 
 abbrev pub entry_in : Option Row → List Entry
 entry_in None = []
@@ -21,20 +21,20 @@ next_in (Some r) = r.next
 -- that many entries, from a place on
 abbrev pub entries_from : List (Option Row) → ℕ → ℕ → List Entry
 entries_from rows zero at = []
-entries_from rows (suc n) at = entry_in (row_at rows at) ++ entries_from rows n (next_in (row_at rows at))
+entries_from rows (suc n) at = entry_in (cell_at rows at) ++ entries_from rows n (next_in (cell_at rows at))
 
 abbrev pub entries_in : List (Option Row) → Span → List Entry
 entries_in rows span = entries_from rows span.count span.first
 
 -- a row of the slot is there
 abbrev pub IsRowOf : List (Option Row) → ℕ → ℕ → Type 0
-IsRowOf rows slot at = (r : Row) × (row_at rows at ≡ Some r) × (r.slot ≡ slot)
+IsRowOf rows slot at = (r : Row) × (cell_at rows at ≡ Some r) × (r.slot ≡ slot)
 
 -- from this place on, that many rows of the slot lead to the last
-abbrev pub IsChain : List (Option Row) → ℕ → ℕ → ℕ → ℕ → Type 0
-IsChain rows slot last zero at = Unit {0}
-IsChain rows slot last (suc zero) at = IsRowOf rows slot at × (at ≡ last)
-IsChain rows slot last (suc (suc n)) at = IsRowOf rows slot at × (at ≢ last) × IsChain rows slot last (suc n) (next_in (row_at rows at))
+abbrev pub IsQueueChain : List (Option Row) → ℕ → ℕ → ℕ → ℕ → Type 0
+IsQueueChain rows slot last zero at = Unit {0}
+IsQueueChain rows slot last (suc zero) at = IsRowOf rows slot at × (at ≡ last)
+IsQueueChain rows slot last (suc (suc n)) at = IsRowOf rows slot at × (at ≢ last) × IsQueueChain rows slot last (suc n) (next_in (cell_at rows at))
 
 abbrev pub nowhere : Span
 nowhere = record { first = 0; count = 0 }
@@ -45,9 +45,9 @@ span_at dc line = slice_index_or line.waits.items dc nowhere
 
 -- the entries of a line: all that are kept, and those that wait for each data centre
 pub record IsLine (rows : List (Option Row)) (own data_centres slot : ℕ) (line : Line) : Type 0 where
-  pub kept : IsChain rows slot line.last line.kept.count line.kept.first
+  pub kept : IsQueueChain rows slot line.last line.kept.count line.kept.first
   pub all : length line.waits.items ≡ data_centres
-  pub waits : (dc : ℕ) → IsChain rows slot line.last (span_at dc line).count (span_at dc line).first
+  pub waits : (dc : ℕ) → IsQueueChain rows slot line.last (span_at dc line).count (span_at dc line).first
   pub within : (dc : ℕ) → (span_at dc line).count ≤ line.kept.count
   pub itself : (span_at own line).count ≡ 0
 
@@ -82,41 +82,41 @@ extended at span = record { first = if span.count == 0 then at else span.first; 
 -- ---- how the table changes
 
 -- the chains of every other slot stay, and so do their entries
-abbrev pub OthersStay : ℕ → List (Option Row) → List (Option Row) → Type 0
-OthersStay slot rows rows' = (other last n at : ℕ) → other ≢ slot → IsChain rows other last n at → IsChain rows' other last n at × (entries_from rows' n at ≡ entries_from rows n at)
+abbrev pub OtherChainsStay : ℕ → List (Option Row) → List (Option Row) → Type 0
+OtherChainsStay slot rows rows' = (other last n at : ℕ) → other ≢ slot → IsQueueChain rows other last n at → IsQueueChain rows' other last n at × (entries_from rows' n at ≡ entries_from rows n at)
 
 -- a row of the slot joined the table behind the last of a line that has that many
 pub record IsAdded (rows rows' : List (Option Row)) (slot last count at : ℕ) (entry : Entry) : Type 0 where
-  pub vacant : row_at rows at ≡ None
+  pub vacant : cell_at rows at ≡ None
   pub added : IsRowOf rows' slot at
-  pub holds : entry_in (row_at rows' at) ≡ entry ∷ []
-  pub linked : (r : Row) → 0 < count → row_at rows last ≡ Some r → row_at rows' last ≡ Some (record r { next = at })
-  pub others : (x : ℕ) → x ≢ at → (x ≡ last → count ≡ 0) → row_at rows' x ≡ row_at rows x
+  pub holds : entry_in (cell_at rows' at) ≡ entry ∷ []
+  pub linked : (r : Row) → 0 < count → cell_at rows last ≡ Some r → cell_at rows' last ≡ Some (record r { next = at })
+  pub others : (x : ℕ) → x ≢ at → (x ≡ last → count ≡ 0) → cell_at rows' x ≡ cell_at rows x
 
 -- the row at a place left the table
 pub record IsGone (rows rows' : List (Option Row)) (first : ℕ) : Type 0 where
-  pub others : (x : ℕ) → x ≢ first → row_at rows' x ≡ row_at rows x
+  pub others : (x : ℕ) → x ≢ first → cell_at rows' x ≡ cell_at rows x
 
 -- what one call does to the table and a line
-pub record IsTurn (rows rows' : List (Option Row)) (own slot : ℕ) (line line' : Line) : Type 0 where
+pub record IsLineChange (rows rows' : List (Option Row)) (own slot : ℕ) (line line' : Line) : Type 0 where
   pub stays : IsLine rows' own (length line.waits.items) slot line'
-  pub others : OthersStay slot rows rows'
+  pub others : OtherChainsStay slot rows rows'
   pub counted : line'.kept.count + count_by is_some rows ≡ line.kept.count + count_by is_some rows'
 
 -- the entry is last of what waits for each other data centre
 pub record IsLonger (rows rows' : List (Option Row)) (own slot : ℕ) (entry : Entry) (line line' : Line) : Type 0 where
-  pub turn : IsTurn rows rows' own slot line line'
+  pub turn : IsLineChange rows rows' own slot line line'
   pub entries : (dc : ℕ) → dc < length line.waits.items → dc ≢ own → entries_in rows' (span_at dc line') ≡ entries_in rows (span_at dc line) ++ entry ∷ []
   pub itself : entries_in rows' (span_at own line') ≡ entries_in rows (span_at own line)
 
 -- the first entry that waits for a data centre no longer does
 pub record IsShorter (rows rows' : List (Option Row)) (own slot dc : ℕ) (line line' : Line) : Type 0 where
-  pub turn : IsTurn rows rows' own slot line line'
+  pub turn : IsLineChange rows rows' own slot line line'
   pub entries : entries_in rows' (span_at dc line') ≡ drop 1 (entries_in rows (span_at dc line))
   pub elsewhere : (at : ℕ) → at ≢ dc → entries_in rows' (span_at at line') ≡ entries_in rows (span_at at line)
 
 -- all rows of the line left the table
 pub record IsCleared (rows rows' : List (Option Row)) (own slot : ℕ) (line line' : Line) : Type 0 where
-  pub turn : IsTurn rows rows' own slot line line'
+  pub turn : IsLineChange rows rows' own slot line line'
   pub kept : line'.kept.count ≡ 0
   pub waits : (dc : ℕ) → (span_at dc line').count ≡ 0

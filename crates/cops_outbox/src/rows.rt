@@ -4,7 +4,7 @@ ghost use Rattle.std.specs.Option.{option_copied};
 ghost use Rattle.std.specs.List.{list_any, range_with_len};
 ghost use Rattle.slab.specs.Slab.{HasRoomFor, slab_len};
 ghost use Rattle.cops_outbox.specs.Queues.{front, is_front};
-ghost use Rattle.cops_outbox.specs.Lines.{row_at, next_in, entries_in, IsRowOf, IsChain, IsLine, IsNeeded, IsEmpty, IsAdded, IsGone, IsLonger, IsShorter, IsCleared, span_at, nowhere, extended as span_with};
+ghost use Rattle.cops_outbox.specs.Lines.{IsAdded, IsCleared, IsEmpty, IsGone, IsLine, IsLonger, IsNeeded, IsQueueChain, IsRowOf, IsShorter, cell_at, entries_in, extended as span_with, next_in, nowhere, span_at};
 
 use cops_types::{Entry, Version};
 use slab::Slab;
@@ -72,7 +72,7 @@ fn extend_all(waits: &mut [Span], own: u64, at: usize)
 // Puts an entry of the slot into the table, and links it to the last one of the line.
 fn link(rows: &mut Slab<Row>, line: &Line, slot: usize, entry: Entry) -> usize
     requires room { HasRoomFor rows.old 1 }
-    requires line { IsChain rows.old.slots slot line.now.last line.now.kept.count line.now.kept.first }
+    requires line { IsQueueChain rows.old.slots slot line.now.last line.now.kept.count line.now.kept.first }
     ensures added { IsAdded rows.old.slots rows.new.slots slot line.now.last line.now.kept.count result entry }
     ensures len { slab_len rows.new ≡ slab_len rows.old + 1 }
 {
@@ -111,7 +111,7 @@ fn release(rows: &mut Slab<Row>, kept: Span) -> Span
     requires row { (slot : ℕ) × IsRowOf rows.old.slots slot kept.first }
     requires some { 0 < kept.count }
     ensures gone { IsGone rows.old.slots rows.new.slots kept.first }
-    ensures rest { result ≡ record { first = next_in (row_at rows.old.slots kept.first); count = kept.count - 1 } }
+    ensures rest { result ≡ record { first = next_in (cell_at rows.old.slots kept.first); count = kept.count - 1 } }
     ensures len { slab_len rows.new + 1 ≡ slab_len rows.old }
 {
     let row = rows.remove(kept.first);
@@ -132,7 +132,7 @@ fn is_waited_for(waits: &[Span], count: usize) -> bool
 fn shortened(rows: &Slab<Row>, span: Span) -> Span
     requires row { (slot : ℕ) × IsRowOf rows.now.slots slot span.first }
     requires some { 0 < span.count }
-    ensures { result ≡ record { first = next_in (row_at rows.now.slots span.first); count = span.count - 1 } }
+    ensures { result ≡ record { first = next_in (cell_at rows.now.slots span.first); count = span.count - 1 } }
 {
     let row = &rows[span.first];
     Span {

@@ -1,4 +1,4 @@
--- What a carrier calls next, from the replies so far.
+-- What a carrier calls carrier_next, from the replies so far.
 use Rattle.std.proofs.Common.{◌≡◌, ℕ, List, [], ◌∷◌, map, inl, inr, refl, sym, ◌∙◌, ap, subst}
 use Rattle.std.specs.Prelude.{Option, Some, None, filter_map, length, slice_get}
 use Rattle.std.specs.List.{AllByRecursion, cons_option}
@@ -8,33 +8,33 @@ use Rattle.cops_node.specs.declared.NodeReply.{NodeReply}
 use Rattle.cops_node.specs.declared.NodeReply.TheVariants.{Pulled}
 use Rattle.cops_node.specs.Log.{LogStep, Outcome, Late, Replied, reply_in, Directed, Call}
 use Rattle.cops_repl.specs.declared.Delivery.{Delivery}
-use Rattle.cops_repl.specs.Carrier.{Stream, pull, check, commit, acknowledge, delivery, calls_of, first_end, complete, call_or_end, unless_end, next}
+use Rattle.cops_repl.specs.Carrier.{Stream, ack_call, call_or_end, carrier_next, check, commit_call, delivery, finished_delivery, first_end, pull, stream_calls, unless_end}
 use Rattle.cops_types.proofs.Elements.{Among, Among-cases, map-Among, slice_get-Among}
 
 abbrev pub carrier_replies : List LogStep → List NodeReply
 carrier_replies log = filter_map (λ s. reply_in s.outcome) log
 
--- the next call is the next one of those to be made, and no reply so far ended the carrier
+-- the carrier_next call is the carrier_next one of those to be made, and no reply so far ended the carrier
 pub record NextOf (shards : ℕ) (stream : Stream) (log : List LogStep) (directed : Directed) : Type 0 where
-  pub place : slice_get (calls_of shards stream (carrier_replies log)) (length (carrier_replies log)) ≡ Some directed
-  pub no_end : first_end shards stream (calls_of shards stream (carrier_replies log)) (carrier_replies log) ≡ None
+  pub place : slice_get (stream_calls shards stream (carrier_replies log)) (length (carrier_replies log)) ≡ Some directed
+  pub no_end : first_end shards stream (stream_calls shards stream (carrier_replies log)) (carrier_replies log) ≡ None
 
-pub carrier-next : (shards : ℕ) (stream : Stream) (log : List LogStep) (directed : Directed) → next shards stream log ≡ Call directed → NextOf shards stream log directed
+pub carrier-next : (shards : ℕ) (stream : Stream) (log : List LogStep) (directed : Directed) → carrier_next shards stream log ≡ Call directed → NextOf shards stream log directed
 carrier-next shards stream log directed e =
-    chosen (first_end shards stream (calls_of shards stream (carrier_replies log)) (carrier_replies log)) (slice_get (calls_of shards stream (carrier_replies log)) (length (carrier_replies log))) refl refl e
+    chosen (first_end shards stream (stream_calls shards stream (carrier_replies log)) (carrier_replies log)) (slice_get (stream_calls shards stream (carrier_replies log)) (length (carrier_replies log))) refl refl e
   where
-    chosen : (ends : Option Delivery) (found : Option Directed) → first_end shards stream (calls_of shards stream (carrier_replies log)) (carrier_replies log) ≡ ends →
-        slice_get (calls_of shards stream (carrier_replies log)) (length (carrier_replies log)) ≡ found → unless_end ends (call_or_end found (complete (carrier_replies log))) ≡ Call directed → NextOf shards stream log directed
+    chosen : (ends : Option Delivery) (found : Option Directed) → first_end shards stream (stream_calls shards stream (carrier_replies log)) (carrier_replies log) ≡ ends →
+        slice_get (stream_calls shards stream (carrier_replies log)) (length (carrier_replies log)) ≡ found → unless_end ends (call_or_end found (finished_delivery (carrier_replies log))) ≡ Call directed → NextOf shards stream log directed
     chosen (Some ending) found ends is e = cc
     chosen None None ends is e = cc
     chosen None (Some call) ends is e = let same : call ≡ directed = cc in record { place = is ∙ ap Some same; no_end = ends }
 
--- what a carrier may call: the pull, and with an entry its checks, its commit and its acknowledgement
+-- what a carrier may call: the pull, and with an entry its checks, its commit_call and its acknowledgement
 pub data IsCallOf (shards : ℕ) (stream : Stream) (replies : List NodeReply) (directed : Directed) : Type 0 where
   IsPull : directed ≡ pull stream → IsCallOf shards stream replies directed
   IsCheck : (e : Entry) (near : Pair) → Among (Pulled e) replies → Among near e.near → directed ≡ check shards stream near → IsCallOf shards stream replies directed
-  IsCommit : (e : Entry) → Among (Pulled e) replies → directed ≡ commit stream e → IsCallOf shards stream replies directed
-  IsAck : (e : Entry) → Among (Pulled e) replies → directed ≡ acknowledge stream e → IsCallOf shards stream replies directed
+  IsCommit : (e : Entry) → Among (Pulled e) replies → directed ≡ commit_call stream e → IsCallOf shards stream replies directed
+  IsAck : (e : Entry) → Among (Pulled e) replies → directed ≡ ack_call stream e → IsCallOf shards stream replies directed
 
 pull_only : (shards : ℕ) (stream : Stream) (replies : List NodeReply) (directed : Directed) → Among directed (pull stream ∷ []) → IsCallOf shards stream replies directed
 pull_only shards stream replies directed (inl is) = IsPull (sym is)
@@ -43,7 +43,7 @@ pull_only shards stream replies directed (inr never) = absurd never
 with_entry : (shards : ℕ) (stream : Stream) (e : Entry) (replies : List NodeReply) (directed : Directed) → Among directed (pull stream ∷ delivery shards stream e) → IsCallOf shards stream (Pulled e ∷ replies) directed
 with_entry shards stream e replies directed (inl is) = IsPull (sym is)
 with_entry shards stream e replies directed (inr there) =
-    elim (Among-cases directed (map (check shards stream) e.near) (commit stream e ∷ acknowledge stream e ∷ []) there) [
+    elim (Among-cases directed (map (check shards stream) e.near) (commit_call stream e ∷ ack_call stream e ∷ []) there) [
       | inl checks ↦ let found = map-Among (check shards stream) directed e.near checks in IsCheck e found.0 (inl refl) found.1 (sym found.2)
       | inr last ↦ elim last [
         | inl is ↦ IsCommit e (inl refl) (sym is)
@@ -51,15 +51,15 @@ with_entry shards stream e replies directed (inr there) =
       ]
     ]
 
-call_is : (shards : ℕ) (stream : Stream) (replies : List NodeReply) (directed : Directed) → Among directed (calls_of shards stream replies) → IsCallOf shards stream replies directed
+call_is : (shards : ℕ) (stream : Stream) (replies : List NodeReply) (directed : Directed) → Among directed (stream_calls shards stream replies) → IsCallOf shards stream replies directed
 call_is shards stream [] directed there = pull_only shards stream [] directed there
 call_is shards stream (Pulled e ∷ replies) directed there = with_entry shards stream e replies directed there
 call_is shards stream (reply ∷ replies) directed there = pull_only shards stream (reply ∷ replies) directed there
 
-pub carrier_call : (shards : ℕ) (stream : Stream) (log : List LogStep) (directed : Directed) → next shards stream log ≡ Call directed → IsCallOf shards stream (carrier_replies log) directed
+pub carrier_call : (shards : ℕ) (stream : Stream) (log : List LogStep) (directed : Directed) → carrier_next shards stream log ≡ Call directed → IsCallOf shards stream (carrier_replies log) directed
 carrier_call shards stream log directed e =
     let is = carrier-next shards stream log directed e in
-    call_is shards stream (carrier_replies log) directed (slice_get-Among (calls_of shards stream (carrier_replies log)) (length (carrier_replies log)) directed is.place)
+    call_is shards stream (carrier_replies log) directed (slice_get-Among (stream_calls shards stream (carrier_replies log)) (length (carrier_replies log)) directed is.place)
 
 -- what holds of each outcome holds of each reply
 pub each_reply : (P : Outcome → Type 0) (log : List LogStep) → AllByRecursion (λ s. P s.outcome) log → (r : NodeReply) → Among r (carrier_replies log) → P (Replied r)

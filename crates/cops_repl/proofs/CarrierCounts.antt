@@ -8,23 +8,23 @@ use Rattle.cops_node.specs.declared.NodeReply.TheVariants.{Pulled}
 use Rattle.cops_node.specs.Log.{LogStep, Directed, Next, Call, Restart, Ended}
 use Rattle.cops_repl.specs.declared.Delivery.{Delivery}
 use Rattle.cops_repl.specs.declared.Progress.TheVariants.{Working}
-use Rattle.cops_repl.specs.Bounds.{near_in, IsBounded}
-use Rattle.cops_repl.specs.Carrier.{Stream, check, commit, acknowledge, delivery, calls_of, first_end, complete, call_or_end, unless_end, next, shown}
+use Rattle.cops_repl.specs.Bounds.{IsDeliveryBounded, near_in}
+use Rattle.cops_repl.specs.Carrier.{Stream, ack_call, call_or_end, carrier_next, check, commit_call, delivery, finished_delivery, first_end, progress_of, stream_calls, unless_end}
 use Rattle.cops_repl.proofs.CarrierCalls.{carrier_replies, carrier-next}
 
-calls-few : (shards : ℕ) (stream : Stream) (rs : List NodeReply) → length (calls_of shards stream rs) ≤ length (near_in rs) + 3
+calls-few : (shards : ℕ) (stream : Stream) (rs : List NodeReply) → length (stream_calls shards stream rs) ≤ length (near_in rs) + 3
 calls-few shards stream [] = omega arith
 calls-few shards stream (Pulled entry ∷ rs) =
     let checks : length (map (check shards stream) entry.near) ≡ length entry.near = length-map entry.near (check shards stream) in
-    let all : length (delivery shards stream entry) ≡ length (map (check shards stream) entry.near) + 2 = length-append (map (check shards stream) entry.near) (commit stream entry ∷ acknowledge stream entry ∷ []) in
+    let all : length (delivery shards stream entry) ≡ length (map (check shards stream) entry.near) + 2 = length-append (map (check shards stream) entry.near) (commit_call stream entry ∷ ack_call stream entry ∷ []) in
     omega arith
 calls-few shards stream (r ∷ rs) = omega arith
 
 -- a call leaves room for its reply
-pub call-within : (shards : ℕ) (stream : Stream) (log : List LogStep) (directed : Directed) → next shards stream log ≡ Call directed → length (carrier_replies log) < length (near_in (carrier_replies log)) + 3
+pub call-within : (shards : ℕ) (stream : Stream) (log : List LogStep) (directed : Directed) → carrier_next shards stream log ≡ Call directed → length (carrier_replies log) < length (near_in (carrier_replies log)) + 3
 call-within shards stream log directed e =
     let is = carrier-next shards stream log directed e in
-    let within = slice_get-within (calls_of shards stream (carrier_replies log)) (length (carrier_replies log)) directed is.place in
+    let within = slice_get-within (stream_calls shards stream (carrier_replies log)) (length (carrier_replies log)) directed is.place in
     let few = calls-few shards stream (carrier_replies log) in
     omega arith
 
@@ -34,12 +34,12 @@ never-restarts (Some ending) found last e = cc
 never-restarts None (Some call) last e = cc
 never-restarts None None last e = cc
 
-pub is_bounded : (shards : ℕ) (stream : Stream) (log : List LogStep) → IsBounded shards stream log
-is_bounded shards stream log = by_next (next shards stream log) refl
+pub is_bounded : (shards : ℕ) (stream : Stream) (log : List LogStep) → IsDeliveryBounded shards stream log
+is_bounded shards stream log = by_next (carrier_next shards stream log) refl
   where
-    by_next : (n : Next Delivery) → next shards stream log ≡ n → shown n ≡ Working → length (carrier_replies log) ≤ length (near_in (carrier_replies log)) + 3
+    by_next : (n : Next Delivery) → carrier_next shards stream log ≡ n → progress_of n ≡ Working → length (carrier_replies log) ≤ length (near_in (carrier_replies log)) + 3
     by_next (Call directed) is working = let within = call-within shards stream log directed is in omega arith
     by_next Restart is working =
         let rs = carrier_replies log in
-        absurd (never-restarts (first_end shards stream (calls_of shards stream rs) rs) (slice_get (calls_of shards stream rs) (length rs)) (complete rs) is)
+        absurd (never-restarts (first_end shards stream (stream_calls shards stream rs) rs) (slice_get (stream_calls shards stream rs) (length rs)) (finished_delivery rs) is)
     by_next (Ended ending) is working = cc

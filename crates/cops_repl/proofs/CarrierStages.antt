@@ -11,7 +11,7 @@ use Rattle.cops_node.specs.declared.NodeReply.{NodeReply}
 use Rattle.cops_node.specs.declared.NodeReply.TheVariants.{Checked, Pulled, Committed, Already, OutOfOrder}
 use Rattle.cops_node.specs.Log.{LogStep, Replied, reply_in, Directed, fault_in}
 use Rattle.cops_repl.specs.declared.Delivery.{Delivery}
-use Rattle.cops_repl.specs.Carrier.{Stream, pull, check, commit, acknowledge, delivery, calls_of, first_end, fault_or_end}
+use Rattle.cops_repl.specs.Carrier.{Stream, ack_call, check, commit_call, delivery, fault_or_end, first_end, pull, stream_calls}
 use Rattle.cops_repl.proofs.CarrierCalls.{carrier_replies, NextOf}
 use Rattle.cops_types.proofs.Elements.{Among}
 use Rattle.cops_types.proofs.Zipped.{Zipped, Zipped-push}
@@ -32,7 +32,7 @@ checked shards stream p (Checked true) e = refl
 checked shards stream p (Checked false) e = cc
 checked shards stream p r e = cc
 
--- a commit was answered by Committed or Already
+-- a commit_call was answered by Committed or Already
 arrived : (shards : ℕ) (stream : Stream) (entry : Entry) (r : NodeReply) → fault_or_end shards stream (node_call.Commit entry) r (fault_in (node_call.Commit entry) r) ≡ None → (r ≡ Committed) ⊎ (r ≡ Already)
 arrived shards stream entry Committed e = inl refl
 arrived shards stream entry Already e = inr refl
@@ -43,23 +43,23 @@ module _ (R : Directed → NodeReply → Type 0) (shards : ℕ) (stream : Stream
   -- what a carrier with an entry does next
   pub data InDelivery (e : Entry) (next : Directed) : Type 0 where
     Checking : (near : Pair) → Among near e.near → next ≡ check shards stream near → InDelivery e next
-    Committing : AllByRecursion (λ near. R (check shards stream near) (Checked true)) e.near → next ≡ commit stream e → InDelivery e next
-    Acking : (r : NodeReply) → R (commit stream e) r → (r ≡ Committed) ⊎ (r ≡ Already) → next ≡ acknowledge stream e → InDelivery e next
+    Committing : AllByRecursion (λ near. R (check shards stream near) (Checked true)) e.near → next ≡ commit_call stream e → InDelivery e next
+    Acking : (r : NodeReply) → R (commit_call stream e) r → (r ≡ Committed) ⊎ (r ≡ Already) → next ≡ ack_call stream e → InDelivery e next
 
   pub data Stage (next : Directed) : Type 0 where
     Pulling : next ≡ pull stream → Stage next
     Delivering : (e : Entry) → R (pull stream) (Pulled e) → InDelivery e next → Stage next
 
   -- once all checks are made
-  after_checks : (e : Entry) (next : Directed) (rs : List NodeReply) → slice_get (commit stream e ∷ acknowledge stream e ∷ []) (length rs) ≡ Some next → Zipped R (commit stream e ∷ acknowledge stream e ∷ []) rs →
-      first_end shards stream (commit stream e ∷ acknowledge stream e ∷ []) rs ≡ None → AllByRecursion (λ near. R (check shards stream near) (Checked true)) e.near → InDelivery e next
-  after_checks e next [] at z no_end near = Committing near (let both : Some (commit stream e) ≡ Some next = at in cc)
+  after_checks : (e : Entry) (next : Directed) (rs : List NodeReply) → slice_get (commit_call stream e ∷ ack_call stream e ∷ []) (length rs) ≡ Some next → Zipped R (commit_call stream e ∷ ack_call stream e ∷ []) rs →
+      first_end shards stream (commit_call stream e ∷ ack_call stream e ∷ []) rs ≡ None → AllByRecursion (λ near. R (check shards stream near) (Checked true)) e.near → InDelivery e next
+  after_checks e next [] at z no_end near = Committing near (let both : Some (commit_call stream e) ≡ Some next = at in cc)
   after_checks e next (r ∷ []) at z no_end near =
-      Acking r z.0 (arrived shards stream e r (no_end_first (fault_or_end shards stream (node_call.Commit e) r (fault_in (node_call.Commit e) r)) None no_end)) (let both : Some (acknowledge stream e) ≡ Some next = at in cc)
+      Acking r z.0 (arrived shards stream e r (no_end_first (fault_or_end shards stream (node_call.Commit e) r (fault_in (node_call.Commit e) r)) None no_end)) (let both : Some (ack_call stream e) ≡ Some next = at in cc)
   after_checks e next (r ∷ s ∷ rs) at z no_end near = let never : None ≡ Some next = at in cc
 
   abbrev last_calls : Entry → List Directed
-  last_calls e = commit stream e ∷ acknowledge stream e ∷ []
+  last_calls e = commit_call stream e ∷ ack_call stream e ∷ []
 
   in_checks : (e : Entry) (next : Directed) (left : List Pair) (rs : List NodeReply) → ((near : Pair) → Among near left → Among near e.near) →
       slice_get (map (check shards stream) left ++ last_calls e) (length rs) ≡ Some next → Zipped R (map (check shards stream) left ++ last_calls e) rs →
@@ -76,14 +76,14 @@ module _ (R : Directed → NodeReply → Type 0) (shards : ℕ) (stream : Stream
   pulled_only : (next : Directed) (r : NodeReply) (rs : List NodeReply) → slice_get (pull stream ∷ []) (length (r ∷ rs)) ≡ Some next → Stage next
   pulled_only next r rs at = let never : None ≡ Some next = at in cc
 
-  stage_of : (next : Directed) (rs : List NodeReply) → slice_get (calls_of shards stream rs) (length rs) ≡ Some next → Zipped R (calls_of shards stream rs) rs → first_end shards stream (calls_of shards stream rs) rs ≡ None → Stage next
+  stage_of : (next : Directed) (rs : List NodeReply) → slice_get (stream_calls shards stream rs) (length rs) ≡ Some next → Zipped R (stream_calls shards stream rs) rs → first_end shards stream (stream_calls shards stream rs) rs ≡ None → Stage next
   stage_of next [] at z no_end = Pulling (let both : Some (pull stream) ≡ Some next = at in cc)
   stage_of next (Pulled e ∷ rs) at z no_end =
       Delivering e z.0 (in_checks e next e.near rs (λ p there. there) at z.1
       (no_end_rest (fault_or_end shards stream (node_call.Pull stream.to_dc) (Pulled e) (fault_in (node_call.Pull stream.to_dc) (Pulled e))) (first_end shards stream (delivery shards stream e) rs) no_end) (λ all. all))
   stage_of next (r ∷ rs) at z no_end = pulled_only next r rs at
 
-  pub stage : (log : List LogStep) (next : Directed) → NextOf shards stream log next → Zipped R (calls_of shards stream (carrier_replies log)) (carrier_replies log) → Stage next
+  pub stage : (log : List LogStep) (next : Directed) → NextOf shards stream log next → Zipped R (stream_calls shards stream (carrier_replies log)) (carrier_replies log) → Stage next
   stage log next is z = stage_of next (carrier_replies log) is.place z is.no_end
 
   -- one more reply
@@ -91,21 +91,21 @@ module _ (R : Directed → NodeReply → Type 0) (shards : ℕ) (stream : Stream
   none [] = tt
   none (q ∷ qs) = tt
 
-  first_reply : (r : NodeReply) → R (pull stream) r → Zipped R (calls_of shards stream (r ∷ [])) (r ∷ [])
+  first_reply : (r : NodeReply) → R (pull stream) r → Zipped R (stream_calls shards stream (r ∷ [])) (r ∷ [])
   first_reply (Pulled e) new = (new, none (delivery shards stream e))
   first_reply r new = (new, tt)
 
-  next_reply : (rs : List NodeReply) (next : Directed) (r : NodeReply) → Zipped R (calls_of shards stream rs) rs → slice_get (calls_of shards stream rs) (length rs) ≡ Some next → R next r →
-      Zipped R (calls_of shards stream (rs ++ r ∷ [])) (rs ++ r ∷ [])
+  next_reply : (rs : List NodeReply) (next : Directed) (r : NodeReply) → Zipped R (stream_calls shards stream rs) rs → slice_get (stream_calls shards stream rs) (length rs) ≡ Some next → R next r →
+      Zipped R (stream_calls shards stream (rs ++ r ∷ [])) (rs ++ r ∷ [])
   next_reply [] next r z at new = let same : pull stream ≡ next = (let both : Some (pull stream) ≡ Some next = at in cc) in first_reply r (subst (λ d. R d r) (sym same) new)
   next_reply (Pulled e ∷ rs) next r z at new = Zipped-push R (pull stream ∷ delivery shards stream e) (Pulled e ∷ rs) next r z at new
   next_reply (s ∷ rs) next r z at new = Zipped-push R (pull stream ∷ []) (s ∷ rs) next r z at new
 
-  pub carrier-stepped : (log : List LogStep) (moment : ℕ) (next : Directed) (r : NodeReply) → Zipped R (calls_of shards stream (carrier_replies log)) (carrier_replies log) → NextOf shards stream log next → R next r →
-      let rs = carrier_replies (log ++ record { moment = moment; outcome = Replied r } ∷ []) in Zipped R (calls_of shards stream rs) rs
+  pub carrier-stepped : (log : List LogStep) (moment : ℕ) (next : Directed) (r : NodeReply) → Zipped R (stream_calls shards stream (carrier_replies log)) (carrier_replies log) → NextOf shards stream log next → R next r →
+      let rs = carrier_replies (log ++ record { moment = moment; outcome = Replied r } ∷ []) in Zipped R (stream_calls shards stream rs) rs
   carrier-stepped log moment next r z is new =
-      subst (λ rs. Zipped R (calls_of shards stream rs) rs) (sym (filter_map-append (λ (s : LogStep). reply_in s.outcome) log (record { moment = moment; outcome = Replied r } ∷ [])))
+      subst (λ rs. Zipped R (stream_calls shards stream rs) rs) (sym (filter_map-append (λ (s : LogStep). reply_in s.outcome) log (record { moment = moment; outcome = Replied r } ∷ [])))
       (next_reply (carrier_replies log) next r z is.place new)
 
-  pub carrier-begun : Zipped R (calls_of shards stream []) []
+  pub carrier-begun : Zipped R (stream_calls shards stream []) []
   carrier-begun = tt

@@ -6,14 +6,14 @@ use Rattle.std.proofs.lemmas.Option.{slice_get-get_or}
 use Rattle.cops_types.specs.declared.pairs.Pair.{Pair}
 use Rattle.cops_types.specs.Version.{no_version}
 use Rattle.cops_node.specs.declared.NodeReply.{NodeReply}
-use Rattle.cops_node.specs.Log.{Directed, LogStep, Call, Replied, reply_in}
+use Rattle.cops_node.specs.Log.{Call, Directed, LogStep, Replied, replies_of, reply_in}
 use Rattle.cops_repl.specs.declared.Delivery.{Delivery}
 use Rattle.cops_repl.specs.declared.Progress.TheVariants.{Working, Done}
 use Rattle.cops_repl.specs.declared.stages.After.TheVariants.{Goes, Ends}
 use Rattle.cops_repl.specs.declared.stages.Stage.{Stage}
 use Rattle.cops_repl.specs.declared.stages.Stage.TheVariants.{Pulling, Carrying, Stored, Over}
-use Rattle.cops_repl.specs.Carrier.{Stream, Carrier, next_after, replies_of, shown}
-use Rattle.cops_repl.specs.Stands.{CarrierStandsFor, IsStepFrom, IsStepOf, Kept, LeadTo, has_ended, is_over}
+use Rattle.cops_repl.specs.Carrier.{Carrier, Stream, next_after, progress_of}
+use Rattle.cops_repl.specs.Stands.{CarrierStandsFor, IsStepFrom, IsStepOf, KeptCarrier, LeadTo, has_ended, stage_is_over}
 use Rattle.cops_repl.proofs.NextSteps.{asks_acknowledge, asks_check, asks_commit, asks_pull}
 
 -- replies that lead to a stage are followed by a call
@@ -30,10 +30,10 @@ call_follows shards stream replies (Stored pair fresh) led = (_, asks_acknowledg
 call_follows shards stream replies Over led = absurd led
 
 -- a carrier that stands for one has not ended
-pub stands_goes_on : (shards : ℕ) (carrier : Kept) (solo : Carrier) → CarrierStandsFor shards carrier solo → has_ended carrier ≡ false
+pub stands_goes_on : (shards : ℕ) (carrier : KeptCarrier) (solo : Carrier) → CarrierStandsFor shards carrier solo → has_ended carrier ≡ false
 stands_goes_on shards carrier solo stands = by carrier.stage stands.led_here
   where
-    by : (stage : Stage) → LeadTo shards solo.stream (replies_of solo.log) stage → is_over stage ≡ false
+    by : (stage : Stage) → LeadTo shards solo.stream (replies_of solo.log) stage → stage_is_over stage ≡ false
     by Pulling led = refl
     by (Carrying entry checked) led = refl
     by (Stored pair fresh) led = refl
@@ -42,24 +42,24 @@ stands_goes_on shards carrier solo stands = by carrier.stage stands.led_here
 replies-push : (log : List LogStep) (moment : ℕ) (reply : NodeReply) → replies_of (log ++ record { moment = moment; outcome = Replied reply } ∷ []) ≡ replies_of log ++ reply ∷ []
 replies-push log moment reply = filter_map-append (λ (s : LogStep). reply_in s.outcome) log (record { moment = moment; outcome = Replied reply } ∷ [])
 
-module _ (inside seen : Kept) (same : inside ≡ seen) (moment now : ℕ) (max_is : now ≡ max inside.moment moment) (d : Directed) (reply : NodeReply) where
+module _ (inside seen : KeptCarrier) (same : inside ≡ seen) (moment now : ℕ) (max_is : now ≡ max inside.moment moment) (d : Directed) (reply : NodeReply) where
   pub step_goes : (stage : Stage) → IsStepFrom inside.shards inside.stream inside.stage d reply (Goes stage) → (shards : ℕ) (solo : Carrier) → CarrierStandsFor shards seen solo →
       IsStepOf shards solo d (record { moment = max solo.moment moment; outcome = Replied reply }) Working (record { stream = inside.stream; shards = inside.shards; moment = now; stage = stage })
   step_goes stage from shards solo stands =
-      let shards_are : inside.shards ≡ shards = ap (λ (k : Kept). k.shards) same ∙ stands.shards_are in
-      let stream_is : inside.stream ≡ solo.stream = ap (λ (k : Kept). k.stream) same ∙ stands.stream_is in
-      let led : LeadTo shards solo.stream (replies_of solo.log) inside.stage = subst (λ (k : Kept). LeadTo shards solo.stream (replies_of solo.log) k.stage) (sym same) stands.led_here in
+      let shards_are : inside.shards ≡ shards = ap (λ (k : KeptCarrier). k.shards) same ∙ stands.shards_are in
+      let stream_is : inside.stream ≡ solo.stream = ap (λ (k : KeptCarrier). k.stream) same ∙ stands.stream_is in
+      let led : LeadTo shards solo.stream (replies_of solo.log) inside.stage = subst (λ (k : KeptCarrier). LeadTo shards solo.stream (replies_of solo.log) k.stage) (sym same) stands.led_here in
       let here = subst (λ (s : Stream). IsStepFrom shards s inside.stage d reply (Goes stage)) stream_is (subst (λ (n : ℕ). IsStepFrom n inside.stream inside.stage d reply (Goes stage)) shards_are from) in
       let log = solo.log ++ record { moment = max solo.moment moment; outcome = Replied reply } ∷ [] in
       let after : LeadTo shards solo.stream (replies_of log) stage = subst (λ rs. LeadTo shards solo.stream rs stage) (sym (replies-push solo.log (max solo.moment moment) reply)) (here.1 (replies_of solo.log) led) in
       record {
         asked = here.0 (replies_of solo.log) led;
-        shown = sym (ap shown (call_follows shards solo.stream (replies_of log) stage after).1);
+        progress_of = sym (ap progress_of (call_follows shards solo.stream (replies_of log) stage after).1);
         stands =
             record {
               shards_are = shards_are;
               stream_is = stream_is;
-              moment_is = max_is ∙ ap (λ (k : Kept). max k.moment moment) same ∙ ap (λ m. max m moment) stands.moment_is;
+              moment_is = max_is ∙ ap (λ (k : KeptCarrier). max k.moment moment) same ∙ ap (λ m. max m moment) stands.moment_is;
               led_here = after;
             };
       }
@@ -67,12 +67,12 @@ module _ (inside seen : Kept) (same : inside ≡ seen) (moment now : ℕ) (max_i
   pub step_ends : (ending : Delivery) → IsStepFrom inside.shards inside.stream inside.stage d reply (Ends ending) → (shards : ℕ) (solo : Carrier) → CarrierStandsFor shards seen solo →
       IsStepOf shards solo d (record { moment = max solo.moment moment; outcome = Replied reply }) (Done ending) (record { stream = inside.stream; shards = inside.shards; moment = now; stage = Over })
   step_ends ending from shards solo stands =
-      let shards_are : inside.shards ≡ shards = ap (λ (k : Kept). k.shards) same ∙ stands.shards_are in
-      let stream_is : inside.stream ≡ solo.stream = ap (λ (k : Kept). k.stream) same ∙ stands.stream_is in
-      let led : LeadTo shards solo.stream (replies_of solo.log) inside.stage = subst (λ (k : Kept). LeadTo shards solo.stream (replies_of solo.log) k.stage) (sym same) stands.led_here in
+      let shards_are : inside.shards ≡ shards = ap (λ (k : KeptCarrier). k.shards) same ∙ stands.shards_are in
+      let stream_is : inside.stream ≡ solo.stream = ap (λ (k : KeptCarrier). k.stream) same ∙ stands.stream_is in
+      let led : LeadTo shards solo.stream (replies_of solo.log) inside.stage = subst (λ (k : KeptCarrier). LeadTo shards solo.stream (replies_of solo.log) k.stage) (sym same) stands.led_here in
       let here = subst (λ (s : Stream). IsStepFrom shards s inside.stage d reply (Ends ending)) stream_is (subst (λ (n : ℕ). IsStepFrom n inside.stream inside.stage d reply (Ends ending)) shards_are from) in
       record {
         asked = here.0 (replies_of solo.log) led;
-        shown = sym (ap shown (ap (next_after shards solo.stream) (replies-push solo.log (max solo.moment moment) reply) ∙ here.1 (replies_of solo.log) led));
+        progress_of = sym (ap progress_of (ap (next_after shards solo.stream) (replies-push solo.log (max solo.moment moment) reply) ∙ here.1 (replies_of solo.log) led));
         stands = refl;
       }

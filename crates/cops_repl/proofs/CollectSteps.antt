@@ -13,7 +13,7 @@ use Rattle.cops_node.specs.declared.NodeCall.TheVariants.{Collect}
 use Rattle.cops_node.specs.declared.NodeId.{NodeId}
 use Rattle.cops_node.specs.declared.NodeReply.{NodeReply}
 use Rattle.cops_node.specs.declared.NodeReply.TheVariants.{Removed}
-use Rattle.cops_repl.specs.Collections.{Collected, CollectsAll, StopsAt, all_nodes, nodes_of}
+use Rattle.cops_repl.specs.Collections.{Collected, CollectsAll, StopsAt, all_nodes, nodes_of_data_centre}
 
 sum-append : (xs ys : List ℕ) → sum (xs ++ ys) ≡ sum xs + sum ys
 sum-append xs ys = sum_by-append (λ n. n) xs ys
@@ -98,29 +98,29 @@ module _ {S : Type 0} (answers : S → NodeId → ℕ → ℕ → NodeCall → N
 
 -- ---- the nodes in order
 
-pub nodes_of-more : (shards dc : ℕ) → nodes_of (shards + 1) dc ≡ nodes_of shards dc ++ record { dc = dc; shard = shards } ∷ []
+pub nodes_of-more : (shards dc : ℕ) → nodes_of_data_centre (shards + 1) dc ≡ nodes_of_data_centre shards dc ++ record { dc = dc; shard = shards } ∷ []
 nodes_of-more shards dc = map-range_with_len_more (λ (shard : ℕ). let id : NodeId = record { dc = dc; shard = shard } in id) 0 shards shards (omega arith)
 
 range-more : (a n : ℕ) → range_with_len a (suc n) ≡ range_with_len a n ++ (a + n) ∷ []
 range-more a zero = ap (λ k. k ∷ []) (sym (add-zero a))
 range-more a (suc n) = ap (λ ks. a ∷ ks) (range-more (a + 1) n ∙ ap (λ k. range_with_len (a + 1) n ++ k ∷ []) (omega arith))
 
-pub all_nodes-more : (dcs shards : ℕ) → all_nodes (dcs + 1) shards ≡ all_nodes dcs shards ++ nodes_of shards dcs
+pub all_nodes-more : (dcs shards : ℕ) → all_nodes (dcs + 1) shards ≡ all_nodes dcs shards ++ nodes_of_data_centre shards dcs
 all_nodes-more dcs shards =
     let one : dcs + 1 ≡ suc dcs = omega arith in
     let here : 0 + dcs ≡ dcs = omega arith in
     ap (λ n. all_nodes n shards) one
-    ∙ ap (flat_map (nodes_of shards)) (range-more 0 dcs)
-    ∙ flat_map-append (nodes_of shards) (range_with_len 0 dcs) ((0 + dcs) ∷ [])
-    ∙ ap (λ ids. all_nodes dcs shards ++ ids) (append-nil (nodes_of shards (0 + dcs)))
-    ∙ ap (λ n. all_nodes dcs shards ++ nodes_of shards n) here
+    ∙ ap (flat_map (nodes_of_data_centre shards)) (range-more 0 dcs)
+    ∙ flat_map-append (nodes_of_data_centre shards) (range_with_len 0 dcs) ((0 + dcs) ∷ [])
+    ∙ ap (λ ids. all_nodes dcs shards ++ ids) (append-nil (nodes_of_data_centre shards (0 + dcs)))
+    ∙ ap (λ n. all_nodes dcs shards ++ nodes_of_data_centre shards n) here
 
 -- the nodes of the first shards are the first nodes
-pub nodes_of-rest : (k shards dc : ℕ) → k ≤ shards → (rest : List NodeId) × (nodes_of shards dc ≡ nodes_of k dc ++ rest)
+pub nodes_of-rest : (k shards dc : ℕ) → k ≤ shards → (rest : List NodeId) × (nodes_of_data_centre shards dc ≡ nodes_of_data_centre k dc ++ rest)
 nodes_of-rest k shards dc within =
     let id_of : ℕ → NodeId = λ shard. record { dc = dc; shard = shard } in (
-      drop k (nodes_of shards dc),
-      sym (take-append-drop k (nodes_of shards dc)) ∙ ap (λ ids. ids ++ drop k (nodes_of shards dc)) (take-map-range_with_len id_of 0 shards k within),
+      drop k (nodes_of_data_centre shards dc),
+      sym (take-append-drop k (nodes_of_data_centre shards dc)) ∙ ap (λ ids. ids ++ drop k (nodes_of_data_centre shards dc)) (take-map-range_with_len id_of 0 shards k within),
     )
 
 pub all_nodes-rest : (k dcs shards : ℕ) → k ≤ dcs → (rest : List NodeId) × (all_nodes dcs shards ≡ all_nodes k shards ++ rest)
@@ -134,44 +134,44 @@ all_nodes-rest k (suc dcs) shards within = by (eq-or-lt_of_le within) (λ h. all
     by (inl same) fewer = ([], sym (append-nil (all_nodes (suc dcs) shards)) ∙ ap (λ n. all_nodes n shards ++ []) (sym same))
     by (inr less) fewer =
         let before = fewer (omega arith) in (
-          before.0 ++ nodes_of shards dcs,
-          ap (λ n. all_nodes n shards) one ∙ all_nodes-more dcs shards ∙ ap (λ ids. ids ++ nodes_of shards dcs) before.1 ∙ append_assoc (all_nodes k shards) before.0 (nodes_of shards dcs),
+          before.0 ++ nodes_of_data_centre shards dcs,
+          ap (λ n. all_nodes n shards) one ∙ all_nodes-more dcs shards ∙ ap (λ ids. ids ++ nodes_of_data_centre shards dcs) before.1 ∙ append_assoc (all_nodes k shards) before.0 (nodes_of_data_centre shards dcs),
         )
 
 -- ---- one more node, and one more data centre
 
 module _ {S : Type 0} (answers : S → NodeId → ℕ → ℕ → NodeCall → NodeReply → S → Type 0) (slot moment : ℕ) (old mid new : S) where
-  pub shard_counts : (start total count sum_of_all shard dc : ℕ) (reply : NodeReply) → CollectsAll answers slot moment start (nodes_of shard dc) old mid (Ok total) →
+  pub shard_counts : (start total count sum_of_all shard dc : ℕ) (reply : NodeReply) → CollectsAll answers slot moment start (nodes_of_data_centre shard dc) old mid (Ok total) →
       answers mid (record { dc = dc; shard = shard }) slot moment Collect reply new → reply ≡ Removed count → sum_of_all ≡ total + count →
-      CollectsAll answers slot moment start (nodes_of (shard + 1) dc) old new (Ok sum_of_all)
+      CollectsAll answers slot moment start (nodes_of_data_centre (shard + 1) dc) old new (Ok sum_of_all)
   shard_counts start total count sum_of_all shard dc reply first answer is sum_is =
       let id : NodeId = record { dc = dc; shard = shard } in
       let one = one_counts answers slot moment total count id mid new (subst (λ (r : NodeReply). answers mid id slot moment Collect r new) is answer) in
-      let made = then_more answers slot moment start total (nodes_of shard dc) (id ∷ []) old mid new (Ok (total + count)) first one in
-      subst (λ (n : ℕ). CollectsAll answers slot moment start (nodes_of (shard + 1) dc) old new (Ok n)) (sym sum_is)
+      let made = then_more answers slot moment start total (nodes_of_data_centre shard dc) (id ∷ []) old mid new (Ok (total + count)) first one in
+      subst (λ (n : ℕ). CollectsAll answers slot moment start (nodes_of_data_centre (shard + 1) dc) old new (Ok n)) (sym sum_is)
       (subst (λ (ids : List NodeId). CollectsAll answers slot moment start ids old new (Ok (total + count))) (sym (nodes_of-more shard dc)) made)
 
-  pub shard_stops : (start total shards shard dc : ℕ) (reply : NodeReply) (fault : Fault) → shard < shards → total < 2 ^ 64 → CollectsAll answers slot moment start (nodes_of shard dc) old mid (Ok total) →
+  pub shard_stops : (start total shards shard dc : ℕ) (reply : NodeReply) (fault : Fault) → shard < shards → total < 2 ^ 64 → CollectsAll answers slot moment start (nodes_of_data_centre shard dc) old mid (Ok total) →
       answers mid (record { dc = dc; shard = shard }) slot moment Collect reply new → StopsAt total reply fault →
-      CollectsAll answers slot moment start (nodes_of shards dc) old new (Err fault)
+      CollectsAll answers slot moment start (nodes_of_data_centre shards dc) old new (Err fault)
   shard_stops start total shards shard dc reply fault within fits first answer stops =
       let id : NodeId = record { dc = dc; shard = shard } in
       let one = one_stops answers slot moment total id reply fault mid new fits answer stops in
-      let made = then_more answers slot moment start total (nodes_of shard dc) (id ∷ []) old mid new (Err fault) first one in
+      let made = then_more answers slot moment start total (nodes_of_data_centre shard dc) (id ∷ []) old mid new (Err fault) first one in
       let rest = nodes_of-rest (shard + 1) shards dc (omega arith) in
       let here = subst (λ (ids : List NodeId). CollectsAll answers slot moment start ids old new (Err fault)) (sym (nodes_of-more shard dc)) made in
-      subst (λ (ids : List NodeId). CollectsAll answers slot moment start ids old new (Err fault)) (sym rest.1) (fault_ends answers slot moment start (nodes_of (shard + 1) dc) rest.0 old new fault here)
+      subst (λ (ids : List NodeId). CollectsAll answers slot moment start ids old new (Err fault)) (sym rest.1) (fault_ends answers slot moment start (nodes_of_data_centre (shard + 1) dc) rest.0 old new fault here)
 
   pub dc_counts : (total sum_of_all shards dc : ℕ) → CollectsAll answers slot moment 0 (all_nodes dc shards) old mid (Ok total) →
-      CollectsAll answers slot moment total (nodes_of shards dc) mid new (Ok sum_of_all) → CollectsAll answers slot moment 0 (all_nodes (dc + 1) shards) old new (Ok sum_of_all)
+      CollectsAll answers slot moment total (nodes_of_data_centre shards dc) mid new (Ok sum_of_all) → CollectsAll answers slot moment 0 (all_nodes (dc + 1) shards) old new (Ok sum_of_all)
   dc_counts total sum_of_all shards dc first second =
       subst (λ (ids : List NodeId). CollectsAll answers slot moment 0 ids old new (Ok sum_of_all)) (sym (all_nodes-more dc shards))
-      (then_more answers slot moment 0 total (all_nodes dc shards) (nodes_of shards dc) old mid new (Ok sum_of_all) first second)
+      (then_more answers slot moment 0 total (all_nodes dc shards) (nodes_of_data_centre shards dc) old mid new (Ok sum_of_all) first second)
 
   pub dc_stops : (total dcs shards dc : ℕ) (fault : Fault) → dc < dcs → CollectsAll answers slot moment 0 (all_nodes dc shards) old mid (Ok total) →
-      CollectsAll answers slot moment total (nodes_of shards dc) mid new (Err fault) → CollectsAll answers slot moment 0 (all_nodes dcs shards) old new (Err fault)
+      CollectsAll answers slot moment total (nodes_of_data_centre shards dc) mid new (Err fault) → CollectsAll answers slot moment 0 (all_nodes dcs shards) old new (Err fault)
   dc_stops total dcs shards dc fault within first second =
-      let made = then_more answers slot moment 0 total (all_nodes dc shards) (nodes_of shards dc) old mid new (Err fault) first second in
+      let made = then_more answers slot moment 0 total (all_nodes dc shards) (nodes_of_data_centre shards dc) old mid new (Err fault) first second in
       let rest = all_nodes-rest (dc + 1) dcs shards (omega arith) in
       let here = subst (λ (ids : List NodeId). CollectsAll answers slot moment 0 ids old new (Err fault)) (sym (all_nodes-more dc shards)) made in
       subst (λ (ids : List NodeId). CollectsAll answers slot moment 0 ids old new (Err fault)) (sym rest.1) (fault_ends answers slot moment 0 (all_nodes (dc + 1) shards) rest.0 old new fault here)

@@ -6,7 +6,7 @@ use Rattle.std.proofs.lemmas.Nat.{div-mul-add, mod-mul-add}
 use Rattle.cops_types.specs.declared.records.EntryParts.{EntryParts as Entry}
 use Rattle.cops_types.specs.Key.{shard_of}
 use Rattle.cops_node.specs.declared.NodeCall.TheVariants.{Commit}
-use Rattle.cops_node.specs.Place.{fits, number_of}
+use Rattle.cops_node.specs.Place.{fits, node_number}
 use Rattle.cops_node.specs.Shape.{Shape, place_in}
 use Rattle.cops_repl.specs.Carrier.{Stream, is_foreign}
 use Rattle.cops_repl.specs.Stands.{RunsIn}
@@ -32,9 +32,9 @@ is_below a b e = grind (arith, nat_tests)
 pub commit_fits : (shape : Shape) (shards : ℕ) (stream : Stream) (entry : Entry) → RunsIn shape shards stream → is_foreign shards stream entry ≡ false →
     IsTrue (fits (place_in shape (record { dc = stream.to_dc; shard = stream.origin.shard })) (Commit entry))
 commit_fits shape shards stream entry runs own =
-    let parts = neither (shard_of entry.key shards == stream.origin.shard) (entry.version.node == number_of shards stream.origin) own in
+    let parts = neither (shard_of entry.key shards == stream.origin.shard) (entry.version.node == node_number shards stream.origin) own in
     let node : entry.version.node ≡ stream.origin.dc * shape.shards + stream.origin.shard =
-    same_number entry.version.node (number_of shards stream.origin) parts.1 ∙ ap (λ n. stream.origin.dc * n + stream.origin.shard) runs.shards_are in
+    same_number entry.version.node (node_number shards stream.origin) parts.1 ∙ ap (λ n. stream.origin.dc * n + stream.origin.shard) runs.shards_are in
     let dc : entry.version.node / shape.shards ≡ stream.origin.dc = ap (λ n. n / shape.shards) node ∙ div-mul-add stream.origin.dc shape.shards stream.origin.shard runs.shard_exists in
     let shard : entry.version.node % shape.shards ≡ stream.origin.shard = ap (λ n. n % shape.shards) node ∙ mod-mul-add stream.origin.dc shape.shards stream.origin.shard runs.shard_exists in
     let home : (shard_of entry.key shape.shards == stream.origin.shard) ≡ true = ap (λ n. shard_of entry.key n == stream.origin.shard) (sym runs.shards_are) ∙ parts.0 in

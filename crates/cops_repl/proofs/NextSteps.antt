@@ -15,7 +15,7 @@ use Rattle.cops_repl.specs.declared.Delivery.{Delivery}
 use Rattle.cops_repl.specs.declared.Delivery.TheVariants.{Carried}
 use Rattle.cops_repl.specs.declared.stages.After.TheVariants.{Goes, Ends}
 use Rattle.cops_repl.specs.declared.stages.Stage.TheVariants.{Pulling, Carrying, Stored}
-use Rattle.cops_repl.specs.Carrier.{Stream, acknowledge, call_or_end, check, commit, end_of, first_end, is_acked, is_committed, is_foreign, next_after, pair_of_entry, pull, unless_end}
+use Rattle.cops_repl.specs.Carrier.{Stream, ack_call, call_or_end, check, commit_call, end_of, first_end, is_acked, is_committed, is_foreign, next_after, pair_of_entry, pull, unless_end}
 use Rattle.cops_repl.specs.Stands.{AsksNext, FollowsReply, reply_of_ack, reply_of_commit}
 
 module _ (shards : ℕ) (stream : Stream) where
@@ -39,7 +39,7 @@ module _ (shards : ℕ) (stream : Stream) where
 
   -- the calls after the first checks
   abbrev left : Entry → ℕ → List Directed
-  left entry k = map (check shards stream) (drop k entry.near) ++ commit stream entry ∷ acknowledge stream entry ∷ []
+  left entry k = map (check shards stream) (drop k entry.near) ++ commit_call stream entry ∷ ack_call stream entry ∷ []
 
   -- what comes next once the entry and its first checks are answered
   next-checked : (entry : Entry) (k : ℕ) (rest : List NodeReply) → is_foreign shards stream entry ≡ false → k ≤ length entry.near →
@@ -47,7 +47,7 @@ module _ (shards : ℕ) (stream : Stream) where
       ≡ unless_end (first_end shards stream (left entry k) rest)
       (call_or_end (slice_get (left entry k) (length rest)) (Carried (pair_of_entry entry) (list_any is_committed rest) (list_any is_acked rest)))
   next-checked entry k rest own within =
-      let calls = commit stream entry ∷ acknowledge stream entry ∷ [] in
+      let calls = commit_call stream entry ∷ ack_call stream entry ∷ [] in
       rw own (λ i.
       unless_end (first_end-checked entry.near calls k rest within i)
       (call_or_end (call-checked entry.near calls k rest within i) (Carried (pair_of_entry entry) (any-checked is_committed k rest refl i) (any-checked is_acked k rest refl i))))
@@ -68,11 +68,11 @@ module _ (shards : ℕ) (stream : Stream) where
 
   -- the calls from a check on
   left-check : (entry : Entry) (k : ℕ) (p : Pair) → slice_get entry.near k ≡ Some p → left entry k ≡ check shards stream p ∷ left entry (suc k)
-  left-check entry k p is = ap (λ ps. map (check shards stream) ps ++ commit stream entry ∷ acknowledge stream entry ∷ []) (drop-at entry.near k p is)
+  left-check entry k p is = ap (λ ps. map (check shards stream) ps ++ commit_call stream entry ∷ ack_call stream entry ∷ []) (drop-at entry.near k p is)
 
   -- the calls after all checks
-  left-all : (entry : Entry) → left entry (length entry.near) ≡ commit stream entry ∷ acknowledge stream entry ∷ []
-  left-all entry = ap (λ ps. map (check shards stream) ps ++ commit stream entry ∷ acknowledge stream entry ∷ []) (drop-all entry.near)
+  left-all : (entry : Entry) → left entry (length entry.near) ≡ commit_call stream entry ∷ ack_call stream entry ∷ []
+  left-all entry = ap (λ ps. map (check shards stream) ps ++ commit_call stream entry ∷ ack_call stream entry ∷ []) (drop-all entry.near)
 
   -- what comes next from a stage, by the calls that are left and the replies since
   next-from : (entry : Entry) (k : ℕ) (calls : List Directed) (rest : List NodeReply) (replies : List NodeReply) → is_foreign shards stream entry ≡ false → k ≤ length entry.near →
@@ -99,16 +99,16 @@ module _ (shards : ℕ) (stream : Stream) where
   asks_check entry k p is replies led =
       next-from entry k (check shards stream p ∷ left entry (suc k)) [] replies led.0 led.1 (left-check entry k p is) (led-nothing entry k replies led.2)
 
-  pub asks_commit : (entry : Entry) → AsksNext shards stream (Carrying entry (length entry.near)) (commit stream entry)
+  pub asks_commit : (entry : Entry) → AsksNext shards stream (Carrying entry (length entry.near)) (commit_call stream entry)
   asks_commit entry replies led =
-      next-from entry (length entry.near) (commit stream entry ∷ acknowledge stream entry ∷ []) [] replies led.0 led.1 (left-all entry) (led-nothing entry (length entry.near) replies led.2)
+      next-from entry (length entry.near) (commit_call stream entry ∷ ack_call stream entry ∷ []) [] replies led.0 led.1 (left-all entry) (led-nothing entry (length entry.near) replies led.2)
 
   pub asks_acknowledge : (pair : Pair) (fresh : Bool) → AsksNext shards stream (Stored pair fresh) (record { node = stream.origin; call = Ack stream.to_dc pair.version })
   asks_acknowledge pair fresh replies led = by fresh led.3 ∙ ap (λ (p : Pair). Call (record { node = stream.origin; call = Ack stream.to_dc p.version })) (sym led.2)
     where
-      by : (fresh : Bool) → replies ≡ Pulled led.0 ∷ (replicate (length led.0.near) (Checked true) ++ reply_of_commit fresh ∷ []) → next_after shards stream replies ≡ Call (acknowledge stream led.0)
-      by true is = next-from led.0 (length led.0.near) (commit stream led.0 ∷ acknowledge stream led.0 ∷ []) (Committed ∷ []) replies led.1 (omega arith) (left-all led.0) is
-      by false is = next-from led.0 (length led.0.near) (commit stream led.0 ∷ acknowledge stream led.0 ∷ []) (Already ∷ []) replies led.1 (omega arith) (left-all led.0) is
+      by : (fresh : Bool) → replies ≡ Pulled led.0 ∷ (replicate (length led.0.near) (Checked true) ++ reply_of_commit fresh ∷ []) → next_after shards stream replies ≡ Call (ack_call stream led.0)
+      by true is = next-from led.0 (length led.0.near) (commit_call stream led.0 ∷ ack_call stream led.0 ∷ []) (Committed ∷ []) replies led.1 (omega arith) (left-all led.0) is
+      by false is = next-from led.0 (length led.0.near) (commit_call stream led.0 ∷ ack_call stream led.0 ∷ []) (Already ∷ []) replies led.1 (omega arith) (left-all led.0) is
 
   -- ---- what follows the reply
 
@@ -128,9 +128,9 @@ module _ (shards : ℕ) (stream : Stream) where
   pub ends_commit : (entry : Entry) (reply : NodeReply) (ending : Delivery) → end_of shards stream (Commit entry) reply ≡ Some ending →
       FollowsReply shards stream (Carrying entry (length entry.near)) reply (Ends ending)
   ends_commit entry reply ending ends replies led =
-      next-from entry (length entry.near) (commit stream entry ∷ acknowledge stream entry ∷ []) (reply ∷ []) (replies ++ reply ∷ []) led.0 led.1 (left-all entry) (led-one entry (length entry.near) replies reply led.2)
-      ∙ ended (commit stream entry) reply [] (acknowledge stream entry ∷ []) ending
-      (call_or_end (Some (acknowledge stream entry)) (Carried (pair_of_entry entry) (list_any is_committed (reply ∷ [])) (list_any is_acked (reply ∷ []))))
+      next-from entry (length entry.near) (commit_call stream entry ∷ ack_call stream entry ∷ []) (reply ∷ []) (replies ++ reply ∷ []) led.0 led.1 (left-all entry) (led-one entry (length entry.near) replies reply led.2)
+      ∙ ended (commit_call stream entry) reply [] (ack_call stream entry ∷ []) ending
+      (call_or_end (Some (ack_call stream entry)) (Carried (pair_of_entry entry) (list_any is_committed (reply ∷ [])) (list_any is_acked (reply ∷ []))))
       ends
 
   -- a check that brings no end found the pair committed
@@ -148,19 +148,19 @@ module _ (shards : ℕ) (stream : Stream) where
         ∙ ap (λ rs. Pulled entry ∷ rs) (replicate-append-replicate k 1 (Checked true)),
   )
 
-  -- the calls from the commit on, after a reply to it
+  -- the calls from the commit_call on, after a reply to it
   after-commit : (fresh : Bool) (entry : Entry) (reply : NodeReply) (ending : Delivery) → is_foreign shards stream entry ≡ false → end_of shards stream (Ack stream.to_dc entry.version) reply ≡ Some ending →
       (replies : List NodeReply) → replies ≡ Pulled entry ∷ (replicate (length entry.near) (Checked true) ++ reply_of_commit fresh ∷ []) → next_after shards stream (replies ++ reply ∷ []) ≡ Ended ending
   after-commit true entry reply ending own ends replies led =
-      next-from entry (length entry.near) (commit stream entry ∷ acknowledge stream entry ∷ []) (Committed ∷ reply ∷ []) (replies ++ reply ∷ []) own (omega arith) (left-all entry)
+      next-from entry (length entry.near) (commit_call stream entry ∷ ack_call stream entry ∷ []) (Committed ∷ reply ∷ []) (replies ++ reply ∷ []) own (omega arith) (left-all entry)
       (led-two entry (length entry.near) replies Committed reply led)
-      ∙ ended (acknowledge stream entry) reply [] [] ending
+      ∙ ended (ack_call stream entry) reply [] [] ending
       (call_or_end None (Carried (pair_of_entry entry) (list_any is_committed (Committed ∷ reply ∷ [])) (list_any is_acked (Committed ∷ reply ∷ []))))
       ends
   after-commit false entry reply ending own ends replies led =
-      next-from entry (length entry.near) (commit stream entry ∷ acknowledge stream entry ∷ []) (Already ∷ reply ∷ []) (replies ++ reply ∷ []) own (omega arith) (left-all entry)
+      next-from entry (length entry.near) (commit_call stream entry ∷ ack_call stream entry ∷ []) (Already ∷ reply ∷ []) (replies ++ reply ∷ []) own (omega arith) (left-all entry)
       (led-two entry (length entry.near) replies Already reply led)
-      ∙ ended (acknowledge stream entry) reply [] [] ending
+      ∙ ended (ack_call stream entry) reply [] [] ending
       (call_or_end None (Carried (pair_of_entry entry) (list_any is_committed (Already ∷ reply ∷ [])) (list_any is_acked (Already ∷ reply ∷ []))))
       ends
 
@@ -174,10 +174,10 @@ module _ (shards : ℕ) (stream : Stream) where
     where
       from : (first reply : NodeReply) → replies ≡ Pulled led.0 ∷ (replicate (length led.0.near) (Checked true) ++ first ∷ []) →
           next_after shards stream (replies ++ reply ∷ [])
-          ≡ unless_end (first_end shards stream (commit stream led.0 ∷ acknowledge stream led.0 ∷ []) (first ∷ reply ∷ []))
+          ≡ unless_end (first_end shards stream (commit_call stream led.0 ∷ ack_call stream led.0 ∷ []) (first ∷ reply ∷ []))
           (call_or_end None (Carried (pair_of_entry led.0) (list_any is_committed (first ∷ reply ∷ [])) (list_any is_acked (first ∷ reply ∷ []))))
       from first reply is =
-          next-from led.0 (length led.0.near) (commit stream led.0 ∷ acknowledge stream led.0 ∷ []) (first ∷ reply ∷ []) (replies ++ reply ∷ []) led.1 (omega arith) (left-all led.0)
+          next-from led.0 (length led.0.near) (commit_call stream led.0 ∷ ack_call stream led.0 ∷ []) (first ∷ reply ∷ []) (replies ++ reply ∷ []) led.1 (omega arith) (left-all led.0)
           (led-two led.0 (length led.0.near) replies first reply is)
 
       by : (fresh acked : Bool) → replies ≡ Pulled led.0 ∷ (replicate (length led.0.near) (Checked true) ++ reply_of_commit fresh ∷ []) →

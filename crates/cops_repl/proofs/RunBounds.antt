@@ -6,9 +6,9 @@ use Rattle.std.proofs.lemmas.Option.{slice_get_within}
 use Rattle.cops_types.specs.declared.pairs.Pair.{Pair}
 use Rattle.cops_node.specs.declared.NodeReply.{NodeReply}
 use Rattle.cops_node.specs.declared.NodeReply.TheVariants.{Pulled}
-use Rattle.cops_node.specs.Log.{Directed, LogStep}
+use Rattle.cops_node.specs.Log.{Directed, LogStep, replies_of}
 use Rattle.cops_repl.specs.declared.Delivery.{Delivery}
-use Rattle.cops_repl.specs.Carrier.{Stream, acknowledge, call_or_end, calls_of, check, commit, complete, first_end, has_answer, near_pairs, next, replies_of, unless_end}
+use Rattle.cops_repl.specs.Carrier.{Stream, ack_call, call_or_end, carrier_next, check, commit_call, finished_delivery, first_end, has_answer, near_pairs, stream_calls, unless_end}
 
 -- a carrier without an answer has a call left
 unanswered : (ending : Option Delivery) (call : Option Directed) (answer : Delivery) → has_answer (unless_end ending (call_or_end call answer)) ≡ false → (d : Directed) × (call ≡ Some d)
@@ -16,16 +16,16 @@ unanswered (Some ending) call answer none = cc
 unanswered None (Some d) answer none = (d, refl)
 unanswered None None answer none = cc
 
-calls_count : (shards : ℕ) (stream : Stream) (replies : List NodeReply) → length (calls_of shards stream replies) ≤ near_pairs replies + 3
+calls_count : (shards : ℕ) (stream : Stream) (replies : List NodeReply) → length (stream_calls shards stream replies) ≤ near_pairs replies + 3
 calls_count shards stream (Pulled entry ∷ replies) =
-    let last = commit stream entry ∷ acknowledge stream entry ∷ [] in
+    let last = commit_call stream entry ∷ ack_call stream entry ∷ [] in
     omega (arith, length-append (map (check shards stream) entry.near) last, length-map {A = Pair} {B = Directed} entry.near (check shards stream))
 calls_count shards stream [] = omega arith
 calls_count shards stream (reply ∷ replies) = omega arith
 
-pub few_replies : (shards : ℕ) (stream : Stream) (log : List LogStep) → has_answer (next shards stream log) ≡ false → length (replies_of log) ≤ near_pairs (replies_of log) + 2
+pub few_replies : (shards : ℕ) (stream : Stream) (log : List LogStep) → has_answer (carrier_next shards stream log) ≡ false → length (replies_of log) ≤ near_pairs (replies_of log) + 2
 few_replies shards stream log none =
     let replies = replies_of log in
-    let calls = calls_of shards stream replies in
-    let left = unanswered (first_end shards stream calls replies) (slice_get calls (length replies)) (complete replies) none in
+    let calls = stream_calls shards stream replies in
+    let left = unanswered (first_end shards stream calls replies) (slice_get calls (length replies)) (finished_delivery replies) none in
     omega (arith, slice_get_within calls (length replies) left.0 left.1, calls_count shards stream replies)

@@ -3,12 +3,9 @@ use Rattle.std.specs.Prelude.{◌≡◌, ℕ, ◌+◌, ◌≤◌, List, [], ◌�
 use Rattle.cops_types.specs.declared.pairs.Pair.{Pair}
 use Rattle.cops_node.specs.declared.NodeReply.{NodeReply}
 use Rattle.cops_node.specs.declared.NodeReply.TheVariants.{Pulled}
-use Rattle.cops_node.specs.Log.{LogStep, reply_in}
+use Rattle.cops_node.specs.Log.{LogStep, replies_of, reply_in}
 use Rattle.cops_repl.specs.declared.Progress.TheVariants.{Working}
-use Rattle.cops_repl.specs.Carrier.{Stream, next, shown}
-
-abbrev pub replies_of : List LogStep → List NodeReply
-replies_of log = filter_map (λ s. reply_in s.outcome) log
+use Rattle.cops_repl.specs.Carrier.{Stream, carrier_next, progress_of}
 
 -- the near pairs of the entry that was pulled, none before
 abbrev pub near_in : List NodeReply → List Pair
@@ -16,5 +13,5 @@ near_in (Pulled entry ∷ replies) = entry.near
 near_in replies = []
 
 -- without an answer there was at most one node reply for each near pair, and one each for the pull, the commit and the acknowledgement
-abbrev pub IsBounded : ℕ → Stream → List LogStep → Type 0
-IsBounded shards stream log = shown (next shards stream log) ≡ Working → length (replies_of log) ≤ length (near_in (replies_of log)) + 3
+abbrev pub IsDeliveryBounded : ℕ → Stream → List LogStep → Type 0
+IsDeliveryBounded shards stream log = progress_of (carrier_next shards stream log) ≡ Working → length (replies_of log) ≤ length (near_in (replies_of log)) + 3

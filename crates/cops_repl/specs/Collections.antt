@@ -11,12 +11,12 @@ use Rattle.cops_node.specs.declared.NodeReply.TheVariants.{Removed}
 use Rattle.cops_node.specs.Log.{fault_in}
 
 -- the nodes of a data centre, by shard
-abbrev pub nodes_of : ℕ → ℕ → List NodeId
-nodes_of shards dc = map (λ shard. record { dc = dc; shard = shard }) (range_with_len 0 shards)
+abbrev pub nodes_of_data_centre : ℕ → ℕ → List NodeId
+nodes_of_data_centre shards dc = map (λ shard. record { dc = dc; shard = shard }) (range_with_len 0 shards)
 
 -- all nodes, in number order
 abbrev pub all_nodes : ℕ → ℕ → List NodeId
-all_nodes data_centres shards = flat_map (nodes_of shards) (range_with_len 0 data_centres)
+all_nodes data_centres shards = flat_map (nodes_of_data_centre shards) (range_with_len 0 data_centres)
 
 -- a collection at each of the first nodes, in order, gave these replies and left the nodes so
 abbrev pub Collected : {S : Type 0} → (S → NodeId → ℕ → ℕ → NodeCall → NodeReply → S → Type 0) → ℕ → ℕ → List NodeId → List NodeReply → S → S → Type 0

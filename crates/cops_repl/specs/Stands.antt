@@ -3,7 +3,7 @@ use Rattle.std.specs.Prelude.{◌≡◌, ◌≢◌, ℕ, ◌<◌, ◌≤◌, Boo
 use Rattle.cops_types.specs.declared.records.EntryParts.{EntryParts as Entry}
 use Rattle.cops_node.specs.declared.NodeReply.{NodeReply}
 use Rattle.cops_node.specs.declared.NodeReply.TheVariants.{Checked, Pulled, Committed, Already, Acked, NotFront}
-use Rattle.cops_node.specs.Log.{LogStep, Directed, Call, Ended}
+use Rattle.cops_node.specs.Log.{Call, Directed, Ended, LogStep, replies_of}
 use Rattle.cops_node.specs.Shape.{Shape}
 use Rattle.cops_repl.specs.declared.Progress.{Progress}
 use Rattle.cops_repl.specs.declared.Progress.TheVariants.{Working, Done}
@@ -12,23 +12,23 @@ use Rattle.cops_repl.specs.declared.stages.After.TheVariants.{Goes, Ends}
 use Rattle.cops_repl.specs.declared.stages.Route.{Route}
 use Rattle.cops_repl.specs.declared.stages.Stage.{Stage}
 use Rattle.cops_repl.specs.declared.stages.Stage.TheVariants.{Pulling, Carrying, Stored, Over}
-use Rattle.cops_repl.specs.Carrier.{Stream, Carrier, carrier_after, is_foreign, next, next_after, pair_of_entry, progress, replies_of}
+use Rattle.cops_repl.specs.Carrier.{Carrier, Stream, carrier_after, carrier_next, delivery_progress, is_foreign, next_after, pair_of_entry}
 
 -- ---- what contracts see of a carrier
 
 -- its stream, the number of shards, the greatest moment so far, and how far it has come
-pub record Kept : Type 0 where
+pub record KeptCarrier : Type 0 where
   pub stream : Stream
   pub shards : ℕ
   pub moment : ℕ
   pub stage : Stage
 
-abbrev pub is_over : Stage → Bool
-is_over Over = true
-is_over stage = false
+abbrev pub stage_is_over : Stage → Bool
+stage_is_over Over = true
+stage_is_over stage = false
 
-abbrev pub has_ended : Kept → Bool
-has_ended carrier = is_over carrier.stage
+abbrev pub has_ended : KeptCarrier → Bool
+has_ended carrier = stage_is_over carrier.stage
 
 -- the number of shards is that of the cluster, the stream's node and data centre are there, and it leads to another data centre
 pub record RunsIn (shape : Shape) (shards : ℕ) (stream : Stream) : Type 0 where
@@ -70,7 +70,7 @@ abbrev pub is_done : Progress → Bool
 is_done Working = false
 is_done (Done ending) = true
 
--- what follows these replies: they lead to the next stage, or they are at an end
+-- what follows these replies: they lead to the carrier_next stage, or they are at an end
 abbrev pub FollowsFrom : ℕ → Stream → List NodeReply → After → Type 0
 FollowsFrom shards stream replies (Goes stage) = LeadTo shards stream replies stage
 FollowsFrom shards stream replies (Ends ending) = next_after shards stream replies ≡ Ended ending
@@ -80,7 +80,7 @@ abbrev pub FollowsReply : ℕ → Stream → Stage → NodeReply → After → T
 FollowsReply shards stream stage reply after =
     (replies : List NodeReply) → LeadTo shards stream replies stage → FollowsFrom shards stream (replies ++ reply ∷ []) after
 
--- whatever replies led to the stage, this call comes next
+-- whatever replies led to the stage, this call comes carrier_next
 abbrev pub AsksNext : ℕ → Stream → Stage → Directed → Type 0
 AsksNext shards stream stage directed =
     (replies : List NodeReply) → LeadTo shards stream replies stage → next_after shards stream replies ≡ Call directed
@@ -90,25 +90,25 @@ abbrev pub IsStepFrom : ℕ → Stream → Stage → Directed → NodeReply → 
 IsStepFrom shards stream stage directed reply after = AsksNext shards stream stage directed × FollowsReply shards stream stage reply after
 
 abbrev pub IsSoundAfter : ℕ → Stream → After → Type 0
-IsSoundAfter shards stream (Goes stage) = IsSound shards stream stage × (is_over stage ≡ false)
+IsSoundAfter shards stream (Goes stage) = IsSound shards stream stage × (stage_is_over stage ≡ false)
 IsSoundAfter shards stream (Ends ending) = Unit {0}
 
 -- ---- carriers
 
 -- a carrier that goes on stands for those of its stream and moment whose replies lead to its stage
-pub record CarrierStandsFor (shards : ℕ) (carrier : Kept) (solo : Carrier) : Type 0 where
+pub record CarrierStandsFor (shards : ℕ) (carrier : KeptCarrier) (solo : Carrier) : Type 0 where
   pub shards_are : carrier.shards ≡ shards
   pub stream_is : carrier.stream ≡ solo.stream
   pub moment_is : carrier.moment ≡ solo.moment
   pub led_here : LeadTo shards solo.stream (replies_of solo.log) carrier.stage
 
 -- a carrier that still works stands for the carrier of the definition, and one that is done has ended
-abbrev pub StandsIfWorking : ℕ → Kept → Carrier → Progress → Type 0
+abbrev pub StandsIfWorking : ℕ → KeptCarrier → Carrier → Progress → Type 0
 StandsIfWorking shards carrier solo Working = CarrierStandsFor shards carrier solo
 StandsIfWorking shards carrier solo (Done ending) = has_ended carrier ≡ true
 
--- the call was the next one of the carrier `solo`; its step shows what the definition's does, and leaves the carrier standing for what the definition's leaves
-pub record IsStepOf (shards : ℕ) (solo : Carrier) (directed : Directed) (step : LogStep) (shows : Progress) (after : Kept) : Type 0 where
-  pub asked : next shards solo.stream solo.log ≡ Call directed
-  pub shown : shows ≡ progress shards solo step
+-- the call was the carrier_next one of the carrier `solo`; its step shows what the definition's does, and leaves the carrier standing for what the definition's leaves
+pub record IsStepOf (shards : ℕ) (solo : Carrier) (directed : Directed) (step : LogStep) (shows : Progress) (after : KeptCarrier) : Type 0 where
+  pub asked : carrier_next shards solo.stream solo.log ≡ Call directed
+  pub shown : shows ≡ delivery_progress shards solo step
   pub stands : StandsIfWorking shards after (carrier_after solo step) shows

@@ -25,9 +25,9 @@ pub struct Carrier {
 }
 
 impl Model for Carrier {
-    ghost use Rattle.cops_repl.specs.Stands.{Kept, IsSound, stream_of};
+    ghost use Rattle.cops_repl.specs.Stands.{IsSound, KeptCarrier, stream_of};
 
-    ghost Value = { Kept };
+    ghost Value = { KeptCarrier };
 
     ghost view = { λ c. record { stream = stream_of c.route; shards = c.route.shards; moment = c.moment; stage = c.stage } };
 

@@ -1,6 +1,6 @@
 ghost use Rattle.std.specs.Prelude.{◌≡◌, ℕ, ◌+◌, ◌^◌, ◌<◌, MatchResult};
 ghost use Rattle.cops_node.specs.declared.NodeReply.TheVariants.{Removed};
-ghost use Rattle.cops_repl.specs.Collections.{CollectsAll, StopsAt, all_nodes, nodes_of};
+ghost use Rattle.cops_repl.specs.Collections.{CollectsAll, StopsAt, all_nodes, nodes_of_data_centre};
 
 use cops_node::{NodeCall, NodeId, NodeReply, Nodes};
 use cops_types::{Config, Fault};
@@ -31,7 +31,7 @@ fn collect_in<N: Nodes>(
     requires dc { dc < (N.shape nodes.old).data_centres }
     requires shards { shards ≡ (N.shape nodes.old).shards }
     requires slot { slot < (N.shape nodes.old).slots }
-    ensures collected { CollectsAll N.Answers slot moment start (nodes_of shards dc) nodes.old nodes.new result }
+    ensures collected { CollectsAll N.Answers slot moment start (nodes_of_data_centre shards dc) nodes.old nodes.new result }
     ensures shape { N.shape nodes.new ≡ N.shape nodes.old }
 {
     let mut total = start;

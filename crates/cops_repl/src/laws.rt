@@ -1,10 +1,10 @@
 ghost use Rattle.std.specs.Prelude.{◌≡◌, ℕ, ◌+◌, ◌≤◌, List, length, false};
-ghost use Rattle.cops_node.specs.Log.{LogStep};
-ghost use Rattle.cops_repl.specs.Carrier.{Stream, has_answer, near_pairs, next, replies_of};
+ghost use Rattle.cops_node.specs.Log.{LogStep, replies_of};
+ghost use Rattle.cops_repl.specs.Carrier.{Stream, carrier_next, has_answer, near_pairs};
 
 /// A carrier without an answer has had at most as many replies as the entry has near pairs, and two
 /// more: with one more reply at the latest it has ended.
 pub fn carriers_end()
-    ensures { (shards : ℕ) (stream : Stream) (log : List LogStep) → has_answer (next shards stream log) ≡ false →
+    ensures { (shards : ℕ) (stream : Stream) (log : List LogStep) → has_answer (carrier_next shards stream log) ≡ false →
         length (replies_of log) ≤ near_pairs (replies_of log) + 2 }
 {}

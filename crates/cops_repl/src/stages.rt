@@ -3,10 +3,10 @@ ghost use Rattle.std.specs.Prelude.{◌≡◌, ℕ, ◌<◌, ◌^◌, ◌==◌, 
 ghost use Rattle.cops_node.specs.declared.NodeReply.{NodeReply};
 ghost use Rattle.cops_node.specs.declared.NodeCall.TheVariants.{DepCheck};
 ghost use Rattle.cops_node.specs.Log.{Directed};
-ghost use Rattle.cops_node.specs.Place.{number_of};
+ghost use Rattle.cops_node.specs.Place.{node_number};
 ghost use Rattle.cops_types.specs.declared.records.EntryParts.{EntryParts};
 ghost use Rattle.cops_repl.specs.Carrier.{Stream, end_of, is_foreign, pair_of_entry};
-ghost use Rattle.cops_repl.specs.Stands.{FollowsReply, IsSound, IsSoundAfter, IsStepFrom, RunsIn, is_over, stream_of};
+ghost use Rattle.cops_repl.specs.Stands.{FollowsReply, IsSound, IsSoundAfter, IsStepFrom, RunsIn, stage_is_over, stream_of};
 ghost use Rattle.cops_repl.specs.declared.stages.Stage.TheVariants.{Pulling, Carrying, Stored};
 
 use crate::Delivery;
@@ -46,7 +46,7 @@ pub struct Route {
 impl Route {
     /// Makes the call of a stage.
     pub fn step<N: Nodes>(&self, nodes: &mut N, slot: u64, moment: u64, stage: Stage) -> After
-        requires goes_on { is_over stage ≡ false }
+        requires goes_on { stage_is_over stage ≡ false }
         requires sound { IsSound self.now.shards (stream_of self.now) stage }
         requires stream { RunsIn (N.shape nodes.old) self.now.shards (stream_of self.now) }
         requires slot { slot < (N.shape nodes.old).slots }
@@ -73,7 +73,7 @@ impl Route {
     /// Whether the node of this number is the origin.
     fn is_origin(&self, node: u64) -> bool
         requires { self.now.origin.shard < self.now.shards }
-        ensures { result ≡ (node == number_of self.now.shards self.now.origin) }
+        ensures { result ≡ (node == node_number self.now.shards self.now.origin) }
     {
         node / self.shards == self.origin.dc && node % self.shards == self.origin.shard
     }

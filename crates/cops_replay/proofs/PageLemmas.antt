@@ -6,22 +6,22 @@ use Rattle.cops_types.specs.declared.faults.Fault.{Fault}
 use Rattle.cops_types.specs.declared.faults.Fault.TheVariants.{OutOfMemory}
 use Rattle.cops_types.specs.Sink.{AppendsAllBut, AppendsFront}
 use Rattle.cops_types.proofs.KnownLemmas.{AppendsFront-more}
-use Rattle.cops_replay.specs.Pages.{FailsBy, Page, Puts, page}
+use Rattle.cops_replay.specs.Pages.{FailsBy, Page, PutsText, page}
 
 -- nothing is written
 pub front_of_none : (contents : Option (List ℕ)) (text : List ℕ) → AppendsFront contents contents text
 front_of_none contents text = (text, record { written = []; whole = refl; appended = Appends-nil contents })
 
-pub Puts-nothing : (old : Page) (done : Unit {0}) → Puts {T = Unit {0}} [] old (Ok done) old
+pub Puts-nothing : (old : Page) (done : Unit {0}) → PutsText {T = Unit {0}} [] old (Ok done) old
 Puts-nothing old done = (record { written = []; whole = append-nil old.waiting; appended = Appends-nil old.contents }, refl)
 
 -- memory was refused before anything was written
-pub Puts-lack : (text waiting other : List ℕ) (contents : Option (List ℕ)) (failures : ℕ) → Puts {T = Unit {0}} text (page waiting contents failures) (Err OutOfMemory) (page other contents failures)
+pub Puts-lack : (text waiting other : List ℕ) (contents : Option (List ℕ)) (failures : ℕ) → PutsText {T = Unit {0}} text (page waiting contents failures) (Err OutOfMemory) (page other contents failures)
 Puts-lack text waiting other contents failures = (front_of_none contents (waiting ++ text), tt)
 
 -- the text was put after what waited, and what came then
 pub Puts-pushed : (text more waiting now : List ℕ) (contents : Option (List ℕ)) (failures : ℕ) (r : Result (Unit {0}) Fault) (new : Page) → now ≡ waiting ++ text →
-    Puts {T = Unit {0}} more (page now contents failures) r new → Puts {T = Unit {0}} (text ++ more) (page waiting contents failures) r new
+    PutsText {T = Unit {0}} more (page now contents failures) r new → PutsText {T = Unit {0}} (text ++ more) (page waiting contents failures) r new
 Puts-pushed text more waiting now contents failures (Ok done) new e p =
     let all : now ++ more ≡ waiting ++ (text ++ more) = ap (λ l. l ++ more) e ∙ append_assoc waiting text more in
     (subst (λ l. AppendsAllBut contents new.contents l new.waiting) all p.0, p.1)
@@ -30,7 +30,7 @@ Puts-pushed text more waiting now contents failures (Err fault) new e p =
     (subst (AppendsFront contents new.contents) all p.0, p.1)
 
 -- one text after another
-pub Puts-then : (first text : List ℕ) (old mid : Page) (done : Unit {0}) (r : Result (Unit {0}) Fault) (new : Page) → Puts {T = Unit {0}} first old (Ok done) mid → Puts {T = Unit {0}} text mid r new → Puts {T = Unit {0}} (first ++ text) old r new
+pub Puts-then : (first text : List ℕ) (old mid : Page) (done : Unit {0}) (r : Result (Unit {0}) Fault) (new : Page) → PutsText {T = Unit {0}} first old (Ok done) mid → PutsText {T = Unit {0}} text mid r new → PutsText {T = Unit {0}} (first ++ text) old r new
 Puts-then first text old mid done (Ok d) new p q = (
   record {
     written = p.0.written ++ q.0.written;
@@ -54,7 +54,7 @@ Puts-then first text old mid done (Err fault) new p q = (
 )
 
 -- a text that ended early is a front of what goes on from it
-pub Puts-more : (text more : List ℕ) (old : Page) (fault : Fault) (new : Page) → Puts {T = Unit {0}} text old (Err fault) new → Puts {T = Unit {0}} (text ++ more) old (Err fault) new
+pub Puts-more : (text more : List ℕ) (old : Page) (fault : Fault) (new : Page) → PutsText {T = Unit {0}} text old (Err fault) new → PutsText {T = Unit {0}} (text ++ more) old (Err fault) new
 Puts-more text more old fault new p = (
   subst (AppendsFront old.contents new.contents) (append_assoc old.waiting text more) (AppendsFront-more old.contents new.contents (old.waiting ++ text) more p.0),
   p.1,
@@ -62,35 +62,35 @@ Puts-more text more old fault new p = (
 
 -- the next text ended early, and the whole has more after it
 pub Puts-ends : (first text more whole : List ℕ) (old mid : Page) (done : Unit {0}) (fault : Fault) (new : Page) → whole ≡ first ++ (text ++ more) →
-    Puts {T = Unit {0}} first old (Ok done) mid → Puts {T = Unit {0}} text mid (Err fault) new → Puts {T = Unit {0}} whole old (Err fault) new
+    PutsText {T = Unit {0}} first old (Ok done) mid → PutsText {T = Unit {0}} text mid (Err fault) new → PutsText {T = Unit {0}} whole old (Err fault) new
 Puts-ends first text more whole old mid done fault new e p q =
-    subst (λ l. Puts {T = Unit {0}} l old (Err fault) new) (append_assoc first text more ∙ sym e)
+    subst (λ l. PutsText {T = Unit {0}} l old (Err fault) new) (append_assoc first text more ∙ sym e)
     (Puts-more (first ++ text) more old fault new (Puts-then first text old mid done (Err fault) new p q))
 
 -- it waits now
-pub Puts-kept : (text waiting now : List ℕ) (contents : Option (List ℕ)) (failures : ℕ) (done : Unit {0}) → now ≡ waiting ++ text → Puts {T = Unit {0}} text (page waiting contents failures) (Ok done) (page now contents failures)
+pub Puts-kept : (text waiting now : List ℕ) (contents : Option (List ℕ)) (failures : ℕ) (done : Unit {0}) → now ≡ waiting ++ text → PutsText {T = Unit {0}} text (page waiting contents failures) (Ok done) (page now contents failures)
 Puts-kept text waiting now contents failures done e = (record { written = []; whole = sym e; appended = Appends-nil contents }, refl)
 
 -- a line that was put, and what is written then
 pub Puts-line : (text waiting now : List ℕ) (contents : Option (List ℕ)) (failures : ℕ) (r : Result (Unit {0}) Fault) (new : Page) → now ≡ waiting ++ text →
-    Puts {T = Unit {0}} [] (page now contents failures) r new → Puts {T = Unit {0}} text (page waiting contents failures) r new
+    PutsText {T = Unit {0}} [] (page now contents failures) r new → PutsText {T = Unit {0}} text (page waiting contents failures) r new
 Puts-line text waiting now contents failures r new e p =
-    subst (λ l. Puts {T = Unit {0}} l (page waiting contents failures) r new) (append-nil text) (Puts-pushed text [] waiting now contents failures r new e p)
+    subst (λ l. PutsText {T = Unit {0}} l (page waiting contents failures) r new) (append-nil text) (Puts-pushed text [] waiting now contents failures r new e p)
 
 -- where nothing waited, a front of it is one of what goes on from it
 pub front_of_put : (text more waiting : List ℕ) (old_contents : Option (List ℕ)) (failures : ℕ) (fault : Fault) (new : Page) → waiting ≡ [] →
-    Puts {T = Unit {0}} text (page waiting old_contents failures) (Err fault) new → AppendsFront old_contents new.contents (text ++ more)
+    PutsText {T = Unit {0}} text (page waiting old_contents failures) (Err fault) new → AppendsFront old_contents new.contents (text ++ more)
 front_of_put text more waiting old_contents failures fault new none p =
     AppendsFront-more old_contents new.contents text more (subst (λ l. AppendsFront old_contents new.contents (l ++ text)) none p.0)
 
 -- all of it is written at last, or a front
 pub whole_put : (text waiting : List ℕ) (old_contents new_contents : Option (List ℕ)) (failures : ℕ) (done : Unit {0}) (mid : Page) → waiting ≡ [] →
-    Puts {T = Unit {0}} text (page waiting old_contents failures) (Ok done) mid → Appends mid.contents new_contents mid.waiting → Appends old_contents new_contents text
+    PutsText {T = Unit {0}} text (page waiting old_contents failures) (Ok done) mid → Appends mid.contents new_contents mid.waiting → Appends old_contents new_contents text
 whole_put text waiting old_contents new_contents failures done mid none p q =
     subst (Appends old_contents new_contents) (sym p.0.whole ∙ ap (λ l. l ++ text) none) (Appends-trans old_contents mid.contents new_contents p.0.written mid.waiting p.0.appended q)
 
 pub front_put : (text waiting : List ℕ) (old_contents new_contents : Option (List ℕ)) (failures : ℕ) (done : Unit {0}) (mid : Page) → waiting ≡ [] →
-    Puts {T = Unit {0}} text (page waiting old_contents failures) (Ok done) mid → AppendsFront mid.contents new_contents mid.waiting → AppendsFront old_contents new_contents text
+    PutsText {T = Unit {0}} text (page waiting old_contents failures) (Ok done) mid → AppendsFront mid.contents new_contents mid.waiting → AppendsFront old_contents new_contents text
 front_put text waiting old_contents new_contents failures done mid none p (rest, q) = (
   rest,
   record {

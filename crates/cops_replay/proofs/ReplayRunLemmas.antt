@@ -42,7 +42,7 @@ use Rattle.cops_replay.specs.declared.Replayed.TheVariants.{Same, FirstDifferenc
 use Rattle.cops_replay.specs.declared.replay_machine.ReplayScript.{ReplayScript}
 use Rattle.cops_replay.specs.RecordLines.{record_in}
 use Rattle.cops_replay.specs.Replaying.{Agrees, fresh_nodes, nodes_after}
-use Rattle.cops_replay.specs.Replayings.{IsFresh, IsReplayedLine, Passes, Differs, Standing, found_of, found_so_far}
+use Rattle.cops_replay.specs.Replayings.{Differs, IsBeforeRecords, IsReplayedLine, Passes, Standing, found_of, found_so_far}
 use Rattle.cops_replay.specs.ReplayRules.{ReplaysOwn, StartsFor, replay_answers, replay_answers_in, replay_end_answers, replay_end_answers_in, replay_end_refuses, replay_end_refuses_in, replay_refuses, replay_refuses_in, replay_rules}
 use Rattle.cops_replay.specs.ReplayText.{FindsIn, IsReplayOf, ReplaysFront, longest_record, replayed_text, told_in, told_number}
 use Rattle.cops_replay.specs.Replays.{IsAlone}

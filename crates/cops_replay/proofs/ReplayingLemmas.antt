@@ -19,8 +19,9 @@ use Rattle.cops_replay.specs.declared.replay_machine.ReplayScript.{ReplayScript}
 use Rattle.cops_replay.specs.ReplayRules.{StartsFor, replay_answers, replay_answers_in}
 use Rattle.cops_replay.specs.ReplayText.{told_in}
 use Rattle.cops_replay.specs.Replaying.{Agrees, fresh_nodes}
-use Rattle.cops_replay.specs.Replayings.{IsFresh, IsNoted, IsReplayedLine, Standing}
-use Rattle.cops_replay.specs.Replays.{IsAlone, IsReplayed, with_tenant_alone}
+use Rattle.cops_replay.specs.Replayings.{IsBeforeRecords, IsRecordCounted, IsReplayedLine, Standing}
+use Rattle.cops_replay.specs.Replays.{IsAlone, IsReplayed}
+use Rattle.cops_world.specs.MainTheorem.{with_tenant_alone}
 
 -- ---- the beginning
 
@@ -33,7 +34,7 @@ module _ (config alone : Config) (tenant : Tenant) (nodes : Cluster) (is : alone
 
   pub fresh_replay : ((slot : ℕ) (t : Tenant) → slice_get alone.tenants slot ≡ Some t → HasTenant (tenant_config alone t) slot nodes) →
       ((slot : ℕ) (t : Tenant) → slice_get alone.tenants slot ≡ Some t → nodes_of (tenant_config alone t) slot nodes ≡ replicate (alone.data_centres * alone.shards) (new_node alone.data_centres)) →
-      IsFresh (tenant_config config tenant) (record { nodes = nodes; passed = 0; found = None })
+      IsBeforeRecords (tenant_config config tenant) (record { nodes = nodes; passed = 0; found = None })
   fresh_replay has fresh = record {
     alone = record {
       data_centres = ap (λ (k : Config). k.data_centres) (sym is) ∙ ap (λ (c : Cluster). c.shape.data_centres) (sym new);
@@ -71,7 +72,7 @@ over_line line old over e is = record {
 not_over : {A : Type 0} (old : Standing) → old.found ≡ None → (place : ℕ) → old.found ≡ Some place → A
 not_over old none place found = absurd (let clash : None ≡ Some place = sym none ∙ found in cc)
 
-pub unread_line : (line : List ℕ) (old new : Standing) (over : Bool) (told : Option Record) → over ≡ false → over ≡ is_some old.found → told ≡ told_in line → told ≡ None → IsNoted false old new → IsReplayedLine line old new
+pub unread_line : (line : List ℕ) (old new : Standing) (over : Bool) (told : Option Record) → over ≡ false → over ≡ is_some old.found → told ≡ told_in line → told ≡ None → IsRecordCounted false old new → IsReplayedLine line old new
 unread_line line old new over told e is read none noted =
     let here = none_from old.found over e is in
     (record {
@@ -83,7 +84,7 @@ unread_line line old new over told e is read none noted =
     })
 
 pub read_line : (line : List ℕ) (old mid new : Standing) (over : Bool) (told : Record) (searched : Option Record) (agreed : Bool) → over ≡ false → over ≡ is_some old.found → searched ≡ told_in line → searched ≡ Some told →
-    ((config : TenantConfig) → IsAlone config old.nodes → IsReplayed config told old.nodes agreed mid.nodes) → mid.passed ≡ old.passed → mid.found ≡ old.found → IsNoted agreed mid new → IsReplayedLine line old new
+    ((config : TenantConfig) → IsAlone config old.nodes → IsReplayed config told old.nodes agreed mid.nodes) → mid.passed ≡ old.passed → mid.found ≡ old.found → IsRecordCounted agreed mid new → IsReplayedLine line old new
 read_line line old mid new over told searched agreed e is read some replayed passed found noted = by_case agreed replayed noted
   where
     here : old.found ≡ None
@@ -92,7 +93,7 @@ read_line line old mid new over told searched agreed e is read some replayed pas
     told_is : told_in line ≡ Some told
     told_is = sym read ∙ some
 
-    by_case : (a : Bool) → ((config : TenantConfig) → IsAlone config old.nodes → IsReplayed config told old.nodes a mid.nodes) → IsNoted a mid new → IsReplayedLine line old new
+    by_case : (a : Bool) → ((config : TenantConfig) → IsAlone config old.nodes → IsReplayed config told old.nodes a mid.nodes) → IsRecordCounted a mid new → IsReplayedLine line old new
     by_case true run note = record {
       over = not_over old here;
       goes = λ nothing config alone.

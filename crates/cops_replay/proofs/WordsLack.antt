@@ -22,7 +22,7 @@ use Rattle.cops_node.specs.declared.NodeReply.TheVariants.{Found, Absent, Gone, 
 use Rattle.cops_node.specs.declared.Wanted.{Wanted}
 use Rattle.cops_node.specs.declared.Wanted.TheVariants.{Latest, Exactly}
 use Rattle.cops_replay.specs.declared.Record.{Record}
-use Rattle.cops_replay.specs.RecordText.{are_deps, are_near, bytes_text, call_words, digit_text, entry_words, is_audited, is_bytes, is_call, is_entry, is_pair, is_record, is_reply, is_version, is_wanted, node_text, record_words, reply_words, value_text, wanted_text}
+use Rattle.cops_replay.specs.RecordText.{are_deps, are_near, bytes_text, call_words, digit_text, entry_words, is_audited, is_bytes, is_call, is_entry, is_pair, is_record, is_reply, is_version, is_wanted, node_text, record_value, record_words, reply_words, wanted_text}
 use Rattle.cops_replay.proofs.ReadBack.{lacks_both, version_numbers}
 
 -- ---- what holds of the parts of a record
@@ -95,7 +95,7 @@ module _ (s : ℕ) (low : s ≤ 32) where
   bytes_free [] = tt
   bytes_free (byte ∷ bytes) = (digit_free (byte / 16), (digit_free (byte % 16), bytes_free bytes))
 
-  value_free : (value : List ℕ) → Lacks s (value_text value)
+  value_free : (value : List ℕ) → Lacks s (record_value value)
   value_free [] = high (codes "-") refl
   value_free (byte ∷ bytes) = bytes_free (byte ∷ bytes)
 

@@ -12,7 +12,7 @@ use Rattle.cops_replay.specs.declared.layouts.Layout.{Layout}
 use Rattle.cops_replay.specs.declared.layouts.Layout.TheVariants.{Today, Early, Old}
 use Rattle.cops_replay.specs.declared.Record.{Record}
 use Rattle.cops_replay.specs.RecordLines.{record_by}
-use Rattle.cops_replay.specs.RecordWords.{kept_if, numbers_of, version_of}
+use Rattle.cops_replay.specs.RecordWords.{kept_if, numbers_of, version_in}
 
 abbrev pub old_nodes : ℕ
 old_nodes = 256
@@ -26,7 +26,7 @@ abbrev pub is_early : Timestamp → Bool
 is_early version = nat_le version.clock last_early_clock && nat_lt version.node old_nodes
 
 abbrev pub early_version_of : List ℕ → Option Timestamp
-early_version_of word = option_and_then (λ (version : Timestamp). kept_if (is_early version) version) (version_of word)
+early_version_of word = option_and_then (λ (version : Timestamp). kept_if (is_early version) version) (version_in word)
 
 -- any version of layout 1, as the version of today that is the same number: these are in the same order
 abbrev pub old_version_of : List ℕ → Option Timestamp
@@ -34,7 +34,7 @@ old_version_of word =
     option_and_then (λ both. kept_if (nat_le both.0 last_old_clock && nat_lt both.1 old_nodes) (version_of_number (both.0 * old_nodes + both.1))) (numbers_of (parts_at 46 word))
 
 abbrev pub versions_in : Layout → List ℕ → Option Timestamp
-versions_in Today word = version_of word
+versions_in Today word = version_in word
 versions_in Early word = early_version_of word
 versions_in Old word = old_version_of word
 

@@ -21,6 +21,6 @@ FailsBy WriteFault old new = HasRisen old new
 FailsBy other old new = ⊥
 
 -- the text follows what waited, of which a front is written; or it ended early, and a front of all is written
-abbrev pub Puts : {T : Type 0} → List ℕ → Page → Result T Fault → Page → Type 0
-Puts text old (Ok done) new = AppendsAllBut old.contents new.contents (old.waiting ++ text) new.waiting × (new.failures ≡ old.failures)
-Puts text old (Err fault) new = AppendsFront old.contents new.contents (old.waiting ++ text) × FailsBy fault old.failures new.failures
+abbrev pub PutsText : {T : Type 0} → List ℕ → Page → Result T Fault → Page → Type 0
+PutsText text old (Ok done) new = AppendsAllBut old.contents new.contents (old.waiting ++ text) new.waiting × (new.failures ≡ old.failures)
+PutsText text old (Err fault) new = AppendsFront old.contents new.contents (old.waiting ++ text) × FailsBy fault old.failures new.failures

@@ -15,13 +15,13 @@ use Rattle.cops_world.specs.HeadRules.{HeadAnswers}
 use Rattle.cops_world.specs.Script.{slot_of_name}
 use Rattle.cops_world.specs.SoloRules.{RefusesFor}
 use Rattle.cops_replay.specs.declared.replay_machine.ReplayScript.{ReplayScript}
-use Rattle.cops_replay.specs.Replayings.{IsFresh, IsReplayedLine, Standing, found_of}
+use Rattle.cops_replay.specs.Replayings.{IsBeforeRecords, IsReplayedLine, Standing, found_of}
 use Rattle.cops_replay.specs.ReplayText.{replayed_text}
 
 -- the head has a tenant of this name, whose nodes are new
 abbrev pub StartsFor : List ℕ → Config → Standing → Type 0
 StartsFor name config replay =
-    (slot : ℕ) × (tenant : Tenant) × (slot_of_name config.tenants name ≡ Some slot) × (slice_get config.tenants slot ≡ Some tenant) × IsFresh (tenant_config config tenant) replay
+    (slot : ℕ) × (tenant : Tenant) × (slot_of_name config.tenants name ≡ Some slot) × (slice_get config.tenants slot ≡ Some tenant) × IsBeforeRecords (tenant_config config tenant) replay
 
 -- a line of the tenant is replayed, and any other passed over
 abbrev pub ReplaysOwn : Bool → Standing → List ℕ → Standing → Type 0

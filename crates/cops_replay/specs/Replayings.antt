@@ -18,13 +18,13 @@ pub record Standing : Type 0 where
   pub found : Option ℕ
 
 -- the nodes are of a cluster of one tenant with these sizes
-pub record HasSizes (config : Config) (nodes : Cluster) : Type 0 where
+pub record HasOneTenant (config : Config) (nodes : Cluster) : Type 0 where
   pub data_centres : nodes.shape.data_centres ≡ config.data_centres
   pub shards : nodes.shape.shards ≡ config.shards
   pub slots : nodes.shape.slots ≡ 1
 
 -- no record has been replayed
-pub record IsFresh (config : TenantConfig) (replay : Standing) : Type 0 where
+pub record IsBeforeRecords (config : TenantConfig) (replay : Standing) : Type 0 where
   pub alone : IsAlone config replay.nodes
   pub nodes_are : nodes_of config 0 replay.nodes ≡ fresh_nodes config
   pub passed_is : replay.passed ≡ 0
@@ -51,9 +51,9 @@ pub record IsReplayedLine (line : List ℕ) (old new : Standing) : Type 0 where
   pub goes : old.found ≡ None → (config : TenantConfig) → IsAlone config old.nodes → Passes config line old new ⊎ Differs config line old new
 
 -- the next record's place is noted: one more has passed, or it is the first that differs
-abbrev pub IsNoted : Bool → Standing → Standing → Type 0
-IsNoted true old new = (new.nodes ≡ old.nodes) × (new.passed ≡ counted old.passed) × (new.found ≡ old.found)
-IsNoted false old new = new.found ≡ Some (counted old.passed)
+abbrev pub IsRecordCounted : Bool → Standing → Standing → Type 0
+IsRecordCounted true old new = (new.nodes ≡ old.nodes) × (new.passed ≡ counted old.passed) × (new.found ≡ old.found)
+IsRecordCounted false old new = new.found ≡ Some (counted old.passed)
 
 -- what has been found so far
 abbrev pub found_so_far : ℕ → Option ℕ → Replayed

@@ -10,7 +10,7 @@ ghost use Rattle.cops_node.specs.Parts.{solo_of};
 ghost use Rattle.cops_node.specs.Place.{place_of};
 ghost use Rattle.cops_replay.specs.Audits.{record_of, records_of};
 ghost use Rattle.cops_replay.specs.AuditText.{AreNodesOf, audit_of, ended, head_text, his_nodes, records_text, tenants_text, tenant_text};
-ghost use Rattle.cops_replay.specs.Pages.{Puts, page};
+ghost use Rattle.cops_replay.specs.Pages.{PutsText, page};
 ghost use Rattle.cops_replay.specs.RecordText.{record_line};
 
 use crate::heads::{push_begin, push_cluster, push_tenant};
@@ -43,7 +43,7 @@ fn put_entry<W: Write>(
     id: NodeId,
     entry: &AuditEntry,
 ) -> Result<(), Fault>
-    ensures { Puts (ended (record_line name.now (record_of id entry.now)))
+    ensures { PutsText (ended (record_line name.now (record_of id entry.now)))
         (page out.old.items (W.contents (sink_writer sink.old)) (sink_failures sink.old)) result
         (page out.new.items (W.contents (sink_writer sink.new)) (sink_failures sink.new)) }
 {
@@ -63,7 +63,7 @@ fn put_node<W: Write>(
 ) -> Result<(), Fault>
     requires slot { slot < node.now.home.shape.slots }
     requires place { slice_get node.now.home.places slot ≡ Some (place_of (tenant_config config.now tenant.now) id) }
-    ensures { Puts (records_text tenant.now.name (map (record_of id) (solo_of slot (place_of (tenant_config config.now tenant.now) id) node.now).trail))
+    ensures { PutsText (records_text tenant.now.name (map (record_of id) (solo_of slot (place_of (tenant_config config.now tenant.now) id) node.now).trail))
         (page out.old.items (W.contents (sink_writer sink.old)) (sink_failures sink.old)) result
         (page out.new.items (W.contents (sink_writer sink.new)) (sink_failures sink.new)) }
 {
@@ -91,7 +91,7 @@ fn put_tenant<W: Write>(
     requires sizes { IsTrue (are_sizes config.now) }
     requires tenant { slice_get config.now.tenants slot ≡ Some tenant.now }
     requires nodes { AreNodesOf config.now nodes.now }
-    ensures { Puts (records_text tenant.now.name (records_of (tenant_config config.now tenant.now) (his_nodes config.now nodes.now (tenant_config config.now tenant.now) slot)))
+    ensures { PutsText (records_text tenant.now.name (records_of (tenant_config config.now tenant.now) (his_nodes config.now nodes.now (tenant_config config.now tenant.now) slot)))
         (page out.old.items (W.contents (sink_writer sink.old)) (sink_failures sink.old)) result
         (page out.new.items (W.contents (sink_writer sink.new)) (sink_failures sink.new)) }
 {
@@ -119,7 +119,7 @@ fn put_records<W: Write>(
 ) -> Result<(), Fault>
     requires sizes { IsTrue (are_sizes config.now) }
     requires nodes { AreNodesOf config.now nodes.now }
-    ensures { Puts (tenants_text config.now (his_nodes config.now nodes.now) 0 config.now.tenants)
+    ensures { PutsText (tenants_text config.now (his_nodes config.now nodes.now) 0 config.now.tenants)
         (page out.old.items (W.contents (sink_writer sink.old)) (sink_failures sink.old)) result
         (page out.new.items (W.contents (sink_writer sink.new)) (sink_failures sink.new)) }
 {
@@ -139,7 +139,7 @@ fn put_tenant_line<W: Write>(
     sink: &mut Sink<W>,
     tenant: &Tenant,
 ) -> Result<(), Fault>
-    ensures { Puts (tenant_text tenant.now)
+    ensures { PutsText (tenant_text tenant.now)
         (page out.old.items (W.contents (sink_writer sink.old)) (sink_failures sink.old)) result
         (page out.new.items (W.contents (sink_writer sink.new)) (sink_failures sink.new)) }
 {
@@ -153,7 +153,7 @@ fn put_tenant_lines<W: Write>(
     sink: &mut Sink<W>,
     tenants: &[Tenant],
 ) -> Result<(), Fault>
-    ensures { Puts (flat_map tenant_text tenants.now)
+    ensures { PutsText (flat_map tenant_text tenants.now)
         (page out.old.items (W.contents (sink_writer sink.old)) (sink_failures sink.old)) result
         (page out.new.items (W.contents (sink_writer sink.new)) (sink_failures sink.new)) }
 {
@@ -167,7 +167,7 @@ fn put_tenant_lines<W: Write>(
 
 /// Puts the head.
 fn put_head<W: Write>(out: &mut Vec<u8>, sink: &mut Sink<W>, config: &Config) -> Result<(), Fault>
-    ensures { Puts (head_text config.now)
+    ensures { PutsText (head_text config.now)
         (page out.old.items (W.contents (sink_writer sink.old)) (sink_failures sink.old)) result
         (page out.new.items (W.contents (sink_writer sink.new)) (sink_failures sink.new)) }
 {

@@ -4,7 +4,7 @@ ghost use Rattle.std.specs.Io.KnownBytes.{Appends};
 ghost use Rattle.cops_types.specs.Counts.{HasRisen};
 ghost use Rattle.cops_types.specs.Sink.{AppendsFront, sink_failures, sink_writer};
 ghost use Rattle.cops_types.specs.declared.faults.Fault.TheVariants.{WriteFault};
-ghost use Rattle.cops_replay.specs.Pages.{Puts, page};
+ghost use Rattle.cops_replay.specs.Pages.{PutsText, page};
 
 use cops_types::{Fault, Sink};
 use std::io::Write;
@@ -30,7 +30,7 @@ pub(crate) fn drain<W: Write>(out: &mut Vec<u8>, sink: &mut Sink<W>) -> Result<(
 
 /// Writes the text that waits, once it is long.
 pub(crate) fn drain_full<W: Write>(out: &mut Vec<u8>, sink: &mut Sink<W>) -> Result<(), Fault>
-    ensures { Puts [] (page out.old.items (W.contents (sink_writer sink.old)) (sink_failures sink.old)) result
+    ensures { PutsText [] (page out.old.items (W.contents (sink_writer sink.old)) (sink_failures sink.old)) result
         (page out.new.items (W.contents (sink_writer sink.new)) (sink_failures sink.new)) }
 {
     if out.len() < FULL {

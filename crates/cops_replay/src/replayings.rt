@@ -5,7 +5,7 @@ ghost use Rattle.cops_types.specs.declared.configs.Tenant.{Tenant};
 ghost use Rattle.cops_types.specs.TenantConfig.{TenantConfig, tenant_config};
 ghost use Rattle.cops_world.specs.GoodHeads.{is_good};
 ghost use Rattle.cops_replay.specs.Replays.{IsAlone, IsReplayed};
-ghost use Rattle.cops_replay.specs.Replayings.{IsFresh, IsNoted, IsReplayedLine, found_of};
+ghost use Rattle.cops_replay.specs.Replayings.{IsBeforeRecords, IsRecordCounted, IsReplayedLine, found_of};
 ghost use Rattle.cops_replay.specs.ReplayText.{told_in};
 
 use crate::layouts::Layout;
@@ -31,13 +31,13 @@ pub struct Replay {
 }
 
 impl Model for Replay {
-    ghost use Rattle.cops_replay.specs.Replayings.{HasSizes, Standing};
+    ghost use Rattle.cops_replay.specs.Replayings.{HasOneTenant, Standing};
 
     ghost Value = { Standing };
 
     ghost view = { λ r. record { nodes = r.nodes; passed = r.passed; found = r.found } };
 
-    ghost invariant = { λ r. HasSizes r.alone r.nodes };
+    ghost invariant = { λ r. HasOneTenant r.alone r.nodes };
 }
 
 /// The record of a line, where it is one.
@@ -58,7 +58,7 @@ impl Replay {
     pub(crate) fn begin(alloc: Global, config: &Config, slot: u64) -> Result<Self, AllocError>
         requires good { IsTrue (is_good config.now) }
         requires slot { slot < length config.now.tenants }
-        ensures { IfOk result (λ replay. (tenant : Tenant) → slice_get config.now.tenants slot ≡ Some tenant → IsFresh (tenant_config config.now tenant) replay) }
+        ensures { IfOk result (λ replay. (tenant : Tenant) → slice_get config.now.tenants slot ≡ Some tenant → IsBeforeRecords (tenant_config config.now tenant) replay) }
     {
         let alone = with_tenant_alone(alloc, config, slot)?;
         let nodes = Cluster0::new(alloc, &alone)?;
@@ -91,7 +91,7 @@ impl Replay {
 
     /// Notes whether the next record agreed.
     fn note(&mut self, agreed: bool)
-        ensures { IsNoted agreed self.old self.new }
+        ensures { IsRecordCounted agreed self.old self.new }
     {
         let place = self.passed.saturating_add(1);
         if agreed {

@@ -7,7 +7,7 @@ use Rattle.cops_node.specs.declared.NodeReply.{NodeReply}
 use Rattle.cops_node.specs.Log.{Next, Call, Restart, Ended}
 use Rattle.cops_session.specs.declared.Answer.{Answer}
 use Rattle.cops_session.specs.declared.Progress.{Progress}
-use Rattle.cops_session.specs.Kept.{Kept}
+use Rattle.cops_session.specs.Kept.{KeptSession}
 use Rattle.cops_session.specs.Session.{Running, Session}
 use Rattle.cops_session.specs.Stepping.{DoesNext}
 
@@ -17,7 +17,7 @@ match_weaker (Err e) P P' Q Q' p q h = q e h
 
 -- the step does what comes next, where the call says more
 pub does_next : (called called' : NodeId → NodeCall → NodeReply → Type 0) (stays stays' : Type 0) → ((id : NodeId) (call : NodeCall) (reply : NodeReply) → called id call reply → called' id call reply) → (stays → stays') →
-    (config : TenantConfig) (session : Session) (running : Running) (moment : ℕ) (shown : Progress) (after : Kept) (n : Next Answer) →
+    (config : TenantConfig) (session : Session) (running : Running) (moment : ℕ) (shown : Progress) (after : KeptSession) (n : Next Answer) →
     DoesNext called stays config session running moment shown after n → DoesNext called' stays' config session running moment shown after n
 does_next called called' stays stays' more same config session running moment shown after (Call directed) h = (h.0, more directed.node directed.call h.0 h.1, h.2)
 does_next called called' stays stays' more same config session running moment shown after Restart h = (same h.0, h.1)

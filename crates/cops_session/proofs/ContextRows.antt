@@ -11,7 +11,7 @@ use Rattle.std.proofs.lemmas.Cmp.{nat_cmp_total, on_total}
 use Rattle.cops_types.specs.Context.{Observation}
 use Rattle.cops_types.proofs.Rising.{Rises-is_rising}
 use Rattle.cops_types.proofs.SortedSet.{AllAbove, Rises}
-use Rattle.cops_context.specs.Lists.{Lists, StandsFor}
+use Rattle.cops_context.specs.Lists.{Lists, ListsStandFor}
 use Rattle.cops_handles.specs.declared.tables.Open.{Open}
 use Rattle.cops_handles.specs.Rows.{AreIssued, has_number, row_at, replaced, closed}
 use Rattle.cops_session.specs.Session.{OpenContext, context_extended}
@@ -33,7 +33,7 @@ has number c = c.number == number
 
 StandsInBoth : Option Lists → Option OpenContext → Type 0
 StandsInBoth None None = Unit {0}
-StandsInBoth (Some lists) (Some c) = StandsFor lists c.obs
+StandsInBoth (Some lists) (Some c) = ListsStandFor lists c.obs
 StandsInBoth None (Some c) = ⊥
 StandsInBoth (Some lists) None = ⊥
 
@@ -52,11 +52,11 @@ found_in_both number (row ∷ rows) (c ∷ opens) stand =
           rw (is, own) (found_in_both number rows opens stand.2)
     ] refl
 
-pub obs_in-stands : (number : ℕ) (rows : List (Open Lists)) (opens : List OpenContext) (lists : Lists) → ContextsStandFor rows opens → row_at number rows ≡ Some lists → StandsFor lists (obs_in number opens)
+pub obs_in-stands : (number : ℕ) (rows : List (Open Lists)) (opens : List OpenContext) (lists : Lists) → ContextsStandFor rows opens → row_at number rows ≡ Some lists → ListsStandFor lists (obs_in number opens)
 unfolding StandsInBoth
 obs_in-stands number rows opens lists stand is = by (find (has number) opens) (subst (λ (o : Option Lists). StandsInBoth o (find (has number) opens)) is (found_in_both number rows opens stand))
   where
-    by : (o : Option OpenContext) → StandsInBoth (Some lists) o → StandsFor lists (unwrap_or (option_map (λ c. c.obs) o) [])
+    by : (o : Option OpenContext) → StandsInBoth (Some lists) o → ListsStandFor lists (unwrap_or (option_map (λ c. c.obs) o) [])
     by (Some c) h = h
     by None h = absurd h
 
@@ -84,7 +84,7 @@ length-stands (row ∷ rows) (c ∷ opens) stand = omega (arith, length-stands r
 
 -- ---- a context more, or less
 
-pub ContextsStandFor-opened : (rows : List (Open Lists)) (opens : List OpenContext) (row : Open Lists) (c : OpenContext) → ContextsStandFor rows opens → row.number ≡ c.number → StandsFor row.row c.obs →
+pub ContextsStandFor-opened : (rows : List (Open Lists)) (opens : List OpenContext) (row : Open Lists) (c : OpenContext) → ContextsStandFor rows opens → row.number ≡ c.number → ListsStandFor row.row c.obs →
     ContextsStandFor (rows ++ row ∷ []) (opens ++ c ∷ [])
 ContextsStandFor-opened [] [] row c stand number is = (number, is, tt)
 ContextsStandFor-opened [] (d ∷ opens) row c stand number is = absurd stand
@@ -119,7 +119,7 @@ tail_stays x number new more (row ∷ rows) (c ∷ opens) is above stand =
     rw (other, own) (stand.0, stand.1, tail_stays x number new more rows opens is above.1 stand.2)
 
 extended : (number : ℕ) (before new : Lists) (more : List Observation) (rows : List (Open Lists)) (opens : List OpenContext) → Rises by_number_total rows → row_at number rows ≡ Some before →
-    ((obs : List Observation) → StandsFor before obs → StandsFor new (obs ++ more)) → ContextsStandFor rows opens → ContextsStandFor (replaced number new rows) (context_extended number more opens)
+    ((obs : List Observation) → ListsStandFor before obs → ListsStandFor new (obs ++ more)) → ContextsStandFor rows opens → ContextsStandFor (replaced number new rows) (context_extended number more opens)
 extended number before new more [] opens rises is sees stand = cc
 extended number before new more (row ∷ rows) [] rises is sees stand = absurd stand
 extended number before new more (row ∷ rows) (c ∷ opens) rises is sees stand =
@@ -130,7 +130,7 @@ extended number before new more (row ∷ rows) (c ∷ opens) rises is sees stand
           let this : row.row ≡ before = cc in
           rw (own, same) (
             stand.0,
-            sees c.obs (subst (λ (l : Lists). StandsFor l c.obs) this stand.1),
+            sees c.obs (subst (λ (l : Lists). ListsStandFor l c.obs) this stand.1),
             tail_stays row number new more rows opens (is_number row.number number own) rises.0 stand.2,
           )
       | false ↦ λ other.
@@ -139,7 +139,7 @@ extended number before new more (row ∷ rows) (c ∷ opens) rises is sees stand
     ] refl
 
 pub ContextsStandFor-extended : (number next : ℕ) (before new : Lists) (more : List Observation) (rows : List (Open Lists)) (opens : List OpenContext) → AreIssued rows next → row_at number rows ≡ Some before →
-    ((obs : List Observation) → StandsFor before obs → StandsFor new (obs ++ more)) → ContextsStandFor rows opens → ContextsStandFor (replaced number new rows) (context_extended number more opens)
+    ((obs : List Observation) → ListsStandFor before obs → ListsStandFor new (obs ++ more)) → ContextsStandFor rows opens → ContextsStandFor (replaced number new rows) (context_extended number more opens)
 ContextsStandFor-extended number next before new more rows opens issued is sees stand = extended number before new more rows opens (Rises-is_rising by_number_total rows issued.rising) is sees stand
 
 pub context_extended-nothing : (number : ℕ) (opens : List OpenContext) → context_extended number [] opens ≡ opens
@@ -151,10 +151,10 @@ context_extended-nothing number (c ∷ opens) =
     ]
 
 pub ContextsStandFor-same : (number next : ℕ) (before new : Lists) (rows : List (Open Lists)) (opens : List OpenContext) → AreIssued rows next → row_at number rows ≡ Some before →
-    ((obs : List Observation) → StandsFor before obs → StandsFor new obs) → ContextsStandFor rows opens → ContextsStandFor (replaced number new rows) opens
+    ((obs : List Observation) → ListsStandFor before obs → ListsStandFor new obs) → ContextsStandFor rows opens → ContextsStandFor (replaced number new rows) opens
 ContextsStandFor-same number next before new rows opens issued is sees stand =
     subst (λ (cs : List OpenContext). ContextsStandFor (replaced number new rows) cs) (context_extended-nothing number opens)
-    (ContextsStandFor-extended number next before new [] rows opens issued is (λ obs h. subst (λ (os : List Observation). StandsFor new os) (sym (append-nil obs)) (sees obs h)) stand)
+    (ContextsStandFor-extended number next before new [] rows opens issued is (λ obs h. subst (λ (os : List Observation). ListsStandFor new os) (sym (append-nil obs)) (sees obs h)) stand)
 
 -- ---- a row put back
 
@@ -210,13 +210,13 @@ module _ (number next : ℕ) (rows taken back : List (Open Lists)) (empty before
   pub same_rows_back : after ≡ before → back ≡ rows
   same_rows_back same = rows_back ∙ ap (λ l. replaced number l rows) same ∙ replaced-same number next before rows issued was
 
-  pub stand_back : ((obs : List Observation) → StandsFor before obs → StandsFor after obs) → (opens : List OpenContext) → ContextsStandFor rows opens → ContextsStandFor back opens
+  pub stand_back : ((obs : List Observation) → ListsStandFor before obs → ListsStandFor after obs) → (opens : List OpenContext) → ContextsStandFor rows opens → ContextsStandFor back opens
   stand_back sees opens stand = subst (λ (rs : List (Open Lists)). ContextsStandFor rs opens) (sym rows_back) (ContextsStandFor-same number next before after rows opens issued was sees stand)
 
-  pub stand_back_extended : (more : List Observation) → ((obs : List Observation) → StandsFor before obs → StandsFor after (obs ++ more)) → (opens : List OpenContext) → ContextsStandFor rows opens →
+  pub stand_back_extended : (more : List Observation) → ((obs : List Observation) → ListsStandFor before obs → ListsStandFor after (obs ++ more)) → (opens : List OpenContext) → ContextsStandFor rows opens →
       ContextsStandFor back (context_extended number more opens)
   stand_back_extended more sees opens stand =
       subst (λ (rs : List (Open Lists)). ContextsStandFor rs (context_extended number more opens)) (sym rows_back) (ContextsStandFor-extended number next before after more rows opens issued was sees stand)
 
-  pub stood : (opens : List OpenContext) → ContextsStandFor rows opens → StandsFor before (obs_in number opens)
+  pub stood : (opens : List OpenContext) → ContextsStandFor rows opens → ListsStandFor before (obs_in number opens)
   stood opens stand = obs_in-stands number rows opens before stand was

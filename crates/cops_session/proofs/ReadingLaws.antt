@@ -16,7 +16,7 @@ use Rattle.cops_node.specs.declared.NodeReply.{NodeReply}
 use Rattle.cops_node.specs.declared.NodeReply.TheVariants.{Gone}
 use Rattle.cops_node.specs.declared.Wanted.{Wanted}
 use Rattle.cops_node.specs.declared.Wanted.TheVariants.{Latest, Exactly}
-use Rattle.cops_node.specs.Log.{Directed, LogStep, Outcome, Late, Replied, Next, Call, Restart, Ended, reply_in, fault_in, first_fault}
+use Rattle.cops_node.specs.Log.{Call, Directed, Ended, Late, LogStep, Next, Outcome, Replied, Restart, fault_in, first_fault, replies_of, reply_in}
 use Rattle.cops_session.specs.declared.Answer.{Answer}
 use Rattle.cops_session.specs.declared.Answer.TheVariants as ended
 use Rattle.cops_session.specs.declared.Progress.{Progress}
@@ -27,7 +27,7 @@ use Rattle.cops_session.specs.declared.ongoing.Round.TheVariants.{First, Second}
 use Rattle.cops_session.specs.declared.rounds.Wish.{Wish}
 use Rattle.cops_session.specs.Asking.{is_gone}
 use Rattle.cops_session.specs.Reading.{IsOfAttempt, IsReading, RoundStandsFor, first_moment, is_past}
-use Rattle.cops_session.specs.Request.{Attempt, Request, Fetch, answer, answer_in, attempt_after, attempt_of, begins_again, call_after, call_or_answer, calls_of, complete, home_of, is_late, next, replies_of, unless_fault, unless_late, values_or_full}
+use Rattle.cops_session.specs.Request.{Attempt, Fetch, Request, answer, answer_in, attempt_after, attempt_of, begins_again, call_after, call_or_answer, complete, is_late, key_home, next, request_calls, unless_fault, unless_late, values_or_full}
 use Rattle.cops_session.specs.Rounds.{FirstReads, wishes_of}
 use Rattle.cops_session.specs.Session.{has_restarted, progress, raised, shown}
 use Rattle.cops_session.specs.Stands.{IsFirstOf, IsOver, IsSecondOf}
@@ -96,13 +96,13 @@ module _ (config : TenantConfig) (dc : ℕ) (obs : List Observation) (keys : Lis
 
   -- an attempt with no fault makes the next call
   calls_next : (attempt : Attempt) (asked : ReadRequest) → nat_lt config.restarts attempt.restarts ≡ false →
-      first_fault (calls_of config of_keys (replies_of attempt.steps) (Fetch keys)) (replies_of attempt.steps) ≡ None →
+      first_fault (request_calls config of_keys (replies_of attempt.steps) (Fetch keys)) (replies_of attempt.steps) ≡ None →
       slice_get (gets keys (replies_of attempt.steps)) (length (replies_of attempt.steps)) ≡ Some asked →
-      call_after config of_keys attempt ≡ Call (record { node = home_of config dc asked.key; call = Get asked.key asked.wanted })
+      call_after config of_keys attempt ≡ Call (record { node = key_home config dc asked.key; call = Get asked.key asked.wanted })
   calls_next attempt asked few none is =
       let replies = replies_of attempt.steps in
-      let direct : ReadRequest → Directed = λ g. record { node = home_of config dc g.key; call = Get g.key g.wanted } in
-      let calls = calls_of config of_keys replies (Fetch keys) in
+      let direct : ReadRequest → Directed = λ g. record { node = key_home config dc g.key; call = Get g.key g.wanted } in
+      let calls = request_calls config of_keys replies (Fetch keys) in
       rw few (ap (λ f. unless_fault f (call_or_answer (slice_get calls (length replies)) (complete config of_keys replies (Fetch keys)))) none
       ∙ ap (λ c. call_or_answer c (complete config of_keys replies (Fetch keys))) (slice_get-map direct (gets keys replies) (length replies) asked is))
 
@@ -120,7 +120,7 @@ module _ (config : TenantConfig) (dc : ℕ) (obs : List Observation) (keys : Lis
     late-as_kept trans_time moment = late_is trans_time keys attempt.steps moment ∙ ap (λ start. is_past trans_time start moment) (sym stands.start_is)
 
     pub next_call : (moment : ℕ) (asked : ReadRequest) → is_past config.trans_time reading.start moment ≡ false → slice_get (gets keys replies) (length replies) ≡ Some asked →
-        next config of_keys log moment ≡ Call (record { node = home_of config dc asked.key; call = Get asked.key asked.wanted })
+        next config of_keys log moment ≡ Call (record { node = key_home config dc asked.key; call = Get asked.key asked.wanted })
     next_call moment asked in_time is =
         ap (λ late. unless_late late (call_after config of_keys attempt)) (late-as_kept config.trans_time moment ∙ in_time) ∙ calls_next attempt asked stands.few_restarts stands.no_fault is
 
@@ -140,10 +140,10 @@ module _ (config : TenantConfig) (dc : ℕ) (obs : List Observation) (keys : Lis
       attempt_is : attempt_of (Fetch keys) (log ++ step ∷ []) ≡ longer
       attempt_is = attempt_of-push (Fetch keys) log step ∙ rw stays refl
 
-      fault_is : first_fault (calls_of config of_keys (replies_of longer.steps) (Fetch keys)) (replies_of longer.steps) ≡ fault_in (Get asked.key asked.wanted) reply
+      fault_is : first_fault (request_calls config of_keys (replies_of longer.steps) (Fetch keys)) (replies_of longer.steps) ≡ fault_in (Get asked.key asked.wanted) reply
       fault_is =
-          let direct : ReadRequest → Directed = λ g. record { node = home_of config dc g.key; call = Get g.key g.wanted } in
-          ap (λ rs. first_fault (calls_of config of_keys rs (Fetch keys)) rs) (replies_of-push attempt.steps moment reply)
+          let direct : ReadRequest → Directed = λ g. record { node = key_home config dc g.key; call = Get g.key g.wanted } in
+          ap (λ rs. first_fault (request_calls config of_keys rs (Fetch keys)) rs) (replies_of-push attempt.steps moment reply)
           ∙ fault_of_next config of_keys keys replies (direct asked) reply stands.no_fault (slice_get-map direct (gets keys replies) (length replies) asked is)
           (unfinished keys replies reading.round stands.round_is)
 
@@ -199,7 +199,7 @@ module _ (config : TenantConfig) (dc : ℕ) (obs : List Observation) (keys : Lis
       restarts round left begun =
           let few : nat_lt config.restarts (attempt.restarts + 1) ≡ false = let h = ap (λ r. nat_lt r config.restarts) (sym stands.restarts_are) ∙ left in grind (arith, nat_tests) in
           let some = has_next keys [] (unfinished keys [] (First round) begun) in
-          let none : first_fault (calls_of config of_keys [] (Fetch keys)) [] ≡ None = no_replies (calls_of config of_keys [] (Fetch keys)) in
+          let none : first_fault (request_calls config of_keys [] (Fetch keys)) [] ≡ None = no_replies (request_calls config of_keys [] (Fetch keys)) in
           let call = calls_next anew some.0 few none some.1 in
           let after : Reading = record { restarts = reading.restarts + 1; start = None; round = First round } in (
             λ i. shown ((ap (λ a. answer_in (call_after config of_keys a)) anew_is ∙ ap answer_in call) i) (again i) ((ap (λ (a : Attempt). a.restarts) anew_is ∙ ap (λ n. n + 1) (sym stands.restarts_are)) i),

@@ -10,11 +10,11 @@ use Rattle.cops_types.specs.TenantConfig.{TenantConfig}
 use Rattle.cops_node.specs.declared.NodeCall.TheVariants.{Get}
 use Rattle.cops_node.specs.declared.NodeReply.{NodeReply}
 use Rattle.cops_node.specs.declared.NodeReply.TheVariants as node_reply
-use Rattle.cops_node.specs.Log.{LogStep, Replied, reply_in, Directed, Next, Call, Restart, Ended, first_fault}
+use Rattle.cops_node.specs.Log.{Call, Directed, Ended, LogStep, Next, Replied, Restart, first_fault, replies_of, reply_in}
 use Rattle.cops_session.specs.declared.Answer.{Answer}
 use Rattle.cops_session.specs.declared.Answer.TheVariants.{Refused}
 use Rattle.cops_session.specs.declared.Progress.TheVariants as progress
-use Rattle.cops_session.specs.Request.{Action, Write, Fetch, Request, Attempt, answer_in, attempt_of, begins_again, calls_of, call_after, call_or_answer, complete, home_of, next, replies_of, unless_fault, unless_late, is_late}
+use Rattle.cops_session.specs.Request.{Action, Attempt, Fetch, Request, Write, answer_in, attempt_of, begins_again, call_after, call_or_answer, complete, is_late, key_home, next, request_calls, unless_fault, unless_late}
 use Rattle.cops_session.specs.Session.{progress, has_restarted}
 use Rattle.cops_session.specs.Session as session
 use Rattle.cops_session.specs.Transaction.{ReadRequest, gets}
@@ -42,11 +42,11 @@ is_call (Ended a) = false
 
 -- the fault of one more reply that refuses
 refused_fault : (config : TenantConfig) (request : Request) (replies : List NodeReply) (d : Directed) (fault : Fault) (action : Action) →
-    first_fault (calls_of config request replies action) replies ≡ None → slice_get (calls_of config request replies action) (length replies) ≡ Some d →
-    first_fault (calls_of config request (replies ++ node_reply.Refused fault ∷ []) action) (replies ++ node_reply.Refused fault ∷ []) ≡ Some fault
-refused_fault config request replies d fault (Write key value) none at = first_fault-push (calls_of config request replies (Write key value)) replies d (node_reply.Refused fault) none at
+    first_fault (request_calls config request replies action) replies ≡ None → slice_get (request_calls config request replies action) (length replies) ≡ Some d →
+    first_fault (request_calls config request (replies ++ node_reply.Refused fault ∷ []) action) (replies ++ node_reply.Refused fault ∷ []) ≡ Some fault
+refused_fault config request replies d fault (Write key value) none at = first_fault-push (request_calls config request replies (Write key value)) replies d (node_reply.Refused fault) none at
 refused_fault config request replies d fault (Fetch keys) none at =
-    let direct : ReadRequest → Directed = λ g. record { node = home_of config request.dc g.key; call = Get g.key g.wanted } in
+    let direct : ReadRequest → Directed = λ g. record { node = key_home config request.dc g.key; call = Get g.key g.wanted } in
     let within = slice_get_within (map direct (gets keys replies)) (length replies) d at in
     fault_of_next config request keys replies d (node_reply.Refused fault) none at (let size = length-map {A = ReadRequest} {B = Directed} (gets keys replies) direct in omega (arith, within, size))
 
@@ -76,11 +76,11 @@ request_refused config request log at moment d fault e = by_restarts (nat_lt con
     over : nat_lt config.restarts attempt.restarts ≡ true → call_after config request attempt ≡ Ended (Refused Overrun)
     over many = rw many refl
 
-    ends : nat_lt config.restarts attempt.restarts ≡ false → first_fault (calls_of config request replies request.action) replies ≡ None → slice_get (calls_of config request replies request.action) (length replies) ≡ Some d →
+    ends : nat_lt config.restarts attempt.restarts ≡ false → first_fault (request_calls config request replies request.action) replies ≡ None → slice_get (request_calls config request replies request.action) (length replies) ≡ Some d →
         call_after config request later ≡ Ended (Refused fault)
     ends few none there =
-        rw few (ap (λ rs. unless_fault (first_fault (calls_of config request rs request.action) rs) (call_or_answer (slice_get (calls_of config request rs request.action) (length rs)) (complete config request rs request.action))) replies_are
-        ∙ ap (λ f. unless_fault f (call_or_answer (slice_get (calls_of config request more request.action) (length more)) (complete config request more request.action))) (refused_fault config request replies d fault request.action none there))
+        rw few (ap (λ rs. unless_fault (first_fault (request_calls config request rs request.action) rs) (call_or_answer (slice_get (request_calls config request rs request.action) (length rs)) (complete config request rs request.action))) replies_are
+        ∙ ap (λ f. unless_fault f (call_or_answer (slice_get (request_calls config request more request.action) (length more)) (complete config request more request.action))) (refused_fault config request replies d fault request.action none there))
       where
         more : List NodeReply
         more = replies ++ node_reply.Refused fault ∷ []
@@ -88,6 +88,6 @@ request_refused config request log at moment d fault e = by_restarts (nat_lt con
     by_restarts : (t : Bool) → nat_lt config.restarts attempt.restarts ≡ t → call_after config request attempt ≡ Call d → progress config request log step ≡ progress.Done (Refused fault)
     by_restarts true many e = absurd (true≢false (sym (ap is_call (sym (over many) ∙ e))))
     by_restarts false few e =
-        let parts = asks (first_fault (calls_of config request replies request.action) replies) (slice_get (calls_of config request replies request.action) (length replies)) (complete config request replies request.action) d (sym (rw few refl) ∙ e) in
+        let parts = asks (first_fault (request_calls config request replies request.action) replies) (slice_get (request_calls config request replies request.action) (length replies)) (complete config request replies request.action) d (sym (rw few refl) ∙ e) in
         let ended : call_after config request (attempt_of request.action (log ++ step ∷ [])) ≡ Ended (Refused fault) = ap (call_after config request) attempt_is ∙ ends few parts.0 parts.1 in
         ap (λ n. session.shown (answer_in n) (has_restarted request.action log step) (attempt_of request.action (log ++ step ∷ [])).restarts) ended

@@ -13,7 +13,7 @@ use Rattle.cops_types.specs.Search.{add_item, sorted_set}
 use Rattle.cops_types.proofs.PairLists.{key_cmp_total, key_eq-tie}
 use Rattle.cops_types.proofs.SortedSet.{AllAbove, Rises, Rises-sorted_set, contained-sorted_set}
 use Rattle.cops_session.specs.Session.{has_repeats}
-use Rattle.cops_session.specs.Stands.{AreDistinct}
+use Rattle.cops_session.specs.Stands.{AreDistinctKeys}
 
 module _ {K : Type 0} {R : K → K → Ordering} (o : IsTotalOrder R) where
   none_above : (k : K) (ys : List K) → AllAbove o k ys → list_any (eq_by_cmp R k) ys ≡ false
@@ -69,7 +69,7 @@ has_repeats-again (key ∷ keys) =
     by true again a s n e le h = grind (arith, nat_tests)
     by false again a s n e le h = one_more a s n e ∙ h
 
-AreDistinct-again : (keys : List (List ℕ)) → comes_again keys ≡ false → AreDistinct keys
+AreDistinct-again : (keys : List (List ℕ)) → comes_again keys ≡ false → AreDistinctKeys keys
 AreDistinct-again [] none = tt
 AreDistinct-again (key ∷ keys) none =
     let parts = neither (list_any (key_eq key) keys) (comes_again keys) none in
@@ -79,7 +79,7 @@ AreDistinct-again (key ∷ keys) none =
     neither false c e = (refl, e)
     neither true c e = absurd (false≢true (sym e))
 
-pub AreDistinct-no_repeats : (keys : List (List ℕ)) → has_repeats keys ≡ false → AreDistinct keys
+pub AreDistinct-no_repeats : (keys : List (List ℕ)) → has_repeats keys ≡ false → AreDistinctKeys keys
 AreDistinct-no_repeats keys none = AreDistinct-again keys (sym (has_repeats-again keys) ∙ none)
 
 -- ---- the walk from the front

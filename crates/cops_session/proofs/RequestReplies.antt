@@ -14,10 +14,10 @@ use Rattle.cops_types.specs.Version.{Timestamp}
 use Rattle.cops_node.specs.declared.NodeCall.TheVariants.{Get, Put}
 use Rattle.cops_node.specs.declared.NodeReply.{NodeReply}
 use Rattle.cops_node.specs.declared.NodeReply.TheVariants as node_reply
-use Rattle.cops_node.specs.Log.{LogStep, Outcome, Late, Replied, reply_in, Directed, Next, Call, Ended, first_fault}
+use Rattle.cops_node.specs.Log.{Call, Directed, Ended, Late, LogStep, Next, Outcome, Replied, first_fault, replies_of, reply_in}
 use Rattle.cops_session.specs.declared.Answer.{Answer}
 use Rattle.cops_session.specs.declared.Answer.TheVariants.{Stored, Values, Refused}
-use Rattle.cops_session.specs.Request.{Write, Fetch, Request, Attempt, begins_again, attempt_after, attempt_of, replies_of, is_late, home_of, values_or_full, call_or_answer, unless_fault, unless_late, next, answer_in, answer}
+use Rattle.cops_session.specs.Request.{Attempt, Fetch, Request, Write, answer, answer_in, attempt_after, attempt_of, begins_again, call_or_answer, is_late, key_home, next, unless_fault, unless_late, values_or_full}
 use Rattle.cops_session.specs.Transaction.{ReadRequest, gets, first_round, second_round, reads_of, final_reads}
 use Rattle.cops_types.proofs.Elements.{fold-push, slice_get-within}
 use Rattle.cops_types.proofs.PairSets.{at}
@@ -33,7 +33,7 @@ abbrev pub put_request : ℕ → List Observation → List ℕ → List ℕ → 
 put_request dc obs key value = record { dc = dc; obs = obs; action = Write key value }
 
 pub put-next : (config : TenantConfig) (dc : ℕ) (obs : List Observation) (key value : List ℕ) (moment : ℕ) →
-    next config (put_request dc obs key value) [] moment ≡ Call (record { node = home_of config dc key; call = Put key value (all_of obs) (near_of obs) })
+    next config (put_request dc obs key value) [] moment ≡ Call (record { node = key_home config dc key; call = Put key value (all_of obs) (near_of obs) })
 put-next config dc obs key value moment = rw (never_less config.restarts) refl
 
 pub put-open : (config : TenantConfig) (dc : ℕ) (obs : List Observation) (key value : List ℕ) → answer config (put_request dc obs key value) [] ≡ None
@@ -69,7 +69,7 @@ abbrev pub replies_in : List (List ℕ) → List LogStep → List NodeReply
 replies_in keys log = replies_of (attempt_of (Fetch keys) log).steps
 
 abbrev pub call_of : TenantConfig → ℕ → ReadRequest → Directed
-call_of config dc q = record { node = home_of config dc q.key; call = Get q.key q.wanted }
+call_of config dc q = record { node = key_home config dc q.key; call = Get q.key q.wanted }
 
 slice_get-map : {A B : Type 0} (f : A → B) (xs : List A) (i : ℕ) (y : B) → slice_get (map f xs) i ≡ Some y → (x : A) × (slice_get xs i ≡ Some x) × (y ≡ f x)
 slice_get-map f [] i y e = cc

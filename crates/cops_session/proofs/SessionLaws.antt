@@ -14,9 +14,9 @@ use Rattle.cops_node.specs.declared.NodeCall.{NodeCall}
 use Rattle.cops_node.specs.declared.NodeId.{NodeId}
 use Rattle.cops_node.specs.declared.NodeReply.{NodeReply}
 use Rattle.cops_node.specs.Log.{Directed, LogStep, Late, Replied, Next, Call, Restart, Ended, first_fault}
-use Rattle.cops_context.specs.Lists.{Lists, StandsFor}
+use Rattle.cops_context.specs.Lists.{Lists, ListsStandFor}
 use Rattle.cops_handles.specs.declared.tables.Open.{Open}
-use Rattle.cops_handles.specs.Rows.{Rows, row_at, open_refusal, opened, closed}
+use Rattle.cops_handles.specs.Rows.{Rows, closed, is_spent, open_refusal, opened, row_at}
 use Rattle.cops_session.specs.declared.Answer.{Answer}
 use Rattle.cops_session.specs.declared.Answer.TheVariants as answer
 use Rattle.cops_session.specs.declared.Progress.{Progress}
@@ -27,14 +27,14 @@ use Rattle.cops_session.specs.declared.ongoing.Round.TheVariants.{First}
 use Rattle.cops_session.specs.declared.ongoing.Work.TheVariants.{Put, Get}
 use Rattle.cops_session.specs.declared.ongoing.PendingPut.{PendingPut}
 use Rattle.cops_session.specs.declared.settings.Setting.{Setting}
-use Rattle.cops_session.specs.Kept.{Kept, is_running}
+use Rattle.cops_session.specs.Kept.{KeptSession, is_running}
 use Rattle.cops_session.specs.Reading.{IsOfAttempt, IsReading}
-use Rattle.cops_session.specs.Request.{Request, Write, Fetch, calls_of, values_or_full}
+use Rattle.cops_session.specs.Request.{Fetch, Request, Write, request_calls, values_or_full}
 use Rattle.cops_session.specs.Rounds.{FirstReads}
-use Rattle.cops_session.specs.Session.{Session, Running, OpenContext, create_refusal, context_refusal, put_refusal, get_refusal, context_created, context_deleted, context_extended, has_repeats, is_spent, obs_of, request_begun, request_of}
+use Rattle.cops_session.specs.Session.{OpenContext, Running, Session, context_created, context_deleted, context_extended, context_refusal, create_refusal, get_refusal, has_repeats, obs_of, request_begun, request_of, session_put_refusal}
 use Rattle.cops_session.specs.SessionStands.{ContextsStandFor, RunningStandsFor, SessionStandsFor, obs_in}
 use Rattle.cops_session.specs.Stepping.{runs}
-use Rattle.cops_session.specs.Stands.{AreDistinct, IsFirstOf}
+use Rattle.cops_session.specs.Stands.{AreDistinctKeys, IsFirstOf}
 use Rattle.cops_session.proofs.ContextRows.{ContextsStandFor-closed, ContextsStandFor-opened, is_open-none, is_open-some, length-stands}
 
 -- ---- idle
@@ -51,7 +51,7 @@ idle_stands config before after None None idle stand = tt
 idle_stands config before after (Some ongoing) begun idle stand = cc
 idle_stands config before after None (Some running) idle stand = absurd stand
 
-module _ (config : TenantConfig) (kept : Kept) (session : Session) (stands : SessionStandsFor config kept session) where
+module _ (config : TenantConfig) (kept : KeptSession) (session : Session) (stands : SessionStandsFor config kept session) where
   busy_is : is_some session.running ≡ is_some kept.running
   busy_is = busy_in_both config session kept.running session.running stands.running_is
 
@@ -76,9 +76,9 @@ module _ (config : TenantConfig) (kept : Kept) (session : Session) (stands : Ses
   pub context_refusal-closed : (number : ℕ) → is_some kept.running ≡ false → row_at number kept.contexts.rows ≡ None → context_refusal number session ≡ Some NoContext
   context_refusal-closed number idle is = λ i. first_refusal (((busy_is ∙ idle) i, Busy) ∷ (not (is_open-none number kept.contexts.rows session.contexts stands.contexts_are is i), NoContext) ∷ [])
 
-  pub SessionStandsFor-created : (after : Kept) (empty : Lists) → is_some kept.running ≡ false → StandsFor empty [] → after ≡ record kept { contexts = opened empty kept.contexts } → SessionStandsFor config after (context_created session)
+  pub SessionStandsFor-created : (after : KeptSession) (empty : Lists) → is_some kept.running ≡ false → ListsStandFor empty [] → after ≡ record kept { contexts = opened empty kept.contexts } → SessionStandsFor config after (context_created session)
   SessionStandsFor-created after empty idle none is =
-      subst (λ (k : Kept). SessionStandsFor config k (context_created session)) (sym is) (record {
+      subst (λ (k : KeptSession). SessionStandsFor config k (context_created session)) (sym is) (record {
         setting_is = stands.setting_is;
         dc_is = stands.dc_is;
         moment_is = stands.moment_is;
@@ -90,10 +90,10 @@ module _ (config : TenantConfig) (kept : Kept) (session : Session) (stands : Ses
         running_is = idle_stands config session (context_created session) kept.running session.running idle stands.running_is;
       })
 
-  pub SessionStandsFor-deleted : (number : ℕ) (after : Kept) → is_some kept.running ≡ false → after ≡ record kept { contexts = record kept.contexts { rows = closed number kept.contexts.rows } } →
+  pub SessionStandsFor-deleted : (number : ℕ) (after : KeptSession) → is_some kept.running ≡ false → after ≡ record kept { contexts = record kept.contexts { rows = closed number kept.contexts.rows } } →
       SessionStandsFor config after (context_deleted number session)
   SessionStandsFor-deleted number after idle is =
-      subst (λ (k : Kept). SessionStandsFor config k (context_deleted number session)) (sym is) (record {
+      subst (λ (k : KeptSession). SessionStandsFor config k (context_deleted number session)) (sym is) (record {
         setting_is = stands.setting_is;
         dc_is = stands.dc_is;
         moment_is = stands.moment_is;
@@ -106,7 +106,7 @@ module _ (config : TenantConfig) (kept : Kept) (session : Session) (stands : Ses
 
   -- ---- requests
 
-  pub put_refusal-closed : (number : ℕ) (key : List ℕ) → is_some kept.running ≡ false → row_at number kept.contexts.rows ≡ None → put_refusal config number key session ≡ Some NoContext
+  pub put_refusal-closed : (number : ℕ) (key : List ℕ) → is_some kept.running ≡ false → row_at number kept.contexts.rows ≡ None → session_put_refusal config number key session ≡ Some NoContext
   put_refusal-closed number key idle is = λ i. first_refusal (
       ((busy_is ∙ idle) i, Busy)
       ∷ (not (is_open-none number kept.contexts.rows session.contexts stands.contexts_are is i), NoContext)
@@ -116,7 +116,7 @@ module _ (config : TenantConfig) (kept : Kept) (session : Session) (stands : Ses
 
   pub put_refusal-open : (number : ℕ) (key : List ℕ) (lists : Lists) (can spent : Bool) → is_some kept.running ≡ false → row_at number kept.contexts.rows ≡ Some lists →
       can_put kept.setting.deps (obs_of number session) key ≡ can → is_spent kept.next_request ≡ spent →
-      put_refusal config number key session ≡ first_refusal ((not can, DependenciesFull) ∷ (spent, IdsSpent) ∷ [])
+      session_put_refusal config number key session ≡ first_refusal ((not can, DependenciesFull) ∷ (spent, IdsSpent) ∷ [])
   put_refusal-open number key lists can spent idle is can_is spent_is = λ i. first_refusal (
       ((busy_is ∙ idle) i, Busy)
       ∷ (not (is_open-some number kept.contexts.rows session.contexts lists stands.contexts_are is i), NoContext)
@@ -146,11 +146,11 @@ module _ (config : TenantConfig) (kept : Kept) (session : Session) (stands : Ses
       ∷ ((ap is_spent (sym stands.next_request_is) ∙ spent_is) i, IdsSpent)
       ∷ [])
 
-  pub SessionStandsFor-put_begun : (number : ℕ) (after : Kept) (rows : List (Open Lists)) (writing : PendingPut) → ContextsStandFor rows session.contexts → writing.deps ≡ all_of (obs_of number session) → writing.near ≡ near_of (obs_of number session) →
+  pub SessionStandsFor-put_begun : (number : ℕ) (after : KeptSession) (rows : List (Open Lists)) (writing : PendingPut) → ContextsStandFor rows session.contexts → writing.deps ≡ all_of (obs_of number session) → writing.near ≡ near_of (obs_of number session) →
       after ≡ record kept { contexts = record kept.contexts { rows = rows }; next_request = kept.next_request + 1; running = Some (record { number = kept.next_request; context = number; work = Put writing }) } →
       SessionStandsFor config after (request_begun number (Write writing.key writing.value) session)
   SessionStandsFor-put_begun number after rows writing stand deps near is =
-      subst (λ (k : Kept). SessionStandsFor config k (request_begun number (Write writing.key writing.value) session)) (sym is) (record {
+      subst (λ (k : KeptSession). SessionStandsFor config k (request_begun number (Write writing.key writing.value) session)) (sym is) (record {
         setting_is = stands.setting_is;
         dc_is = stands.dc_is;
         moment_is = stands.moment_is;
@@ -161,7 +161,7 @@ module _ (config : TenantConfig) (kept : Kept) (session : Session) (stands : Ses
         running_is = (stands.next_request_is, refl, record { action_is = refl; no_step = refl; deps_are = deps; near_are = near });
       })
 
-  pub SessionStandsFor-get_begun : (number : ℕ) (after : Kept) (keys : List (List ℕ)) (round : FirstReads) → AreDistinct keys → IsFirstOf keys [] round →
+  pub SessionStandsFor-get_begun : (number : ℕ) (after : KeptSession) (keys : List (List ℕ)) (round : FirstReads) → AreDistinctKeys keys → IsFirstOf keys [] round →
       after ≡ record kept { next_request = kept.next_request + 1; running = Some (record { number = kept.next_request; context = number; work = Get (record { restarts = 0; start = None; round = First round }) }) } →
       SessionStandsFor config after (request_begun number (Fetch keys) session)
   SessionStandsFor-get_begun number after keys round distinct begun is =
@@ -173,10 +173,10 @@ module _ (config : TenantConfig) (kept : Kept) (session : Session) (stands : Ses
         few_restarts = few;
         start_is = refl;
         all_replied = refl;
-        no_fault = no_replies (calls_of config request [] (Fetch keys));
+        no_fault = no_replies (request_calls config request [] (Fetch keys));
         round_is = begun;
       } in
-      subst (λ (k : Kept). SessionStandsFor config k (request_begun number (Fetch keys) session)) (sym is) (record {
+      subst (λ (k : KeptSession). SessionStandsFor config k (request_begun number (Fetch keys) session)) (sym is) (record {
         setting_is = stands.setting_is;
         dc_is = stands.dc_is;
         moment_is = stands.moment_is;

@@ -29,9 +29,9 @@ use Rattle.cops_session.specs.declared.reading.Came.{Came}
 use Rattle.cops_session.specs.declared.reading.Came.TheVariants as came
 use Rattle.cops_session.specs.declared.reading.ReadStep.{ReadStep}
 use Rattle.cops_session.specs.declared.settings.Setting.{Setting}
-use Rattle.cops_session.specs.Kept.{Kept}
+use Rattle.cops_session.specs.Kept.{KeptSession}
 use Rattle.cops_session.specs.Reading.{IsReading}
-use Rattle.cops_session.specs.Request.{Action, Request, Write, Fetch, home_of, next, values_or_full}
+use Rattle.cops_session.specs.Request.{Action, Fetch, Request, Write, key_home, next, values_or_full}
 use Rattle.cops_session.specs.Session.{OpenContext, Running, Session, context_extended, has_restarted, moment_after, moment_at, obs_of, progress, raised, request_of, seen_in, session_after}
 use Rattle.cops_session.specs.SessionStands.{ContextsStandFor, IsSettingOf, IsWriting, RunningStandsFor, SessionStandsFor, obs_in}
 use Rattle.cops_session.specs.Stepping.{DoesNext, HasStepped}
@@ -41,7 +41,7 @@ use Rattle.cops_session.proofs.ContextRows.{context_extended-nothing}
 
 -- ---- the request has ended
 
-pub done_stands : (config : TenantConfig) (kept after : Kept) (session : Session) (running : Running) (step : LogStep) (ended : Answer) → SessionStandsFor config kept session →
+pub done_stands : (config : TenantConfig) (kept after : KeptSession) (session : Session) (running : Running) (step : LogStep) (ended : Answer) → SessionStandsFor config kept session →
     after.setting ≡ kept.setting → after.moment ≡ moment_after running step → ContextsStandFor after.contexts.rows (context_extended running.context (seen_in ended) session.contexts) →
     after.contexts.limit ≡ kept.contexts.limit → after.contexts.next ≡ kept.contexts.next → after.next_request ≡ kept.next_request → after.running ≡ None →
     SessionStandsFor config after (session_after session running step (Done ended))
@@ -63,7 +63,7 @@ none_restarted : (config : TenantConfig) → nat_lt config.restarts 0 ≡ false
 none_restarted config = grind (arith, nat_tests)
 
 put_next : (config : TenantConfig) (dc : ℕ) (obs : List Observation) (key value : List ℕ) (moment : ℕ) →
-    next config (record { dc = dc; obs = obs; action = Write key value }) [] moment ≡ Call (record { node = home_of config dc key; call = call.Put key value (all_of obs) (near_of obs) })
+    next config (record { dc = dc; obs = obs; action = Write key value }) [] moment ≡ Call (record { node = key_home config dc key; call = call.Put key value (all_of obs) (near_of obs) })
 put_next config dc obs key value moment = rw (none_restarted config) refl
 
 put_progress : (config : TenantConfig) (dc : ℕ) (obs : List Observation) (key value : List ℕ) (moment : ℕ) (r : NodeReply) →
@@ -72,11 +72,11 @@ put_progress config dc obs key value moment (reply.Stored version) = rw (none_re
 put_progress config dc obs key value moment (reply.Refused fault) = rw (none_restarted config) refl
 put_progress config dc obs key value moment _ = rw (none_restarted config) refl
 
-module _ (config : TenantConfig) (kept after : Kept) (session : Session) (running : Running) (number context : ℕ) where
-  abbrev with_put : PendingPut → Kept
+module _ (config : TenantConfig) (kept after : KeptSession) (session : Session) (running : Running) (number context : ℕ) where
+  abbrev with_put : PendingPut → KeptSession
   with_put writing = record kept { running = Some (record { number = number; context = context; work = Put writing }) }
 
-  abbrev with_get : Reading → Kept
+  abbrev with_get : Reading → KeptSession
   with_get reading = record kept { running = Some (record { number = number; context = context; work = Get reading }) }
 
   pub put_steps : (called : ℕ → NodeId → NodeCall → NodeReply → Type 0) (stays : Type 0) (writing : PendingPut) (moment now : ℕ) (r : NodeReply) (ended : Answer) →
@@ -95,12 +95,12 @@ module _ (config : TenantConfig) (kept after : Kept) (session : Session) (runnin
       let step : LogStep = record { moment = at; outcome = Replied r } in
       let req : request_of session running ≡ record { dc = session.dc; obs = obs; action = Write key writing.value } = λ i. record { dc = session.dc; obs = obs; action = w.action_is i } in
       let at_is : now ≡ at = now_is ∙ ap (λ t. max t moment) stands.moment_is in
-      let calls : next config (request_of session running) running.log at ≡ Call (record { node = home_of config session.dc key; call = call.Put key writing.value (all_of obs) (near_of obs) }) =
+      let calls : next config (request_of session running) running.log at ≡ Call (record { node = key_home config session.dc key; call = call.Put key writing.value (all_of obs) (near_of obs) }) =
       (λ i. next config (req i) (w.no_step i) at) ∙ put_next config session.dc obs key writing.value at in
       let shows : progress config (request_of session running) running.log step ≡ Done (answer_to_put key r) =
       (λ i. progress config (req i) (w.no_step i) step) ∙ put_progress config session.dc obs key writing.value at r in
-      let made : called at (home_of config session.dc key) (call.Put key writing.value (all_of obs) (near_of obs)) r =
-      subst (λ (t : ℕ). called t (home_of config session.dc key) (call.Put key writing.value (all_of obs) (near_of obs)) r) at_is
+      let made : called at (key_home config session.dc key) (call.Put key writing.value (all_of obs) (near_of obs)) r =
+      subst (λ (t : ℕ). called t (key_home config session.dc key) (call.Put key writing.value (all_of obs) (near_of obs)) r) at_is
       (subst (λ (d : ℕ). called now (record { dc = d; shard = shard_of key config.shards }) (call.Put key writing.value (all_of obs) (near_of obs)) r) stands.dc_is
       (subst (λ (s : ℕ). called now (record { dc = kept.setting.dc; shard = shard_of key s }) (call.Put key writing.value (all_of obs) (near_of obs)) r) stands.setting_is.shards
       (subst (λ ps. called now (record { dc = kept.setting.dc; shard = shard_of key kept.setting.shards }) (call.Put key writing.value ps (near_of obs)) r) w.deps_are
@@ -156,7 +156,7 @@ module _ (config : TenantConfig) (kept after : Kept) (session : Session) (runnin
       SessionStandsFor config after (record session { moment = moment_after running step; running = Some (record running { log = running.log ++ step ∷ [] }) })
   goes_on reading next_reading keys step turn stands after_is same_context same_number action has read =
       let later : Session = record session { moment = moment_after running step; running = Some (record running { log = running.log ++ step ∷ [] }) } in
-      subst (λ (k : Kept). SessionStandsFor config k later) (sym after_is) (record {
+      subst (λ (k : KeptSession). SessionStandsFor config k later) (sym after_is) (record {
         setting_is = stands.setting_is;
         dc_is = stands.dc_is;
         moment_is = moment_turned keys step turn action has;
@@ -186,7 +186,7 @@ module _ (config : TenantConfig) (kept after : Kept) (session : Session) (runnin
       record {
         shown_is = shows here;
         stands =
-            subst (λ (k : Kept). SessionStandsFor config k (session_after session running step (Done (answer.Refused fault)))) (sym after_is)
+            subst (λ (k : KeptSession). SessionStandsFor config k (session_after session running step (Done (answer.Refused fault)))) (sym after_is)
             (done_stands config (with_get reading) (record kept { moment = turn.moment; running = None }) session running step (answer.Refused fault) stands refl (moment_turned keys step turn action has)
             (subst (λ (cs : List OpenContext). ContextsStandFor kept.contexts.rows cs) (sym (context_extended-nothing running.context session.contexts)) stands.contexts_are) refl refl refl refl);
       }

@@ -13,7 +13,7 @@ use Rattle.cops_node.specs.declared.NodeId.{NodeId}
 use Rattle.cops_node.specs.declared.NodeReply.{NodeReply}
 use Rattle.cops_node.specs.declared.NodeReply.TheVariants.{Gone as GoneAt}
 use Rattle.cops_node.specs.declared.Wanted.TheVariants.{Latest, Exactly}
-use Rattle.cops_node.specs.Log.{LogStep, Late, Replied, Next, Call, Restart, fault_in}
+use Rattle.cops_node.specs.Log.{Call, Late, LogStep, Next, Replied, Restart, fault_in, replies_of}
 use Rattle.cops_session.specs.declared.Answer.{Answer}
 use Rattle.cops_session.specs.declared.asking.FirstAnswer.{FirstAnswer}
 use Rattle.cops_session.specs.declared.asking.FirstAnswer.TheVariants as first
@@ -31,11 +31,11 @@ use Rattle.cops_session.specs.declared.rounds.Wish.{Wish}
 use Rattle.cops_session.specs.declared.settings.Setting.{Setting}
 use Rattle.cops_session.specs.Asking.{StandsAfterAsking, StandsAfterAskingAgain, is_gone}
 use Rattle.cops_session.specs.Reading.{IsReading, RoundStandsFor, is_past}
-use Rattle.cops_session.specs.Request.{Request, Fetch, attempt_of, begins_again, next, replies_of}
+use Rattle.cops_session.specs.Request.{Request, Fetch, attempt_of, begins_again, next}
 use Rattle.cops_session.specs.Rounds.{FirstReads, SecondReads}
 use Rattle.cops_session.specs.Session.{has_restarted, raised}
 use Rattle.cops_session.specs.SessionStands.{IsSettingOf}
-use Rattle.cops_session.specs.Stands.{AreDistinct, IsFirstOf, IsOver, IsSecondOf}
+use Rattle.cops_session.specs.Stands.{AreDistinctKeys, IsFirstOf, IsOver, IsSecondOf}
 use Rattle.cops_session.specs.Transaction.{ReadRequest, gets}
 use Rattle.cops_session.specs.Turns.{CameOf, HasTurned, TurnsNext}
 use Rattle.cops_session.proofs.ReadingLaws.{again_in_second, ends_with_fault, ends_with_reads, goes_on, goes_on_in_first, goes_on_unless_gone, next_call, next_late, not_gone_of_faulty, overruns, restarts}
@@ -156,7 +156,7 @@ module _ (config : TenantConfig) (setting : Setting) (obs : List Observation) (k
     pub second_turned : (times : ℕ) (start : Option ℕ) (round : SecondReads) (started : ℕ) (wish : Wish) (reply : NodeReply) (asked : SecondAnswer) →
         IsReading config request keys log (record { restarts = times; start = start; round = Second round }) → started ≡ unwrap_or start moment → is_past setting.trans_time start moment ≡ false →
         called (record { dc = setting.dc; shard = shard_of wish.key setting.shards }) (Get wish.key (Exactly wish.version)) reply →
-        ((keys : List (List ℕ)) (replies : List NodeReply) → AreDistinct keys → IsSecondOf keys replies round → StandsAfterAskingAgain keys replies wish reply asked) →
+        ((keys : List (List ℕ)) (replies : List NodeReply) → AreDistinctKeys keys → IsSecondOf keys replies round → StandsAfterAskingAgain keys replies wish reply asked) →
         TurnsNext called stays config request keys log moment (turn_second times started setting.restarts moment asked) (next config request log moment)
     second_turned times start round started wish reply (second.Went (MoreSecond next)) stands started_is in_time answers says =
         let said = says keys replies stands.distinct stands.round_is in

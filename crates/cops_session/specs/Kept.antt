@@ -9,7 +9,7 @@ use Rattle.cops_session.specs.declared.ongoing.Work.TheVariants.{Put, Get}
 use Rattle.cops_session.specs.declared.settings.Setting.{Setting}
 
 -- what never changes, the greatest moment so far, the open contexts, the number of the next request, and the one that runs
-pub record Kept : Type 0 where
+pub record KeptSession : Type 0 where
   pub setting : Setting
   pub moment : ℕ
   pub contexts : Rows Lists
@@ -26,11 +26,11 @@ abbrev pub IsOpen : ℕ → List (Open Lists) → Type 0
 IsOpen context rows = (lists : Lists) × (row_at context rows ≡ Some lists)
 
 -- the context is open, and has room for a put of the key
-abbrev pub HasRoomFor : ℕ → List ℕ → List (Open Lists) → Type 0
-HasRoomFor context key rows = (lists : Lists) × (row_at context rows ≡ Some lists) × (lists.kept ≡ Some key)
+abbrev pub HasRoomInContext : ℕ → List ℕ → List (Open Lists) → Type 0
+HasRoomInContext context key rows = (lists : Lists) × (row_at context rows ≡ Some lists) × (lists.kept ≡ Some key)
 
 abbrev pub IsReadyFor : Work → ℕ → List (Open Lists) → Type 0
-IsReadyFor (Put writing) context rows = HasRoomFor context writing.key rows
+IsReadyFor (Put writing) context rows = HasRoomInContext context writing.key rows
 IsReadyFor (Get reading) context rows = IsOpen context rows
 
 -- the context of the running request is open, and has room for it

@@ -2,12 +2,12 @@
 use Rattle.std.specs.Prelude.{◌≡◌, ℕ, Bool, false, ◌-◌, nat_lt, List, [], ◌∷◌, length, Option, Some, None}
 use Rattle.cops_types.specs.TenantConfig.{TenantConfig}
 use Rattle.cops_node.specs.declared.NodeReply.{NodeReply}
-use Rattle.cops_node.specs.Log.{LogStep, first_fault}
+use Rattle.cops_node.specs.Log.{LogStep, first_fault, replies_of}
 use Rattle.cops_session.specs.declared.ongoing.Reading.{Reading}
 use Rattle.cops_session.specs.declared.ongoing.Round.{Round}
 use Rattle.cops_session.specs.declared.ongoing.Round.TheVariants.{First, Second}
-use Rattle.cops_session.specs.Request.{Attempt, Request, Fetch, attempt_of, calls_of, replies_of}
-use Rattle.cops_session.specs.Stands.{AreDistinct, IsFirstOf, IsSecondOf}
+use Rattle.cops_session.specs.Request.{Attempt, Fetch, Request, attempt_of, request_calls}
+use Rattle.cops_session.specs.Stands.{AreDistinctKeys, IsFirstOf, IsSecondOf}
 
 -- the moment of the first step, if there is one
 abbrev pub first_moment : List LogStep → Option ℕ
@@ -25,12 +25,12 @@ RoundStandsFor keys replies (Second round) = IsSecondOf keys replies round
 
 -- it keeps the restarts, the start and the reads of an attempt, which goes on: each step has its reply, and none brings a fault
 pub record IsOfAttempt (config : TenantConfig) (request : Request) (keys : List (List ℕ)) (attempt : Attempt) (reading : Reading) : Type 0 where
-  pub distinct : AreDistinct keys
+  pub distinct : AreDistinctKeys keys
   pub restarts_are : reading.restarts ≡ attempt.restarts
   pub few_restarts : nat_lt config.restarts attempt.restarts ≡ false
   pub start_is : reading.start ≡ first_moment attempt.steps
   pub all_replied : length (replies_of attempt.steps) ≡ length attempt.steps
-  pub no_fault : first_fault (calls_of config request (replies_of attempt.steps) (Fetch keys)) (replies_of attempt.steps) ≡ None
+  pub no_fault : first_fault (request_calls config request (replies_of attempt.steps) (Fetch keys)) (replies_of attempt.steps) ≡ None
   pub round_is : RoundStandsFor keys (replies_of attempt.steps) reading.round
 
 abbrev pub IsReading : TenantConfig → Request → List (List ℕ) → List LogStep → Reading → Type 0

@@ -4,14 +4,14 @@ use Rattle.std.specs.Option.{option_map}
 use Rattle.cops_types.specs.Context.{Observation, all_of, near_of}
 use Rattle.cops_types.specs.TenantConfig.{TenantConfig}
 use Rattle.cops_node.specs.Log.{LogStep}
-use Rattle.cops_context.specs.Lists.{Lists, StandsFor}
+use Rattle.cops_context.specs.Lists.{Lists, ListsStandFor}
 use Rattle.cops_handles.specs.declared.tables.Open.{Open}
 use Rattle.cops_session.specs.declared.ongoing.Ongoing.{Ongoing}
 use Rattle.cops_session.specs.declared.ongoing.Work.{Work}
 use Rattle.cops_session.specs.declared.ongoing.Work.TheVariants.{Put, Get}
 use Rattle.cops_session.specs.declared.ongoing.PendingPut.{PendingPut}
 use Rattle.cops_session.specs.declared.settings.Setting.{Setting}
-use Rattle.cops_session.specs.Kept.{Kept}
+use Rattle.cops_session.specs.Kept.{KeptSession}
 use Rattle.cops_session.specs.Reading.{IsReading}
 use Rattle.cops_session.specs.Request.{Request, Write, Fetch}
 use Rattle.cops_session.specs.Session.{OpenContext, Running, Session, request_of}
@@ -27,7 +27,7 @@ pub record IsSettingOf (config : TenantConfig) (setting : Setting) : Type 0 wher
 -- the same numbers in the same order, each context standing for what it has seen
 abbrev pub ContextsStandFor : List (Open Lists) → List OpenContext → Type 0
 ContextsStandFor [] [] = Unit {0}
-ContextsStandFor (row ∷ rows) (context ∷ contexts) = (row.number ≡ context.number) × StandsFor row.row context.obs × ContextsStandFor rows contexts
+ContextsStandFor (row ∷ rows) (context ∷ contexts) = (row.number ≡ context.number) × ListsStandFor row.row context.obs × ContextsStandFor rows contexts
 ContextsStandFor [] (context ∷ contexts) = ⊥
 ContextsStandFor (row ∷ rows) [] = ⊥
 
@@ -55,7 +55,7 @@ RunningStandsFor config session (Some ongoing) (Some running) =
 RunningStandsFor config session None (Some running) = ⊥
 RunningStandsFor config session (Some ongoing) None = ⊥
 
-pub record SessionStandsFor (config : TenantConfig) (kept : Kept) (session : Session) : Type 0 where
+pub record SessionStandsFor (config : TenantConfig) (kept : KeptSession) (session : Session) : Type 0 where
   pub setting_is : IsSettingOf config kept.setting
   pub dc_is : kept.setting.dc ≡ session.dc
   pub moment_is : kept.moment ≡ session.moment

@@ -10,18 +10,18 @@ use Rattle.cops_session.specs.declared.Answer.{Answer}
 use Rattle.cops_session.specs.declared.Answer.TheVariants.{Refused}
 use Rattle.cops_session.specs.declared.Progress.{Progress}
 use Rattle.cops_session.specs.declared.Progress.TheVariants.{Done}
-use Rattle.cops_session.specs.Kept.{Kept}
+use Rattle.cops_session.specs.Kept.{KeptSession}
 use Rattle.cops_session.specs.Session.{Running, Session, progress, request_of, session_after}
 use Rattle.cops_session.specs.SessionStands.{SessionStandsFor}
 
 -- what the step shows is the definition's, or that there was no memory, which ends the request; the session stands for the one after that
-pub record HasStepped (config : TenantConfig) (session : Session) (running : Running) (step : LogStep) (shown : Progress) (after : Kept) : Type 0 where
+pub record HasStepped (config : TenantConfig) (session : Session) (running : Running) (step : LogStep) (shown : Progress) (after : KeptSession) : Type 0 where
   pub shown_is : (shown ≡ progress config (request_of session running) running.log step) ⊎ (shown ≡ Done (Refused OutOfMemory))
   pub stands : SessionStandsFor config after (session_after session running step shown)
 
 -- the step does what comes next: it makes the call and goes on with the reply, or makes none where the moment is late;
 -- a running request has no answer yet
-abbrev pub DoesNext : (NodeId → NodeCall → NodeReply → Type 0) → Type 0 → TenantConfig → Session → Running → ℕ → Progress → Kept → Next Answer → Type 0
+abbrev pub DoesNext : (NodeId → NodeCall → NodeReply → Type 0) → Type 0 → TenantConfig → Session → Running → ℕ → Progress → KeptSession → Next Answer → Type 0
 DoesNext called stays config session running moment shown after (Call directed) =
     (reply : NodeReply) × called directed.node directed.call reply × HasStepped config session running (record { moment = moment; outcome = Replied reply }) shown after
 DoesNext called stays config session running moment shown after Restart =

@@ -3,7 +3,7 @@ ghost use Rattle.std.specs.Prelude.{◌≡◌, [], ◌∷◌, List, not, IfOk, O
 ghost use Rattle.cops_types.specs.Context.{Put, all_of, near_of, observations_of, can_put, can_observe};
 ghost use Rattle.cops_types.specs.Refusal.{IsAnswer, refused_if};
 ghost use Rattle.cops_handles.specs.Rows.{replaced};
-ghost use Rattle.cops_session.specs.Kept.{HasRoomFor, IsOpen};
+ghost use Rattle.cops_session.specs.Kept.{HasRoomInContext, IsOpen};
 ghost use Rattle.cops_session.specs.Session.{OpenContext, context_extended};
 ghost use Rattle.cops_session.specs.SessionStands.{ContextsStandFor, obs_in};
 
@@ -36,7 +36,7 @@ pub(crate) fn prepare_put(
     ensures lists { IfOk result (λ lists. (opens : List OpenContext) → ContextsStandFor contexts.old.rows opens →
         (lists.0 ≡ all_of (obs_in handle opens)) × (lists.1 ≡ near_of (obs_in handle opens))) }
     ensures stands { OnOk result ((opens : List OpenContext) → ContextsStandFor contexts.old.rows opens → ContextsStandFor contexts.new.rows opens) }
-    ensures room { OnOk result (HasRoomFor handle key.now contexts.new.rows) }
+    ensures room { OnOk result (HasRoomInContext handle key.now contexts.new.rows) }
     ensures refused { (opens : List OpenContext) → ContextsStandFor contexts.old.rows opens →
         IsAnswer (refused_if (not (can_put limit (obs_in handle opens) key.now)) Fault.DependenciesFull) result }
     ensures numbers { contexts.new ≡ record contexts.old { rows = contexts.new.rows } }
@@ -60,7 +60,7 @@ pub(crate) fn see_put(
     handle: Handle<Contexts>,
     pair: Pair,
 )
-    requires { HasRoomFor handle pair.key contexts.old.rows }
+    requires { HasRoomInContext handle pair.key contexts.old.rows }
     ensures stands { (opens : List OpenContext) → ContextsStandFor contexts.old.rows opens →
         ContextsStandFor contexts.new.rows (context_extended handle (Put pair ∷ []) opens) }
     ensures numbers { contexts.new ≡ record contexts.old { rows = contexts.new.rows } }

@@ -6,7 +6,7 @@ ghost use Rattle.cops_types.specs.declared.configs.Tenant.{Tenant};
 ghost use Rattle.cops_node.specs.declared.NodeCall.{NodeCall};
 ghost use Rattle.cops_node.specs.declared.NodeId.{NodeId};
 ghost use Rattle.cops_node.specs.declared.NodeReply.{NodeReply};
-ghost use Rattle.cops_context.specs.Lists.{StandsFor};
+ghost use Rattle.cops_context.specs.Lists.{ListsStandFor};
 ghost use Rattle.cops_types.specs.declared.faults.Fault.TheVariants.{OutOfMemory};
 ghost use Rattle.cops_session.specs.declared.Answer.TheVariants as answer;
 ghost use Rattle.cops_session.specs.declared.ongoing.Work.TheVariants as work;
@@ -40,9 +40,9 @@ pub struct Session {
 }
 
 impl Model for Session {
-    ghost use Rattle.cops_session.specs.Kept.{Kept, IsKept};
+    ghost use Rattle.cops_session.specs.Kept.{IsKept, KeptSession};
 
-    ghost Value = { Kept };
+    ghost Value = { KeptSession };
 
     ghost view = { λ s. record { setting = s.setting; moment = s.moment; contexts = s.contexts; next_request = s.next_request; running = s.running } };
 
@@ -50,11 +50,12 @@ impl Model for Session {
 }
 
 impl Session {
-    ghost use Rattle.cops_session.specs.Kept.{Kept, IsPlaced, HasRoomFor, IsOpen, IsReadyFor, is_running};
+    ghost use Rattle.cops_session.specs.Kept.{HasRoomInContext, IsOpen, IsPlaced, IsReadyFor, KeptSession, is_running};
     ghost use Rattle.cops_session.specs.Request.{Write, Fetch, next, values_or_full};
-    ghost use Rattle.cops_session.specs.Session.{Session as SoloSession, Running as SoloRunning, new_session, create_refusal, context_refusal, put_refusal, get_refusal, context_created, context_deleted, request_begun, request_of, obs_of, moment_at, OpenContext, context_extended, is_spent, seen_in};
+    ghost use Rattle.cops_session.specs.Session.{OpenContext, Running as SoloRunning, Session as SoloSession, context_created, context_deleted, context_extended, context_refusal, create_refusal, get_refusal, moment_at, new_session, obs_of, request_begun, request_of, seen_in, session_put_refusal};
     ghost use Rattle.cops_session.specs.SessionStands.{SessionStandsFor, ContextsStandFor, obs_in};
     ghost use Rattle.cops_session.specs.Stepping.{DoesNext, runs};
+    ghost use Rattle.cops_handles.specs.Rows.{is_spent};
 
     /// A session of a tenant in a data centre, with no contexts. Its first numbers are 1.
     pub fn new(alloc: Global, config: &Config, slot: u64, dc: u64) -> Self
@@ -143,7 +144,7 @@ impl Session {
     /// An open context.
     pub fn context(&self, handle: Handle<Contexts>) -> Result<&Context, Fault>
         ensures stands { (config : TenantConfig) (session : SoloSession) → SessionStandsFor config self.now session →
-            IfOk result (λ context. StandsFor context.now (obs_of handle session)) }
+            IfOk result (λ context. ListsStandFor context.now (obs_of handle session)) }
         ensures refused { (config : TenantConfig) (session : SoloSession) → SessionStandsFor config self.now session →
             MatchResult result (λ _. context_refusal handle session ≡ None) (λ fault. context_refusal handle session ≡ Some fault) }
     {
@@ -172,7 +173,7 @@ impl Session {
     ) -> Result<Handle<Running>, Fault>
         ensures begun { (config : TenantConfig) (session : SoloSession) → SessionStandsFor config self.old session →
             IfOk result (λ number. (number ≡ session.next_request) × SessionStandsFor config self.new (request_begun handle (Write key value) session)) }
-        ensures refused { (config : TenantConfig) (session : SoloSession) → SessionStandsFor config self.old session → IsAnswer (put_refusal config handle key session) result }
+        ensures refused { (config : TenantConfig) (session : SoloSession) → SessionStandsFor config self.old session → IsAnswer (session_put_refusal config handle key session) result }
         ensures setting { self.new.setting ≡ self.old.setting }
         ensures err { OnErr result (self.new ≡ self.old) }
     {
@@ -321,7 +322,7 @@ impl Session {
         requires shards { self.old.setting.shards ≡ (N.shape nodes.old).shards }
         requires slot { self.old.setting.slot < (N.shape nodes.old).slots }
         requires idle { self.old.running ≡ None }
-        requires ready { HasRoomFor context writing.key self.old.contexts.rows }
+        requires ready { HasRoomInContext context writing.key self.old.contexts.rows }
         ensures stepped { (config : TenantConfig) (session : SoloSession) (running : SoloRunning) (number : ℕ) →
             SessionStandsFor config (record self.old { running = Some (record { number = number; context = context; work = work.Put writing }) }) session → session.running ≡ Some running →
             DoesNext (λ id call reply. N.Answers nodes.old id self.old.setting.slot (moment_at moment session) call reply nodes.new) (nodes.new ≡ nodes.old)

@@ -14,7 +14,7 @@ use Rattle.cops_store.specs.Chains.{IsChain}
 use Rattle.cops_store.specs.Contents.{size_of}
 use Rattle.cops_store.specs.Notes.{notes_in, AreOwn}
 use Rattle.cops_store.specs.Places.{same_place_is}
-use Rattle.cops_store.specs.Tables.{same_place, Chains, chains_of, slot_rows, without, is_due, IsNoted, AreNoted, IsStore}
+use Rattle.cops_store.specs.Tables.{AreNoted, Chains, IsNotedAsDue, IsStore, chains_of, is_due, same_place, slot_rows, without}
 use Rattle.cops_store.proofs.Lists.{each_filter, each_weaker}
 use Rattle.cops_store.proofs.NoteLists.{AreOthers, Split, here}
 use Rattle.cops_store.proofs.Tables.{AreCounted-set, and_left, and_both, fails}
@@ -83,7 +83,7 @@ module _ (slot : ℕ) (slots : List SlotNotes) (s s' : SlotNotes) (h : AreOwn 0 
   notes_own = parts.owns s' (subst (AllByRecursion (λ d. (d.place.slot ≡ slot) × (s'.least ≤ d.stale))) (sym nothing) tt)
 
 -- a note of another slot is still there
-noted_stays : (slot : ℕ) (due : List Due) (place : SlotKey) (o : Option ℕ) → not (nat_eq place.slot slot) ≡ true → IsNoted due place o → IsNoted (others_of slot due) place o
+noted_stays : (slot : ℕ) (due : List Due) (place : SlotKey) (o : Option ℕ) → not (nat_eq place.slot slot) ≡ true → IsNotedAsDue due place o → IsNotedAsDue (others_of slot due) place o
 noted_stays slot due place None other noted = tt
 noted_stays slot due place (Some m) other noted =
     list_any-filter (is_due place m) (λ d. not (nat_eq d.place.slot slot)) due

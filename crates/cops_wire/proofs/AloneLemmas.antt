@@ -10,9 +10,9 @@ use Rattle.cops_node.specs.declared.NodeReply.{NodeReply}
 use Rattle.cops_node.specs.declared.NodeReply.TheVariants as node_reply
 use Rattle.cops_node.specs.Clusters.{Cluster, HasTenant, nodes_of, turn_at}
 use Rattle.cops_node.specs.Log.{LogStep, Late, Replied, Next, Call, Restart, Ended}
-use Rattle.cops_node.specs.Place.{number_of, place_of}
+use Rattle.cops_node.specs.Place.{node_number, place_of}
 use Rattle.cops_node.specs.SoloNode.{SoloNode, new_node}
-use Rattle.cops_node.specs.Step.{Turn, node_step}
+use Rattle.cops_node.specs.Step.{CallEffect, node_step}
 use Rattle.cops_session.specs.declared.Answer.{Answer}
 use Rattle.cops_session.specs.declared.Answer.TheVariants as answer
 use Rattle.cops_session.specs.declared.Progress.{Progress}
@@ -21,8 +21,8 @@ use Rattle.cops_session.specs.Request.{Action, next}
 use Rattle.cops_session.specs.Session.{Running, Session, moment_at, progress, request_begun, request_of, session_after}
 use Rattle.cops_wire.specs.declared.messages.Message.{Message}
 use Rattle.cops_wire.specs.declared.messages.Message.TheVariants.{CreateContext, DeleteContext, Put, GetTrans}
-use Rattle.cops_wire.specs.Alone.{AreGiven, AreSpared, CallsAmid, CallsCluster, IsServedAt, IsToldAlone, OthersCall, ReplyAlone, SlotCall, StepAlone, answer_alone, does_alone, further, is_out_of_memory, replied, replies_after, replies_alone, runs_on, stepped, steps_alone, unless_told}
-use Rattle.cops_wire.specs.Requests.{Answers, AnswersSo, Backend, Becomes, DoesNext, EndsAfter, GoesOn, HasShown, Runs, UnlessRefused, backend, reply_to}
+use Rattle.cops_wire.specs.Alone.{AreGiven, AreMessagesSpared, CallsAmid, CallsCluster, IsConnectionToldAlone, IsServedAt, OthersCall, ReplyAlone, SlotCall, StepAlone, answer_alone, does_alone, further, replied, replies_after, replies_alone, runs_on, stepped, steps_alone, tells_out_of_memory, unless_told}
+use Rattle.cops_wire.specs.Requests.{Answers, AnswersSo, Backend, Becomes, DoesNext, EndsAfter, HasShown, RequestGoesOn, Runs, UnlessRefused, backend, message_of_answer}
 use Rattle.cops_wire.specs.Serving.{Serves}
 use Rattle.cops_session.proofs.RefusedRequests.{request_refused}
 
@@ -43,7 +43,7 @@ pub record IsHis (config : TenantConfig) (slot : ℕ) (cluster : Cluster) : Type
 -- the reply is that of the tenant's own node, or that memory was refused; and he is still there
 pub record IsOwnTurn (config : TenantConfig) (slot : ℕ) (id : NodeId) (moment : ℕ) (call : NodeCall) (reply : NodeReply) (old new : Cluster) : Type 0 where
   pub turn : (reply ≡ node_reply.Refused OutOfMemory)
-      ⊎ ((reply ≡ (turn_at config id slot moment call old).reply) × (nodes_of config slot new ≡ slice_set (nodes_of config slot old) (number_of config.shards id) (turn_at config id slot moment call old).after))
+      ⊎ ((reply ≡ (turn_at config id slot moment call old).reply) × (nodes_of config slot new ≡ slice_set (nodes_of config slot old) (node_number config.shards id) (turn_at config id slot moment call old).after))
   pub his : IsHis config slot new
 
 own_turn : (config : TenantConfig) (slot : ℕ) (id : NodeId) (moment : ℕ) (call : NodeCall) (reply : NodeReply) (old new : Cluster) → IsHis config slot old → CallsCluster old id slot moment call reply new → IsOwnTurn config slot id moment call reply old new
@@ -66,8 +66,8 @@ own_turn_amid config slot id moment call reply old new his called =
     let mid = called.1 in
     let before = others_leave config slot called.0 old mid his called.2 in
     let own = own_turn config slot id moment call reply mid new before.0 called.3 in
-    let number = number_of config.shards id in
-    let turn_of : List SoloNode → Turn = λ nodes. node_step (place_of config id) moment call (slice_index_or nodes number (new_node config.data_centres)) in
+    let number = node_number config.shards id in
+    let turn_of : List SoloNode → CallEffect = λ nodes. node_step (place_of config id) moment call (slice_index_or nodes number (new_node config.data_centres)) in
     let IsTurn : List SoloNode → Type 0 = λ nodes. (reply ≡ (turn_of nodes).reply) × (nodes_of config slot new ≡ slice_set nodes number (turn_of nodes).after) in
     record {
       turn = elim own.turn [ inl lack ↦ inl lack | inr turn ↦ inr (subst IsTurn before.1 turn) ];
@@ -110,7 +110,7 @@ module _ {M : Type 0} (Calls : Cluster → NodeId → ℕ → ℕ → NodeCall �
       step reply = record { moment = moment; outcome = Replied reply }
 
       by_turn : (d.0 ≡ node_reply.Refused OutOfMemory)
-          ⊎ ((d.0 ≡ (turn_at config directed.node slot moment directed.call old).reply) × (nodes_at new ≡ slice_set (nodes_at old) (number_of config.shards directed.node) (turn_at config directed.node slot moment directed.call old).after))
+          ⊎ ((d.0 ≡ (turn_at config directed.node slot moment directed.call old).reply) × (nodes_at new ≡ slice_set (nodes_at old) (node_number config.shards directed.node) (turn_at config directed.node slot moment directed.call old).after))
           → (shown ≡ Done (answer.Refused OutOfMemory)) ⊎ (does_alone config session running moment (nodes_at old) (Call directed) ≡ record { shown = shown; session = after; nodes = nodes_at new })
       by_turn (inl lack) = inl (elim d.2.shown_is [
         | inl as_defined ↦
@@ -123,7 +123,7 @@ module _ {M : Type 0} (Calls : Cluster → NodeId → ℕ → ℕ → NodeCall �
           elim shows [
             | inl lack ↦ inl lack
             | inr same ↦
-                inr (ap (λ reply. stepped config session running (step reply) (slice_set (nodes_at old) (number_of config.shards directed.node) (turn_at config directed.node slot moment directed.call old).after)) (sym turn.0)
+                inr (ap (λ reply. stepped config session running (step reply) (slice_set (nodes_at old) (node_number config.shards directed.node) (turn_at config directed.node slot moment directed.call old).after)) (sym turn.0)
                 ∙ ap (λ nodes. stepped config session running (step d.0) nodes) (sym turn.1) ∙ same)
           ]
   step_is session running moment old new shown after Restart is his d =
@@ -172,7 +172,7 @@ module _ {M : Type 0} (Calls : Cluster → NodeId → ℕ → ℕ → NodeCall �
         given = s.given ∷ later.given;
         are = (mid.moments, s.gives, later.are);
         alone = elim is.alone [
-          | inl lack ↦ absurd (subst GoesOn lack h.3)
+          | inl lack ↦ absurd (subst RequestGoesOn lack h.3)
           | inr alone ↦ elim later.alone [
             | inl lack ↦ inl lack
             | inr rest ↦
@@ -185,7 +185,7 @@ module _ {M : Type 0} (Calls : Cluster → NodeId → ℕ → ℕ → NodeCall �
         his = later.his;
       }
     where
-      goes_further : (shown : Progress) → GoesOn shown → (session : Session) (nodes : List SoloNode) (moments : List ℕ)
+      goes_further : (shown : Progress) → RequestGoesOn shown → (session : Session) (nodes : List SoloNode) (moments : List ℕ)
           → further (record { shown = shown; session = session; nodes = nodes }) shown moments (steps_alone config moments) ≡ steps_alone config moments session nodes
       goes_further Working goes session nodes moments = refl
       goes_further (Restarted times) goes session nodes moments = refl
@@ -196,7 +196,7 @@ module _ {M : Type 0} (Calls : Cluster → NodeId → ℕ → ℕ → NodeCall �
   pub record IsReplyAlone (old : At) (request reply : Message) (new : At) : Type 0 where
     pub given : List ℕ
     pub are : AreGiven Gives old.moments given new.moments
-    pub alone : (is_out_of_memory reply ≡ true)
+    pub alone : (tells_out_of_memory reply ≡ true)
         ⊎ ((tail : List ℕ) → answer_alone config (backend old.session (nodes_at old.nodes) (given ++ tail)) request ≡ Some (record { reply = reply; after = backend new.session (nodes_at new.nodes) tail }))
     pub his : IsHis config slot new.nodes
 
@@ -244,7 +244,7 @@ module _ {M : Type 0} (Calls : Cluster → NodeId → ℕ → ℕ → NodeCall �
         given = end.given;
         are = end.are;
         alone = elim end.alone [
-          | inl lack ↦ inl (ap is_out_of_memory (h.1 ∙ ap reply_to lack))
+          | inl lack ↦ inl (ap tells_out_of_memory (h.1 ∙ ap message_of_answer lack))
           | inr alone ↦
               inr λ tail.
               is (end.given ++ tail) ∙ ap replied (alone tail)
@@ -262,15 +262,15 @@ module _ {M : Type 0} (Calls : Cluster → NodeId → ℕ → ℕ → NodeCall �
 
   -- ---- connections
 
-  pub told_alone : (requests replies : List Message) (old new : At) → IsHis config slot old.nodes → Serves (Answers Calls Gives config slot) old requests replies new → AreSpared replies
+  pub told_alone : (requests replies : List Message) (old new : At) → IsHis config slot old.nodes → Serves (Answers Calls Gives config slot) old requests replies new → AreMessagesSpared replies
       → (given : List ℕ) × AreGiven Gives old.moments given new.moments × ((tail : List ℕ) → replies ≡ replies_alone config requests (backend old.session (nodes_at old.nodes) (given ++ tail)))
   told_alone [] replies old new his h spared = ([], ap (λ (b : At). b.moments) h.1, λ tail. h.0)
   told_alone (request ∷ requests) replies old new his h spared =
       let mid = h.1 in
-      let all : AreSpared (h.0 ∷ h.2) = subst AreSpared h.5 spared in
-      let lacks : is_out_of_memory h.0 ≡ true → ⊥ = λ e. true≢false (sym e ∙ all.0) in
+      let all : AreMessagesSpared (h.0 ∷ h.2) = subst AreMessagesSpared h.5 spared in
+      let lacks : tells_out_of_memory h.0 ≡ true → ⊥ = λ e. true≢false (sym e ∙ all.0) in
       elim h.3 [
-        | inl lack ↦ absurd (lacks (ap is_out_of_memory lack.0))
+        | inl lack ↦ absurd (lacks (ap tells_out_of_memory lack.0))
         | inr so ↦
             let one = reply_is request old h.0 mid his so in
             let later = told_alone requests h.2 mid new one.his h.4 all.1 in (
@@ -288,13 +288,13 @@ module _ {M : Type 0} (Calls : Cluster → NodeId → ℕ → ℕ → NodeCall �
 
 -- a law: at the nodes of a cluster, and amid the calls of others, a tenant is told what he is told alone
 pub served_alone : {M : Type 0} (Gives : M → ℕ → M → Type 0) (config : TenantConfig) (slot : ℕ) (old : Backend Session Cluster M) (requests replies : List Message) (new : Backend Session Cluster M)
-    → IsServedAt CallsCluster Gives config slot old requests replies new → IsToldAlone Gives config slot old requests replies new.moments
+    → IsServedAt CallsCluster Gives config slot old requests replies new → IsConnectionToldAlone Gives config slot old requests replies new.moments
 served_alone Gives config slot old requests replies new h =
     let told = told_alone CallsCluster Gives config slot (own_turn config slot) requests replies old new (record { tenant = h.tenant; shards = h.shards }) h.served h.spared in
     record { given = told.0; are = told.1; told = told.2 [] ∙ ap (λ l. replies_alone config requests (backend old.session (nodes_of config slot old.nodes) l)) (append-nil told.0) }
 
 pub served_alone_amid : {M : Type 0} (Gives : M → ℕ → M → Type 0) (config : TenantConfig) (slot : ℕ) (old : Backend Session Cluster M) (requests replies : List Message) (new : Backend Session Cluster M)
-    → IsServedAt CallsAmid Gives config slot old requests replies new → IsToldAlone Gives config slot old requests replies new.moments
+    → IsServedAt CallsAmid Gives config slot old requests replies new → IsConnectionToldAlone Gives config slot old requests replies new.moments
 served_alone_amid Gives config slot old requests replies new h =
     let told = told_alone CallsAmid Gives config slot (own_turn_amid config slot) requests replies old new (record { tenant = h.tenant; shards = h.shards }) h.served h.spared in
     record { given = told.0; are = told.1; told = told.2 [] ∙ ap (λ l. replies_alone config requests (backend old.session (nodes_of config slot old.nodes) l)) (append-nil told.0) }

@@ -18,13 +18,13 @@ use Rattle.cops_wire.specs.declared.messages.Message.{Message}
 use Rattle.cops_wire.specs.declared.messages.Message.TheVariants.{Ready}
 use Rattle.cops_wire.specs.declared.serving.Ended.{Ended}
 use Rattle.cops_wire.specs.declared.serving.Ended.TheVariants.{Clean, Torn}
-use Rattle.cops_wire.specs.Alone.{CallsAmid, CallsCluster, IsToldAlone, replies_alone}
-use Rattle.cops_wire.specs.Conversation.{IsConversation, IsReceivedAlone, are_requests, behind_first, end_of, ended_at, requests_in, unless_other}
+use Rattle.cops_wire.specs.Alone.{CallsAmid, CallsCluster, IsConnectionToldAlone, replies_alone}
+use Rattle.cops_wire.specs.Conversation.{IsConversation, IsReceivedAlone, are_requests, behind_first, conversation_end, ended_at, requests_in, unless_other}
 use Rattle.cops_wire.specs.Greeting.{greeted}
 use Rattle.cops_wire.specs.Requests.{HasFewRestarts, backend}
 use Rattle.cops_wire.specs.Serving.{AreFront, AreRequests, EndsSo, is_request, last_reply}
 use Rattle.cops_wire.specs.Spelling.{spelling}
-use Rattle.cops_wire.specs.Streams.{Split, split_after, split_of}
+use Rattle.cops_wire.specs.Streams.{SplitStream, split_after, split_of}
 use Rattle.cops_wire.proofs.AloneLemmas.{served_alone, served_alone_amid}
 use Rattle.cops_wire.proofs.StreamLaws.{split_of-append}
 
@@ -67,38 +67,38 @@ torn_inside true false (byte ∷ rest) h = refl
 torn_inside false broken rest h = refl
 
 -- these are the requests of the whole stream, and its end
-pub record IsWhole (stream : Split) (requests : List Message) (ended : Ended) : Type 0 where
+pub record IsWhole (stream : SplitStream) (requests : List Message) (ended : Ended) : Type 0 where
   pub requests_are : requests ≡ requests_in (behind_first stream.messages)
-  pub end_is : ended ≡ end_of stream
+  pub end_is : ended ≡ conversation_end stream
 
-more_messages : (split : Split) (more : List ℕ) → (others : List Message) × ((split_after split more).messages ≡ split.messages ++ others)
+more_messages : (split : SplitStream) (more : List ℕ) → (others : List Message) × ((split_after split more).messages ≡ split.messages ++ others)
 more_messages split more = by_test split.broken refl
   where
     by_test : (b : Bool) → split.broken ≡ b → (others : List Message) × ((split_after split more).messages ≡ split.messages ++ others)
     by_test true e = ([], rw e (sym (append-nil split.messages)))
     by_test false e = ((split_of (split.rest ++ more)).messages, rw e refl)
 
-broken_same : (split : Split) (more : List ℕ) → split.broken ≡ true → split_after split more ≡ split
+broken_same : (split : SplitStream) (more : List ℕ) → split.broken ≡ true → split_after split more ≡ split
 broken_same split more e = rw e refl
 
 -- the requests of what was read, where nothing more is to be looked at
-here : (all : Bool) (split : Split) (hello : Message) (messages requests : List Message) → split.messages ≡ hello ∷ messages → AreFront all messages requests → AreRequests requests
+here : (all : Bool) (split : SplitStream) (hello : Message) (messages requests : List Message) → split.messages ≡ hello ∷ messages → AreFront all messages requests → AreRequests requests
     → requests ≡ requests_in (behind_first split.messages)
 here all split hello messages requests e front asked = front_is all messages requests front asked ∙ ap (λ l. requests_in (behind_first l)) (sym e)
 
-whole_is : (ended : Ended) (all : Bool) (split stream : Split) (hello : Message) (messages requests : List Message) (rest : List ℕ)
+whole_is : (ended : Ended) (all : Bool) (split stream : SplitStream) (hello : Message) (messages requests : List Message) (rest : List ℕ)
     → stream ≡ split_after split rest → (rest ≡ [] → stream ≡ split) → split.messages ≡ hello ∷ messages → AreFront all messages requests → AreRequests requests → EndsSo ended all split (Some rest) → IsWhole stream requests ended
 whole_is Clean all split stream hello messages requests rest on same e front asked ends =
     let every : are_requests (behind_first split.messages) ≡ true =
     ap (λ l. are_requests (behind_first l)) e
     ∙ sym (all_requests messages (subst AreRequests (subst (λ b. AreFront b messages requests) ends.0 front) asked)).1 in
-    subst (λ (s : Split). IsWhole s requests Clean) (sym (same ends.3))
+    subst (λ (s : SplitStream). IsWhole s requests Clean) (sym (same ends.3))
     (record { requests_are = here all split hello messages requests e front asked; end_is = clean_is _ _ _ every ends.1 ends.2 })
 whole_is Torn all split stream hello messages requests rest on same e front asked (inl other) =
     let is = subst (λ b. AreFront b messages requests) other front in
     let more = more_messages split rest in
     let longer : behind_first stream.messages ≡ requests ++ is.0 ∷ (is.1 ++ more.0) =
-    ap (λ (s : Split). behind_first s.messages) on
+    ap (λ (s : SplitStream). behind_first s.messages) on
     ∙ ap behind_first (more.1 ∙ ap (λ l. l ++ more.0) e)
     ∙ ap (λ l. l ++ more.0) is.2 ∙ append_assoc requests (is.0 ∷ is.1) more.0 in
     let some = some_requests requests is.0 (is.1 ++ more.0) asked is.3 in
@@ -107,20 +107,20 @@ whole_is Torn all split stream hello messages requests rest on same e front aske
       end_is = ap (λ a. ended_at a stream.broken stream.rest) (some.1 ∙ ap are_requests (sym longer));
     }
 whole_is Torn all split stream hello messages requests rest on same e front asked (inr (inl broken)) =
-    subst (λ (s : Split). IsWhole s requests Torn) (sym (on ∙ broken_same split rest broken))
+    subst (λ (s : SplitStream). IsWhole s requests Torn) (sym (on ∙ broken_same split rest broken))
     (record {
       requests_are = here all split hello messages requests e front asked;
       end_is = torn_broken (are_requests (behind_first split.messages)) split.rest ∙ ap (λ b. ended_at (are_requests (behind_first split.messages)) b split.rest) (sym broken);
     })
 whole_is Torn all split stream hello messages requests rest on same e front asked (inr (inr inside)) =
-    subst (λ (s : Split). IsWhole s requests Torn) (sym (same inside.1))
+    subst (λ (s : SplitStream). IsWhole s requests Torn) (sym (same inside.1))
     (record { requests_are = here all split hello messages requests e front asked; end_is = torn_inside _ _ _ inside.0 })
 
 -- what the whole stream begins with
-begins : (split stream : Split) (hello : Message) (messages : List Message) (rest : List ℕ) → stream ≡ split_after split rest → split.messages ≡ hello ∷ messages → slice_get stream.messages 0 ≡ Some hello
+begins : (split stream : SplitStream) (hello : Message) (messages : List Message) (rest : List ℕ) → stream ≡ split_after split rest → split.messages ≡ hello ∷ messages → slice_get stream.messages 0 ≡ Some hello
 begins split stream hello messages rest on e =
     let more = more_messages split rest in
-    ap (λ (s : Split). slice_get s.messages 0) on ∙ ap (λ l. slice_get l 0) (more.1 ∙ ap (λ l. l ++ more.0) e)
+    ap (λ (s : SplitStream). slice_get s.messages 0) on ∙ ap (λ l. slice_get l 0) (more.1 ∙ ap (λ l. l ++ more.0) e)
 
 -- a greeting that was taken has a first message
 pub first_of : (tenants : List Tenant) (dcs : ℕ) (messages waiting : List Message) (place : ℕ × ℕ) → Ok place ≡ greeted tenants dcs (slice_get messages 0) → waiting ≡ drop 1 messages
@@ -158,7 +158,7 @@ module _ {M : Type 0} (Calls : Cluster → NodeId → ℕ → ℕ → NodeCall �
           }
 
   received_is : (h : IsConversation Calls Gives config sent received nodes new_nodes moments new_moments)
-      → IsToldAlone Gives (tenant_config config h.conversed.tenant) h.conversed.slot (backend (new_session h.conversed.dc 1) nodes moments) h.conversed.serves.requests h.conversed.serves.replies new_moments
+      → IsConnectionToldAlone Gives (tenant_config config h.conversed.tenant) h.conversed.slot (backend (new_session h.conversed.dc 1) nodes moments) h.conversed.serves.requests h.conversed.serves.replies new_moments
       → IsReceivedAlone Gives config sent received nodes moments new_moments
   received_is h told =
       let c = h.conversed in

@@ -5,7 +5,7 @@ use Rattle.cops_types.specs.TenantConfig.{TenantConfig}
 use Rattle.cops_node.specs.declared.NodeCall.{NodeCall}
 use Rattle.cops_node.specs.declared.NodeId.{NodeId}
 use Rattle.cops_node.specs.declared.NodeReply.{NodeReply}
-use Rattle.cops_session.specs.Kept.{Kept}
+use Rattle.cops_session.specs.Kept.{KeptSession}
 use Rattle.cops_session.specs.Session.{Session}
 use Rattle.cops_session.specs.SessionStands.{SessionStandsFor}
 use Rattle.cops_wire.specs.declared.messages.Message.{Message}
@@ -14,13 +14,13 @@ use Rattle.cops_wire.specs.Requests.{Answers, Backend, HasAnswered, HasFewRestar
 use Rattle.cops_wire.specs.Serving.{HasServed, HasServedInPart, Serves, ServesAll, ServesInPart}
 
 module _ {N M : Type 0} (Calls : N → NodeId → ℕ → ℕ → NodeCall → NodeReply → N → Type 0) (Gives : M → ℕ → M → Type 0) where
-  serves_each : (config : TenantConfig) → HasFewRestarts config → (old new : Backend Kept N M) (requests replies : List Message) (session : Session)
+  serves_each : (config : TenantConfig) → HasFewRestarts config → (old new : Backend KeptSession N M) (requests replies : List Message) (session : Session)
       → Serves (HasAnswered Calls Gives) old requests replies new → SessionStandsFor config old.session session
       → (after : Session) × SessionStandsFor config new.session after × Serves (Answers Calls Gives config old.session.setting.slot) (backend session old.nodes old.moments) requests replies (backend after new.nodes new.moments)
   serves_each config few old new [] replies session h stands = (
     session,
-    subst (λ (b : Backend Kept N M). SessionStandsFor config b.session session) (sym h.1) stands,
-    (h.0, ap (λ (b : Backend Kept N M). backend session b.nodes b.moments) h.1),
+    subst (λ (b : Backend KeptSession N M). SessionStandsFor config b.session session) (sym h.1) stands,
+    (h.0, ap (λ (b : Backend KeptSession N M). backend session b.nodes b.moments) h.1),
   )
   serves_each config few old new (request ∷ requests) replies session h stands =
       let mid = h.1 in
@@ -38,7 +38,7 @@ module _ {N M : Type 0} (Calls : N → NodeId → ℕ → ℕ → NodeCall → N
         ),
       )
 
-  pub serves_kept : (stream : List ℕ) (answered : List Message) (remaining new_remaining contents new_contents : Option (List ℕ)) (old new : Backend Kept N M) (ended : Ended)
+  pub serves_kept : (stream : List ℕ) (answered : List Message) (remaining new_remaining contents new_contents : Option (List ℕ)) (old new : Backend KeptSession N M) (ended : Ended)
       → ServesAll (HasAnswered Calls Gives) stream answered remaining new_remaining contents new_contents old new ended → HasServed Calls Gives stream answered remaining contents new_contents old new new_remaining ended
   serves_kept stream answered remaining new_remaining contents new_contents old new ended h config session few stands =
       let each = serves_each config few old new h.requests h.replies session h.served stands in (
@@ -60,7 +60,7 @@ module _ {N M : Type 0} (Calls : N → NodeId → ℕ → ℕ → NodeCall → N
         },
       )
 
-  pub serves_kept_in_part : (stream : List ℕ) (answered : List Message) (remaining contents new_contents : Option (List ℕ)) (old new : Backend Kept N M)
+  pub serves_kept_in_part : (stream : List ℕ) (answered : List Message) (remaining contents new_contents : Option (List ℕ)) (old new : Backend KeptSession N M)
       → ServesInPart (HasAnswered Calls Gives) stream answered remaining contents new_contents old new → HasServedInPart Calls Gives stream answered remaining contents new_contents old new
   serves_kept_in_part stream answered remaining contents new_contents old new h config session few stands =
       let each = serves_each config few old new h.requests h.replies session h.served stands in (

@@ -11,16 +11,16 @@ use Rattle.cops_types.specs.declared.contexts.Read.{Read}
 use Rattle.cops_types.specs.declared.pairs.Pair.{Pair}
 use Rattle.cops_session.specs.declared.Answer.TheVariants as answer
 use Rattle.cops_wire.specs.Fitting.{longest_body}
-use Rattle.cops_wire.specs.Requests.{AreLimited, IsLimited, are_counted, is_counted, is_one_frame, link_to, outcome_of_read, reply_to, values_of}
+use Rattle.cops_wire.specs.Requests.{AreLimited, IsLimited, are_counted, is_counted, is_one_frame, link_to, message_of_answer, outcome_of_read, values_of}
 use Rattle.cops_types.specs.Layout.{number_of_version}
-use Rattle.cops_wire.specs.Spelling.{body_of, held_of, key_of, link_of, outcome_of, parts_of, value_of, version_of}
+use Rattle.cops_wire.specs.Spelling.{body_of, held_of, link_of, outcome_of, parts_of, spelled_key, spelled_value, spelled_version}
 
 text_size : (n : ℕ) (bytes : List ℕ) → length (big_bytes n (length bytes) ++ bytes) ≡ n + length bytes
 text_size n bytes = length-append (big_bytes n (length bytes)) bytes ∙ ap (λ k. k + length bytes) (length-bytes_high_first n (length bytes))
 
 link_size : (pair : Pair) → length pair.key ≤ 64 → length (link_of (link_to pair)) ≤ 73
 link_size pair few =
-    let all = length-append (key_of pair.key) (version_of pair.version) in
+    let all = length-append (spelled_key pair.key) (spelled_version pair.version) in
     let key = text_size 1 pair.key in
     let version = length-bytes_high_first 8 (number_of_version pair.version) in
     omega (arith, all, key, version, few)
@@ -38,8 +38,8 @@ held_size : (read : Read) (value : Option (List ℕ)) → option_map_or length v
     → length (held_of (option_map (λ v. record { value = v; version = read.version; deps = map link_to read.deps }) value)) ≤ 78861
 held_size read None short few keys = omega arith
 held_size read (Some value) short few keys =
-    let rest = length-append (version_of read.version) (parts_of 2 link_of (map link_to read.deps)) in
-    let all = length-append (value_of value) (version_of read.version ++ parts_of 2 link_of (map link_to read.deps)) in
+    let rest = length-append (spelled_version read.version) (parts_of 2 link_of (map link_to read.deps)) in
+    let all = length-append (spelled_value value) (spelled_version read.version ++ parts_of 2 link_of (map link_to read.deps)) in
     let text = text_size 2 value in
     let version = length-bytes_high_first 8 (number_of_version read.version) in
     let count = length-bytes_high_first 2 (length (map link_to read.deps)) in
@@ -49,7 +49,7 @@ held_size read (Some value) short few keys =
 
 outcome_size : (read : Read) → IsLimited read → length (outcome_of (outcome_of_read read)) ≤ 78926
 outcome_size read h =
-    let all = length-append (key_of read.key) (held_of (outcome_of_read read).held) in
+    let all = length-append (spelled_key read.key) (held_of (outcome_of_read read).held) in
     let key = text_size 1 read.key in
     let held = held_size read read.value h.1 h.2 h.3 in
     omega (arith, all, key, held, h.0)
@@ -82,5 +82,5 @@ fit reads h =
     let each : are_counted reads ≡ true = grind (arith, nat_tests) in
     grind (arith, nat_tests)
 
-pub limited : (reads : List Read) → AreLimited reads → reply_to (answer.Values reads) ≡ values_of reads
+pub limited : (reads : List Read) → AreLimited reads → message_of_answer (answer.Values reads) ≡ values_of reads
 limited reads h = rw (fit reads h) refl

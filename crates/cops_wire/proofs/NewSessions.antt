@@ -12,13 +12,13 @@ use Rattle.cops_node.specs.Shape.{Shape}
 use Rattle.cops_node.specs.declared.NodeCall.{NodeCall}
 use Rattle.cops_node.specs.declared.NodeId.{NodeId}
 use Rattle.cops_node.specs.declared.NodeReply.{NodeReply}
-use Rattle.cops_session.specs.Kept.{Kept, IsOfSizes}
+use Rattle.cops_session.specs.Kept.{IsOfSizes, KeptSession}
 use Rattle.cops_session.specs.Session.{Session, new_session}
 use Rattle.cops_session.specs.SessionStands.{SessionStandsFor}
 use Rattle.cops_wire.specs.declared.messages.Message.{Message}
 use Rattle.cops_wire.specs.declared.serving.Ended.{Ended}
 use Rattle.cops_wire.specs.Conversation.{HasConversed, HasConversedInPart, IsGreetedInPart}
-use Rattle.cops_wire.specs.Decoding.{Kept as KeptBytes}
+use Rattle.cops_wire.specs.Decoding.{KeptBytes}
 use Rattle.cops_wire.specs.Greeting.{Greets, GreetsInPart, IsStopped, greeting_reply}
 use Rattle.cops_wire.specs.Requests.{Answers, backend}
 use Rattle.cops_wire.specs.Serving.{HasServed, HasServedInPart, ServesAll, ServesInPart}
@@ -29,7 +29,7 @@ pub there_is : (tenants : List Tenant) (slot : ℕ) → slot < length tenants �
 there_is [] slot lt = absurd (omega arith)
 there_is (first ∷ tenants) slot lt = (get_or (first ∷ tenants) slot first, slice_get-get_or (first ∷ tenants) slot first lt)
 
-pub new_sizes : (config : Config) (shape : Shape) (kept : Kept) (solo : Session) (slot : ℕ) → shape ≡ shape_of config → slot < length config.tenants →
+pub new_sizes : (config : Config) (shape : Shape) (kept : KeptSession) (solo : Session) (slot : ℕ) → shape ≡ shape_of config → slot < length config.tenants →
     ((tenant : Tenant) → slice_get config.tenants slot ≡ Some tenant → SessionStandsFor (tenant_config config tenant) kept solo) → kept.setting.slot ≡ slot →
     IsOfSizes shape.data_centres shape.shards shape.slots kept.setting
 new_sizes config shape kept solo slot is lt stands slot_is =
@@ -42,7 +42,7 @@ new_sizes config shape kept solo slot is lt stands slot_is =
     }
 
 pub conversed : {N M : Type 0} (Calls : N → NodeId → ℕ → ℕ → NodeCall → NodeReply → N → Type 0) (Gives : M → ℕ → M → Type 0) (config : Config) (remaining greeted_remaining new_remaining contents greeted_contents new_contents : Option (List ℕ))
-    (nodes new_nodes : N) (moments new_moments : M) (ended : Ended) (slot dc : ℕ) (tenant : Tenant) (kept : KeptBytes) (waiting : List Message) (hello : Message) (session new_session_kept : Kept)
+    (nodes new_nodes : N) (moments new_moments : M) (ended : Ended) (slot dc : ℕ) (tenant : Tenant) (kept : KeptBytes) (waiting : List Message) (hello : Message) (session new_session_kept : KeptSession)
     → IsTrue (are_sizes config) → slice_get config.tenants slot ≡ Some tenant → (greets : Greets config.tenants config.data_centres remaining greeted_remaining contents greeted_contents kept waiting (Ok (slot, dc)))
     → greets.messages ≡ hello ∷ waiting → SessionStandsFor (tenant_config config tenant) session (new_session dc 1) → session.setting.slot ≡ slot
     → HasServed Calls Gives greets.came.input (hello ∷ []) greeted_remaining greeted_contents new_contents (backend session nodes moments) (backend new_session_kept new_nodes new_moments) new_remaining ended
@@ -95,7 +95,7 @@ greeted_in_part tenants dcs remaining new_remaining contents new_contents kept w
 greeted_in_part tenants dcs remaining new_remaining contents new_contents kept waiting fault same read write is (inr (inr (inr stopped))) = inr (new_remaining, kept, stopped.1.1)
 
 pub conversed_in_part : {N M : Type 0} (Calls : N → NodeId → ℕ → ℕ → NodeCall → NodeReply → N → Type 0) (Gives : M → ℕ → M → Type 0) (config : Config) (remaining greeted_remaining contents greeted_contents new_contents : Option (List ℕ))
-    (nodes new_nodes : N) (moments new_moments : M) (slot dc : ℕ) (tenant : Tenant) (kept : KeptBytes) (waiting : List Message) (hello : Message) (session new_session_kept : Kept)
+    (nodes new_nodes : N) (moments new_moments : M) (slot dc : ℕ) (tenant : Tenant) (kept : KeptBytes) (waiting : List Message) (hello : Message) (session new_session_kept : KeptSession)
     → IsTrue (are_sizes config) → slice_get config.tenants slot ≡ Some tenant → (greets : Greets config.tenants config.data_centres remaining greeted_remaining contents greeted_contents kept waiting (Ok (slot, dc)))
     → greets.messages ≡ hello ∷ waiting → SessionStandsFor (tenant_config config tenant) session (new_session dc 1) → session.setting.slot ≡ slot
     → HasServedInPart Calls Gives greets.came.input (hello ∷ []) greeted_remaining greeted_contents new_contents (backend session nodes moments) (backend new_session_kept new_nodes new_moments)

@@ -8,7 +8,7 @@ use Rattle.std.specs.List.{flat_map, list_all}
 use Rattle.byteorder.specs.Endian.{big_bytes}
 use Rattle.cops_types.specs.declared.contexts.Read.{Read}
 use Rattle.cops_wire.specs.Requests.{are_counted, is_counted, link_to, outcome_of_read, values_of}
-use Rattle.cops_wire.specs.Spelling.{body_of, held_of, link_of, outcome_of, parts_of, value_of, version_of}
+use Rattle.cops_wire.specs.Spelling.{body_of, held_of, link_of, outcome_of, parts_of, spelled_value, spelled_version}
 
 pub counted_deps : (read : Read) → is_counted read ≡ true → length read.deps ≤ 65535
 counted_deps read h = grind (arith, nat_tests)
@@ -17,7 +17,7 @@ pub counted_value : (read : Read) (value : List ℕ) → is_counted read ≡ tru
 counted_value read value h e =
     let same : option_map_or length read.value 0 ≡ length value = ap (λ (o : Option (List ℕ)). option_map_or length o 0) e in grind (arith, nat_tests)
 
-pub held_is : (read : Read) (value : List ℕ) → read.value ≡ Some value → held_of (outcome_of_read read).held ≡ 1 ∷ (value_of value ++ (version_of read.version ++ parts_of 2 link_of (map link_to read.deps)))
+pub held_is : (read : Read) (value : List ℕ) → read.value ≡ Some value → held_of (outcome_of_read read).held ≡ 1 ∷ (spelled_value value ++ (spelled_version read.version ++ parts_of 2 link_of (map link_to read.deps)))
 held_is read value e = ap (λ (o : Option (List ℕ)). held_of (option_map (λ v. record { value = v; version = read.version; deps = map link_to read.deps }) o)) e
 
 pub ruleset replies = (counted_deps, counted_value, held_is)

@@ -13,14 +13,15 @@ use Rattle.cops_types.specs.Value.{is_too_long}
 use Rattle.cops_node.specs.declared.NodeCall.{NodeCall}
 use Rattle.cops_node.specs.declared.NodeId.{NodeId}
 use Rattle.cops_node.specs.declared.NodeReply.{NodeReply}
-use Rattle.cops_session.specs.Kept.{Kept}
+use Rattle.cops_session.specs.Kept.{KeptSession}
 use Rattle.cops_session.specs.Request.{Action}
-use Rattle.cops_session.specs.Session.{Session, has_repeats, is_busy, is_open, is_spent, put_refusal, request_begun}
+use Rattle.cops_session.specs.Session.{Session, has_repeats, is_busy, is_open, request_begun, session_put_refusal}
 use Rattle.cops_session.specs.SessionStands.{SessionStandsFor}
 use Rattle.cops_wire.specs.declared.messages.Message.{Message}
 use Rattle.cops_wire.specs.declared.messages.Message.TheVariants.{Refused}
-use Rattle.cops_wire.specs.Requests.{Backend, backend, Answers, AnswersSo, Becomes, Ends, HasAnswered, HasFewRestarts, Runs, UnlessRefused, naming_refusal, number_in, reading_refusal, reply_to, writing_refusal}
-use Rattle.cops_wire.specs.Running.{HasFewKeys, HasRun, IsDone, IsTold}
+use Rattle.cops_wire.specs.Requests.{Answers, AnswersSo, Backend, Becomes, Ends, HasAnswered, HasFewRestarts, Runs, UnlessRefused, backend, message_of_answer, naming_refusal, number_in, reading_refusal, writing_refusal}
+use Rattle.cops_wire.specs.Running.{HasFewKeys, HasRun, IsRequestDone, IsTold}
+use Rattle.cops_handles.specs.Rows.{is_spent}
 
 -- ---- refusals
 
@@ -34,32 +35,32 @@ ok_same false x y e is = cc
 
 -- a put is refused as the session refuses it, where nothing else does
 writing_refused_so : (config : TenantConfig) (handle key value : List ℕ) (session : Session) (fault : Fault) → is_key key ≡ true → refused_if (is_too_long value) ValueTooLong ≡ None
-    → naming_refusal handle session ≡ None → (fault ≡ OutOfMemory) ⊎ (put_refusal config (number_in handle) key session ≡ Some fault)
+    → naming_refusal handle session ≡ None → (fault ≡ OutOfMemory) ⊎ (session_put_refusal config (number_in handle) key session ≡ Some fault)
     → (fault ≡ OutOfMemory) ⊎ (writing_refusal config handle key value session ≡ Some fault)
 writing_refused_so config handle key value session fault is short named refused = by_cause refused
   where
     first : first_refusal ((not (is_key key), BadKey) ∷ (is_too_long value, ValueTooLong) ∷ []) ≡ None
     first = ap (λ b. first_refusal ((not b, BadKey) ∷ (is_too_long value, ValueTooLong) ∷ [])) is ∙ short
 
-    same : writing_refusal config handle key value session ≡ put_refusal config (number_in handle) key session
+    same : writing_refusal config handle key value session ≡ session_put_refusal config (number_in handle) key session
     same =
-        ap (λ o. option_or o (option_or (naming_refusal handle session) (put_refusal config (number_in handle) key session))) first
-        ∙ ap (λ o. option_or o (put_refusal config (number_in handle) key session)) named
+        ap (λ o. option_or o (option_or (naming_refusal handle session) (session_put_refusal config (number_in handle) key session))) first
+        ∙ ap (λ o. option_or o (session_put_refusal config (number_in handle) key session)) named
 
-    by_cause : (fault ≡ OutOfMemory) ⊎ (put_refusal config (number_in handle) key session ≡ Some fault) → (fault ≡ OutOfMemory) ⊎ (writing_refusal config handle key value session ≡ Some fault)
+    by_cause : (fault ≡ OutOfMemory) ⊎ (session_put_refusal config (number_in handle) key session ≡ Some fault) → (fault ≡ OutOfMemory) ⊎ (writing_refusal config handle key value session ≡ Some fault)
     by_cause (inl e) = inl e
     by_cause (inr e) = inr (same ∙ e)
 
 -- that is so of what was made of the message
 pub writing_refused : (config : TenantConfig) (handle key value : List ℕ) (session : Session) (fault : Fault) (key_text value_text made : List ℕ) (context : ℕ) → key_text ≡ key → value_text ≡ value
     → Ok made ≡ cond (is_key key_text) (Ok key_text) (Err BadKey) → refused_if (is_too_long value_text) ValueTooLong ≡ None → naming_refusal handle session ≡ None → context ≡ number_in handle
-    → (fault ≡ OutOfMemory) ⊎ (put_refusal config context made session ≡ Some fault)
+    → (fault ≡ OutOfMemory) ⊎ (session_put_refusal config context made session ≡ Some fault)
     → (fault ≡ OutOfMemory) ⊎ (writing_refusal config handle key value session ≡ Some fault)
 writing_refused config handle key value session fault key_text value_text made context k v is short named number refused =
     let same : made ≡ key = ok_same (is_key key_text) made key_text BadKey is ∙ k in
     writing_refused_so config handle key value session fault (sym (ap is_key k) ∙ ok_if (is_key key_text) made key_text BadKey is) (sym (ap (λ t. refused_if (is_too_long t) ValueTooLong) v) ∙ short) named
-    (subst (λ n. (fault ≡ OutOfMemory) ⊎ (put_refusal config n key session ≡ Some fault)) number
-    (subst (λ t. (fault ≡ OutOfMemory) ⊎ (put_refusal config context t session ≡ Some fault)) same refused))
+    (subst (λ n. (fault ≡ OutOfMemory) ⊎ (session_put_refusal config n key session ≡ Some fault)) number
+    (subst (λ t. (fault ≡ OutOfMemory) ⊎ (session_put_refusal config context t session ≡ Some fault)) same refused))
 
 -- no refusal comes from either
 or_none : {A : Type 0} (a b : Option A) → option_or a b ≡ None → (a ≡ None) × (b ≡ None)
@@ -94,8 +95,8 @@ module _ {N M : Type 0} (Calls : N → NodeId → ℕ → ℕ → NodeCall → N
       → ((config : TenantConfig) (slot : ℕ) (old new : Backend Session N M) (reply : Message)
       → UnlessRefused Calls GivesMoment config slot (refusal config old.session) old reply new (Becomes Calls GivesMoment config slot old (then_be old.session) (tells old.session) reply new)
       → AnswersSo Calls GivesMoment config slot old request reply new)
-      → (old new : Kept) (nodes : N) (moments : M) (reply : Message) → new.setting ≡ old.setting
-      → ((config : TenantConfig) (session : Session) → SessionStandsFor config old session → IsDone config (refusal config session) session (then_be session) (tells session) new reply)
+      → (old new : KeptSession) (nodes : N) (moments : M) (reply : Message) → new.setting ≡ old.setting
+      → ((config : TenantConfig) (session : Session) → SessionStandsFor config old session → IsRequestDone config (refusal config session) session (then_be session) (tells session) new reply)
       → HasAnswered Calls GivesMoment (backend old nodes moments) request reply (backend new nodes moments)
   answered_at_once request refusal then_be tells so old new nodes moments reply same done = record {
     setting = same;
@@ -118,7 +119,7 @@ module _ {N M : Type 0} (Calls : N → NodeId → ℕ → ℕ → NodeCall → N
       → UnlessRefused Calls GivesMoment config slot (refusal config old.session) old reply new (Runs Calls GivesMoment config slot old context action reply new)
       → AnswersSo Calls GivesMoment config slot old request reply new)
       → ((config : TenantConfig) (session : Session) → refusal config session ≡ None → HasFewKeys action)
-      → (old mid : Kept) (new : Backend Kept N M) (nodes : N) (moments : M) (begun : Result Unit Fault) (IsPut : Message → Type 0)
+      → (old mid : KeptSession) (new : Backend KeptSession N M) (nodes : N) (moments : M) (begun : Result Unit Fault) (IsPut : Message → Type 0)
       → mid.setting ≡ old.setting → new.session.setting ≡ mid.setting
       → ((config : TenantConfig) (session : Session) → SessionStandsFor config old session → IsAnswer (refusal config session) begun)
       → ((config : TenantConfig) (session : Session) → SessionStandsFor config old session → OnOk begun (SessionStandsFor config mid (request_begun context action session)))
@@ -126,10 +127,10 @@ module _ {N M : Type 0} (Calls : N → NodeId → ℕ → ℕ → NodeCall → N
       → HasRun Calls GivesMoment (backend mid nodes moments) begun new IsPut
       → (reply : Message) × HasAnswered Calls GivesMoment (backend old nodes moments) request reply new × IsPut reply
   answered_by_steps request refusal context action so few old mid new nodes moments (Ok done) IsPut same later refused begins err ran =
-      (reply_to ran.0, record { setting = later ∙ same; answers = answers }, ran.1)
+      (message_of_answer ran.0, record { setting = later ∙ same; answers = answers }, ran.1)
     where
       answers : (config : TenantConfig) (session : Session) → HasFewRestarts config → SessionStandsFor config old session → (after : Session) × SessionStandsFor config new.session after
-          × Answers Calls GivesMoment config old.setting.slot (backend session nodes moments) request (reply_to ran.0) (backend after new.nodes new.moments)
+          × Answers Calls GivesMoment config old.setting.slot (backend session nodes moments) request (message_of_answer ran.0) (backend after new.nodes new.moments)
       answers config session restarts stands =
           let none = refused config session stands in
           let from = backend (request_begun context action session) nodes moments in
@@ -138,22 +139,22 @@ module _ {N M : Type 0} (Calls : N → NodeId → ℕ → ℕ → NodeCall → N
           subst (λ slot. Ends Calls GivesMoment config slot from ran.0 (backend ended.after new.nodes new.moments)) (ap (λ s. s.slot) same) ended.ends in (
             ended.after,
             ended.stands,
-            inr (so config old.setting.slot (backend session nodes moments) (backend ended.after new.nodes new.moments) (reply_to ran.0)
-                (subst (λ o. UnlessRefused Calls GivesMoment config old.setting.slot o (backend session nodes moments) (reply_to ran.0) (backend ended.after new.nodes new.moments)
-                (Runs Calls GivesMoment config old.setting.slot (backend session nodes moments) context action (reply_to ran.0) (backend ended.after new.nodes new.moments))) (sym none) (ran.0, refl, ends))),
+            inr (so config old.setting.slot (backend session nodes moments) (backend ended.after new.nodes new.moments) (message_of_answer ran.0)
+                (subst (λ o. UnlessRefused Calls GivesMoment config old.setting.slot o (backend session nodes moments) (message_of_answer ran.0) (backend ended.after new.nodes new.moments)
+                (Runs Calls GivesMoment config old.setting.slot (backend session nodes moments) context action (message_of_answer ran.0) (backend ended.after new.nodes new.moments))) (sym none) (ran.0, refl, ends))),
           )
   answered_by_steps request refusal context action so few old mid new nodes moments (Err fault) IsPut same later refused begins err ran =
-      (Refused fault, record { setting = ap (λ (b : Backend Kept N M). b.session.setting) ran.1 ∙ same; answers = answers }, ran.0)
+      (Refused fault, record { setting = ap (λ (b : Backend KeptSession N M). b.session.setting) ran.1 ∙ same; answers = answers }, ran.0)
     where
       stays : new ≡ backend old nodes moments
-      stays = ran.1 ∙ ap (λ (k : Kept). backend k nodes moments) err
+      stays = ran.1 ∙ ap (λ (k : KeptSession). backend k nodes moments) err
 
       answers : (config : TenantConfig) (session : Session) → HasFewRestarts config → SessionStandsFor config old session → (after : Session) × SessionStandsFor config new.session after
           × Answers Calls GivesMoment config old.setting.slot (backend session nodes moments) request (Refused fault) (backend after new.nodes new.moments)
       answers config session restarts stands =
-          let same_backend : backend session new.nodes new.moments ≡ backend session nodes moments = ap (λ (b : Backend Kept N M). backend session b.nodes b.moments) stays in (
+          let same_backend : backend session new.nodes new.moments ≡ backend session nodes moments = ap (λ (b : Backend KeptSession N M). backend session b.nodes b.moments) stays in (
             session,
-            subst (λ (b : Backend Kept N M). SessionStandsFor config b.session session) (sym stays) stands,
+            subst (λ (b : Backend KeptSession N M). SessionStandsFor config b.session session) (sym stays) stands,
             elim (refused config session stands) [
               | inl lack ↦ inl (ap Refused lack, same_backend)
               | inr is ↦

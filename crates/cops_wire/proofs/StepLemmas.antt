@@ -9,7 +9,7 @@ use Rattle.cops_types.proofs.Elements.{fold-push}
 use Rattle.cops_node.specs.declared.NodeCall.{NodeCall}
 use Rattle.cops_node.specs.declared.NodeId.{NodeId}
 use Rattle.cops_node.specs.declared.NodeReply.{NodeReply}
-use Rattle.cops_node.specs.Log.{LogStep, Late, Replied, Next, Call, Restart, Ended}
+use Rattle.cops_node.specs.Log.{Call, Ended, Late, LogStep, Next, Replied, Restart, replies_of}
 use Rattle.cops_node.specs.Shape.{Shape}
 use Rattle.cops_session.specs.declared.Answer.{Answer}
 use Rattle.cops_session.specs.declared.Progress.{Progress}
@@ -19,21 +19,21 @@ use Rattle.cops_session.specs.declared.ongoing.Round.{Round}
 use Rattle.cops_session.specs.declared.ongoing.Round.TheVariants.{First, Second}
 use Rattle.cops_session.specs.declared.ongoing.Work.{Work}
 use Rattle.cops_session.specs.declared.ongoing.Work.TheVariants.{Put, Get}
-use Rattle.cops_session.specs.Kept.{Kept}
+use Rattle.cops_session.specs.Kept.{KeptSession}
 use Rattle.cops_session.specs.Reading.{IsReading, RoundStandsFor}
-use Rattle.cops_session.specs.Request.{Action, Fetch, Attempt, attempt_after, attempt_of, begins_again, next, replies_of}
+use Rattle.cops_session.specs.Request.{Action, Fetch, Attempt, attempt_after, attempt_of, begins_again, next}
 use Rattle.cops_session.specs.Rounds.{wishes_of}
 use Rattle.cops_session.specs.Session.{Running, Session, moment_at, request_of, session_after}
 use Rattle.cops_session.specs.SessionStands.{RunningStandsFor, SessionStandsFor, WorkStandsFor}
 use Rattle.cops_session.specs.Stepping as stepping
 use Rattle.cops_session.specs.Transaction.{outdated, reads_of, wanted_version}
-use Rattle.cops_wire.specs.Requests.{Backend, KeepsShape, backend, DoesNext, Ends, GoesOn, HasFewRestarts, Steps}
+use Rattle.cops_wire.specs.Requests.{Backend, DoesNext, Ends, HasFewRestarts, KeepsShape, RequestGoesOn, Steps, backend}
 use Rattle.cops_wire.specs.Running.{Gives, HasEnded, HasFewKeys, HasStepped}
 
 -- ---- one step
 
 module _ {N M : Type 0} (Calls : N → NodeId → ℕ → ℕ → NodeCall → NodeReply → N → Type 0) (GivesMoment : M → ℕ → M → Type 0) (config : TenantConfig) (slot : ℕ) where
-  does_next : (Keeps : N → NodeId → ℕ → ℕ → NodeCall → NodeReply → N → Type 0) (session : Session) (running : Running) (moment : ℕ) (old new : N) (shown : Progress) (kept : Kept) (n : Next Answer)
+  does_next : (Keeps : N → NodeId → ℕ → ℕ → NodeCall → NodeReply → N → Type 0) (session : Session) (running : Running) (moment : ℕ) (old new : N) (shown : Progress) (kept : KeptSession) (n : Next Answer)
       → ((id : NodeId) (call : NodeCall) (reply : NodeReply) → Calls old id slot moment call reply new → Keeps old id slot moment call reply new)
       → stepping.DoesNext (λ id call reply. Calls old id slot moment call reply new) (new ≡ old) config session running moment shown kept n
       → (after : Session) × SessionStandsFor config kept after × DoesNext Keeps GivesMoment config slot session running moment old n shown after new
@@ -43,7 +43,7 @@ module _ {N M : Type 0} (Calls : N → NodeId → ℕ → ℕ → NodeCall → N
       (session_after session running (record { moment = moment; outcome = Late }) shown, d.1.stands, (d.0, record { shown_is = d.1.shown_is; after_is = refl }))
   does_next Keeps session running moment old new shown kept (Ended answer) keeps d = absurd d
 
-  pub stepped : (shape : N → Shape) (session : Session) (running : Running) (old new : N) (old_moments new_moments : M) (given : ℕ) (shown : Progress) (kept : Kept) (answer : Option Answer)
+  pub stepped : (shape : N → Shape) (session : Session) (running : Running) (old new : N) (old_moments new_moments : M) (given : ℕ) (shown : Progress) (kept : KeptSession) (answer : Option Answer)
       → session.running ≡ Some running → GivesMoment old_moments given new_moments → shape new ≡ shape old
       → stepping.DoesNext (λ id call reply. Calls old id slot (moment_at given session) call reply new) (new ≡ old) config session running (moment_at given session) shown kept (next config (request_of session running) running.log (moment_at given session))
       → Gives shown answer → HasStepped (KeepsShape shape Calls) GivesMoment config slot (backend session old old_moments) kept new new_moments answer
@@ -58,19 +58,19 @@ module _ {N M : Type 0} (Calls : N → NodeId → ℕ → ℕ → NodeCall → N
       }
 
   -- a step with which the request goes on is in its log
-  logged : (session : Session) (running : Running) (moment : ℕ) (old new : N) (shown : Progress) (after : Session) (n : Next Answer) → GoesOn shown
+  logged : (session : Session) (running : Running) (moment : ℕ) (old new : N) (shown : Progress) (after : Session) (n : Next Answer) → RequestGoesOn shown
       → DoesNext Calls GivesMoment config slot session running moment old n shown after new → (step : LogStep) × (after.running ≡ Some (record running { log = running.log ++ step ∷ [] }))
   logged session running moment old new shown after (Call directed) goes d =
       let step : LogStep = record { moment = moment; outcome = Replied d.0 } in (step, ap (λ (s : Session). s.running) d.2.after_is ∙ still shown goes step)
     where
-      still : (p : Progress) → GoesOn p → (step : LogStep) → (session_after session running step p).running ≡ Some (record running { log = running.log ++ step ∷ [] })
+      still : (p : Progress) → RequestGoesOn p → (step : LogStep) → (session_after session running step p).running ≡ Some (record running { log = running.log ++ step ∷ [] })
       still Working goes step = refl
       still (Restarted times) goes step = refl
       still (Done answer) goes step = absurd goes
   logged session running moment old new shown after Restart goes d =
       let step : LogStep = record { moment = moment; outcome = Late } in (step, ap (λ (s : Session). s.running) d.1.after_is ∙ still shown goes step)
     where
-      still : (p : Progress) → GoesOn p → (step : LogStep) → (session_after session running step p).running ≡ Some (record running { log = running.log ++ step ∷ [] })
+      still : (p : Progress) → RequestGoesOn p → (step : LogStep) → (session_after session running step p).running ≡ Some (record running { log = running.log ++ step ∷ [] })
       still Working goes step = refl
       still (Restarted times) goes step = refl
       still (Done answer) goes step = absurd goes
@@ -151,7 +151,7 @@ module _ (config : TenantConfig) where
           let most = replies-few keys (replies_of (attempt_of (Fetch keys) running.log).steps) reading.round few is.round_is in
           record { restarts = (let within = is.few_restarts in grind (arith, nat_tests)); steps = omega arith }
 
-  pub is_within : (kept : Kept) (session : Session) (running : Running) → SessionStandsFor config kept session → session.running ≡ Some running → HasFewKeys running.action → IsWithin config running.action running.log
+  pub is_within : (kept : KeptSession) (session : Session) (running : Running) → SessionStandsFor config kept session → session.running ≡ Some running → HasFewKeys running.action → IsWithin config running.action running.log
   is_within kept session running stands runs few =
       by_kept kept.running (subst (λ (r : Option Running). RunningStandsFor config session kept.running r) runs stands.running_is)
     where
@@ -163,7 +163,7 @@ module _ (config : TenantConfig) where
 
 module _ {N M : Type 0} (Calls : N → NodeId → ℕ → ℕ → NodeCall → NodeReply → N → Type 0) (GivesMoment : M → ℕ → M → Type 0) (config : TenantConfig) (slot : ℕ) where
   -- after so many steps it is at this session, and what ends it from there ends it from the first one
-  pub record IsOngoing (old : Backend Session N M) (action : Action) (kept : Kept) (nodes : N) (moments : M) (count : ℕ) : Type 0 where
+  pub record IsOngoing (old : Backend Session N M) (action : Action) (kept : KeptSession) (nodes : N) (moments : M) (count : ℕ) : Type 0 where
     pub now : Session
     pub stands : SessionStandsFor config kept now
     pub running : Running
@@ -172,7 +172,7 @@ module _ {N M : Type 0} (Calls : N → NodeId → ℕ → ℕ → NodeCall → N
     pub counted : count ≤ spent running.action running.log
     pub rest : (answer : Answer) (new : Backend Session N M) → Ends Calls GivesMoment config slot (backend now nodes moments) answer new → Ends Calls GivesMoment config slot old answer new
 
-  pub begins : (session : Session) (running : Running) (kept : Kept) (nodes : N) (moments : M) → SessionStandsFor config kept session → session.running ≡ Some running → running.log ≡ [] → IsOngoing (backend session nodes moments) running.action kept nodes moments 0
+  pub begins : (session : Session) (running : Running) (kept : KeptSession) (nodes : N) (moments : M) → SessionStandsFor config kept session → session.running ≡ Some running → running.log ≡ [] → IsOngoing (backend session nodes moments) running.action kept nodes moments 0
   begins session running kept nodes moments stands runs none = record {
     now = session;
     stands = stands;
@@ -186,7 +186,7 @@ module _ {N M : Type 0} (Calls : N → NodeId → ℕ → ℕ → NodeCall → N
   same_running : (a b : Running) (o : Option Running) → o ≡ Some a → o ≡ Some b → a ≡ b
   same_running a b o p q = let both : Some a ≡ Some b = sym p ∙ q in cc
 
-  pub goes_on : (old : Backend Session N M) (action : Action) (kept later : Kept) (nodes new_nodes : N) (moments new_moments : M) (count : ℕ) → HasFewKeys action
+  pub goes_on : (old : Backend Session N M) (action : Action) (kept later : KeptSession) (nodes new_nodes : N) (moments new_moments : M) (count : ℕ) → HasFewKeys action
       → (h : IsOngoing old action kept nodes moments count) → HasStepped Calls GivesMoment config slot (backend h.now nodes moments) later new_nodes new_moments None → IsOngoing old action later new_nodes new_moments (count + 1)
   goes_on old action kept later nodes new_nodes moments new_moments count few h s =
       let same : s.steps.running ≡ h.running = same_running s.steps.running h.running h.now.running s.steps.runs h.runs in
@@ -203,7 +203,7 @@ module _ {N M : Type 0} (Calls : N → NodeId → ℕ → ℕ → NodeCall → N
         rest = λ answer new ends. h.rest answer new (suc ends.0, (s.shown, backend s.after new_nodes new_moments, s.steps, s.gives, ends.1));
       }
 
-  pub ends_so : (old : Backend Session N M) (action : Action) (kept later : Kept) (nodes new_nodes : N) (moments new_moments : M) (count : ℕ) (answer : Answer)
+  pub ends_so : (old : Backend Session N M) (action : Action) (kept later : KeptSession) (nodes new_nodes : N) (moments new_moments : M) (count : ℕ) (answer : Answer)
       → (h : IsOngoing old action kept nodes moments count) → HasStepped Calls GivesMoment config slot (backend h.now nodes moments) later new_nodes new_moments (Some answer) → HasEnded Calls GivesMoment config slot old later new_nodes new_moments answer
   ends_so old action kept later nodes new_nodes moments new_moments count answer h s =
       let last : Steps Calls GivesMoment config slot (backend h.now nodes moments) (Done answer) (backend s.after new_nodes new_moments) =
@@ -211,7 +211,7 @@ module _ {N M : Type 0} (Calls : N → NodeId → ℕ → ℕ → NodeCall → N
       record { after = s.after; stands = s.stands; ends = h.rest answer (backend s.after new_nodes new_moments) (zero, last) }
 
   -- no request has so many steps
-  pub too_many : (old : Backend Session N M) (action : Action) (kept : Kept) (nodes : N) (moments : M) → HasFewRestarts config → HasFewKeys action → IsOngoing old action kept nodes moments (2 ^ 64 - 1) → ⊥
+  pub too_many : (old : Backend Session N M) (action : Action) (kept : KeptSession) (nodes : N) (moments : M) → HasFewRestarts config → HasFewKeys action → IsOngoing old action kept nodes moments (2 ^ 64 - 1) → ⊥
   unfolding spent
   too_many old action kept nodes moments restarts few h =
       let within = is_within config kept h.now h.running h.stands h.runs (subst HasFewKeys (sym h.action_is) few) in

@@ -10,7 +10,7 @@ use Rattle.cops_node.specs.declared.NodeId.{NodeId}
 use Rattle.cops_node.specs.declared.NodeReply.{NodeReply}
 use Rattle.cops_node.specs.Clusters.{Cluster, HasTenant, IsCall, nodes_of}
 use Rattle.cops_node.specs.Log.{LogStep, Late, Replied, Next, Call, Restart, Ended}
-use Rattle.cops_node.specs.Place.{number_of, place_of}
+use Rattle.cops_node.specs.Place.{node_number, place_of}
 use Rattle.cops_node.specs.SoloNode.{SoloNode, new_node}
 use Rattle.cops_node.specs.Step.{node_step}
 use Rattle.cops_session.specs.declared.Answer.{Answer}
@@ -20,8 +20,9 @@ use Rattle.cops_session.specs.Request.{Write, Fetch, next}
 use Rattle.cops_session.specs.Session.{Running, Session, context_created, context_deleted, create_refusal, moment_at, progress, request_begun, request_of, session_after}
 use Rattle.cops_wire.specs.declared.messages.Message.{Message}
 use Rattle.cops_wire.specs.declared.messages.Message.TheVariants.{CreateContext, DeleteContext, Put, GetTrans, Created, Deleted, Refused}
-use Rattle.cops_wire.specs.Requests.{Answers, Backend, KeepsShape, backend, context_tag, deletion_refusal, number_in, reading_refusal, reply_to, writing_refusal}
+use Rattle.cops_wire.specs.Requests.{Answers, Backend, KeepsShape, backend, deletion_refusal, message_of_answer, number_in, reading_refusal, writing_refusal}
 use Rattle.cops_wire.specs.Serving.{Serves}
+use Rattle.cops_session.specs.Tags.{context_tag}
 
 -- a session, the tenant's own nodes by number, and the moments to come
 abbrev pub Alone : Type 0
@@ -43,7 +44,7 @@ stepped config session running step nodes =
 -- the running request does what comes next: its call is the turn of one of the tenant's nodes
 abbrev pub does_alone : TenantConfig → Session → Running → ℕ → List SoloNode → Next Answer → StepAlone
 does_alone config session running moment nodes (Call directed) =
-    let number = number_of config.shards directed.node in
+    let number = node_number config.shards directed.node in
     let turn = node_step (place_of config directed.node) moment directed.call (slice_index_or nodes number (new_node config.data_centres)) in
     stepped config session running (record { moment = moment; outcome = Replied turn.reply }) (slice_set nodes number turn.after)
 does_alone config session running moment nodes Restart = stepped config session running (record { moment = moment; outcome = Late }) nodes
@@ -87,7 +88,7 @@ unless_told None old answered = answered
 
 abbrev pub replied : Option EndAlone → Option ReplyAlone
 replied None = None
-replied (Some end) = Some (record { reply = reply_to end.answer; after = end.after })
+replied (Some end) = Some (record { reply = message_of_answer end.answer; after = end.after })
 
 -- the reply to a request, if the moments last for it
 abbrev pub answer_alone : TenantConfig → Alone → Message → Option ReplyAlone
@@ -145,16 +146,16 @@ abbrev pub CallsAmid : Cluster → NodeId → ℕ → ℕ → NodeCall → NodeR
 CallsAmid old id slot moment call reply new = (others : List SlotCall) × (mid : Cluster) × OthersCall slot old others mid × CallsCluster mid id slot moment call reply new
 
 -- the reply says that memory was refused
-abbrev pub is_out_of_memory : Message → Bool
-is_out_of_memory (Refused OutOfMemory) = true
-is_out_of_memory reply = false
+abbrev pub tells_out_of_memory : Message → Bool
+tells_out_of_memory (Refused OutOfMemory) = true
+tells_out_of_memory reply = false
 
 -- no reply says so
-abbrev pub AreSpared : List Message → Type 0
-AreSpared replies = AllByRecursion (λ reply. is_out_of_memory reply ≡ false) replies
+abbrev pub AreMessagesSpared : List Message → Type 0
+AreMessagesSpared replies = AllByRecursion (λ reply. tells_out_of_memory reply ≡ false) replies
 
 -- the tenant was told what he is told at nodes that he has to himself, at the moments that were given
-pub record IsToldAlone {M : Type 0} (Gives : M → ℕ → M → Type 0) (config : TenantConfig) (slot : ℕ) (old : Backend Session Cluster M) (requests replies : List Message) (new_moments : M) : Type 0 where
+pub record IsConnectionToldAlone {M : Type 0} (Gives : M → ℕ → M → Type 0) (config : TenantConfig) (slot : ℕ) (old : Backend Session Cluster M) (requests replies : List Message) (new_moments : M) : Type 0 where
   pub given : List ℕ
   pub are : AreGiven Gives old.moments given new_moments
   pub told : replies ≡ replies_alone config requests (backend old.session (nodes_of config slot old.nodes) given)
@@ -165,4 +166,4 @@ pub record IsServedAt {M : Type 0} (Calls : Cluster → NodeId → ℕ → ℕ �
   pub tenant : HasTenant config slot old.nodes
   pub shards : config.shards ≡ old.nodes.shape.shards
   pub served : Serves (Answers Calls Gives config slot) old requests replies new
-  pub spared : AreSpared replies
+  pub spared : AreMessagesSpared replies

@@ -13,13 +13,13 @@ use Rattle.cops_wire.specs.declared.messages.Message.{Message}
 use Rattle.cops_wire.specs.declared.messages.Message.TheVariants.{Ready}
 use Rattle.cops_wire.specs.declared.serving.Ended.{Ended}
 use Rattle.cops_wire.specs.declared.serving.Ended.TheVariants.{Clean, Torn}
-use Rattle.cops_wire.specs.Alone.{Alone, AreGiven, AreSpared, replies_alone}
-use Rattle.cops_wire.specs.Decoding.{Kept}
+use Rattle.cops_wire.specs.Alone.{Alone, AreGiven, AreMessagesSpared, replies_alone}
+use Rattle.cops_wire.specs.Decoding.{KeptBytes}
 use Rattle.cops_wire.specs.Greeting.{Greets, GreetsInPart, greeted}
 use Rattle.cops_wire.specs.Requests.{Answers, backend}
 use Rattle.cops_wire.specs.Serving.{ServesAll, ServesInPart, is_request, last_reply}
 use Rattle.cops_wire.specs.Spelling.{spelling}
-use Rattle.cops_wire.specs.Streams.{Split, split_of}
+use Rattle.cops_wire.specs.Streams.{SplitStream, split_of}
 
 abbrev pub unless_other : Bool → List Message → List Message
 unless_other true requests = requests
@@ -44,12 +44,12 @@ abbrev pub ended_at : Bool → Bool → List ℕ → Ended
 ended_at true false [] = Clean
 ended_at all broken rest = Torn
 
-abbrev pub end_of : Split → Ended
-end_of split = ended_at (are_requests (behind_first split.messages)) split.broken split.rest
+abbrev pub conversation_end : SplitStream → Ended
+conversation_end split = ended_at (are_requests (behind_first split.messages)) split.broken split.rest
 
 -- what is said behind a greeting that was taken, at nodes that the tenant has to himself
-abbrev pub said_alone : TenantConfig → Alone → Split → List Message
-said_alone config old split = replies_alone config (requests_in (behind_first split.messages)) old ++ last_reply (end_of split)
+abbrev pub said_alone : TenantConfig → Alone → SplitStream → List Message
+said_alone config old split = replies_alone config (requests_in (behind_first split.messages)) old ++ last_reply (conversation_end split)
 
 -- the bytes that a client receives who sends these, where the greeting is taken and the tenant has the nodes to himself
 abbrev pub received_alone : TenantConfig → Alone → List ℕ → List ℕ
@@ -64,7 +64,7 @@ pub record HasConversed {N M : Type 0} (Calls : N → NodeId → ℕ → ℕ →
   pub tenant_is : slice_get config.tenants slot ≡ Some tenant
   pub greeted_remaining : Option (List ℕ)
   pub greeted_contents : Option (List ℕ)
-  pub kept : Kept
+  pub kept : KeptBytes
   pub waiting : List Message
   pub greets : Greets config.tenants config.data_centres remaining greeted_remaining contents greeted_contents kept waiting (Ok (slot, dc))
   pub hello : Message
@@ -76,7 +76,7 @@ pub record HasConversed {N M : Type 0} (Calls : N → NodeId → ℕ → ℕ →
 -- nothing was written, or a front of the answer to the first message
 abbrev pub IsGreetedInPart : List Tenant → ℕ → Option (List ℕ) → Option (List ℕ) → Option (List ℕ) → Type 0
 IsGreetedInPart tenants dcs remaining contents new_contents =
-    (new_contents ≡ contents) ⊎ ((new_remaining : Option (List ℕ)) × (kept : Kept) × GreetsInPart tenants dcs remaining new_remaining contents new_contents kept)
+    (new_contents ≡ contents) ⊎ ((new_remaining : Option (List ℕ)) × (kept : KeptBytes) × GreetsInPart tenants dcs remaining new_remaining contents new_contents kept)
 
 -- A client was greeted as the tenant of a slot, and then served with a new session of this tenant: a front of the requests was answered,
 -- and a front of the replies was written.
@@ -88,7 +88,7 @@ pub record ConversesInPart {N M : Type 0} (Calls : N → NodeId → ℕ → ℕ 
   pub tenant_is : slice_get config.tenants slot ≡ Some tenant
   pub greeted_remaining : Option (List ℕ)
   pub greeted_contents : Option (List ℕ)
-  pub kept : Kept
+  pub kept : KeptBytes
   pub waiting : List Message
   pub greets : Greets config.tenants config.data_centres remaining greeted_remaining contents greeted_contents kept waiting (Ok (slot, dc))
   pub hello : Message
@@ -112,7 +112,7 @@ pub record IsConversation {M : Type 0} (Calls : Cluster → NodeId → ℕ → �
   pub conversed : HasConversed Calls Gives config (Some sent) new_remaining (Some []) (Some received) nodes new_nodes moments new_moments ended
   pub tenant : HasTenant (tenant_config config conversed.tenant) conversed.slot nodes
   pub shards : config.shards ≡ nodes.shape.shards
-  pub spared : AreSpared conversed.serves.replies
+  pub spared : AreMessagesSpared conversed.serves.replies
 
 -- The client received what it receives where its tenant, whom the first message names, has the nodes to himself, at the moments that were given.
 pub record IsReceivedAlone {M : Type 0} (Gives : M → ℕ → M → Type 0) (config : Config) (sent received : List ℕ) (nodes : Cluster) (moments new_moments : M) : Type 0 where

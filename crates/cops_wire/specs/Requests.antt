@@ -21,9 +21,9 @@ use Rattle.cops_session.specs.declared.Answer.{Answer}
 use Rattle.cops_session.specs.declared.Answer.TheVariants as answer
 use Rattle.cops_session.specs.declared.Progress.{Progress}
 use Rattle.cops_session.specs.declared.Progress.TheVariants.{Working, Restarted, Done}
-use Rattle.cops_session.specs.Kept.{Kept}
+use Rattle.cops_session.specs.Kept.{KeptSession}
 use Rattle.cops_session.specs.Request.{Action, Write, Fetch, next}
-use Rattle.cops_session.specs.Session.{Running, Session, context_created, context_deleted, context_refusal, create_refusal, get_refusal, is_busy, moment_at, progress, put_refusal, request_begun, request_of, session_after}
+use Rattle.cops_session.specs.Session.{Running, Session, context_created, context_deleted, context_refusal, create_refusal, get_refusal, is_busy, moment_at, progress, request_begun, request_of, session_after, session_put_refusal}
 use Rattle.cops_session.specs.SessionStands.{SessionStandsFor}
 use Rattle.cops_wire.specs.declared.messages.Link.{Link}
 use Rattle.cops_wire.specs.declared.messages.Message.{Message}
@@ -31,12 +31,9 @@ use Rattle.cops_wire.specs.declared.messages.Message.TheVariants.{CreateContext,
 use Rattle.cops_wire.specs.declared.messages.Outcome.{Outcome}
 use Rattle.cops_wire.specs.Fitting.{longest_body}
 use Rattle.cops_wire.specs.Spelling.{body_of}
+use Rattle.cops_session.specs.Tags.{context_tag}
 
 -- ---- handles
-
--- the tag of a context's handle
-abbrev pub context_tag : ℕ
-context_tag = 67
 
 -- the handle is one of a context
 abbrev pub is_context : List ℕ → Bool
@@ -58,7 +55,7 @@ deletion_refusal handle session = option_or (naming_refusal handle session) (con
 abbrev pub writing_refusal : TenantConfig → List ℕ → List ℕ → List ℕ → Session → Option Fault
 writing_refusal config handle key value session =
     option_or (first_refusal ((not (is_key key), BadKey) ∷ (is_too_long value, ValueTooLong) ∷ []))
-    (option_or (naming_refusal handle session) (put_refusal config (number_in handle) key session))
+    (option_or (naming_refusal handle session) (session_put_refusal config (number_in handle) key session))
 
 abbrev pub reading_refusal : TenantConfig → List ℕ → List (List ℕ) → Session → Option Fault
 reading_refusal config handle keys session =
@@ -100,10 +97,10 @@ AreLimited reads = (length reads ≤ 32) × AllByRecursion IsLimited reads
 
 -- The message that gives the answer of a request. What no frame can hold counts as too many dependencies; within the limits of a head
 -- every answer fits (`limited_answers_fit`).
-abbrev pub reply_to : Answer → Message
-reply_to (answer.Stored pair) = Stored pair.key pair.version
-reply_to (answer.Values reads) = if is_one_frame reads then values_of reads else Refused DependenciesFull
-reply_to (answer.Refused fault) = Refused fault
+abbrev pub message_of_answer : Answer → Message
+message_of_answer (answer.Stored pair) = Stored pair.key pair.version
+message_of_answer (answer.Values reads) = if is_one_frame reads then values_of reads else Refused DependenciesFull
+message_of_answer (answer.Refused fault) = Refused fault
 
 -- ---- steps
 
@@ -126,10 +123,10 @@ pub record HasShown (config : TenantConfig) (session : Session) (running : Runni
   pub after_is : after ≡ session_after session running step shown
 
 -- the request goes on
-abbrev pub GoesOn : Progress → Type 0
-GoesOn Working = Unit {0}
-GoesOn (Restarted times) = Unit {0}
-GoesOn (Done ended) = ⊥
+abbrev pub RequestGoesOn : Progress → Type 0
+RequestGoesOn Working = Unit {0}
+RequestGoesOn (Restarted times) = Unit {0}
+RequestGoesOn (Done ended) = ⊥
 
 -- `Calls` says what a node call may answer and leave, and `Gives` which moment may come next.
 module _ {N M : Type 0} (Calls : N → NodeId → ℕ → ℕ → NodeCall → NodeReply → N → Type 0) (Gives : M → ℕ → M → Type 0) (config : TenantConfig) (slot : ℕ) where
@@ -152,7 +149,7 @@ module _ {N M : Type 0} (Calls : N → NodeId → ℕ → ℕ → NodeCall → N
   -- after so many steps with which the request goes on, the next one ends it
   abbrev pub EndsAfter : ℕ → Backend Session N M → Answer → Backend Session N M → Type 0
   EndsAfter zero old ended new = Steps old (Done ended) new
-  EndsAfter (suc steps) old ended new = (shown : Progress) × (mid : Backend Session N M) × Steps old shown mid × GoesOn shown × EndsAfter steps mid ended new
+  EndsAfter (suc steps) old ended new = (shown : Progress) × (mid : Backend Session N M) × Steps old shown mid × RequestGoesOn shown × EndsAfter steps mid ended new
 
   abbrev pub Ends : Backend Session N M → Answer → Backend Session N M → Type 0
   Ends old ended new = (steps : ℕ) × EndsAfter steps old ended new
@@ -170,7 +167,7 @@ module _ {N M : Type 0} (Calls : N → NodeId → ℕ → ℕ → NodeCall → N
 
   -- the request runs until it has its answer
   abbrev pub Runs : Backend Session N M → ℕ → Action → Message → Backend Session N M → Type 0
-  Runs old context action reply new = (ended : Answer) × (reply ≡ reply_to ended) × Ends (backend (request_begun context action old.session) old.nodes old.moments) ended new
+  Runs old context action reply new = (ended : Answer) × (reply ≡ message_of_answer ended) × Ends (backend (request_begun context action old.session) old.nodes old.moments) ended new
 
   -- the request is answered as the session's definition says
   abbrev pub AnswersSo : Backend Session N M → Message → Message → Backend Session N M → Type 0
@@ -201,7 +198,7 @@ HasFewRestarts config = config.restarts < 2 ^ 32
 -- Whatever session of the definition the kept one stands for, the request is answered from it as the definition says, and the kept
 -- one then stands for the session after that. Nothing that a session never changes has changed.
 pub record HasAnswered {N M : Type 0} (Calls : N → NodeId → ℕ → ℕ → NodeCall → NodeReply → N → Type 0) (Gives : M → ℕ → M → Type 0)
-    (old : Backend Kept N M) (request reply : Message) (new : Backend Kept N M) : Type 0 where
+    (old : Backend KeptSession N M) (request reply : Message) (new : Backend KeptSession N M) : Type 0 where
   pub setting : new.session.setting ≡ old.session.setting
   pub answers : (config : TenantConfig) (session : Session) → HasFewRestarts config → SessionStandsFor config old.session session →
       (after : Session) × SessionStandsFor config new.session after

@@ -10,13 +10,13 @@ use Rattle.cops_node.specs.declared.NodeReply.{NodeReply}
 use Rattle.cops_session.specs.declared.Answer.{Answer}
 use Rattle.cops_session.specs.declared.Progress.TheVariants.{Done}
 use Rattle.cops_session.specs.declared.Progress.{Progress}
-use Rattle.cops_session.specs.Kept.{Kept}
+use Rattle.cops_session.specs.Kept.{KeptSession}
 use Rattle.cops_session.specs.Request.{Action, Write, Fetch}
 use Rattle.cops_session.specs.Session.{Running, Session}
 use Rattle.cops_session.specs.SessionStands.{SessionStandsFor}
 use Rattle.cops_wire.specs.declared.messages.Message.{Message}
 use Rattle.cops_wire.specs.declared.messages.Message.TheVariants.{Refused}
-use Rattle.cops_wire.specs.Requests.{Backend, backend, Ends, GoesOn, HasFewRestarts, Steps, reply_to}
+use Rattle.cops_wire.specs.Requests.{Backend, Ends, HasFewRestarts, RequestGoesOn, Steps, backend, message_of_answer}
 use Rattle.cops_wire.specs.Spelling.{spelling}
 
 -- a transaction over at most 32 keys, or a put
@@ -27,11 +27,11 @@ HasFewKeys (Fetch keys) = length keys ≤ 32
 -- the answer is there exactly where the step ends the request
 abbrev pub Gives : Progress → Option Answer → Type 0
 Gives shown (Some ended) = shown ≡ Done ended
-Gives shown None = GoesOn shown
+Gives shown None = RequestGoesOn shown
 
 module _ {N M : Type 0} (Calls : N → NodeId → ℕ → ℕ → NodeCall → NodeReply → N → Type 0) (GivesMoment : M → ℕ → M → Type 0) (config : TenantConfig) (slot : ℕ) where
   -- one step was taken, and the kept session stands for the one after it
-  pub record HasStepped (old : Backend Session N M) (kept : Kept) (nodes : N) (moments : M) (answer : Option Answer) : Type 0 where
+  pub record HasStepped (old : Backend Session N M) (kept : KeptSession) (nodes : N) (moments : M) (answer : Option Answer) : Type 0 where
     pub after : Session
     pub stands : SessionStandsFor config kept after
     pub shown : Progress
@@ -39,7 +39,7 @@ module _ {N M : Type 0} (Calls : N → NodeId → ℕ → ℕ → NodeCall → N
     pub gives : Gives shown answer
 
   -- the request ended with this answer, and the kept session stands for the one after it
-  pub record HasEnded (old : Backend Session N M) (kept : Kept) (nodes : N) (moments : M) (answer : Answer) : Type 0 where
+  pub record HasEnded (old : Backend Session N M) (kept : KeptSession) (nodes : N) (moments : M) (answer : Answer) : Type 0 where
     pub after : Session
     pub stands : SessionStandsFor config kept after
     pub ends : Ends Calls GivesMoment config slot old answer (backend after nodes moments)
@@ -51,19 +51,19 @@ abbrev pub IsTold : Option Fault → Session → Session → Message → Session
 IsTold (Some fault) old then_be told after reply = (reply ≡ Refused fault) × (after ≡ old)
 IsTold None old then_be told after reply = (reply ≡ told) × (after ≡ then_be)
 
-pub record IsDone (config : TenantConfig) (refusal : Option Fault) (old then_be : Session) (told : Message) (kept : Kept) (reply : Message) : Type 0 where
+pub record IsRequestDone (config : TenantConfig) (refusal : Option Fault) (old then_be : Session) (told : Message) (kept : KeptSession) (reply : Message) : Type 0 where
   pub after : Session
   pub stands : SessionStandsFor config kept after
   pub told_is : ((reply ≡ Refused OutOfMemory) × (after ≡ old)) ⊎ IsTold refusal old then_be told after reply
 
 -- the frame of a reply was put at the end, or nothing for want of memory
-abbrev pub Puts : Result Unit AllocError → List ℕ → List ℕ → Message → Type 0
-Puts result old new reply = OnOk result (new ≡ old ++ spelling reply) × OnErr result (new ≡ old)
+abbrev pub PutsFrame : Result Unit AllocError → List ℕ → List ℕ → Message → Type 0
+PutsFrame result old new reply = OnOk result (new ≡ old ++ spelling reply) × OnErr result (new ≡ old)
 
 -- What was begun ran to its answer, from whatever the kept session stood for; what was refused changed nothing.
-abbrev pub HasRun : {N M : Type 0} → (N → NodeId → ℕ → ℕ → NodeCall → NodeReply → N → Type 0) → (M → ℕ → M → Type 0) → Backend Kept N M → Result Unit Fault → Backend Kept N M → (Message → Type 0) → Type 0
+abbrev pub HasRun : {N M : Type 0} → (N → NodeId → ℕ → ℕ → NodeCall → NodeReply → N → Type 0) → (M → ℕ → M → Type 0) → Backend KeptSession N M → Result Unit Fault → Backend KeptSession N M → (Message → Type 0) → Type 0
 HasRun Calls GivesMoment old (Ok begun) new IsPut =
-    (answer : Answer) × IsPut (reply_to answer)
+    (answer : Answer) × IsPut (message_of_answer answer)
     × ((config : TenantConfig) (session : Session) (running : Running) → HasFewRestarts config → SessionStandsFor config old.session session → session.running ≡ Some running → running.log ≡ [] → HasFewKeys running.action →
     HasEnded Calls GivesMoment config old.session.setting.slot (backend session old.nodes old.moments) new.session new.nodes new.moments answer)
 HasRun Calls GivesMoment old (Err fault) new IsPut = IsPut (Refused fault) × (new ≡ old)

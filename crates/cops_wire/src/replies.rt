@@ -2,8 +2,8 @@
 ghost use Rattle.std.specs.Prelude.{◌≡◌, ◌≤◌, ◌++◌, length, map, true, IfOk, MatchBool, OnOk, OnErr};
 ghost use Rattle.std.specs.Bool.{OnTrue};
 ghost use Rattle.cops_types.specs.Words.{StartsWith};
-ghost use Rattle.cops_wire.specs.Requests.{are_counted, is_counted, is_one_frame, link_to, outcome_of_read, reply_to, values_of};
-ghost use Rattle.cops_wire.specs.Spelling.{body_of, link_of, outcome_of, parts_of, spelling, value_of, version_of};
+ghost use Rattle.cops_wire.specs.Requests.{are_counted, is_counted, is_one_frame, link_to, message_of_answer, outcome_of_read, values_of};
+ghost use Rattle.cops_wire.specs.Spelling.{body_of, link_of, outcome_of, parts_of, spelled_value, spelled_version, spelling};
 ghost use Rattle.cops_wire.specs.declared.messages.Message.{Message};
 
 use crate::messages::Message;
@@ -54,7 +54,7 @@ fn push_held(
 ) -> Result<(), AllocError>
     requires value { length value.now ≤ 65535 }
     requires deps { length deps.now ≤ 65535 }
-    ensures ok { OnOk result (out.new.items ≡ out.old.items ++ (value_of value.now ++ (version_of version ++ parts_of 2 link_of (map link_to deps.now)))) }
+    ensures ok { OnOk result (out.new.items ≡ out.old.items ++ (spelled_value value.now ++ (spelled_version version ++ parts_of 2 link_of (map link_to deps.now)))) }
     ensures front { StartsWith out.new.items out.old.items }
 {
     push_value(out, value.bytes())?;
@@ -154,7 +154,7 @@ fn push_stored(out: &mut Vec<u8>, pair: &Pair) -> Result<(), AllocError>
 
 /// Puts the reply that gives an answer at the end. After an `Err` nothing is put.
 pub(crate) fn push_reply(out: &mut Vec<u8>, answer: &Answer) -> Result<(), AllocError>
-    ensures ok { OnOk result (out.new.items ≡ out.old.items ++ spelling (reply_to answer.now)) }
+    ensures ok { OnOk result (out.new.items ≡ out.old.items ++ spelling (message_of_answer answer.now)) }
     ensures err { OnErr result (out.new.items ≡ out.old.items) }
 {
     match answer {

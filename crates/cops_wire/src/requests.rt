@@ -10,11 +10,12 @@ ghost use Rattle.cops_session.specs.Session.{Session as SoloSession, context_cre
 ghost use Rattle.cops_session.specs.SessionStands.{SessionStandsFor};
 ghost use Rattle.cops_wire.specs.declared.messages.Message.{Message};
 ghost use Rattle.cops_wire.specs.Fitting.{CanBeWritten};
-ghost use Rattle.cops_wire.specs.Requests.{KeepsShape, HasAnswered, backend, context_tag, deletion_refusal, naming_refusal, number_in, reading_refusal, writing_refusal};
-ghost use Rattle.cops_wire.specs.Running.{HasRun, IsDone, Puts};
+ghost use Rattle.cops_wire.specs.Requests.{KeepsShape, HasAnswered, backend, deletion_refusal, naming_refusal, number_in, reading_refusal, writing_refusal};
+ghost use Rattle.cops_wire.specs.Running.{HasRun, IsRequestDone, PutsFrame};
 ghost use Rattle.cops_wire.specs.Serving.{is_request};
 ghost use Rattle.cops_wire.specs.Spelling.{spelling};
 ghost use Rattle.cops_handles.specs.Wire.{wire_of};
+ghost use Rattle.cops_session.specs.Tags.{context_tag};
 
 use crate::messages::Message;
 use crate::moments::Moments;
@@ -42,7 +43,7 @@ fn context_of(session: &Session, handle: &[u8; 9]) -> Result<Handle<Contexts>, F
 /// Opens a context, and tells its handle.
 fn create(session: &mut Session) -> Message
     ensures created { (config : TenantConfig) (solo : SoloSession) → SessionStandsFor config session.old solo →
-        IsDone config (create_refusal config solo) solo (context_created solo) (Message.Created (wire_of context_tag solo.next_context)) session.new result }
+        IsRequestDone config (create_refusal config solo) solo (context_created solo) (Message.Created (wire_of context_tag solo.next_context)) session.new result }
     ensures setting { session.new.setting ≡ session.old.setting }
     ensures fits { CanBeWritten result }
 {
@@ -67,7 +68,7 @@ fn close(session: &mut Session, handle: &[u8; 9]) -> Result<(), Fault>
 /// Closes a context, and tells that it is closed.
 fn delete(session: &mut Session, handle: &[u8; 9]) -> Message
     ensures deleted { (config : TenantConfig) (solo : SoloSession) → SessionStandsFor config session.old solo →
-        IsDone config (deletion_refusal handle.now solo) solo (context_deleted (number_in handle.now) solo) Message.Deleted session.new result }
+        IsRequestDone config (deletion_refusal handle.now solo) solo (context_deleted (number_in handle.now) solo) Message.Deleted session.new result }
     ensures setting { session.new.setting ≡ session.old.setting }
     ensures fits { CanBeWritten result }
 {
@@ -149,7 +150,7 @@ fn run<N: Nodes, M: Moments>(
     out: &mut Vec<u8>,
 ) -> Result<(), AllocError>
     requires fits { IsOfSizes (N.shape nodes.old).data_centres (N.shape nodes.old).shards (N.shape nodes.old).slots session.old.setting }
-    ensures ran { HasRun (KeepsShape N.shape N.Answers) M.Gives (backend session.old nodes.old moments.old) begun (backend session.new nodes.new moments.new) (Puts result out.old.items out.new.items) }
+    ensures ran { HasRun (KeepsShape N.shape N.Answers) M.Gives (backend session.old nodes.old moments.old) begun (backend session.new nodes.new moments.new) (PutsFrame result out.old.items out.new.items) }
     ensures setting { session.new.setting ≡ session.old.setting }
     ensures shape { N.shape nodes.new ≡ N.shape nodes.old }
 {
@@ -174,7 +175,7 @@ pub(crate) fn answer<N: Nodes, M: Moments>(
     requires request { IsTrue (is_request request.now) }
     ensures answered { (reply : Message)
         × HasAnswered (KeepsShape N.shape N.Answers) M.Gives (backend session.old nodes.old moments.old) request.now reply (backend session.new nodes.new moments.new)
-        × Puts result out.old.items out.new.items reply }
+        × PutsFrame result out.old.items out.new.items reply }
     ensures shape { N.shape nodes.new ≡ N.shape nodes.old }
 {
     match request {

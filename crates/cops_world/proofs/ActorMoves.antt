@@ -7,7 +7,7 @@ use Rattle.std.proofs.lemmas.List.{length-map}
 use Rattle.std.proofs.lemmas.List.Folds.{list_any-append}
 use Rattle.std.proofs.lemmas.Slice.Eq.{bytes_eq-Decides}
 use Rattle.cops_types.specs.Key.{key_eq}
-use Rattle.cops_world.specs.Actors.{AreSame, ActorsStandFor, AreDistinct}
+use Rattle.cops_world.specs.Actors.{ActorsStandFor, AreSame, HaveDistinctNames}
 use Rattle.cops_world.specs.Cluster.{SoloCluster, NamedActor, Actor, find_actor, with_actor, with_new_actor, without_actor}
 
 key_eq-true : (a b : List ℕ) → key_eq a b ≡ true → a ≡ b
@@ -105,7 +105,7 @@ lacks_absent name (a ∷ actors) none = by_test (key_eq a.name name)
     (λ is. found_later name a actors is ∙ lacks_absent name actors (sym (rw is refl) ∙ none))
 
 -- a name that differs is found as before
-distinct-replaced : (name : List ℕ) (actor : Actor) (actors : List NamedActor) → AreDistinct actors → AreDistinct (map (replaced name actor) actors)
+distinct-replaced : (name : List ℕ) (actor : Actor) (actors : List NamedActor) → HaveDistinctNames actors → HaveDistinctNames (map (replaced name actor) actors)
 distinct-replaced name actor [] h = tt
 distinct-replaced name actor (a ∷ actors) h = (subst (λ n. list_any (λ (b : NamedActor). key_eq b.name n) (map (replaced name actor) actors) ≡ false) (sym (name_stays a)) (any_stays a.name actors ∙ h.0), distinct-replaced name actor actors h.1)
   where
@@ -116,7 +116,7 @@ distinct-replaced name actor (a ∷ actors) h = (subst (λ n. list_any (λ (b : 
     any_stays n [] = refl
     any_stays n (b ∷ bs) = λ i. key_eq (name_stays b i) n || any_stays n bs i
 
-distinct-joined : (name : List ℕ) (actor : Actor) (actors : List NamedActor) → list_any (λ (a : NamedActor). key_eq a.name name) actors ≡ false → AreDistinct actors → AreDistinct (actors ++ record { name = name; actor = actor } ∷ [])
+distinct-joined : (name : List ℕ) (actor : Actor) (actors : List NamedActor) → list_any (λ (a : NamedActor). key_eq a.name name) actors ≡ false → HaveDistinctNames actors → HaveDistinctNames (actors ++ record { name = name; actor = actor } ∷ [])
 distinct-joined name actor [] absent h = (refl, tt)
 distinct-joined name actor (a ∷ actors) absent h = by_test (key_eq a.name name)
     (λ is. let clash : true ≡ false = sym (rw is refl) ∙ absent in cc)
@@ -126,7 +126,7 @@ distinct-joined name actor (a ∷ actors) absent h = by_test (key_eq a.name name
       distinct-joined name actor actors (sym (rw is refl) ∙ absent) h.1,
     ))
 
-distinct-without : (name : List ℕ) (actors : List NamedActor) → AreDistinct actors → AreDistinct (filter (λ a. not (key_eq a.name name)) actors)
+distinct-without : (name : List ℕ) (actors : List NamedActor) → HaveDistinctNames actors → HaveDistinctNames (filter (λ a. not (key_eq a.name name)) actors)
 distinct-without name [] h = tt
 distinct-without name (a ∷ actors) h = by_test (key_eq a.name name)
     (λ is. rw is (distinct-without name actors h.1))
@@ -141,7 +141,7 @@ distinct-without name (a ∷ actors) h = by_test (key_eq a.name name)
         by_test (key_eq b.name name) (λ is. rw is (none_left n bs rest)) (λ is. rw is (rw apart (none_left n bs rest))))
 
 -- one is there at least where it is found, and the others are as many
-length-without : (name : List ℕ) (actors : List NamedActor) (found : Actor) → AreDistinct actors → actor_in name actors ≡ Some found → length (filter (λ (a : NamedActor). not (key_eq a.name name)) actors) + 1 ≡ length actors
+length-without : (name : List ℕ) (actors : List NamedActor) (found : Actor) → HaveDistinctNames actors → actor_in name actors ≡ Some found → length (filter (λ (a : NamedActor). not (key_eq a.name name)) actors) + 1 ≡ length actors
 length-without name [] found h e = cc
 length-without name (a ∷ actors) found h e = by_test (key_eq a.name name)
     (λ is.
@@ -222,11 +222,11 @@ count-with_actor name actor cluster = length-map cluster.actors (replaced name a
 pub count-joined : (name : List ℕ) (actor : Actor) (cluster : SoloCluster) → length (with_new_actor name actor cluster).actors ≡ length cluster.actors + 1
 count-joined name actor cluster = length-append cluster.actors (record { name = name; actor = actor } ∷ [])
 
-pub count-without : (name : List ℕ) (cluster : SoloCluster) (found : Actor) → AreDistinct cluster.actors → find_actor name cluster ≡ Some found → length (without_actor name cluster).actors + 1 ≡ length cluster.actors
+pub count-without : (name : List ℕ) (cluster : SoloCluster) (found : Actor) → HaveDistinctNames cluster.actors → find_actor name cluster ≡ Some found → length (without_actor name cluster).actors + 1 ≡ length cluster.actors
 count-without name cluster found distinct e = length-without name cluster.actors found distinct e
 
 -- the actor that is there put in its own place
-pub with_actor-same : (name : List ℕ) (actor : Actor) (cluster : SoloCluster) → AreDistinct cluster.actors → find_actor name cluster ≡ Some actor → (with_actor name actor cluster).actors ≡ cluster.actors
+pub with_actor-same : (name : List ℕ) (actor : Actor) (cluster : SoloCluster) → HaveDistinctNames cluster.actors → find_actor name cluster ≡ Some actor → (with_actor name actor cluster).actors ≡ cluster.actors
 with_actor-same name actor cluster distinct found = go cluster.actors distinct found
   where
     others_stay : (actors : List NamedActor) → list_any (λ (b : NamedActor). key_eq b.name name) actors ≡ false → map (replaced name actor) actors ≡ actors
@@ -235,7 +235,7 @@ with_actor-same name actor cluster distinct found = go cluster.actors distinct f
         (λ is. let clash : true ≡ false = sym (rw is refl) ∙ none in cc)
         (λ is. rw is (ap (λ xs. b ∷ xs) (others_stay bs (sym (rw is refl) ∙ none))))
 
-    go : (actors : List NamedActor) → AreDistinct actors → actor_in name actors ≡ Some actor → map (replaced name actor) actors ≡ actors
+    go : (actors : List NamedActor) → HaveDistinctNames actors → actor_in name actors ≡ Some actor → map (replaced name actor) actors ≡ actors
     go [] h e = cc
     go (a ∷ actors) h e = by_test (key_eq a.name name)
         (λ is.

@@ -5,11 +5,11 @@ use Rattle.cops_node.specs.declared.NodeCall.{NodeCall}
 use Rattle.cops_node.specs.declared.NodeId.{NodeId}
 use Rattle.cops_node.specs.declared.NodeReply.{NodeReply}
 use Rattle.cops_node.specs.Shape.{Shape}
-use Rattle.cops_session.specs.Kept.{Kept as KeptSession}
+use Rattle.cops_session.specs.Kept.{KeptSession}
 use Rattle.cops_session.specs.Session.{Session}
 use Rattle.cops_session.specs.SessionStands.{SessionStandsFor}
 use Rattle.cops_repl.specs.Carrier.{Carrier}
-use Rattle.cops_repl.specs.Stands.{CarrierStandsFor, Kept as KeptCarrier}
+use Rattle.cops_repl.specs.Stands.{CarrierStandsFor, KeptCarrier}
 use Rattle.cops_world.specs.declared.actors.Actor.{Actor as Kept}
 use Rattle.cops_world.specs.declared.actors.Actor.TheVariants as kept
 use Rattle.cops_world.specs.declared.actors.Stepped.{Stepped}

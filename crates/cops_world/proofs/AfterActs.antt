@@ -16,7 +16,7 @@ use Rattle.cops_session.specs.declared.Answer.TheVariants as answer
 use Rattle.cops_session.specs.declared.Progress.{Progress}
 use Rattle.cops_session.specs.declared.Progress.TheVariants as session_progress
 use Rattle.cops_session.specs.Request as request
-use Rattle.cops_session.specs.Session.{Session, Running, new_session, obs_of, create_refusal, context_refusal, context_created, context_deleted, put_refusal, get_refusal, request_begun, request_of, moment_at, session_after, is_open, is_spent}
+use Rattle.cops_session.specs.Session.{Running, Session, context_created, context_deleted, context_refusal, create_refusal, get_refusal, is_open, moment_at, new_session, obs_of, request_begun, request_of, session_after, session_put_refusal}
 use Rattle.cops_session.specs.Session as session
 use Rattle.cops_repl.specs.declared.Delivery.{Delivery}
 use Rattle.cops_repl.specs.declared.Delivery.TheVariants as delivery
@@ -29,11 +29,12 @@ use Rattle.cops_world.specs.declared.acts.Act.TheVariants.{Open, Create, Delete,
 use Rattle.cops_world.specs.declared.replies.Reply.{Reply}
 use Rattle.cops_world.specs.declared.replies.Reply.TheVariants.{Opened, Started, Working, Restarted, Stored, Values}
 use Rattle.cops_world.specs.Causal.{Traced, Operation, Effect, operation_by, operation_ended, operations_from, effect_of, traced_from}
-use Rattle.cops_world.specs.Cluster.{SoloCluster, Turn, Actor, OfSession, OfCarrier, new_cluster, find_actor, find_session, session_in, with_actor, call_node, reply_of_progress, request_does, running_step, carrier_stepped, carrier_does, step_of, actor_step, actor_steps, goes_on, most_steps, has_node, collect_at, cluster_step, reply_of_answer, reply_of_delivery}
+use Rattle.cops_world.specs.Cluster.{ActEffect, Actor, OfCarrier, OfSession, SoloCluster, actor_step, actor_steps, call_node, carrier_does, carrier_stepped, cluster_step, collect_at, find_actor, find_session, goes_on, has_node, most_steps, new_cluster, reply_of_answer, reply_of_delivery, reply_of_progress, request_does, running_step, session_in, step_of, with_actor}
 use Rattle.cops_world.specs.Events.{cluster_after}
 use Rattle.cops_world.specs.Laws.{cluster_of, history_of}
 use Rattle.cops_world.proofs.ActorsKeep.{find_actor-with_actor}
 use Rattle.cops_world.proofs.Moves.{IsKept, with_operation, history_after, Holds, plainly, new_actor, session_act, passes, head_passes, flipped, not_busy, stream_of, plain_collect, actor_step_keeps}
+use Rattle.cops_handles.specs.Rows.{is_spent}
 
 -- the context of the request that the session of this name runs
 abbrev pub context_run : List ℕ → SoloCluster → Option ℕ
@@ -72,7 +73,7 @@ context_after_step s running step (session_progress.Done a) e = absurd (answer_e
 
 module _ (config : TenantConfig) (c : SoloCluster) (name : List ℕ) where
   -- what is to be shown of a turn
-  abbrev KeepsContext : Turn → Type 0
+  abbrev KeepsContext : ActEffect → Type 0
   KeepsContext turn = goes_on turn.reply ≡ true → context_run name turn.after ≡ context_run name c
 
   stepped_context : (s : Session) (running : Running) (found : find_actor name c ≡ Some (OfSession s)) → s.running ≡ Some running →
@@ -150,16 +151,16 @@ module _ {config : TenantConfig} {P : SoloCluster → List Traced → Type 0} (k
       P (actor_steps (suc more) config name moment c).after (history_after ts c name (actor_steps (suc more) config name moment c).reply)
   followed more c ts name moment p later = by_goes (goes_on step.reply) refl
     where
-      step : Turn
+      step : ActEffect
       step = actor_step config name moment c
 
-      rest : Turn
+      rest : ActEffect
       rest = actor_steps more config name moment step.after
 
       kept_step : P step.after (history_after ts c name step.reply)
       kept_step = actor_step_keeps kept c ts name moment p
 
-      turn_by : Bool → Turn
+      turn_by : Bool → ActEffect
       turn_by b = elim b [ true ↦ rest | false ↦ step ]
 
       by_goes : (b : Bool) → goes_on step.reply ≡ b → P (turn_by b).after (history_after ts c name (turn_by b).reply)
@@ -185,7 +186,7 @@ module _ {config : TenantConfig} {P : SoloCluster → List Traced → Type 0} (k
   cluster_step_keeps (Put name number key value) c ts p =
       passes (first_refusal ((not (is_key key), BadKey) ∷ (not (is_value value), ValueTooLong) ∷ [])) c _ (Holds kept c ts (Put name number key value)) (λ fault. p) (λ well.
       session_act kept (Put name number key value) name c ts _ p (λ s found.
-      passes (put_refusal config number key s) c _ (Holds kept c ts (Put name number key value)) (λ fault. p) (λ ok.
+      passes (session_put_refusal config number key s) c _ (Holds kept c ts (Put name number key value)) (λ fault. p) (λ ok.
       kept.put_begun c ts name s number key value found ok (flipped (is_key key) (head_passes (not (is_key key)) BadKey ((not (is_value value), ValueTooLong) ∷ []) well).0) p)))
   cluster_step_keeps (Get name number keys) c ts p =
       passes (first_refusal ((nat_lt (length keys) 1, Syntax) ∷ (not (list_all is_key keys), BadKey) ∷ [])) c _ (Holds kept c ts (Get name number keys)) (λ fault. p) (λ well.

@@ -19,7 +19,7 @@ use Rattle.cops_node.specs.declared.Place.{Place}
 use Rattle.cops_node.specs.declared.Wanted.{Wanted}
 use Rattle.cops_node.specs.declared.Wanted.TheVariants.{Latest, Exactly}
 use Rattle.cops_node.specs.Log.{LogStep, Late, Replied, Directed, Next, Call, Restart, first_fault}
-use Rattle.cops_node.specs.Place.{place_of, number_of}
+use Rattle.cops_node.specs.Place.{node_number, place_of}
 use Rattle.cops_node.specs.SoloNode.{SoloNode}
 use Rattle.cops_node.specs.Step.{was_committed, reply_latest, reply_exact}
 use Rattle.cops_repl.specs.declared.Progress.{Progress as CarrierProgress}
@@ -29,8 +29,8 @@ use Rattle.cops_session.specs.declared.Answer.{Answer}
 use Rattle.cops_session.specs.declared.Answer.TheVariants as answer_is
 use Rattle.cops_session.specs.declared.Progress.{Progress}
 use Rattle.cops_session.specs.declared.Progress.TheVariants as session_progress
-use Rattle.cops_session.specs.Request.{Action, Write, Fetch, begins_again, attempt_of, home_of, next, answer, call_after, is_late}
-use Rattle.cops_session.specs.Session.{Session, Running, new_session, is_open, is_busy, is_spent, has_repeats, obs_of, request_of, request_begun, context_created, context_deleted, context_extended, session_after, moment_after, shown, has_restarted, get_refusal}
+use Rattle.cops_session.specs.Request.{Action, Fetch, Write, answer, attempt_of, begins_again, call_after, is_late, key_home, next}
+use Rattle.cops_session.specs.Session.{Session, Running, new_session, is_open, is_busy, has_repeats, obs_of, request_of, request_begun, context_created, context_deleted, context_extended, session_after, moment_after, shown, has_restarted, get_refusal}
 use Rattle.cops_session.specs.Transaction.{ReadRequest, gets, read_of, final_reads}
 use Rattle.cops_world.specs.Causal.{Traced, Operation, Effect, Wrote, Returned, pair_read, returned_by, past_after, answers_consistently}
 use Rattle.cops_world.specs.Cluster.{SoloCluster, Actor, OfSession, OfCarrier, new_cluster, find_session, with_actor, with_new_actor, call_node, session_stepped, carrier_stepped, reply_of_progress}
@@ -63,6 +63,7 @@ use Rattle.cops_world.proofs.TracedCalls.{exact-is, get_found, home-there}
 use Rattle.cops_world.proofs.TracedIdle.{session_of}
 use Rattle.cops_world.proofs.TracedSteps.{ended_as, context_of}
 use Rattle.cops_session.proofs.WantedVersions.{IsAskedFor, IsFirst, IsSecond, asked_for}
+use Rattle.cops_handles.specs.Rows.{is_spent}
 
 -- ---- the words
 
@@ -248,10 +249,10 @@ module _ (config : TenantConfig) (some : 0 < config.shards) (c : SoloCluster) (t
   get_called number context keys log moment directed runs is e =
       let chosen = get-next config s.dc (obs_of context s) keys log moment directed e in
       let q = chosen.asked in
-      let sent : Directed = record { node = home_of config s.dc q.key; call = node_call.Get q.key q.wanted } in
+      let sent : Directed = record { node = key_home config s.dc q.key; call = node_call.Get q.key q.wanted } in
       let ready = session_ready config some c ts inv name s found (run number context (Fetch keys) log) moment sent runs (e ∙ ap Call chosen.call) in
       let call = call_node config sent.node moment sent.call c in
-      let n = number_of config.shards sent.node in
+      let n = node_number config.shards sent.node in
       let called = call_changes config c sent.node moment sent.call ready.there inv.traced.sized in
       let reads : IsFound ts q call.reply = get_found ts q.key (node_of config c n) (inv.traced.entries_are n) (place_of config sent.node) q.wanted call.reply (node_of config call.after n) called.change in
       let before = fresh_before (run number context (Fetch keys) log) runs in
@@ -289,13 +290,13 @@ module _ (config : TenantConfig) (some : 0 < config.shards) (c : SoloCluster) (t
       put = run number context (Write key value) []
 
       sent : Directed
-      sent = record { node = home_of config s.dc key; call = node_call.Put key value (all_of (obs_of context s)) (near_of (obs_of context s)) }
+      sent = record { node = key_home config s.dc key; call = node_call.Put key value (all_of (obs_of context s)) (near_of (obs_of context s)) }
 
       same : sent ≡ directed
       same = let both : Call sent ≡ Call directed = sym (put-next config s.dc (obs_of context s) key value moment) ∙ e in cc
 
       n : ℕ
-      n = number_of config.shards sent.node
+      n = node_number config.shards sent.node
 
       reply : NodeReply
       reply = (call_node config sent.node moment sent.call c).reply

@@ -18,13 +18,13 @@ use Rattle.cops_node.specs.declared.NodeId.{NodeId}
 use Rattle.cops_node.specs.declared.NodeReply.{NodeReply}
 use Rattle.cops_node.specs.declared.Wanted.{Wanted}
 use Rattle.cops_node.specs.declared.Wanted.TheVariants.{Latest, Exactly}
-use Rattle.cops_node.specs.Log.{LogStep, Late, Replied, Directed, Next, Call, Restart, Ended}
+use Rattle.cops_node.specs.Log.{Call, Directed, Ended, Late, LogStep, Next, Replied, Restart, replies_of}
 use Rattle.cops_node.specs.Place.{place_of}
 use Rattle.cops_node.specs.SoloNode.{SoloNode, new_node}
 use Rattle.cops_node.proofs.NodeTurns.{entries, Change, IsRefused, Answers, Joined, Taken, IsRefusal}
 use Rattle.cops_session.specs.declared.Progress.{Progress}
 use Rattle.cops_session.specs.declared.Progress.TheVariants as session_progress
-use Rattle.cops_session.specs.Request.{Action, Write, Fetch, Attempt, begins_again, attempt_after, attempt_of, replies_of, home_of, next, call_after, is_late}
+use Rattle.cops_session.specs.Request.{Action, Attempt, Fetch, Write, attempt_after, attempt_of, begins_again, call_after, is_late, key_home, next}
 use Rattle.cops_session.specs.Session.{Session, Running, new_session, obs_of, request_of, request_begun, context_created, context_deleted, session_after}
 use Rattle.cops_session.specs.Session as session
 use Rattle.cops_session.specs.Transaction.{ReadRequest, gets, read_of}
@@ -151,19 +151,19 @@ module _ (config : TenantConfig) (some : 0 < config.shards) (c : SoloCluster) (t
       subst (λ k. Among p (map pair_of_entry (entries (node_of config c (home_in config dc k))))) (sym (key_eq-true p.key key of.1)) of.0
 
   abbrev reply : Wanted → NodeReply
-  reply wanted = (call_node config (home_of config dc key) moment (node_call.Get key wanted) c).reply
+  reply wanted = (call_node config (key_home config dc key) moment (node_call.Get key wanted) c).reply
 
   abbrev after : Wanted → SoloCluster
-  after wanted = (call_node config (home_of config dc key) moment (node_call.Get key wanted) c).after
+  after wanted = (call_node config (key_home config dc key) moment (node_call.Get key wanted) c).after
 
   abbrev next_solo : Wanted → SoloNode
   next_solo wanted = node_of config (after wanted) (home_in config dc key)
 
-  called : (wanted : Wanted) → Change (place_of config (home_of config dc key)) (node_call.Get key wanted) solo (reply wanted) (next_solo wanted)
-  called wanted = (call_changes config c (home_of config dc key) moment (node_call.Get key wanted) (home-there config dc key some placed) inv.traced.sized).change
+  called : (wanted : Wanted) → Change (place_of config (key_home config dc key)) (node_call.Get key wanted) solo (reply wanted) (next_solo wanted)
+  called wanted = (call_changes config c (key_home config dc key) moment (node_call.Get key wanted) (home-there config dc key some placed) inv.traced.sized).change
 
   -- a get stores nothing
-  entries_same : (wanted : Wanted) → Change (place_of config (home_of config dc key)) (node_call.Get key wanted) solo (reply wanted) (next_solo wanted) → entries (next_solo wanted) ≡ entries solo
+  entries_same : (wanted : Wanted) → Change (place_of config (key_home config dc key)) (node_call.Get key wanted) solo (reply wanted) (next_solo wanted) → entries (next_solo wanted) ≡ entries solo
   entries_same wanted (IsRefused same acked is) = same
   entries_same wanted (Answers same acked is) = same
   entries_same wanted (Joined e more acked is) = absurd is
@@ -182,7 +182,7 @@ module _ (config : TenantConfig) (some : 0 < config.shards) (c : SoloCluster) (t
   pub get_since : (wanted : Wanted) (start : ℕ) → start ≤ moment → IsReadSince config (after wanted) dc start (record { key = key; wanted = wanted }) (reply wanted)
   get_since (Exactly version) start low = inr tt
   get_since Latest start low =
-      let home = home_of config dc key in
+      let home = key_home config dc key in
       let turned = turned_at config c home moment (node_call.Get key Latest) (home-there config dc key some placed) inv.traced.sized in
       elim (turn_moment (place_of config home) moment (node_call.Get key Latest) solo).come [
         | inl refused ↦ inl refused

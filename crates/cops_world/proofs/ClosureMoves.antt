@@ -13,7 +13,7 @@ use Rattle.cops_node.specs.declared.NodeId.{NodeId}
 use Rattle.cops_node.specs.declared.NodeReply.{NodeReply}
 use Rattle.cops_node.specs.declared.NodeReply.TheVariants.{Found, Checked}
 use Rattle.cops_node.specs.Log.{LogStep}
-use Rattle.cops_node.specs.Place.{place_of, number_of}
+use Rattle.cops_node.specs.Place.{node_number, place_of}
 use Rattle.cops_repl.specs.Carrier.{pair_of_entry, Stream, check}
 use Rattle.cops_session.specs.Request.{Action, Write, Fetch}
 use Rattle.cops_session.specs.Transaction.{ReadRequest, gets}
@@ -65,15 +65,15 @@ module _ (config : TenantConfig) (c after : SoloCluster) (grows : (n : ℕ) → 
 module _ {config : TenantConfig} {c after : SoloCluster} {id : NodeId} {call : NodeCall} {reply : NodeReply} (called : Called config c id call reply after) where
   -- an entry of a node was there before, or is the one that the call stored
   pub entry_cases : (n : ℕ) (e : Entry) → Among e (entries (node_of config after n)) →
-      Among e (entries (node_of config c n)) ⊎ ((n ≡ number_of config.shards id) × Stores (place_of config id) call (node_of config c (number_of config.shards id)) reply e)
+      Among e (entries (node_of config c n)) ⊎ ((n ≡ node_number config.shards id) × Stores (place_of config id) call (node_of config c (node_number config.shards id)) reply e)
   entry_cases n e at =
-      elim (eqb_tells n (number_of config.shards id)) [
+      elim (eqb_tells n (node_number config.shards id)) [
         | inr other ↦ inl (subst (λ solo. Among e (entries solo)) (called.others n other.1) at)
         | inl here ↦ by_change here.1 called.change (subst (λ m. Among e (entries (node_of config after m))) here.1 at)
       ]
     where
       number : ℕ
-      number = number_of config.shards id
+      number = node_number config.shards id
 
       before : n ≡ number → Among e (entries (node_of config c number)) → Among e (entries (node_of config c n)) ⊎ ((n ≡ number) × Stores (place_of config id) call (node_of config c number) reply e)
       before same at = inl (subst (λ m. Among e (entries (node_of config c m))) (sym same) at)
@@ -91,7 +91,7 @@ module _ {config : TenantConfig} {c after : SoloCluster} {id : NodeId} {call : N
 
   -- a call keeps the invariant if what it stores has its past in the data centre of the node
   pub closed_called : (ts : List Traced) → IsClosed config c ts → id.shard < config.shards →
-      ((e : Entry) → Stores (place_of config id) call (node_of config c (number_of config.shards id)) reply e → (q : Pair) → Among q (past_of_put ts (pair_of_entry e)) → IsHere config c id.dc q) →
+      ((e : Entry) → Stores (place_of config id) call (node_of config c (node_number config.shards id)) reply e → (q : Pair) → Among q (past_of_put ts (pair_of_entry e)) → IsHere config c id.dc q) →
       IsClosed config after ts
   closed_called ts closed below stored =
       record {
@@ -102,7 +102,7 @@ module _ {config : TenantConfig} {c after : SoloCluster} {id : NodeId} {call : N
       }
     where
       by_case : (dc shard : ℕ) → shard < config.shards → (e : Entry) (q : Pair) → Among q (past_of_put ts (pair_of_entry e)) →
-          Among e (entries (node_of config c (dc * config.shards + shard))) ⊎ ((dc * config.shards + shard ≡ number_of config.shards id) × Stores (place_of config id) call (node_of config c (number_of config.shards id)) reply e) →
+          Among e (entries (node_of config c (dc * config.shards + shard))) ⊎ ((dc * config.shards + shard ≡ node_number config.shards id) × Stores (place_of config id) call (node_of config c (node_number config.shards id)) reply e) →
           IsHere config c dc q
       by_case dc shard in_shards e q past (inl old) = closed.pasts_here dc shard in_shards e old q past
       by_case dc shard in_shards e q past (inr now) =

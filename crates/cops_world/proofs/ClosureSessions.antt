@@ -18,7 +18,7 @@ use Rattle.cops_node.specs.declared.NodeId.{NodeId}
 use Rattle.cops_node.specs.declared.NodeReply.{NodeReply}
 use Rattle.cops_node.specs.declared.NodeReply.TheVariants.{Found}
 use Rattle.cops_node.specs.Log.{LogStep, Replied}
-use Rattle.cops_node.specs.Place.{place_of, number_of, own_number}
+use Rattle.cops_node.specs.Place.{node_number, own_number, place_of}
 use Rattle.cops_node.specs.SoloNode.{SoloNode}
 use Rattle.cops_node.specs.Step.{version_of_put}
 use Rattle.cops_repl.specs.Carrier.{pair_of_entry}
@@ -26,7 +26,7 @@ use Rattle.cops_session.specs.declared.Answer.{Answer}
 use Rattle.cops_session.specs.declared.Answer.TheVariants as answer_is
 use Rattle.cops_session.specs.declared.Progress.{Progress}
 use Rattle.cops_session.specs.declared.Progress.TheVariants as session_progress
-use Rattle.cops_session.specs.Request.{Write, Fetch, home_of, answer, attempt_of}
+use Rattle.cops_session.specs.Request.{Fetch, Write, answer, attempt_of, key_home}
 use Rattle.cops_session.specs.Session.{Session, Running, is_open, obs_of, request_of, session_after, moment_after, shown, has_restarted, context_extended}
 use Rattle.cops_session.specs.Transaction.{ReadRequest, gets, read_of}
 use Rattle.cops_world.specs.Causal.{Traced, Wrote, Returned, put_by, pair_read, returned_by}
@@ -118,12 +118,12 @@ module _ (config : TenantConfig) (some : 0 < config.shards) (c : SoloCluster) (t
 module _ (config : TenantConfig) (some : 0 < config.shards) (c after : SoloCluster) (ts : List Traced) (traced : IsTraced config c ts) (closed : IsClosed config c ts) (name : List ℕ) (s : Session) (found : find_session name after ≡ Some s)
     (number context : ℕ) (key value : List ℕ) (opened : is_open context s ≡ true) (moment : ℕ) (reply : NodeReply)
     (runs : s.running ≡ Some (record { number = number; context = context; action = Write key value; log = [] }))
-    (called : Called config c (home_of config s.dc key) (node_call.Put key value (all_of (obs_of context s)) (near_of (obs_of context s))) reply after) where
+    (called : Called config c (key_home config s.dc key) (node_call.Put key value (all_of (obs_of context s)) (near_of (obs_of context s))) reply after) where
   abbrev home : NodeId
-  home = home_of config s.dc key
+  home = key_home config s.dc key
 
   abbrev solo : SoloNode
-  solo = node_of config c (number_of config.shards home)
+  solo = node_of config c (node_number config.shards home)
 
   abbrev put : Running
   put = record { number = number; context = context; action = Write key value; log = [] }
@@ -157,7 +157,7 @@ module _ (config : TenantConfig) (some : 0 < config.shards) (c after : SoloClust
       let turn = session_stepped config name s put step after in IsClosed config turn.after (history_after ts after name turn.reply)
   by_answer a is so = subst (λ o. AfterPut (shown o (has_restarted (Write key value) [] step) (attempt_of (Write key value) (step ∷ [])).restarts)) (sym is) so
 
-  by_change : Change (place_of config home) (node_call.Put key value (all_of (obs_of context s)) (near_of (obs_of context s))) solo reply (node_of config after (number_of config.shards home)) →
+  by_change : Change (place_of config home) (node_call.Put key value (all_of (obs_of context s)) (near_of (obs_of context s))) solo reply (node_of config after (node_number config.shards home)) →
       let turn = session_stepped config name s put step after in IsClosed config turn.after (history_after ts after name turn.reply)
   by_change (IsRefused same acked is) =
       by_answer (answer_is.Refused is.0)
@@ -185,7 +185,7 @@ module _ (config : TenantConfig) (some : 0 < config.shards) (c after : SoloClust
       pair_at f there = elim there [ inl same ↦ sym same | inr never ↦ absurd never ]
 
       at_home : (dc shard : ℕ) → shard < config.shards → (f : Entry) → pair_of_entry f ≡ at key is.0 →
-          Among f (entries (node_of config c (dc * config.shards + shard))) ⊎ ((dc * config.shards + shard ≡ number_of config.shards home) × Stores (place_of config home) (node_call.Put key value (all_of (obs_of context s)) (near_of (obs_of context s))) solo reply f) → dc ≡ s.dc
+          Among f (entries (node_of config c (dc * config.shards + shard))) ⊎ ((dc * config.shards + shard ≡ node_number config.shards home) × Stores (place_of config home) (node_call.Put key value (all_of (obs_of context s)) (near_of (obs_of context s))) solo reply f) → dc ≡ s.dc
       at_home dc shard in_shards f same (inl old) =
           absurd (unput is.0 is.2 (subst (λ p. Among p (puts_of ts)) same (Every-at (IsPutEntry ts) f (entries (node_of config c (dc * config.shards + shard))) (traced.entries_are (dc * config.shards + shard)) old).put.was))
       at_home dc shard in_shards f same (inr now) = sym (div-mul-add dc config.shards shard in_shards) ∙ ap (λ n. n / config.shards) now.0 ∙ div-mul-add s.dc config.shards home.shard shard-below

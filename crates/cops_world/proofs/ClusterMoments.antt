@@ -11,7 +11,7 @@ use Rattle.cops_node.specs.declared.NodeCall.TheVariants as node_call
 use Rattle.cops_node.specs.declared.NodeId.{NodeId}
 use Rattle.cops_node.specs.declared.NodeReply.TheVariants.{Gone}
 use Rattle.cops_node.specs.Log.{LogStep, Outcome, Late, Replied, Directed, Next, Call, Restart, Ended}
-use Rattle.cops_node.specs.Place.{place_of, number_of}
+use Rattle.cops_node.specs.Place.{node_number, place_of}
 use Rattle.cops_node.specs.SoloNode.{SoloNode, new_node}
 use Rattle.cops_session.specs.declared.Answer.{Answer}
 use Rattle.cops_session.specs.declared.Progress.{Progress}
@@ -28,7 +28,7 @@ use Rattle.cops_repl.specs.Carrier.{Carrier, new_carrier, carrier_after}
 use Rattle.cops_repl.specs.Carrier as carrier
 use Rattle.cops_world.specs.declared.acts.Act.{Act}
 use Rattle.cops_world.specs.declared.acts.Act.TheVariants.{Open, Create, Delete, Put, Get, Show, Carry, Step, Done, Collect}
-use Rattle.cops_world.specs.Cluster.{SoloCluster, Turn, Actor, OfSession, OfCarrier, new_cluster, find_actor, find_session, session_in, with_actor, with_new_actor, call_node, unless_refused, on_found, on_session, request_does, running_step, carrier_stepped, carrier_does, step_of, actor_step, actor_steps, goes_on, most_steps, cluster_step}
+use Rattle.cops_world.specs.Cluster.{ActEffect, Actor, OfCarrier, OfSession, SoloCluster, actor_step, actor_steps, call_node, carrier_does, carrier_stepped, cluster_step, find_actor, find_session, goes_on, most_steps, new_cluster, on_found, on_session, request_does, running_step, session_in, step_of, unless_refused, with_actor, with_new_actor}
 use Rattle.cops_world.specs.Events.{cluster_after}
 use Rattle.cops_world.specs.Restarts.{moment_in, moments_in}
 use Rattle.cops_world.specs.Laws.{cluster_of}
@@ -148,7 +148,7 @@ module _ (config : TenantConfig) (most : ℕ) where
     gone_within number context (Fetch keys) log moment directed low e again now gone =
         let chosen = get-next config s.dc (obs_of context s) keys log moment directed e in
         let sent = call_of config s.dc chosen.asked in
-        let n = number_of config.shards sent.node in
+        let n = node_number config.shards sent.node in
         let call = call_node config sent.node moment sent.call c in
         let replied : call.reply ≡ Gone now = (let both : Replied call.reply ≡ Replied (Gone now) = ap (λ (d : Directed). Replied (call_node config d.node moment d.call c).reply) (sym chosen.call) ∙ gone in cc) in
         let is_gone = get_gone (place_of config sent.node) moment chosen.asked.key chosen.asked.wanted (node_of config c n) now replied in
@@ -199,7 +199,7 @@ module _ (config : TenantConfig) (most : ℕ) where
   pub actor_step_within : (c : SoloCluster) (name : List ℕ) (moment : ℕ) → moment ≤ most → IsWithin config most c → IsWithin config most (actor_step config name moment c).after
   actor_step_within c name moment low is = step_of_within c name moment (find_actor name c) low refl is
 
-  either_within : (b : Bool) (rest step : Turn) → IsWithin config most rest.after → IsWithin config most step.after → IsWithin config most (let turn : Turn = elim b [ true ↦ rest | false ↦ step ] in turn.after)
+  either_within : (b : Bool) (rest step : ActEffect) → IsWithin config most rest.after → IsWithin config most step.after → IsWithin config most (let turn : ActEffect = elim b [ true ↦ rest | false ↦ step ] in turn.after)
   either_within true rest step more here = more
   either_within false rest step more here = here
 
@@ -212,14 +212,14 @@ module _ (config : TenantConfig) (most : ℕ) where
 
   -- ---- acts
 
-  abbrev Within : Turn → Type 0
+  abbrev Within : ActEffect → Type 0
   Within turn = IsWithin config most turn.after
 
-  unless_within : (refusal : Option Fault) (c : SoloCluster) (turn : Turn) → IsWithin config most c → Within turn → Within (unless_refused refusal c turn)
+  unless_within : (refusal : Option Fault) (c : SoloCluster) (turn : ActEffect) → IsWithin config most c → Within turn → Within (unless_refused refusal c turn)
   unless_within (Some fault) c turn is passed = is
   unless_within None c turn is passed = passed
 
-  on_within : (name : List ℕ) (c : SoloCluster) (act : Session → Turn) → IsWithin config most c → ((s : Session) → find_session name c ≡ Some s → Within (act s)) → Within (on_session name c act)
+  on_within : (name : List ℕ) (c : SoloCluster) (act : Session → ActEffect) → IsWithin config most c → ((s : Session) → find_session name c ≡ Some s → Within (act s)) → Within (on_session name c act)
   on_within name c act is there = by_found (find_session name c) there
     where
       by_found : (found : Option Session) → ((s : Session) → found ≡ Some s → Within (act s)) → Within (on_found found c act)

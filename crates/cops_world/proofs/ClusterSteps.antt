@@ -12,7 +12,7 @@ use Rattle.cops_session.specs.declared.Answer.{Answer}
 use Rattle.cops_session.specs.declared.Answer.TheVariants as answer
 use Rattle.cops_session.specs.declared.Progress.{Progress}
 use Rattle.cops_session.specs.declared.Progress.TheVariants as session_progress
-use Rattle.cops_session.specs.Kept.{Kept as KeptSession}
+use Rattle.cops_session.specs.Kept.{KeptSession}
 use Rattle.cops_session.specs.Request.{next}
 use Rattle.cops_session.specs.Session.{Session, Running, request_of, moment_at, session_after}
 use Rattle.cops_session.specs.Session as session
@@ -23,15 +23,15 @@ use Rattle.cops_repl.specs.declared.Progress.{Progress as CarrierProgress}
 use Rattle.cops_repl.specs.declared.Progress.TheVariants as carrying
 use Rattle.cops_repl.specs.Carrier.{Carrier, carrier_after}
 use Rattle.cops_repl.specs.Carrier as carrier
-use Rattle.cops_repl.specs.Stands.{Kept as KeptCarrier, StandsIfWorking, is_done}
+use Rattle.cops_repl.specs.Stands.{KeptCarrier, StandsIfWorking, is_done}
 use Rattle.cops_world.specs.declared.actors.Actor.{Actor as Kept}
 use Rattle.cops_world.specs.declared.actors.Actor.TheVariants as kept
 use Rattle.cops_world.specs.declared.actors.Stepped.{Stepped}
 use Rattle.cops_world.specs.declared.replies.Reply.{Reply}
 use Rattle.cops_world.specs.declared.replies.Reply.TheVariants.{Refused}
 use Rattle.cops_world.specs.ActorsStand.{ActorSteps, CarrierSteps, SessionSteps, NodesTurn, IsAfter, StepsCluster, reply_of_carrying}
-use Rattle.cops_world.specs.Actors.{AreDistinct}
-use Rattle.cops_world.specs.Cluster.{SoloCluster, Turn, Actor, OfSession, OfCarrier, find_actor, with_actor, without_actor, call_node, request_does, running_step, session_stepped, carrier_does, carrier_step, carrier_stepped, step_of, actor_step, reply_of_progress}
+use Rattle.cops_world.specs.Actors.{HaveDistinctNames}
+use Rattle.cops_world.specs.Cluster.{ActEffect, Actor, OfCarrier, OfSession, SoloCluster, actor_step, call_node, carrier_does, carrier_step, carrier_stepped, find_actor, reply_of_progress, request_does, running_step, session_stepped, step_of, with_actor, without_actor}
 use Rattle.cops_world.specs.Events.{is_out_of_memory}
 use Rattle.cops_world.proofs.ActorMoves.{with_actor-same}
 use Rattle.cops_session.proofs.RefusedRequests.{request_refused}
@@ -47,7 +47,7 @@ module _ (config : TenantConfig) (name : List ℕ) (before : SoloCluster) (nodes
   -- ---- sessions
 
   module _ (s : Session) (running : Running) (kept_after : KeptSession) where
-    abbrev stepped_at : ℕ → Bool → Reply → Turn → Type 0
+    abbrev stepped_at : ℕ → Bool → Reply → ActEffect → Type 0
     stepped_at at over reply turn = StepsCluster config name before nodes turn (record { reply = reply; is_over = over }) (kept.OfSession kept_after)
 
     -- the session took this step, and its nodes are these
@@ -89,7 +89,7 @@ module _ (config : TenantConfig) (name : List ℕ) (before : SoloCluster) (nodes
         session_took (record { moment = at; outcome = Late }) shown reply before refl (sym stays) spared reply_is stepped
     session_does_next at shown reply (Ended a) comes spared reply_is none = absurd none
 
-  session_turn : (s : Session) (kept_after : KeptSession) (reply : Reply) → AreDistinct before.actors → find_actor name before ≡ Some (OfSession s) → IsFalse (is_out_of_memory reply) → (running : Option Running) →
+  session_turn : (s : Session) (kept_after : KeptSession) (reply : Reply) → HaveDistinctNames before.actors → find_actor name before ≡ Some (OfSession s) → IsFalse (is_out_of_memory reply) → (running : Option Running) →
       SessionSteps AtNodes (nodes ≡ before.nodes) config s moment reply kept_after running →
       StepsCluster config name before nodes (running_step config name s moment before running) (record { reply = reply; is_over = false }) (kept.OfSession kept_after)
   session_turn s kept_after reply distinct found spared None (is, stays, stands) = record {
@@ -112,7 +112,7 @@ module _ (config : TenantConfig) (name : List ℕ) (before : SoloCluster) (nodes
       d : Directed
       d = p.directed
 
-      Took : Turn → Type 0
+      Took : ActEffect → Type 0
       Took turn = StepsCluster config name before nodes turn stepped (kept.OfCarrier kept_after)
 
       step_of_reply : NodeReply → LogStep
@@ -150,7 +150,7 @@ module _ (config : TenantConfig) (name : List ℕ) (before : SoloCluster) (nodes
 
   -- ---- any actor
 
-  pub actor_turn : (solo : Actor) (kept_after : Kept) (stepped : Stepped) → AreDistinct before.actors → find_actor name before ≡ Some solo → IsFalse (is_out_of_memory stepped.reply) →
+  pub actor_turn : (solo : Actor) (kept_after : Kept) (stepped : Stepped) → HaveDistinctNames before.actors → find_actor name before ≡ Some solo → IsFalse (is_out_of_memory stepped.reply) →
       ActorSteps AtNodes (nodes ≡ before.nodes) config moment stepped solo kept_after → StepsCluster config name before nodes (actor_step config name moment before) stepped kept_after
   actor_turn (OfSession s) (kept.OfSession after) stepped distinct found spared (steps, lasts) =
       subst (λ over. StepsCluster config name before nodes (actor_step config name moment before) (record { reply = stepped.reply; is_over = over }) (kept.OfSession after)) (sym lasts)

@@ -12,13 +12,13 @@ use Rattle.cops_node.specs.declared.NodeCall.TheVariants as node_call
 use Rattle.cops_node.specs.declared.NodeId.{NodeId}
 use Rattle.cops_node.specs.declared.NodeReply.{NodeReply}
 use Rattle.cops_node.specs.Log.{LogStep, Late, Replied, Directed, Next, Call, Restart}
-use Rattle.cops_node.specs.Place.{place_of, number_of}
+use Rattle.cops_node.specs.Place.{node_number, place_of}
 use Rattle.cops_node.specs.SoloNode.{new_node}
 use Rattle.cops_repl.specs.declared.Progress.{Progress as CarrierProgress}
 use Rattle.cops_repl.specs.declared.Progress.TheVariants as carrier_progress
-use Rattle.cops_repl.specs.Carrier.{Carrier, Stream, pair_of_entry, new_carrier, pull, check, commit, acknowledge}
+use Rattle.cops_repl.specs.Carrier.{Carrier, Stream, ack_call, check, commit_call, new_carrier, pair_of_entry, pull}
 use Rattle.cops_session.specs.declared.Answer.{Answer}
-use Rattle.cops_session.specs.Request.{Action, Write, Fetch, home_of, attempt_of, next}
+use Rattle.cops_session.specs.Request.{Action, Fetch, Write, attempt_of, key_home, next}
 use Rattle.cops_session.specs.Session.{Session, Running, OpenContext, obs_of, request_of}
 use Rattle.cops_world.specs.Causal.{Traced}
 use Rattle.cops_world.specs.Cluster.{SoloCluster, Actor, OfSession, OfCarrier, find_session, with_actor, call_node, session_stepped}
@@ -89,7 +89,7 @@ module _ (config : TenantConfig) (some : 0 < config.shards) (c : SoloCluster) (t
 
   -- a call whose stored entry has its past in the data centre
   by_call : (moment : ℕ) (directed : Directed) → has_node config directed.node.dc directed.node.shard ≡ true →
-      ((reply : NodeReply) (e : Entry) → Stores (place_of config directed.node) directed.call (node_of config c (number_of config.shards directed.node)) reply e → (q : Pair) → Among q (past_of_put ts (pair_of_entry e)) → IsHere config c directed.node.dc q) → ClosedAfter moment directed
+      ((reply : NodeReply) (e : Entry) → Stores (place_of config directed.node) directed.call (node_of config c (node_number config.shards directed.node)) reply e → (q : Pair) → Among q (past_of_put ts (pair_of_entry e)) → IsHere config c directed.node.dc q) → ClosedAfter moment directed
   by_call moment directed there stored =
       let call = call_node config directed.node moment directed.call c in
       closed_called (call_changes config c directed.node moment directed.call there inv.0.0.sized) ts inv.1 (shard-below directed.node there) (stored call.reply)
@@ -99,12 +99,12 @@ module _ (config : TenantConfig) (some : 0 < config.shards) (c : SoloCluster) (t
     by_delivery moment e directed offered (Checking near at same) = subst (ClosedAfter moment) (sym same) (by_call moment (check config.shards stream near) (home-there config stream.to_dc near.key some is.to_is) (λ reply f stores. absurd stores))
     by_delivery moment e directed offered (Committing near same) =
         let there : has_node config stream.to_dc stream.origin.shard ≡ true = and_true (nat_lt stream.to_dc config.data_centres) (nat_lt stream.origin.shard config.shards) is.to_is (and_right (nat_lt stream.origin.dc config.data_centres) (nat_lt stream.origin.shard config.shards) is.origin_is) in
-        let origin = number_of config.shards stream.origin in
+        let origin = node_number config.shards stream.origin in
         let among = (Among-filter (λ (g : Entry). g.version.node == origin) e (entries (node_of config c origin)) (slice_get-Among (of_origin origin (entries (node_of config c origin))) offered.place e offered.at)).0 in
         let put : IsPutEntry ts e = Every-at (IsPutEntry ts) e (entries (node_of config c origin)) (inv.0.0.entries_are origin) among in
-        subst (ClosedAfter moment) (sym same) (by_call moment (commit stream e) there (λ reply f stores q past.
+        subst (ClosedAfter moment) (sym same) (by_call moment (commit_call stream e) there (λ reply f stores q past.
         committing-closed config c ts inv.0.0 inv.0.1.streamed inv.1 some stream e put near q (subst (λ (g : Entry). Among q (past_of_put ts (pair_of_entry g))) stores.1 past)))
-    by_delivery moment e directed offered (Acking r brought kind same) = subst (ClosedAfter moment) (sym same) (by_call moment (acknowledge stream e) is.origin_is (λ reply f stores. absurd stores))
+    by_delivery moment e directed offered (Acking r brought kind same) = subst (ClosedAfter moment) (sym same) (by_call moment (ack_call stream e) is.origin_is (λ reply f stores. absurd stores))
 
     by_stage : (moment : ℕ) (directed : Directed) → Stage (Delivered config c stream) config.shards stream directed → ClosedAfter moment directed
     by_stage moment directed (Pulling same) = subst (ClosedAfter moment) (sym same) (by_call moment (pull stream) is.origin_is (λ reply f stores. absurd stores))
@@ -125,7 +125,7 @@ module _ (config : TenantConfig) (some : 0 < config.shards) (c : SoloCluster) (t
     put_called : (number context : ℕ) (key value : List ℕ) (moment : ℕ) (directed : Directed) → s.running ≡ Some (run number context (Write key value) []) → IsRunning config ts s (run number context (Write key value) []) →
         next config (request_of s (run number context (Write key value) [])) [] moment ≡ Call directed → AfterCall (run number context (Write key value) []) moment directed
     put_called number context key value moment directed runs is e =
-        let home = home_of config s.dc key in
+        let home = key_home config s.dc key in
         let sent : Directed = record { node = home; call = node_call.Put key value (all_of (obs_of context s)) (near_of (obs_of context s)) } in
         let same : sent ≡ directed = (let both : Call sent ≡ Call directed = sym (put-next config s.dc (obs_of context s) key value moment) ∙ e in cc) in
         let placed = (session_of config c ts inv.0.0 name s found).placed in
@@ -138,8 +138,8 @@ module _ (config : TenantConfig) (some : 0 < config.shards) (c : SoloCluster) (t
     get_called number context keys log moment directed runs is e =
         let chosen = get-next config s.dc (obs_of context s) keys log moment directed e in
         let q = chosen.asked in
-        let home = home_of config s.dc q.key in
-        let n = number_of config.shards home in
+        let home = key_home config s.dc q.key in
+        let n = node_number config.shards home in
         let there = home-there config s.dc q.key some (session_of config c ts inv.0.0 name s found).placed in
         let sent : Directed = record { node = home; call = node_call.Get q.key q.wanted } in
         let call = call_node config home moment sent.call c in

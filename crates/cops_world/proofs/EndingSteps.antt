@@ -6,24 +6,24 @@ use Rattle.cops_types.specs.TenantConfig.{TenantConfig}
 use Rattle.cops_types.proofs.Zipped.{Zipped}
 use Rattle.cops_node.specs.declared.NodeReply.{NodeReply}
 use Rattle.cops_node.specs.declared.NodeReply.TheVariants.{Pulled}
-use Rattle.cops_node.specs.Log.{LogStep, Outcome, Late, Replied, Directed, Next, Call, Restart, Ended}
+use Rattle.cops_node.specs.Log.{Call, Directed, Ended, Late, LogStep, Next, Outcome, Replied, Restart, replies_of}
 use Rattle.cops_repl.specs.declared.Delivery.{Delivery}
 use Rattle.cops_repl.specs.declared.Progress.{Progress as CarrierProgress}
 use Rattle.cops_repl.specs.declared.Progress.TheVariants as carrier_progress
 use Rattle.cops_repl.specs.Bounds.{near_in}
-use Rattle.cops_repl.specs.Carrier.{Carrier, carrier_after, calls_of, first_end, complete}
+use Rattle.cops_repl.specs.Carrier.{Carrier, carrier_after, finished_delivery, first_end, stream_calls}
 use Rattle.cops_repl.specs.Carrier as carrier
 use Rattle.cops_repl.proofs.CarrierCalls.{carrier_replies}
 use Rattle.cops_repl.proofs.CarrierCounts.{call-within, never-restarts}
 use Rattle.cops_session.specs.declared.Answer.{Answer}
-use Rattle.cops_session.specs.Request.{Action, Write, Fetch, Request, Attempt, begins_again, attempt_of, replies_of, answer, call_after, is_late}
+use Rattle.cops_session.specs.Request.{Action, Write, Fetch, Request, Attempt, begins_again, attempt_of, answer, call_after, is_late}
 use Rattle.cops_session.specs.Request as request
 use Rattle.cops_session.specs.Session.{Session, Running, obs_of, has_restarted, moment_at, request_of, session_after, shown}
 use Rattle.cops_session.proofs.ReplyCounts.{gets-few, replies-push, attempt-push}
 use Rattle.cops_session.proofs.RequestReplies.{put-next, put-ends, replies_in, unspent, unanswered-within}
 use Rattle.cops_world.specs.declared.acts.Act.{Act}
 use Rattle.cops_world.specs.Causal.{Traced}
-use Rattle.cops_world.specs.Cluster.{SoloCluster, Turn, Actor, OfSession, OfCarrier, find_actor, find_session, session_in, call_node, reply_of_progress, session_stepped, request_does, running_step, carrier_stepped, carrier_does, step_of, actor_step, actor_steps, goes_on, most_steps}
+use Rattle.cops_world.specs.Cluster.{ActEffect, Actor, OfCarrier, OfSession, SoloCluster, actor_step, actor_steps, call_node, carrier_does, carrier_stepped, find_actor, find_session, goes_on, most_steps, reply_of_progress, request_does, running_step, session_in, session_stepped, step_of}
 use Rattle.cops_world.specs.Laws.{cluster_of, history_of, HasEndingSteps}
 use Rattle.cops_world.proofs.ActorsKeep.{actor_found, find_actor-with_actor}
 use Rattle.cops_world.proofs.AfterActs.{answer_ends, delivery_ends, after_acts}
@@ -176,7 +176,7 @@ module _ (config : TenantConfig) (some : 0 < config.shards) (c : SoloCluster) (t
   carrier_near : (name : List ℕ) (k : Carrier) → find_actor name c ≡ Some (OfCarrier k) → length (near_in (carrier_replies k.log)) ≤ config.quota.deps
   carrier_near name k found = by_replies (carrier_replies k.log) (actor_found (OnStream config c) c name (OfCarrier k) inv.flowing.carriers found)
     where
-      by_replies : (rs : List NodeReply) → Zipped (Delivered config c k.stream) (calls_of config.shards k.stream rs) rs → length (near_in rs) ≤ config.quota.deps
+      by_replies : (rs : List NodeReply) → Zipped (Delivered config c k.stream) (stream_calls config.shards k.stream rs) rs → length (near_in rs) ≤ config.quota.deps
       by_replies [] z = omega arith
       by_replies (Pulled e ∷ rs) z = offered_few config some c ts inv limits k.stream e z.0
       by_replies (r ∷ rs) z = omega arith
@@ -220,7 +220,7 @@ module _ (config : TenantConfig) (c : SoloCluster) (name : List ℕ) (k : Carrie
       carried_left moment directed call.reply call.after (carrier.progress config.shards k (record { moment = moment; outcome = Replied call.reply })) is found few goes
   carrier_does_left moment Restart is few goes =
       let rs = carrier_replies k.log in
-      absurd (never-restarts (first_end config.shards k.stream (calls_of config.shards k.stream rs) rs) (slice_get (calls_of config.shards k.stream rs) (length rs)) (complete rs) is)
+      absurd (never-restarts (first_end config.shards k.stream (stream_calls config.shards k.stream rs) rs) (slice_get (stream_calls config.shards k.stream rs) (length rs)) (finished_delivery rs) is)
   carrier_does_left moment (Ended ending) is few goes = absurd (delivery_ends ending goes)
 
 -- ---- runs
@@ -244,7 +244,7 @@ module _ (config : TenantConfig) (some : 0 < config.shards) where
   steps_end : (more : ℕ) (c : SoloCluster) (ts : List Traced) → Bounded c ts → (name : List ℕ) (moment : ℕ) → IsActorLeft config (find_actor name c) more → goes_on (actor_steps more config name moment c).reply ≡ false
   steps_end zero c ts inv name moment left = by_goes (goes_on step.reply) refl
     where
-      step : Turn
+      step : ActEffect
       step = actor_step config name moment c
 
       by_goes : (b : Bool) → goes_on step.reply ≡ b → b ≡ false
@@ -258,8 +258,8 @@ module _ (config : TenantConfig) (some : 0 < config.shards) where
       let same : more ≡ fewer.0 = (let e : suc more ≡ suc fewer.0 = fewer.1 in omega arith) in
       steps_end more step.after (history_after ts c name step.reply) (actor_step_keeps bounded_kept c ts name moment inv) name moment (subst (IsActorLeft config (find_actor name step.after)) (sym same) fewer.2))
     where
-      either_ends : (b : Bool) → goes_on (actor_step config name moment c).reply ≡ b → (rest : Turn) → (goes_on (actor_step config name moment c).reply ≡ true → goes_on rest.reply ≡ false) →
-          goes_on (let turn : Turn = elim b [ true ↦ rest | false ↦ actor_step config name moment c ] in turn.reply) ≡ false
+      either_ends : (b : Bool) → goes_on (actor_step config name moment c).reply ≡ b → (rest : ActEffect) → (goes_on (actor_step config name moment c).reply ≡ true → goes_on rest.reply ≡ false) →
+          goes_on (let turn : ActEffect = elim b [ true ↦ rest | false ↦ actor_step config name moment c ] in turn.reply) ≡ false
       either_ends true goes rest ends = ends goes
       either_ends false goes rest ends = goes
 

@@ -16,7 +16,7 @@ use Rattle.cops_world.specs.ActLines.{act_in}
 use Rattle.cops_world.specs.Cluster.{SoloCluster, cluster_step}
 use Rattle.cops_world.specs.Events.{IsFrontOf, IsSpared, before_lack, config_at, is_out_of_memory, own, replies, replies_from, with_cluster}
 use Rattle.cops_world.specs.Script.{Said, OfNobody, Unformed, Acts, answers_to, events_in, said_by, said_in, slot_of_name}
-use Rattle.cops_world.specs.ScriptRuns.{Answers, act_replies, named_in, replies_to}
+use Rattle.cops_world.specs.ScriptRuns.{AddressedReplies, act_replies, named_in, replies_to}
 use Rattle.cops_world.proofs.AnswersTo.{answers_to-from, new_at}
 use Rattle.cops_world.proofs.Sequence.{answers_from}
 
@@ -99,7 +99,7 @@ one_reply r s told whole right =
 
 -- a line that acts on nothing
 abbrev pub KeepsFronts : Option (ℕ × Reply) → Said → Type 0
-KeepsFronts answer said = (config : TenantConfig) (slot : ℕ) (told : Answers) (more : List Said) (cluster : SoloCluster) →
+KeepsFronts answer said = (config : TenantConfig) (slot : ℕ) (told : AddressedReplies) (more : List Said) (cluster : SoloCluster) →
     IsFrontOf (before_lack (replies_to slot told)) (replies_along config slot more cluster) →
     IsFrontOf (before_lack (replies_to slot (answer ∷ told))) (replies_along config slot (said ∷ more) cluster)
 
@@ -113,7 +113,7 @@ unformed_keeps other config slot told more cluster h =
     (λ apart. rw apart h)
 
 -- a line that acts
-pub act_keeps : (config : TenantConfig) (slot : ℕ) (e : Event) (reply : Reply) (told : Answers) (more : List Said) (cluster : SoloCluster) →
+pub act_keeps : (config : TenantConfig) (slot : ℕ) (e : Event) (reply : Reply) (told : AddressedReplies) (more : List Said) (cluster : SoloCluster) →
     (e.slot ≡ slot → is_out_of_memory reply ≡ false → (reply ≡ (cluster_step config e.act cluster).reply)
     × IsFrontOf (before_lack (replies_to slot told)) (replies_along config slot more (cluster_step config e.act cluster).after)) →
     ((e.slot ≡ slot → ⊥) → IsFrontOf (before_lack (replies_to slot told)) (replies_along config slot more cluster)) →
@@ -131,7 +131,7 @@ abbrev pub AreTold : List Reply → List Reply → Type 0
 AreTold told whole = IsFrontOf (before_lack told) whole × (IsSpared told → told ≡ whole)
 
 -- so the tenant of a slot was told, by the acts among these lines, where his cluster is kept
-abbrev pub ActsAreTold : TenantConfig → ℕ → List Said → Answers → SoloCluster → Type 0
+abbrev pub ActsAreTold : TenantConfig → ℕ → List Said → AddressedReplies → SoloCluster → Type 0
 ActsAreTold config slot said told cluster = AreTold (replies slot (events_in said) (act_replies said told)) (replies_from config (own slot (events_in said)) cluster)
 
 first_spared : (a b : Bool) → (a || b) ≡ false → a ≡ false
@@ -154,7 +154,7 @@ told_one r s told whole right = (
 -- a line that acts on nothing
 abbrev pub KeepsActs : Option (ℕ × Reply) → Said → Type 0
 KeepsActs answer said =
-    (config : TenantConfig) (slot : ℕ) (told : Answers) (more : List Said) (cluster : SoloCluster) →
+    (config : TenantConfig) (slot : ℕ) (told : AddressedReplies) (more : List Said) (cluster : SoloCluster) →
     ActsAreTold config slot more told cluster → ActsAreTold config slot (said ∷ more) (answer ∷ told) cluster
 
 pub nobody_keeps_acts : KeepsActs None OfNobody
@@ -164,7 +164,7 @@ pub unformed_keeps_acts : (other : ℕ) → KeepsActs (Some (other, Refused Synt
 unformed_keeps_acts other config slot told more cluster h = h
 
 -- a line that acts
-pub act_keeps_acts : (config : TenantConfig) (slot : ℕ) (e : Event) (reply : Reply) (told : Answers) (more : List Said) (cluster : SoloCluster) →
+pub act_keeps_acts : (config : TenantConfig) (slot : ℕ) (e : Event) (reply : Reply) (told : AddressedReplies) (more : List Said) (cluster : SoloCluster) →
     (e.slot ≡ slot → is_out_of_memory reply ≡ false → (reply ≡ (cluster_step config e.act cluster).reply) × ActsAreTold config slot more told (cluster_step config e.act cluster).after) →
     ((e.slot ≡ slot → ⊥) → ActsAreTold config slot more told cluster) →
     ActsAreTold config slot (Acts e ∷ more) (Some (e.slot, reply) ∷ told) cluster

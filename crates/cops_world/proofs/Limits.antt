@@ -16,7 +16,7 @@ use Rattle.cops_types.proofs.PairSets.{at, greatest-has}
 use Rattle.cops_node.specs.declared.NodeCall.TheVariants as node_call
 use Rattle.cops_node.specs.declared.NodeReply.{NodeReply}
 use Rattle.cops_node.specs.Log.{LogStep, Outcome, Late, Replied, Directed, Call}
-use Rattle.cops_node.specs.Place.{place_of, number_of}
+use Rattle.cops_node.specs.Place.{node_number, place_of}
 use Rattle.cops_node.specs.SoloNode.{new_node}
 use Rattle.cops_node.proofs.Chains.{of_origin}
 use Rattle.cops_node.proofs.NodeTurns.{entries, Stores}
@@ -28,8 +28,8 @@ use Rattle.cops_session.specs.declared.Answer.{Answer}
 use Rattle.cops_session.specs.declared.Answer.TheVariants as answer_is
 use Rattle.cops_session.specs.declared.Progress.{Progress}
 use Rattle.cops_session.specs.declared.Progress.TheVariants as session_progress
-use Rattle.cops_session.specs.Request.{Action, Write, Fetch, home_of, next, answer}
-use Rattle.cops_session.specs.Session.{Session, Running, OpenContext, new_session, find_context, is_open, is_busy, is_spent, has_repeats, obs_of, seen_in, request_of, request_begun, context_created, context_deleted, context_extended, session_after, put_refusal, get_refusal}
+use Rattle.cops_session.specs.Request.{Action, Fetch, Write, answer, key_home, next}
+use Rattle.cops_session.specs.Session.{OpenContext, Running, Session, context_created, context_deleted, context_extended, find_context, get_refusal, has_repeats, is_busy, is_open, new_session, obs_of, request_begun, request_of, seen_in, session_after, session_put_refusal}
 use Rattle.cops_session.specs.Session as session
 use Rattle.cops_session.proofs.RequestReplies.{put-next, put-ends, put-late, get-next, get-answer}
 use Rattle.cops_world.specs.Causal.{Traced}
@@ -47,6 +47,7 @@ use Rattle.cops_world.proofs.StreamMoves.{stage_now, stream_is}
 use Rattle.cops_world.proofs.Streams.{Delivered}
 use Rattle.cops_world.proofs.TracedIdle.{session_of}
 use Rattle.cops_world.proofs.TracedSteps.{context_of}
+use Rattle.cops_handles.specs.Rows.{is_spent}
 
 -- ---- the words
 
@@ -203,7 +204,7 @@ module _ (config : TenantConfig) where
   module _ (some : 0 < config.shards) (c : SoloCluster) (ts : List Traced) (inv : IsSound config c ts) (limits : IsWithinLimits c ts) where
     -- a call whose stored entry has few near pairs
     limits-called : (moment : ℕ) (directed : Directed) → has_node config directed.node.dc directed.node.shard ≡ true →
-        ((reply : NodeReply) (e : Entry) → Stores (place_of config directed.node) directed.call (node_of config c (number_of config.shards directed.node)) reply e → HasFewNear e) →
+        ((reply : NodeReply) (e : Entry) → Stores (place_of config directed.node) directed.call (node_of config c (node_number config.shards directed.node)) reply e → HasFewNear e) →
         IsWithinLimits (call_node config directed.node moment directed.call c).after ts
     limits-called moment directed there few =
         let call = call_node config directed.node moment directed.call c in
@@ -228,16 +229,16 @@ module _ (config : TenantConfig) where
 
       -- what a session has stored has the near pairs of its context
       stored_few : (number context : ℕ) (action : Action) (log : List LogStep) (moment : ℕ) (directed : Directed) → IsRunning config ts s (run number context action log) →
-          next config (request_of s (run number context action log)) log moment ≡ Call directed → (reply : NodeReply) (e : Entry) → Stores (place_of config directed.node) directed.call (node_of config c (number_of config.shards directed.node)) reply e → HasFewNear e
+          next config (request_of s (run number context action log)) log moment ≡ Call directed → (reply : NodeReply) (e : Entry) → Stores (place_of config directed.node) directed.call (node_of config c (node_number config.shards directed.node)) reply e → HasFewNear e
       stored_few number context (Write key value) log moment directed is e reply f =
-          let sent : Directed = record { node = home_of config s.dc key; call = node_call.Put key value (all_of (obs_of context s)) (near_of (obs_of context s)) } in
+          let sent : Directed = record { node = key_home config s.dc key; call = node_call.Put key value (all_of (obs_of context s)) (near_of (obs_of context s)) } in
           let at_start = subst (λ l. next config (request_of s (run number context (Write key value) l)) l moment ≡ Call directed) is.replies_are e in
           let same : sent ≡ directed = (let both : Call sent ≡ Call directed = sym (put-next config s.dc (obs_of context s) key value moment) ∙ at_start in cc) in
-          subst (λ (d : Directed). Stores (place_of config d.node) d.call (node_of config c (number_of config.shards d.node)) reply f → HasFewNear f) same
+          subst (λ (d : Directed). Stores (place_of config d.node) d.call (node_of config c (node_number config.shards d.node)) reply f → HasFewNear f) same
           (λ stores. subst HasFewNear (sym stores.3) (seen_roomy s room context is.in_open).0)
       stored_few number context (Fetch keys) log moment directed is e reply f =
           let chosen = get-next config s.dc (obs_of context s) keys log moment directed e in
-          subst (λ (d : Directed). Stores (place_of config d.node) d.call (node_of config c (number_of config.shards d.node)) reply f → HasFewNear f) (sym chosen.call) (λ stores. absurd stores)
+          subst (λ (d : Directed). Stores (place_of config d.node) d.call (node_of config c (node_number config.shards d.node)) reply f → HasFewNear f) (sym chosen.call) (λ stores. absurd stores)
 
       -- what an answer lets the context see
       answer_roomy : (number context : ℕ) (action : Action) (log : List LogStep) (step : LogStep) → IsLimited action → IsRunning config ts s (run number context action log) →
@@ -319,7 +320,7 @@ module _ (config : TenantConfig) where
             running = λ r is. let same : first ≡ r = (let both : Some first ≡ Some r = is in cc) in subst (λ (x : Running). IsLimited x.action) same limited;
           }
 
-      put_limited : (number : ℕ) (key value : List ℕ) → put_refusal config number key s ≡ None → IsLimited (Write key value)
+      put_limited : (number : ℕ) (key value : List ℕ) → session_put_refusal config number key s ≡ None → IsLimited (Write key value)
       put_limited number key value ok =
           let third = (not (can_put config.quota.deps (obs_of number s) key), DependenciesFull) ∷ (is_spent s.next_request, IdsSpent) ∷ [] in
           let first = head_passes (is_busy s) Busy ((not (is_open number s), NoContext) ∷ third) ok in
@@ -345,12 +346,12 @@ module _ (config : TenantConfig) where
     module _ (stream : Stream) where
       by_delivery : (moment : ℕ) (e : Entry) (directed : Directed) → has_node config directed.node.dc directed.node.shard ≡ true → IsOffered config c stream e → InDelivery (Delivered config c stream) config.shards stream e directed →
           IsWithinLimits (call_node config directed.node moment directed.call c).after ts
-      by_delivery moment e directed there offered (Checking near among same) = limits-called moment directed there (λ reply f. subst (λ (d : Directed). Stores (place_of config d.node) d.call (node_of config c (number_of config.shards d.node)) reply f → HasFewNear f) (sym same) (λ stores. absurd stores))
-      by_delivery moment e directed there offered (Committing near same) = limits-called moment directed there (λ reply f. subst (λ (d : Directed). Stores (place_of config d.node) d.call (node_of config c (number_of config.shards d.node)) reply f → HasFewNear f) (sym same) (λ stores. subst HasFewNear (sym stores.1) (offered_few stream e offered)))
-      by_delivery moment e directed there offered (Acking r brought kind same) = limits-called moment directed there (λ reply f. subst (λ (d : Directed). Stores (place_of config d.node) d.call (node_of config c (number_of config.shards d.node)) reply f → HasFewNear f) (sym same) (λ stores. absurd stores))
+      by_delivery moment e directed there offered (Checking near among same) = limits-called moment directed there (λ reply f. subst (λ (d : Directed). Stores (place_of config d.node) d.call (node_of config c (node_number config.shards d.node)) reply f → HasFewNear f) (sym same) (λ stores. absurd stores))
+      by_delivery moment e directed there offered (Committing near same) = limits-called moment directed there (λ reply f. subst (λ (d : Directed). Stores (place_of config d.node) d.call (node_of config c (node_number config.shards d.node)) reply f → HasFewNear f) (sym same) (λ stores. subst HasFewNear (sym stores.1) (offered_few stream e offered)))
+      by_delivery moment e directed there offered (Acking r brought kind same) = limits-called moment directed there (λ reply f. subst (λ (d : Directed). Stores (place_of config d.node) d.call (node_of config c (node_number config.shards d.node)) reply f → HasFewNear f) (sym same) (λ stores. absurd stores))
 
       by_stage : (moment : ℕ) (directed : Directed) → has_node config directed.node.dc directed.node.shard ≡ true → Stage (Delivered config c stream) config.shards stream directed → IsWithinLimits (call_node config directed.node moment directed.call c).after ts
-      by_stage moment directed there (Pulling same) = limits-called moment directed there (λ reply f. subst (λ (d : Directed). Stores (place_of config d.node) d.call (node_of config c (number_of config.shards d.node)) reply f → HasFewNear f) (sym same) (λ stores. absurd stores))
+      by_stage moment directed there (Pulling same) = limits-called moment directed there (λ reply f. subst (λ (d : Directed). Stores (place_of config d.node) d.call (node_of config c (node_number config.shards d.node)) reply f → HasFewNear f) (sym same) (λ stores. absurd stores))
       by_stage moment directed there (Delivering e offered now) = by_delivery moment e directed there offered now
 
 pub limits_kept : (config : TenantConfig) → 0 < config.shards → Leads config (Both (IsSound config) (IsWithinLimits config)) (IsWithinLimits config)

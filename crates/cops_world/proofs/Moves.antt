@@ -16,7 +16,7 @@ use Rattle.cops_node.specs.Log.{LogStep, Late, Replied, Next, Call, Restart, End
 use Rattle.cops_session.specs.declared.Answer.{Answer}
 use Rattle.cops_session.specs.Request.{Action, Write, Fetch}
 use Rattle.cops_session.specs.Request as request
-use Rattle.cops_session.specs.Session.{Session, Running, new_session, context_created, context_deleted, put_refusal, get_refusal, request_begun, request_of, moment_at}
+use Rattle.cops_session.specs.Session.{Running, Session, context_created, context_deleted, get_refusal, moment_at, new_session, request_begun, request_of, session_put_refusal}
 use Rattle.cops_repl.specs.declared.Delivery.{Delivery}
 use Rattle.cops_repl.specs.declared.Delivery.TheVariants as delivery
 use Rattle.cops_repl.specs.declared.Progress.{Progress as CarrierProgress}
@@ -28,7 +28,7 @@ use Rattle.cops_world.specs.declared.acts.Act.TheVariants.{Step}
 use Rattle.cops_world.specs.declared.replies.Reply.{Reply}
 use Rattle.cops_world.specs.declared.replies.Reply.TheVariants.{Refused}
 use Rattle.cops_world.specs.Causal.{Traced, Operation, operation_by, operation_ended, effect_of, stepped_actor, past_after}
-use Rattle.cops_world.specs.Cluster.{SoloCluster, Turn, Actor, OfSession, OfCarrier, find_actor, find_session, session_in, with_actor, with_new_actor, call_node, reply_with, session_stepped, request_does, running_step, carrier_stepped, carrier_does, step_of, actor_step, has_node, actor_refusal, reply_of_answer, reply_of_delivery, reply_of_collect, unless_refused, on_found, on_session}
+use Rattle.cops_world.specs.Cluster.{ActEffect, Actor, OfCarrier, OfSession, SoloCluster, actor_refusal, actor_step, call_node, carrier_does, carrier_stepped, find_actor, find_session, has_node, on_found, on_session, reply_of_answer, reply_of_collect, reply_of_delivery, reply_with, request_does, running_step, session_in, session_stepped, step_of, unless_refused, with_actor, with_new_actor}
 
 -- the history with one more operation, if there is one
 abbrev pub with_operation : List Traced → Option Operation → List Traced
@@ -56,7 +56,7 @@ pub record Leads (config : TenantConfig) (B P : SoloCluster → List Traced → 
   pub context_deleted : (c : SoloCluster) (ts : List Traced) (name : List ℕ) (s : Session) (number : ℕ) → find_session name c ≡ Some s → s.running ≡ None →
       B c ts → P (with_actor name (OfSession (context_deleted number s)) c) ts
   pub put_begun : (c : SoloCluster) (ts : List Traced) (name : List ℕ) (s : Session) (number : ℕ) (key value : List ℕ) →
-      find_session name c ≡ Some s → put_refusal config number key s ≡ None → is_key key ≡ true →
+      find_session name c ≡ Some s → session_put_refusal config number key s ≡ None → is_key key ≡ true →
       B c ts → P (with_actor name (OfSession (request_begun number (Write key value) s)) c) ts
   pub get_begun : (c : SoloCluster) (ts : List Traced) (name : List ℕ) (s : Session) (number : ℕ) (keys : List (List ℕ)) →
       find_session name c ≡ Some s → get_refusal config number keys s ≡ None → list_all is_key keys ≡ true →
@@ -91,7 +91,7 @@ IsKept config P = Leads config P P
 -- ---- the branches of an act
 
 -- a check that refused nothing
-pub passes : (checked : Option Fault) (cluster : SoloCluster) (turn : Turn) (G : Turn → Type 0) → ((fault : Fault) → G (reply_with (Refused fault) cluster)) → (checked ≡ None → G turn) →
+pub passes : (checked : Option Fault) (cluster : SoloCluster) (turn : ActEffect) (G : ActEffect → Type 0) → ((fault : Fault) → G (reply_with (Refused fault) cluster)) → (checked ≡ None → G turn) →
     G (unless_refused checked cluster turn)
 passes (Some fault) cluster turn G refused passed = refused fault
 passes None cluster turn G refused passed = passed refl
@@ -101,7 +101,7 @@ pub head_passes : {F : Type 0} (b : Bool) (fault : F) (checks : List (Bool × F)
 head_passes true fault checks e = cc
 head_passes false fault checks e = (refl, e)
 
-session_found : (found : Option Session) (cluster : SoloCluster) (act : Session → Turn) (G : Turn → Type 0) → G (reply_with (Refused UnknownName) cluster) → ((s : Session) → found ≡ Some s → G (act s)) →
+session_found : (found : Option Session) (cluster : SoloCluster) (act : Session → ActEffect) (G : ActEffect → Type 0) → G (reply_with (Refused UnknownName) cluster) → ((s : Session) → found ≡ Some s → G (act s)) →
     G (on_found found cluster act)
 session_found (Some s) cluster act G none some = some s refl
 session_found None cluster act G none some = none
@@ -161,11 +161,11 @@ plain_collect reply = refl
 
 module _ {config : TenantConfig} {P : SoloCluster → List Traced → Type 0} (kept : IsKept config P) where
   -- what is to be shown of a turn of the act
-  abbrev pub Holds : SoloCluster → List Traced → Act → Turn → Type 0
+  abbrev pub Holds : SoloCluster → List Traced → Act → ActEffect → Type 0
   Holds c ts act turn = P turn.after (with_operation ts (operation_ended c act turn.reply))
 
   -- a turn whose reply is no operation's leaves the history
-  pub plainly : (c : SoloCluster) (ts : List Traced) (act : Act) (turn : Turn) → effect_of turn.reply ≡ None → P turn.after ts → Holds c ts act turn
+  pub plainly : (c : SoloCluster) (ts : List Traced) (act : Act) (turn : ActEffect) → effect_of turn.reply ≡ None → P turn.after ts → Holds c ts act turn
   plainly c ts act turn plain p = subst (λ e. P turn.after (with_operation ts (option_and_then (λ effect. option_and_then (operation_by c effect) (stepped_actor act)) e))) (sym plain) p
 
   pub new_actor : (act : Act) (exists : Bool) (name : List ℕ) (actor : Actor) (reply : Reply) (c : SoloCluster) (ts : List Traced) → effect_of reply ≡ None → P c ts →
@@ -176,7 +176,7 @@ module _ {config : TenantConfig} {P : SoloCluster → List Traced → Type 0} (k
       let free = may_join exists (is_some (find_actor name c)) (nat_le config.quota.actors (length c.actors)) NoSuchPlace NameTaken ActorsFull ok in
       plainly c ts act (reply_with reply (with_new_actor name actor c)) plain (joins free.0 (none_there (find_actor name c) free.1)))
 
-  pub session_act : (act : Act) (name : List ℕ) (c : SoloCluster) (ts : List Traced) (turn : Session → Turn) → P c ts →
+  pub session_act : (act : Act) (name : List ℕ) (c : SoloCluster) (ts : List Traced) (turn : Session → ActEffect) → P c ts →
       ((s : Session) → find_session name c ≡ Some s → Holds c ts act (turn s)) → Holds c ts act (on_session name c turn)
   session_act act name c ts turn p found = session_found (find_session name c) c turn (Holds c ts act) p found
 

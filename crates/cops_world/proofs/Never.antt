@@ -15,11 +15,11 @@ use Rattle.cops_node.specs.declared.NodeId.{NodeId}
 use Rattle.cops_node.specs.declared.NodeReply.{NodeReply}
 use Rattle.cops_node.specs.declared.NodeReply.TheVariants as node_reply
 use Rattle.cops_node.specs.Log.{LogStep, Late, Replied, Next, Call, Restart, Ended, is_asked}
-use Rattle.cops_node.specs.Place.{place_of, number_of}
+use Rattle.cops_node.specs.Place.{node_number, place_of}
 use Rattle.cops_session.specs.declared.Answer.{Answer}
 use Rattle.cops_session.specs.Request.{Action, Write, Fetch, answer, attempt_of, call_after, is_late}
 use Rattle.cops_session.specs.Request as request
-use Rattle.cops_session.specs.Session.{Session, Running, new_session, obs_of, is_open, is_busy, is_spent, has_repeats, has_restarted, context_created, context_deleted, request_begun, request_of, moment_at}
+use Rattle.cops_session.specs.Session.{Session, Running, new_session, obs_of, is_open, is_busy, has_repeats, has_restarted, context_created, context_deleted, request_begun, request_of, moment_at}
 use Rattle.cops_session.specs.Session as session
 use Rattle.cops_repl.specs.declared.Delivery.{Delivery}
 use Rattle.cops_repl.specs.declared.Progress.{Progress as CarrierProgress}
@@ -31,7 +31,7 @@ use Rattle.cops_world.specs.declared.acts.Act.TheVariants.{Open, Create, Delete,
 use Rattle.cops_world.specs.declared.replies.Reply.{Reply}
 use Rattle.cops_world.specs.declared.replies.Reply.TheVariants as reply
 use Rattle.cops_world.specs.Causal.{Traced, operation_ended}
-use Rattle.cops_world.specs.Cluster.{SoloCluster, Turn, Actor, OfSession, OfCarrier, new_cluster, find_actor, find_session, session_in, call_node, unless_refused, on_found, on_session, request_does, running_step, carrier_stepped, carrier_does, step_of, actor_step, actor_steps, goes_on, most_steps, has_node, reply_of_progress, reply_of_collect, collect_at, cluster_step}
+use Rattle.cops_world.specs.Cluster.{ActEffect, Actor, OfCarrier, OfSession, SoloCluster, actor_step, actor_steps, call_node, carrier_does, carrier_stepped, cluster_step, collect_at, find_actor, find_session, goes_on, has_node, most_steps, new_cluster, on_found, on_session, reply_of_collect, reply_of_progress, request_does, running_step, session_in, step_of, unless_refused}
 use Rattle.cops_world.specs.Events.{replies_from}
 use Rattle.cops_world.specs.Laws.{is_expected_of_node, is_expected, node_at, IsAsExpected}
 use Rattle.std.specs.Option.{option_and_then}
@@ -46,6 +46,7 @@ use Rattle.cops_world.proofs.Served.{IsServed, FineTurn, called, collect_ready, 
 use Rattle.cops_world.proofs.Sound.{IsSound, sound_kept, sound_at_first}
 use Rattle.cops_world.proofs.TracedIdle.{session_of}
 use Rattle.cops_world.proofs.Unbroken.{IsFineDelivery, shown_fine, ended_fine, carrier_shown_fine}
+use Rattle.cops_handles.specs.Rows.{is_spent}
 
 abbrev IsFine : Reply → Type 0
 IsFine r = is_expected r ≡ true
@@ -69,14 +70,14 @@ first_fine ((false, f) ∷ checks) fine fault e = first_fine checks (right (is_e
     right true b e = e
     right false b e = cc
 
-guarded : (checks : List (Bool × Fault)) (c : SoloCluster) (turn : Turn) → are_fine checks ≡ true → IsFine turn.reply → IsFine (unless_refused (first_refusal checks) c turn).reply
+guarded : (checks : List (Bool × Fault)) (c : SoloCluster) (turn : ActEffect) → are_fine checks ≡ true → IsFine turn.reply → IsFine (unless_refused (first_refusal checks) c turn).reply
 guarded checks c turn fine passed = by_first (first_refusal checks) refl
   where
     by_first : (o : Option Fault) → first_refusal checks ≡ o → IsFine (unless_refused o c turn).reply
     by_first None is = passed
     by_first (Some fault) is = first_fine checks fine fault is
 
-found_fine : (name : List ℕ) (c : SoloCluster) (act : Session → Turn) → ((s : Session) → IsFine (act s).reply) → IsFine (on_session name c act).reply
+found_fine : (name : List ℕ) (c : SoloCluster) (act : Session → ActEffect) → ((s : Session) → IsFine (act s).reply) → IsFine (on_session name c act).reply
 found_fine name c act fine = by_found (find_session name c)
   where
     by_found : (o : Option Session) → IsFine (on_found o c act).reply
@@ -142,7 +143,7 @@ module _ (config : TenantConfig) (some : 0 < config.shards) where
     step_fine : (name : List ℕ) (moment : ℕ) → IsFine (actor_step config name moment c).reply
     step_fine name moment = step_of_fine name moment (find_actor name c) refl
 
-  either_fine : (b : Bool) (rest step : Turn) → IsFine rest.reply → IsFine step.reply → IsFine (let turn : Turn = elim b [ true ↦ rest | false ↦ step ] in turn.reply)
+  either_fine : (b : Bool) (rest step : ActEffect) → IsFine rest.reply → IsFine step.reply → IsFine (let turn : ActEffect = elim b [ true ↦ rest | false ↦ step ] in turn.reply)
   either_fine true rest step more here = more
   either_fine false rest step more here = here
 
@@ -181,7 +182,7 @@ module _ (config : TenantConfig) (some : 0 < config.shards) where
       by_there true there =
           let call = call_node config id moment node_call.Collect c in
           let ready = collect_ready config some c ts inv.0 inv.1 id there in
-          let n = number_of config.shards id in
+          let n = node_number config.shards id in
           collect_fine call.reply (reply_asked (place_of config id) (node_of config c n) call.reply node_call.Collect (node_of config call.after n) (called config c ts inv.0 inv.1 moment (record { node = id; call = node_call.Collect }) ready).change ready.ready)
       by_there false there = refl
 

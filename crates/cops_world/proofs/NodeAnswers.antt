@@ -17,12 +17,13 @@ use Rattle.cops_node.specs.declared.NodeReply.TheVariants.{Stored, Committed, Al
 use Rattle.cops_node.specs.declared.Place.{Place}
 use Rattle.cops_node.specs.declared.Wanted.TheVariants.{Latest, Exactly}
 use Rattle.cops_node.specs.Log.{is_asked, fault_in}
-use Rattle.cops_node.specs.SoloNode.{SoloNode, front, queue}
-use Rattle.cops_node.specs.Step.{Turn, node_step, effect, audited, unchanged, was_committed, reply_latest, reply_exact, reply_pull, store_unless, put_at, put_refusal, commit_refusal, acknowledge, entry_of_put, version_of_put}
+use Rattle.cops_node.specs.SoloNode.{SoloNode, queue}
+use Rattle.cops_node.specs.Step.{CallEffect, acknowledge, audited, commit_refusal, effect, entry_of_put, node_put_refusal, node_step, put_with_version, reply_exact, reply_latest, reply_pull, store_unless, unchanged, version_of_put, was_committed}
 use Rattle.cops_world.specs.declared.replies.Reply.TheVariants as reply
 use Rattle.cops_world.specs.Laws.{is_expected_of_node, is_expected}
 use Rattle.cops_node.proofs.NodeTurns.{Change, IsRefused, Answers, Joined, Taken, IsReply, Stores, Takes, IsRefusal, is_node_fault}
 use Rattle.cops_world.proofs.TracedCalls.{exact-is}
+use Rattle.cops_outbox.specs.Queues.{front}
 
 -- ---- the replies
 
@@ -171,9 +172,9 @@ module _ (place : Place) where
   stored_trail (Some fault) reply e solo = refl
   stored_trail None reply e solo = refl
 
-  put_trail : (solo : SoloNode) (key value : List ℕ) (deps near : List Pair) (version : Option Timestamp) → (put_at place solo key value deps near version).after.trail ≡ solo.trail
+  put_trail : (solo : SoloNode) (key value : List ℕ) (deps near : List Pair) (version : Option Timestamp) → (put_with_version place solo key value deps near version).after.trail ≡ solo.trail
   put_trail solo key value deps near None = refl
-  put_trail solo key value deps near (Some version) = stored_trail (put_refusal place solo key value) (Stored version) (entry_of_put place solo version key value deps near) solo
+  put_trail solo key value deps near (Some version) = stored_trail (node_put_refusal place solo key value) (Stored version) (entry_of_put place solo version key value deps near) solo
 
   commit_trail : (solo : SoloNode) (e : Entry) (was follows : Bool) →
       (cond was (unchanged Already solo) (cond follows (store_unless (commit_refusal place solo e) Committed e solo) (unchanged (OutOfOrder (mark e.version.node solo.recs)) solo))).after.trail ≡ solo.trail
@@ -185,7 +186,7 @@ module _ (place : Place) where
   ack_trail solo dc version None = refl
   ack_trail solo dc version (Some e) = by_test (version_eq e.version version)
     where
-      by_test : (b : Bool) → (let turn : Turn = cond b (record { reply = Acked; after = record solo { acked = slice_set solo.acked dc (slice_index solo.acked dc + 1) } }) (unchanged NotFront solo) in turn.after.trail) ≡ solo.trail
+      by_test : (b : Bool) → (let turn : CallEffect = cond b (record { reply = Acked; after = record solo { acked = slice_set solo.acked dc (slice_index solo.acked dc + 1) } }) (unchanged NotFront solo) in turn.after.trail) ≡ solo.trail
       by_test true = refl
       by_test false = refl
 
@@ -199,7 +200,7 @@ module _ (place : Place) where
   effect_trail Collect solo = refl
 
   -- a call joins the audit with its reply, unless that is full
-  abbrev pub TrailAfter : ℕ → NodeCall → SoloNode → Turn → Type 0
+  abbrev pub TrailAfter : ℕ → NodeCall → SoloNode → CallEffect → Type 0
   TrailAfter moment call solo turn = (turn.after.trail ≡ solo.trail) ⊎ (turn.after.trail ≡ solo.trail ++ record { moment = moment; call = call; reply = turn.reply } ∷ [])
 
   pub turn_trail : (moment : ℕ) (call : NodeCall) (solo : SoloNode) → TrailAfter moment call solo (node_step place moment call solo)

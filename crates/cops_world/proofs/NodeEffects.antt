@@ -10,7 +10,7 @@ use Rattle.cops_types.specs.TenantConfig.{TenantConfig}
 use Rattle.cops_node.specs.declared.NodeCall.{NodeCall}
 use Rattle.cops_node.specs.declared.NodeId.{NodeId}
 use Rattle.cops_node.specs.declared.NodeReply.{NodeReply}
-use Rattle.cops_node.specs.Place.{place_of, number_of}
+use Rattle.cops_node.specs.Place.{node_number, place_of}
 use Rattle.cops_node.specs.SoloNode.{SoloNode, new_node}
 use Rattle.cops_node.specs.Step.{node_step}
 use Rattle.cops_world.specs.Cluster.{SoloCluster, call_node, has_node}
@@ -24,7 +24,7 @@ node_of config c n = slice_index_or c.nodes n (new_node config.data_centres)
 abbrev pub IsSized : TenantConfig → SoloCluster → Type 0
 IsSized config c = length c.nodes ≡ config.data_centres * config.shards
 
-pub number_within : (config : TenantConfig) (id : NodeId) → has_node config id.dc id.shard ≡ true → number_of config.shards id < config.data_centres * config.shards
+pub number_within : (config : TenantConfig) (id : NodeId) → has_node config id.dc id.shard ≡ true → node_number config.shards id < config.data_centres * config.shards
 number_within config id there =
     let dc : id.dc < config.data_centres = let e = and_left (nat_lt id.dc config.data_centres) (nat_lt id.shard config.shards) there in grind (arith, nat_tests) in
     let shard : id.shard < config.shards = let e = and_right (nat_lt id.dc config.data_centres) (nat_lt id.shard config.shards) there in grind (arith, nat_tests) in
@@ -33,15 +33,15 @@ number_within config id there =
 
 -- what a call at a node leaves
 pub record Called (config : TenantConfig) (c : SoloCluster) (id : NodeId) (call : NodeCall) (reply : NodeReply) (after : SoloCluster) : Type 0 where
-  pub change : Change (place_of config id) call (node_of config c (number_of config.shards id)) reply (node_of config after (number_of config.shards id))
-  pub others : (n : ℕ) → n ≢ number_of config.shards id → node_of config after n ≡ node_of config c n
+  pub change : Change (place_of config id) call (node_of config c (node_number config.shards id)) reply (node_of config after (node_number config.shards id))
+  pub others : (n : ℕ) → n ≢ node_number config.shards id → node_of config after n ≡ node_of config c n
   pub actors_same : after.actors ≡ c.actors
   pub sized : IsSized config after
 
 pub call_changes : (config : TenantConfig) (c : SoloCluster) (id : NodeId) (moment : ℕ) (call : NodeCall) → has_node config id.dc id.shard ≡ true → IsSized config c →
     Called config c id call (call_node config id moment call c).reply (call_node config id moment call c).after
 call_changes config c id moment call there sized =
-    let number = number_of config.shards id in
+    let number = node_number config.shards id in
     let turn = node_step (place_of config id) moment call (node_of config c number) in
     let within : number < length c.nodes = let w = number_within config id there in omega (arith, sized) in
     record {
@@ -64,9 +64,9 @@ module _ {config : TenantConfig} {c after : SoloCluster} {id : NodeId} {call : N
 
   pub entries_grow : (n : ℕ) → (more : List Entry) × GrownBy (node_of config c n) (node_of config after n) more
   entries_grow n =
-      elim (eqb_tells n (number_of config.shards id)) [
+      elim (eqb_tells n (node_number config.shards id)) [
         | inl here ↦
-            let there = changed (node_of config c (number_of config.shards id)) (node_of config after (number_of config.shards id)) called.change in
+            let there = changed (node_of config c (node_number config.shards id)) (node_of config after (node_number config.shards id)) called.change in
             subst (λ m. (more : List Entry) × GrownBy (node_of config c m) (node_of config after m) more) (sym here.1) (there.0, there.1)
         | inr other ↦ ([], ap entries (called.others n other.1) ∙ sym (append-nil (entries (node_of config c n))))
       ]
@@ -75,10 +75,10 @@ module _ {config : TenantConfig} {c after : SoloCluster} {id : NodeId} {call : N
   entry_stays n e at = let grown = entries_grow n in subst (Among e) (sym grown.1) (Among-left e (entries (node_of config c n)) grown.0 at)
 
   -- what holds of all entries and of the one that is stored holds of all then
-  pub entries_keep : (P : Entry → Type 0) → ((e : Entry) → Stores (place_of config id) call (node_of config c (number_of config.shards id)) reply e → P e) →
+  pub entries_keep : (P : Entry → Type 0) → ((e : Entry) → Stores (place_of config id) call (node_of config c (node_number config.shards id)) reply e → P e) →
       ((n : ℕ) → AllByRecursion P (entries (node_of config c n))) → (n : ℕ) → AllByRecursion P (entries (node_of config after n))
   entries_keep P new old n =
-      elim (eqb_tells n (number_of config.shards id)) [
+      elim (eqb_tells n (node_number config.shards id)) [
         | inl here ↦ subst (λ m. AllByRecursion P (entries (node_of config after m))) (sym here.1) at_node
         | inr other ↦ subst (λ solo. AllByRecursion P (entries solo)) (sym (called.others n other.1)) (old n)
       ]
@@ -86,9 +86,9 @@ module _ {config : TenantConfig} {c after : SoloCluster} {id : NodeId} {call : N
       by_more : (solo next : SoloNode) (more : List Entry) → GrownBy solo next more → AllByRecursion P (entries solo) → AllByRecursion P more → AllByRecursion P (entries next)
       by_more solo next more grown first second = subst (AllByRecursion P) (sym grown) (Every-append P (entries solo) more first second)
 
-      at_node : AllByRecursion P (entries (node_of config after (number_of config.shards id)))
+      at_node : AllByRecursion P (entries (node_of config after (node_number config.shards id)))
       at_node =
-          let number = number_of config.shards id in
+          let number = node_number config.shards id in
           let there = changed (node_of config c number) (node_of config after number) called.change in
           by_more (node_of config c number) (node_of config after number) there.0 there.1 (old number)
           (elim there.2 [ inl none ↦ subst (AllByRecursion P) (sym none) tt | inr one ↦ subst (AllByRecursion P) (sym one.1) (new one.0 one.2, tt) ])

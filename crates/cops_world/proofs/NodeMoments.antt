@@ -23,13 +23,14 @@ use Rattle.cops_node.specs.declared.NodeId.{NodeId}
 use Rattle.cops_node.specs.declared.Place.{Place}
 use Rattle.cops_node.specs.declared.Wanted.{Wanted}
 use Rattle.cops_node.specs.declared.Wanted.TheVariants.{Latest, Exactly}
-use Rattle.cops_node.specs.Place.{place_of, number_of}
-use Rattle.cops_node.specs.SoloNode.{SoloNode, new_node, queue, front}
-use Rattle.cops_node.specs.Step.{Turn, node_step, effect, audited, unchanged, was_committed, reply_latest, reply_exact, store_unless, put_at, put_refusal, commit_refusal, acknowledge, entry_of_put, version_of_put}
+use Rattle.cops_node.specs.Place.{node_number, place_of}
+use Rattle.cops_node.specs.SoloNode.{SoloNode, new_node, queue}
+use Rattle.cops_node.specs.Step.{CallEffect, acknowledge, audited, commit_refusal, effect, entry_of_put, node_put_refusal, node_step, put_with_version, reply_exact, reply_latest, store_unless, unchanged, version_of_put, was_committed}
 use Rattle.cops_node.proofs.MarkLaws.{ever-collected}
 use Rattle.cops_node.proofs.NodeTurns.{IsRefusal}
 use Rattle.cops_world.specs.Cluster.{SoloCluster, call_node, has_node}
 use Rattle.cops_world.proofs.NodeEffects.{node_of, IsSized, number_within}
+use Rattle.cops_outbox.specs.Queues.{front}
 
 -- ---- what holds of the records and the moment after a call
 
@@ -39,10 +40,10 @@ joins entry now = record { record_of = record { entry = entry; at = now }; remov
 
 module _ (place : Place) (solo : SoloNode) (P : List Tracked → ℕ → Type 0) (stays : P solo.recs solo.moment) (joined : (e : Entry) → P (solo.recs ++ joins e solo.moment ∷ []) solo.moment)
     (swept : P (collected place.trans_time solo.moment solo.recs) solo.moment) where
-  abbrev Leaves : Turn → Type 0
+  abbrev Leaves : CallEffect → Type 0
   Leaves turn = P turn.after.recs turn.after.moment
 
-  branch : (b : Bool) (one other : Turn) → Leaves one → Leaves other → Leaves (cond b one other)
+  branch : (b : Bool) (one other : CallEffect) → Leaves one → Leaves other → Leaves (cond b one other)
   branch true one other p q = p
   branch false one other p q = q
 
@@ -50,9 +51,9 @@ module _ (place : Place) (solo : SoloNode) (P : List Tracked → ℕ → Type 0)
   stored (Some fault) reply e = stays
   stored None reply e = joined e
 
-  put_leaves : (key value : List ℕ) (deps near : List Pair) (version : Option Timestamp) → Leaves (put_at place solo key value deps near version)
+  put_leaves : (key value : List ℕ) (deps near : List Pair) (version : Option Timestamp) → Leaves (put_with_version place solo key value deps near version)
   put_leaves key value deps near None = stays
-  put_leaves key value deps near (Some version) = stored (put_refusal place solo key value) (Stored version) (entry_of_put place solo version key value deps near)
+  put_leaves key value deps near (Some version) = stored (node_put_refusal place solo key value) (Stored version) (entry_of_put place solo version key value deps near)
 
   ack_leaves : (dc : ℕ) (version : Timestamp) (first : Option Entry) → Leaves (acknowledge dc version solo first)
   ack_leaves dc version None = stays
@@ -89,7 +90,7 @@ turn_onward place moment call solo = by_room (nat_lt (length solo.trail) place.q
     raised : SoloNode
     raised = record solo { moment = max solo.moment moment }
 
-    by_room : (b : Bool) → IsOnward solo (let turn : Turn = cond b (audited moment call (effect place call raised)) (unchanged (Refused AuditFull) solo) in turn.after)
+    by_room : (b : Bool) → IsOnward solo (let turn : CallEffect = cond b (audited moment call (effect place call raised)) (unchanged (Refused AuditFull) solo) in turn.after)
     by_room true = effect_leaves place raised (IsLater solo.recs solo.moment)
         (record { moment_is = omega arith; more = []; grown = sym (append-nil (ever solo.recs)); since = tt })
         (λ e. record { moment_is = omega arith; more = record { entry = e; at = raised.moment } ∷ []; grown = map-append (λ (t : Tracked). t.record_of) solo.recs (joins e raised.moment ∷ []); since = (omega arith, tt) })
@@ -134,7 +135,7 @@ turn_long_there place moment call solo are = by_room (nat_lt (length solo.trail)
     later : AreLongThere place.trans_time solo.recs raised.moment
     later = Every-weaker (IsLongThere place.trans_time solo.moment) (IsLongThere place.trans_time raised.moment) solo.recs (λ t at was e. let before = was e in omega arith) are
 
-    by_room : (b : Bool) → (let turn : Turn = cond b (audited moment call (effect place call raised)) (unchanged (Refused AuditFull) solo) in AreLongThere place.trans_time turn.after.recs turn.after.moment)
+    by_room : (b : Bool) → (let turn : CallEffect = cond b (audited moment call (effect place call raised)) (unchanged (Refused AuditFull) solo) in AreLongThere place.trans_time turn.after.recs turn.after.moment)
     by_room true = effect_leaves place raised (AreLongThere place.trans_time) later
         (λ e. Every-append (IsLongThere place.trans_time raised.moment) solo.recs (joins e raised.moment ∷ []) later ((λ never. cc), tt))
         (swept_there place.trans_time raised.moment solo.recs later)
@@ -144,7 +145,7 @@ turn_long_there place moment call solo are = by_room (nat_lt (length solo.trail)
 -- ---- the moment after a call
 
 -- the call was refused or came at its moment, which is the node's if that was not later
-pub record IsMomentAfter (moment : ℕ) (solo : SoloNode) (turn : Turn) : Type 0 where
+pub record IsMomentAfter (moment : ℕ) (solo : SoloNode) (turn : CallEffect) : Type 0 where
   pub come : IsRefusal turn.reply ⊎ (moment ≤ turn.after.moment)
   pub within : (most : ℕ) → solo.moment ≤ most → moment ≤ most → turn.after.moment ≤ most
 
@@ -183,7 +184,7 @@ get_gone place moment key wanted solo now e = by_room (nat_lt (length solo.trail
     raised : SoloNode
     raised = record solo { moment = max solo.moment moment }
 
-    by_room : (b : Bool) (wanted : Wanted) → let turn : Turn = cond b (audited moment (Get key wanted) (effect place (Get key wanted) raised)) (unchanged (Refused AuditFull) solo) in
+    by_room : (b : Bool) (wanted : Wanted) → let turn : CallEffect = cond b (audited moment (Get key wanted) (effect place (Get key wanted) raised)) (unchanged (Refused AuditFull) solo) in
         turn.reply ≡ Gone now → IsGone key wanted solo now turn.after
     by_room true Latest e = absurd (latest_stays (latest key solo.recs) now e)
     by_room true (Exactly version) e =
@@ -197,7 +198,7 @@ get_gone place moment key wanted solo now e = by_room (nat_lt (length solo.trail
 pub call_leaves : (config : TenantConfig) (c : SoloCluster) (id : NodeId) (moment : ℕ) (call : NodeCall) (Q : SoloNode → SoloNode → Type 0) → ((solo : SoloNode) → Q solo solo) →
     ((solo : SoloNode) → Q solo (node_step (place_of config id) moment call solo).after) → (n : ℕ) → Q (node_of config c n) (node_of config (call_node config id moment call c).after n)
 call_leaves config c id moment call Q same turned n =
-    let number = number_of config.shards id in
+    let number = node_number config.shards id in
     let next = (node_step (place_of config id) moment call (node_of config c number)).after in
     let default = new_node config.data_centres in
     elim (eqb_tells n number) [
@@ -213,7 +214,7 @@ call_leaves config c id moment call Q same turned n =
 
 -- the node that is called takes the turn
 pub turned_at : (config : TenantConfig) (c : SoloCluster) (id : NodeId) (moment : ℕ) (call : NodeCall) → has_node config id.dc id.shard ≡ true → IsSized config c →
-    node_of config (call_node config id moment call c).after (number_of config.shards id) ≡ (node_step (place_of config id) moment call (node_of config c (number_of config.shards id))).after
+    node_of config (call_node config id moment call c).after (node_number config.shards id) ≡ (node_step (place_of config id) moment call (node_of config c (node_number config.shards id))).after
 turned_at config c id moment call there sized =
-    let number = number_of config.shards id in
+    let number = node_number config.shards id in
     get_or-set_same c.nodes number (node_step (place_of config id) moment call (node_of config c number)).after (new_node config.data_centres) (let within = number_within config id there in omega (arith, sized))

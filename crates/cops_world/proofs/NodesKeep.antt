@@ -8,7 +8,7 @@ use Rattle.cops_node.specs.declared.NodeCall.{NodeCall}
 use Rattle.cops_node.specs.declared.NodeCall.TheVariants.{Collect}
 use Rattle.cops_node.specs.declared.NodeId.{NodeId}
 use Rattle.cops_node.specs.declared.Place.{Place}
-use Rattle.cops_node.specs.Place.{place_of, number_of}
+use Rattle.cops_node.specs.Place.{node_number, place_of}
 use Rattle.cops_node.specs.SoloNode.{SoloNode, new_node}
 use Rattle.cops_node.specs.Step.{node_step}
 use Rattle.cops_node.proofs.Greatest.{KeepsGreatest-push, KeepsGreatest-collected}
@@ -31,7 +31,7 @@ module _ (config : TenantConfig) (P : SoloNode → Type 0) (keeps : (place : Pla
 
   called_keeps : (c : SoloCluster) (ts : List Traced) (id : NodeId) (moment : ℕ) (call : NodeCall) → EachNode c ts → EachNode (call_node config id moment call c).after ts
   called_keeps c ts id moment call each n =
-      let number = number_of config.shards id in
+      let number = node_number config.shards id in
       let next = (node_step (place_of config id) moment call (node_of config c number)).after in
       let default = new_node config.data_centres in
       elim (eqb_tells n number) [

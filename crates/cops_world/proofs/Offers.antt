@@ -11,8 +11,8 @@ use Rattle.cops_types.specs.Version.{no_version, version_lt, version_le, version
 use Rattle.cops_types.proofs.VersionOrder.{version_eq-true, version_eq-refl, version_lt-irrefl, version_le-lt_trans}
 use Rattle.cops_node.specs.declared.NodeCall.TheVariants as node_call
 use Rattle.cops_node.specs.declared.NodeReply.{NodeReply}
-use Rattle.cops_node.specs.Place.{place_of, number_of}
-use Rattle.cops_node.specs.SoloNode.{queue, front}
+use Rattle.cops_node.specs.Place.{node_number, place_of}
+use Rattle.cops_node.specs.SoloNode.{queue}
 use Rattle.cops_node.specs.Step.{was_committed}
 use Rattle.cops_repl.specs.Carrier.{Stream}
 use Rattle.cops_world.specs.Cluster.{SoloCluster}
@@ -22,13 +22,14 @@ use Rattle.cops_world.proofs.Moves.{IsStream}
 use Rattle.cops_node.proofs.NodeTurns.{entries, Takes}
 use Rattle.cops_world.proofs.NodeEffects.{node_of}
 use Rattle.cops_world.proofs.StreamNodes.{held, IsStreamed, MayJoin, AsNext}
+use Rattle.cops_outbox.specs.Queues.{front}
 
 abbrev pub origin_of : TenantConfig → Stream → ℕ
-origin_of config stream = number_of config.shards stream.origin
+origin_of config stream = node_number config.shards stream.origin
 
 -- the node to which the stream goes
 abbrev pub end_of : TenantConfig → Stream → ℕ
-end_of config stream = number_of config.shards (record { dc = stream.to_dc; shard = stream.origin.shard })
+end_of config stream = node_number config.shards (record { dc = stream.to_dc; shard = stream.origin.shard })
 
 -- the entry is issued by the origin, and all before it are at the destination
 pub record IsOffered (config : TenantConfig) (c : SoloCluster) (stream : Stream) (e : Entry) : Type 0 where

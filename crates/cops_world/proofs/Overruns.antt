@@ -20,14 +20,14 @@ use Rattle.cops_node.specs.SoloNode.{SoloNode}
 use Rattle.cops_node.proofs.NodeTurns.{Change, IsRefused, Answers, Joined, Taken, IsRefusal, is_node_fault}
 use Rattle.cops_session.specs.declared.Answer.{Answer}
 use Rattle.cops_session.specs.declared.Answer.TheVariants as answer_is
-use Rattle.cops_session.specs.Request.{Fetch, Attempt, begins_again, attempt_of, home_of, values_or_full, call_or_answer, unless_fault, next, answer_in, answer}
+use Rattle.cops_session.specs.Request.{Attempt, Fetch, answer, answer_in, attempt_of, begins_again, call_or_answer, key_home, next, unless_fault, values_or_full}
 use Rattle.cops_session.specs.Session.{shown}
 use Rattle.cops_session.specs.Transaction.{ReadRequest, gets, final_reads}
 use Rattle.cops_session.proofs.ReplyCounts.{attempt-push}
 use Rattle.cops_session.proofs.RequestReplies.{replies_in, get_request, put_request, call_of, get-next, get-stepped, put-stored, put-refused, unspent}
 use Rattle.cops_repl.specs.declared.Delivery.{Delivery}
 use Rattle.cops_repl.specs.declared.Delivery.TheVariants as delivery
-use Rattle.cops_repl.specs.Carrier.{Stream, is_foreign, end_by, fault_or_end, calls_of, first_end, complete, call_or_end, unless_end}
+use Rattle.cops_repl.specs.Carrier.{Stream, call_or_end, end_by, fault_or_end, finished_delivery, first_end, is_foreign, stream_calls, unless_end}
 use Rattle.cops_repl.specs.Carrier as carrier
 use Rattle.cops_repl.proofs.CarrierCalls.{carrier_replies, carrier-next}
 use Rattle.cops_repl.proofs.CarrierStages.{carrier-stepped}
@@ -135,14 +135,14 @@ module _ (config : TenantConfig) (dc : ℕ) where
 -- ---- puts
 
 pub put_other : (config : TenantConfig) (dc : ℕ) (obs : List Observation) (key value : List ℕ) (moment : ℕ) (solo after : SoloNode) (reply : NodeReply) →
-    Change (place_of config (home_of config dc key)) (node_call.Put key value (all_of obs) (near_of obs)) solo reply after →
+    Change (place_of config (key_home config dc key)) (node_call.Put key value (all_of obs) (near_of obs)) solo reply after →
     answer config (put_request dc obs key value) (record { moment = moment; outcome = Replied reply } ∷ []) ≡ Some (answer_is.Refused Overrun) → ⊥
 put_other config dc obs key value moment solo after reply change e = by_change change
   where
     answer_to : NodeReply → Option Answer
     answer_to r = answer config (put_request dc obs key value) (record { moment = moment; outcome = Replied r } ∷ [])
 
-    by_change : Change (place_of config (home_of config dc key)) (node_call.Put key value (all_of obs) (near_of obs)) solo reply after → ⊥
+    by_change : Change (place_of config (key_home config dc key)) (node_call.Put key value (all_of obs) (near_of obs)) solo reply after → ⊥
     by_change (IsRefused same acked is) =
         let both : Some (answer_is.Refused is.0) ≡ Some (answer_is.Refused Overrun) = sym (put-refused config dc obs key value moment is.0) ∙ sym (ap answer_to is.1) ∙ e in
         let fault : is.0 ≡ Overrun = cc in
@@ -214,20 +214,20 @@ module _ (shards : ℕ) (stream : Stream) where
   first_end_other (d ∷ calls) [] z = tt
   first_end_other (d ∷ calls) (r ∷ rs) z = or_other_end (end_of_reply d.call r) (first_end shards stream calls rs) z.0 (first_end_other calls rs z.1)
 
-  complete_other : (rs : List NodeReply) → IsOtherEnd (Some (complete rs))
+  complete_other : (rs : List NodeReply) → IsOtherEnd (Some (finished_delivery rs))
   complete_other [] = tt
   complete_other (node_reply.Pulled e ∷ rs) = tt
   complete_other (r ∷ rs) = tt
 
-  ending_other : (log : List LogStep) (ending : Delivery) → Zipped IsOtherStep (calls_of shards stream (carrier_replies log)) (carrier_replies log) → carrier.next shards stream log ≡ Ended ending → IsOtherEnd (Some ending)
+  ending_other : (log : List LogStep) (ending : Delivery) → Zipped IsOtherStep (stream_calls shards stream (carrier_replies log)) (carrier_replies log) → carrier.next shards stream log ≡ Ended ending → IsOtherEnd (Some ending)
   ending_other log ending z e =
       let rs = carrier_replies log in
-      chosen (first_end shards stream (calls_of shards stream rs) rs) (slice_get (calls_of shards stream rs) (length rs)) (first_end_other (calls_of shards stream rs) rs z) e
+      chosen (first_end shards stream (stream_calls shards stream rs) rs) (slice_get (stream_calls shards stream rs) (length rs)) (first_end_other (stream_calls shards stream rs) rs z) e
     where
-      chosen : (ends : Option Delivery) (found : Option Directed) → IsOtherEnd ends → unless_end ends (call_or_end found (complete (carrier_replies log))) ≡ Ended ending → IsOtherEnd (Some ending)
+      chosen : (ends : Option Delivery) (found : Option Directed) → IsOtherEnd ends → unless_end ends (call_or_end found (finished_delivery (carrier_replies log))) ≡ Ended ending → IsOtherEnd (Some ending)
       chosen (Some d) found other e = let same : d ≡ ending = cc in subst (λ x. IsOtherEnd (Some x)) same other
       chosen None (Some call) other e = cc
-      chosen None None other e = let same : complete (carrier_replies log) ≡ ending = cc in subst (λ x. IsOtherEnd (Some x)) same (complete_other (carrier_replies log))
+      chosen None None other e = let same : finished_delivery (carrier_replies log) ≡ ending = cc in subst (λ x. IsOtherEnd (Some x)) same (complete_other (carrier_replies log))
 
   delivery_other : (ending : Delivery) → IsOtherEnd (Some ending) → ends_attempt (reply_of_delivery ending) ≡ true → ⊥
   delivery_other (delivery.Refused fault) other e = subst (λ f. IsOtherEnd (Some (delivery.Refused f))) (overrun_is fault e) other
@@ -241,6 +241,6 @@ module _ (shards : ℕ) (stream : Stream) where
       carrier.next shards stream (log ++ record { moment = moment; outcome = Replied reply } ∷ []) ≡ Ended ending → ends_attempt (reply_of_delivery ending) ≡ true → ⊥
   carrier_other log moment directed reply e other ending ends overrun =
       let n = carrier-next shards stream log directed e in
-      let old = endless_other (calls_of shards stream (carrier_replies log)) (carrier_replies log) n.no_end in
+      let old = endless_other (stream_calls shards stream (carrier_replies log)) (carrier_replies log) n.no_end in
       let are = carrier-stepped IsOtherStep shards stream log moment directed reply old n (end_other directed.call reply other) in
       delivery_other ending (ending_other (log ++ record { moment = moment; outcome = Replied reply } ∷ []) ending are ends) overrun

@@ -9,11 +9,11 @@ use Rattle.cops_types.specs.Context.{all_of, near_of}
 use Rattle.cops_types.specs.TenantConfig.{TenantConfig}
 use Rattle.cops_node.specs.declared.NodeCall.TheVariants as node_call
 use Rattle.cops_node.specs.Log.{LogStep, Late, Replied, Directed, Next, Call, Restart, Ended}
-use Rattle.cops_node.specs.Place.{place_of, number_of}
+use Rattle.cops_node.specs.Place.{node_number, place_of}
 use Rattle.cops_node.specs.SoloNode.{SoloNode, new_node}
 use Rattle.cops_repl.specs.Carrier.{pair_of_entry}
 use Rattle.cops_session.specs.declared.Answer.{Answer}
-use Rattle.cops_session.specs.Request.{Action, Write, Fetch, home_of, next, answer_in, call_after, unless_late, is_late, attempt_of}
+use Rattle.cops_session.specs.Request.{Action, Fetch, Write, answer_in, attempt_of, call_after, is_late, key_home, next, unless_late}
 use Rattle.cops_session.specs.Session.{Session, Running, obs_of, request_of}
 use Rattle.cops_world.specs.declared.acts.Act.{Act}
 use Rattle.cops_world.specs.Causal.{Traced, deps_of}
@@ -59,7 +59,7 @@ module _ (config : TenantConfig) (some : 0 < config.shards) (c : SoloCluster) (t
   put_called : (number context : ℕ) (key value : List ℕ) (moment : ℕ) (directed : Directed) → s.running ≡ Some (run number context (Write key value) []) → IsRunning config ts s (run number context (Write key value) []) →
       next config (request_of s (run number context (Write key value) [])) [] moment ≡ Call directed → AfterCall (run number context (Write key value) []) moment directed
   put_called number context key value moment directed runs is e =
-      let home = home_of config s.dc key in
+      let home = key_home config s.dc key in
       let sent : Directed = record { node = home; call = node_call.Put key value (all_of (obs_of context s)) (near_of (obs_of context s)) } in
       let same : sent ≡ directed = (let both : Call sent ≡ Call directed = sym (put-next config s.dc (obs_of context s) key value moment) ∙ e in cc) in
       let placed = (session_of config c ts inv name s found).placed in
@@ -72,8 +72,8 @@ module _ (config : TenantConfig) (some : 0 < config.shards) (c : SoloCluster) (t
   get_called number context keys log moment directed runs is e =
       let chosen = get-next config s.dc (obs_of context s) keys log moment directed e in
       let q = chosen.asked in
-      let home = home_of config s.dc q.key in
-      let n = number_of config.shards home in
+      let home = key_home config s.dc q.key in
+      let n = node_number config.shards home in
       let placed = (session_of config c ts inv name s found).placed in
       let call = call_node config home moment (node_call.Get q.key q.wanted) c in
       let called = call_changes config c home moment (node_call.Get q.key q.wanted) (home-there config s.dc q.key some placed) inv.sized in

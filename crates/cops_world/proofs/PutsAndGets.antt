@@ -13,12 +13,12 @@ use Rattle.cops_types.specs.Search.{first_refusal}
 use Rattle.cops_types.specs.Value.{is_value, is_too_long}
 use Rattle.cops_types.specs.Words.{no_words}
 use Rattle.cops_session.specs.Request.{Write, Fetch}
-use Rattle.cops_session.specs.Session.{put_refusal, get_refusal, request_begun}
+use Rattle.cops_session.specs.Session.{get_refusal, request_begun, session_put_refusal}
 use Rattle.cops_world.specs.declared.acts.Act.TheVariants as acts
 use Rattle.cops_world.specs.declared.actors.Deed.TheVariants as deeds
 use Rattle.cops_world.specs.declared.replies.Reply.{Reply}
 use Rattle.cops_world.specs.declared.replies.Reply.TheVariants.{Started, Refused}
-use Rattle.cops_world.specs.Cluster.{SoloCluster, Turn, OfSession, cluster_step, on_session, reply_with, unless_refused, with_actor}
+use Rattle.cops_world.specs.Cluster.{ActEffect, OfSession, SoloCluster, cluster_step, on_session, reply_with, unless_refused, with_actor}
 use Rattle.cops_world.specs.Deeds.{deed_step}
 use Rattle.cops_world.specs.Events.{config_at}
 use Rattle.cops_world.specs.Worlds.{World, Moves}
@@ -79,12 +79,12 @@ too_long value false e = by (is_value value) refl
 -- ---- puts
 
 module _ (old : World) (slot : ℕ) (name : List ℕ) (number : ℕ) (key value : List ℕ) where
-  abbrev put_if : Bool → Bool → SoloCluster → Turn
+  abbrev put_if : Bool → Bool → SoloCluster → ActEffect
   put_if k v cluster =
       let config = config_at old.setup slot in
       unless_refused (first_refusal ((not k, BadKey) ∷ (not v, ValueTooLong) ∷ [])) cluster
       (on_session name cluster λ s.
-      unless_refused (put_refusal config number key s) cluster
+      unless_refused (session_put_refusal config number key s) cluster
       (reply_with Started (with_actor name (OfSession (request_begun number (Write key value) s)) cluster)))
 
   pub bad_key_moves : is_key key ≡ false → Moves (λ config. cluster_step config (acts.Put name number key value)) old slot (Refused BadKey) old
@@ -114,7 +114,7 @@ counts_none (key ∷ keys) t is = some ∙ is
     some = grind (arith, nat_tests)
 
 module _ (old : World) (slot : ℕ) (name : List ℕ) (number : ℕ) (keys : List (List ℕ)) where
-  abbrev get_if : Bool → Bool → SoloCluster → Turn
+  abbrev get_if : Bool → Bool → SoloCluster → ActEffect
   get_if none all cluster =
       let config = config_at old.setup slot in
       unless_refused (first_refusal ((none, Syntax) ∷ (not all, BadKey) ∷ [])) cluster

@@ -14,11 +14,11 @@ use Rattle.cops_node.specs.declared.NodeCall.TheVariants as node_call
 use Rattle.cops_node.specs.declared.NodeReply.{NodeReply}
 use Rattle.cops_node.specs.declared.NodeReply.TheVariants.{Found}
 use Rattle.cops_node.specs.Log.{LogStep, Directed, Call}
-use Rattle.cops_node.specs.Place.{place_of, number_of}
-use Rattle.cops_node.specs.SoloNode.{SoloNode, queue, front}
+use Rattle.cops_node.specs.Place.{node_number, place_of}
+use Rattle.cops_node.specs.SoloNode.{SoloNode, queue}
 use Rattle.cops_node.specs.Step.{was_committed, reply_pull}
-use Rattle.cops_repl.specs.Carrier.{Stream, pair_of_entry, pull, check, commit, acknowledge, is_foreign}
-use Rattle.cops_session.specs.Request.{Action, Write, Fetch, home_of, next}
+use Rattle.cops_repl.specs.Carrier.{Stream, ack_call, check, commit_call, is_foreign, pair_of_entry, pull}
+use Rattle.cops_session.specs.Request.{Action, Fetch, Write, key_home, next}
 use Rattle.cops_session.specs.Session.{Session, Running, obs_of, request_of}
 use Rattle.cops_session.specs.Transaction.{ReadRequest, gets, read_of, reads_of, wanted_version}
 use Rattle.cops_world.specs.Causal.{Traced, past_of_put}
@@ -48,11 +48,12 @@ use Rattle.cops_world.proofs.TracedCalls.{home-there}
 use Rattle.cops_world.proofs.TracedIdle.{session_of}
 use Rattle.cops_world.proofs.Unbroken.{IsOwn, IsFineStep, step_fine}
 use Rattle.cops_session.proofs.WantedVersions.{deps_read, IsAskedFor, IsFirst, IsSecond, asked_for, outdated-is, wanted-among, IsBare, reads_bare}
+use Rattle.cops_outbox.specs.Queues.{front}
 
 -- a call at a node that is there and ready
 pub record ReadyCall (config : TenantConfig) (c : SoloCluster) (directed : Directed) : Type 0 where
   pub there : has_node config directed.node.dc directed.node.shard ≡ true
-  pub ready : IsReady directed.call (node_of config c (number_of config.shards directed.node))
+  pub ready : IsReady directed.call (node_of config c (node_number config.shards directed.node))
 
 -- what was read is in the data centre
 abbrev IsValueHere : TenantConfig → SoloCluster → ℕ → Pair → Option (List ℕ) → Type 0
@@ -125,7 +126,7 @@ module _ (config : TenantConfig) (some : 0 < config.shards) (c : SoloCluster) (t
     called_ready : (number context : ℕ) (action : Action) (log : List LogStep) (moment : ℕ) (directed : Directed) → s.running ≡ Some (run number context action log) → IsRunning config ts s (run number context action log) →
         next config (request_of s (run number context action log)) log moment ≡ Call directed → ReadyCall config c directed
     called_ready number context (Write key value) log moment directed runs is e =
-        let sent : Directed = record { node = home_of config s.dc key; call = node_call.Put key value (all_of (obs_of context s)) (near_of (obs_of context s)) } in
+        let sent : Directed = record { node = key_home config s.dc key; call = node_call.Put key value (all_of (obs_of context s)) (near_of (obs_of context s)) } in
         let at_start = subst (λ l. next config (request_of s (run number context (Write key value) l)) l moment ≡ Call directed) is.replies_are e in
         let same : sent ≡ directed = (let both : Call sent ≡ Call directed = sym (put-next config s.dc (obs_of context s) key value moment) ∙ at_start in cc) in
         subst (ReadyCall config c) same (record { there = home-there config s.dc key some (session_of config c ts inv.traced name s found).placed; ready = tt })
@@ -145,9 +146,9 @@ module _ (config : TenantConfig) (some : 0 < config.shards) (c : SoloCluster) (t
 
   module _ (stream : Stream) (is : IsStream config stream) where
     own : (e : Entry) → IsOffered config c stream e → is_foreign config.shards stream e ≡ false
-    own e offered = foreign (shard_of e.key config.shards == stream.origin.shard) (e.version.node == number_of config.shards stream.origin)
+    own e offered = foreign (shard_of e.key config.shards == stream.origin.shard) (e.version.node == node_number config.shards stream.origin)
         ((Decides-eqb (shard_of e.key config.shards) stream.origin.shard).1 (at_origin config some c ts ((inv.traced, inv.flowing), inv.equivalent) stream is e offered))
-        ((Decides-eqb e.version.node (number_of config.shards stream.origin)).1 (of_origin-node (origin_of config stream) (entries (node_of config c (origin_of config stream))) offered.place e offered.at))
+        ((Decides-eqb e.version.node (node_number config.shards stream.origin)).1 (of_origin-node (origin_of config stream) (entries (node_of config c (origin_of config stream))) offered.place e offered.at))
       where
         foreign : (a b : Bool) → a ≡ true → b ≡ true → (not a || not b) ≡ false
         foreign true true e f = refl
@@ -162,7 +163,7 @@ module _ (config : TenantConfig) (some : 0 < config.shards) (c : SoloCluster) (t
     called_at : (moment : ℕ) (directed : Directed) → ReadyCall config c directed → IsOwn config.shards stream directed.call (call_node config directed.node moment directed.call c).reply → ServedCall moment directed
     called_at moment directed calls own =
         let turn = call_node config directed.node moment directed.call c in
-        let n = number_of config.shards directed.node in
+        let n = node_number config.shards directed.node in
         let called = call_changes config c directed.node moment directed.call calls.there inv.traced.sized in
         let place = place_of config directed.node in
         record {
@@ -187,8 +188,8 @@ module _ (config : TenantConfig) (some : 0 < config.shards) (c : SoloCluster) (t
         subst (ServedCall moment) (sym same) (called_at moment (check config.shards stream near) (record { there = home-there config stream.to_dc near.key some is.to_is; ready = tt }) tt)
     by_delivery moment e directed offered (Committing near same) =
         let there : has_node config stream.to_dc stream.origin.shard ≡ true = and_true (nat_lt stream.to_dc config.data_centres) (nat_lt stream.origin.shard config.shards) is.to_is (and_right (nat_lt stream.origin.dc config.data_centres) (nat_lt stream.origin.shard config.shards) is.origin_is) in
-        subst (ServedCall moment) (sym same) (called_at moment (commit stream e) (record { there = there; ready = never-out_of_order config c inv.flowing.streamed stream is e offered }) tt)
-    by_delivery moment e directed offered (Acking r brought kind same) = subst (ServedCall moment) (sym same) (called_at moment (acknowledge stream e) (record { there = is.origin_is; ready = tt }) tt)
+        subst (ServedCall moment) (sym same) (called_at moment (commit_call stream e) (record { there = there; ready = never-out_of_order config c inv.flowing.streamed stream is e offered }) tt)
+    by_delivery moment e directed offered (Acking r brought kind same) = subst (ServedCall moment) (sym same) (called_at moment (ack_call stream e) (record { there = is.origin_is; ready = tt }) tt)
 
     pub carrier_served : (moment : ℕ) (directed : Directed) → Stage (Delivered config c stream) config.shards stream directed → ServedCall moment directed
     carrier_served moment directed (Pulling same) =

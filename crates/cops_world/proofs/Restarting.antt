@@ -23,13 +23,13 @@ use Rattle.cops_node.specs.declared.NodeCall.TheVariants as node_call
 use Rattle.cops_node.specs.declared.NodeReply.{NodeReply}
 use Rattle.cops_node.specs.declared.NodeReply.TheVariants.{Gone}
 use Rattle.cops_node.specs.declared.Wanted.TheVariants.{Latest, Exactly}
-use Rattle.cops_node.specs.Log.{LogStep, Replied, Directed, Next, Call, Restart, Ended, fault_in, first_fault}
-use Rattle.cops_node.specs.Place.{place_of, number_of}
+use Rattle.cops_node.specs.Log.{Call, Directed, Ended, LogStep, Next, Replied, Restart, fault_in, first_fault, replies_of}
+use Rattle.cops_node.specs.Place.{node_number, place_of}
 use Rattle.cops_node.specs.SoloNode.{SoloNode}
 use Rattle.cops_node.proofs.NodeTurns.{entries}
 use Rattle.cops_session.specs.declared.Answer.{Answer}
 use Rattle.cops_session.specs.declared.Answer.TheVariants as answer_is
-use Rattle.cops_session.specs.Request.{Action, Write, Fetch, Attempt, begins_again, attempt_of, replies_of, home_of, is_late, calls_of, call_or_answer, unless_fault, unless_late, complete, call_after, answer}
+use Rattle.cops_session.specs.Request.{Action, Attempt, Fetch, Write, answer, attempt_of, begins_again, call_after, call_or_answer, complete, is_late, key_home, request_calls, unless_fault, unless_late}
 use Rattle.cops_session.specs.Request as request
 use Rattle.cops_session.specs.Session.{Session, Running, obs_of, request_of, has_restarted, moment_at}
 use Rattle.cops_session.specs.Session as session
@@ -45,7 +45,7 @@ use Rattle.cops_world.specs.declared.acts.Act.TheVariants.{Step, Done}
 use Rattle.cops_world.specs.Causal.{Traced}
 use Rattle.cops_world.specs.Cluster.{SoloCluster, Actor, OfSession, OfCarrier, find_actor, find_session, session_in, call_node, reply_of_progress, reply_of_delivery, request_does, running_step, carrier_stepped, carrier_does, step_of, actor_step, goes_on, most_steps}
 use Rattle.cops_world.specs.Laws.{cluster_of, history_of}
-use Rattle.cops_world.specs.Restarts.{ActorStep, steps_from, steps_of, ends_attempt, start_of, attempt_start, has_passed, is_due, moment_in, moments_in, RestartsOnlyLate}
+use Rattle.cops_world.specs.Restarts.{ActorStep, RestartsOnlyLate, attempt_start, ends_attempt, ends_when_due, has_passed, moment_in, moments_in, steps_from, steps_of}
 use Rattle.cops_world.proofs.ActorsKeep.{actor_found, session_actor}
 use Rattle.cops_world.proofs.AfterActs.{after_acts}
 use Rattle.cops_world.proofs.Attempts.{Every-front, IsTimed, IsActorTimed, IsReadSince, NewerRecordsAreSince, reads_before, timed_kept, timed_at_first}
@@ -64,6 +64,7 @@ use Rattle.cops_world.proofs.Readiness.{session_ready, carrier_served, deps_here
 use Rattle.cops_world.proofs.Sound.{IsSound, sound_kept, sound_at_first}
 use Rattle.cops_world.proofs.StreamMoves.{stage_now, stream_is}
 use Rattle.cops_world.proofs.TracedIdle.{session_of}
+use Rattle.cops_session.specs.Reading.{first_moment}
 
 -- ---- what is gone was removed
 
@@ -132,11 +133,11 @@ module _ (config : TenantConfig) (some : 0 < config.shards) (c : SoloCluster) (t
     abbrev running_is : (running : Running) → s.running ≡ Some running → IsRunning config ts s running
     running_is = (session_of config c ts inv.traced name s found).running_is
 
-    starts_at : (running : Running) (steps : List LogStep) → s.running ≡ Some running → (attempt_of running.action running.log).steps ≡ steps → attempt_start name c ≡ start_of steps
+    starts_at : (running : Running) (steps : List LogStep) → s.running ≡ Some running → (attempt_of running.action running.log).steps ≡ steps → attempt_start name c ≡ first_moment steps
     starts_at running steps runs are =
-        ap (λ o. option_and_then (λ (r : Running). start_of (attempt_of r.action r.log).steps) (option_and_then (λ (s : Session). s.running) o)) found
-        ∙ ap (option_and_then (λ (r : Running). start_of (attempt_of r.action r.log).steps)) runs
-        ∙ ap start_of are
+        ap (λ o. option_and_then (λ (r : Running). first_moment (attempt_of r.action r.log).steps) (option_and_then (λ (s : Session). s.running) o)) found
+        ∙ ap (option_and_then (λ (r : Running). first_moment (attempt_of r.action r.log).steps)) runs
+        ∙ ap first_moment are
 
     -- the steps of an attempt ascend from its first
     ascending : (most : ℕ) → IsWithin config most c → (running : Running) → s.running ≡ Some running → IsAscending (attempt_of running.action running.log).steps s.moment
@@ -192,7 +193,7 @@ module _ (config : TenantConfig) (some : 0 < config.shards) (c : SoloCluster) (t
           is_gone : (version : Timestamp) × (q.wanted ≡ Exactly version) × (exact q.key version (node_of config c (home_in config s.dc q.key)).recs ≡ None)
           is_gone =
               let replied : (call_node config sent.node moment sent.call c).reply ≡ Gone now = ap (λ (d : Directed). (call_node config d.node moment d.call c).reply) (sym chosen.2) ∙ gone in
-              let is = get_gone (place_of config sent.node) moment q.key q.wanted (node_of config c (number_of config.shards sent.node)) now replied in
+              let is = get_gone (place_of config sent.node) moment q.key q.wanted (node_of config c (node_number config.shards sent.node)) now replied in
               (is.version, is.asked, is.missing)
 
           by_steps : (read : Read) → Among read (outdated (reads_of keys rs)) →
@@ -240,7 +241,7 @@ module _ (config : TenantConfig) (some : 0 < config.shards) (c : SoloCluster) (t
     other_fault : (running : Running) (moment : ℕ) (directed : Directed) → s.running ≡ Some running → request.next config (request_of s running) running.log moment ≡ Call directed → IsOther (fault_in directed.call (ReplyTo moment directed))
     other_fault running moment directed runs e =
         let ready = session_ready config some c ts inv name s found running moment directed runs e in
-        let n = number_of config.shards directed.node in
+        let n = node_number config.shards directed.node in
         let call = call_node config directed.node moment directed.call c in
         let called = call_changes config c directed.node moment directed.call ready.there inv.traced.sized in
         fault_other directed.call call.reply (reply_asked (place_of config directed.node) (node_of config c n) call.reply directed.call (node_of config call.after n) called.change ready.ready)
@@ -273,7 +274,7 @@ module _ (config : TenantConfig) (some : 0 < config.shards) (c : SoloCluster) (t
         running = run number context (Write key value) []
 
         sent : Directed
-        sent = record { node = home_of config s.dc key; call = node_call.Put key value (all_of (obs_of context s)) (near_of (obs_of context s)) }
+        sent = record { node = key_home config s.dc key; call = node_call.Put key value (all_of (obs_of context s)) (near_of (obs_of context s)) }
 
         first : request.next config (request_of s running) [] moment ≡ Call sent
         first = put-next config s.dc (obs_of context s) key value moment
@@ -285,7 +286,7 @@ module _ (config : TenantConfig) (some : 0 < config.shards) (c : SoloCluster) (t
         shows ends =
             let step : LogStep = record { moment = moment; outcome = Replied (ReplyTo moment sent) } in
             let ready = session_ready config some c ts inv name s found running moment sent runs first in
-            let n = number_of config.shards sent.node in
+            let n = node_number config.shards sent.node in
             let call = call_node config sent.node moment sent.call c in
             elim (ends_how (answer config (request_of s running) (step ∷ [])) false (attempt_of (Write key value) (step ∷ [])).restarts ends) [
               | inl never ↦ absurd (let both : false ≡ true = never in cc)
@@ -321,7 +322,7 @@ module _ (config : TenantConfig) (some : 0 < config.shards) (c : SoloCluster) (t
         let attempt = attempt_of running.action running.log in
         let replies = replies_of attempt.steps in
         let request = request_of s running in
-        let calls = calls_of config request replies running.action in
+        let calls = request_calls config request replies running.action in
         let late = late_test (is_late config.trans_time running.action attempt.steps moment) (call_after config request attempt)
         (calls_or_ends (nat_lt config.restarts attempt.restarts) (first_fault calls replies) (slice_get calls (length replies)) (complete config request replies running.action)) e in
         let first = first_late running.action attempt.steps moment late in
@@ -360,7 +361,7 @@ module _ (config : TenantConfig) (some : 0 < config.shards) (c : SoloCluster) (t
         let call = call_node config directed.node moment directed.call c in
         let step : LogStep = record { moment = moment; outcome = Replied call.reply } in
         let served = carrier_served config some c ts inv k.stream (stream_is config some c ts inv.flowing inv.traced name k found) moment directed (stage_now config some c ts inv.flowing inv.traced name k found directed e) in
-        let n = number_of config.shards directed.node in
+        let n = node_number config.shards directed.node in
         let called = call_changes config c directed.node moment directed.call served.calls.there inv.traced.sized in
         let other = fault_other directed.call call.reply (reply_asked (place_of config directed.node) (node_of config c n) call.reply directed.call (node_of config call.after n) called.change served.calls.ready) in
         stepped_never (carrier_after k step) (carrier.next config.shards k.stream (k.log ++ step ∷ [])) call.after (carrier_other config.shards k.stream k.log moment directed call.reply e other) ends
@@ -398,7 +399,7 @@ module _ (config : TenantConfig) (some : 0 < config.shards) where
     abbrev HasReached : SoloCluster → Type 0
     HasReached c = (most : ℕ) → AreUpTo config most moments → IsWithin config most c
 
-    one_due : (c : SoloCluster) (ts : List Traced) → Timed config c ts → HasReached c → is_due config moments (record { name = name; moment = moment; from = c }) ≡ true
+    one_due : (c : SoloCluster) (ts : List Traced) → Timed config c ts → HasReached c → ends_when_due config moments (record { name = name; moment = moment; from = c }) ≡ true
     one_due c ts inv reached = by_end (ends_attempt (actor_step config name moment c).reply) refl
       where
         passed : (due : IsDue config c name moment) → has_passed config.trans_time moments (Some due.start) ≡ true
@@ -416,18 +417,18 @@ module _ (config : TenantConfig) (some : 0 < config.shards) where
         by_end false ends = refl
         by_end true ends = let due = step_due config some c ts inv.0 inv.1 name moment ends in ap (has_passed config.trans_time moments) due.starts ∙ passed due
 
-    steps_due : (more : ℕ) (c : SoloCluster) (ts : List Traced) → Timed config c ts → HasReached c → list_all (is_due config moments) (steps_from more config name moment c) ≡ true
-    steps_due zero c ts inv reached = and_true (is_due config moments (record { name = name; moment = moment; from = c })) true (one_due c ts inv reached) refl
+    steps_due : (more : ℕ) (c : SoloCluster) (ts : List Traced) → Timed config c ts → HasReached c → list_all (ends_when_due config moments) (steps_from more config name moment c) ≡ true
+    steps_due zero c ts inv reached = and_true (ends_when_due config moments (record { name = name; moment = moment; from = c })) true (one_due c ts inv reached) refl
     steps_due (suc more) c ts inv reached =
         let turn = actor_step config name moment c in
         let later = steps_due more turn.after (history_after ts c name turn.reply) (actor_step_keeps timed_whole c ts name moment inv) (λ most low. actor_step_within config most c name moment (given most low) (reached most low)) in
-        and_true (is_due config moments (record { name = name; moment = moment; from = c })) _ (one_due c ts inv reached) (by_goes (goes_on turn.reply) (steps_from more config name moment turn.after) later)
+        and_true (ends_when_due config moments (record { name = name; moment = moment; from = c })) _ (one_due c ts inv reached) (by_goes (goes_on turn.reply) (steps_from more config name moment turn.after) later)
       where
-        by_goes : (b : Bool) (rest : List ActorStep) → list_all (is_due config moments) rest ≡ true → list_all (is_due config moments) (let steps : List ActorStep = elim b [ true ↦ rest | false ↦ [] ] in steps) ≡ true
+        by_goes : (b : Bool) (rest : List ActorStep) → list_all (ends_when_due config moments) rest ≡ true → list_all (ends_when_due config moments) (let steps : List ActorStep = elim b [ true ↦ rest | false ↦ [] ] in steps) ≡ true
         by_goes true rest later = later
         by_goes false rest later = refl
 
-  act_due : (before : List Act) (act : Act) → list_all (is_due config (moments_in (before ++ act ∷ []))) (steps_of config act (cluster_of config before)) ≡ true
+  act_due : (before : List Act) (act : Act) → list_all (ends_when_due config (moments_in (before ++ act ∷ []))) (steps_of config act (cluster_of config before)) ≡ true
   act_due before act = by_act act refl
     where
       moments : List ℕ
@@ -436,12 +437,12 @@ module _ (config : TenantConfig) (some : 0 < config.shards) where
       split : (most : ℕ) → AreUpTo config most moments → AreUpTo config most (moments_in before) × AreUpTo config most (moments_in (act ∷ []))
       split most low = Every-front (λ (m : ℕ). m ≤ most) (moments_in before) (moments_in (act ∷ [])) (subst (AreUpTo config most) (filter_map-append moment_in before (act ∷ [])) low)
 
-      due : (more : ℕ) (name : List ℕ) (moment : ℕ) → ((most : ℕ) → AreUpTo config most (moments_in (act ∷ [])) → moment ≤ most) → list_all (is_due config moments) (steps_from more config name moment (cluster_of config before)) ≡ true
+      due : (more : ℕ) (name : List ℕ) (moment : ℕ) → ((most : ℕ) → AreUpTo config most (moments_in (act ∷ [])) → moment ≤ most) → list_all (ends_when_due config moments) (steps_from more config name moment (cluster_of config before)) ≡ true
       due more name moment given =
           steps_due moments name moment (λ most low. given most (split most low).1) more (cluster_of config before) (history_of config before)
           (after_acts timed_whole before (sound_at_first config some, timed_at_first config)) (λ most low. all_within config most before (split most low).0)
 
-      by_act : (a : Act) → act ≡ a → list_all (is_due config moments) (steps_of config a (cluster_of config before)) ≡ true
+      by_act : (a : Act) → act ≡ a → list_all (ends_when_due config moments) (steps_of config a (cluster_of config before)) ≡ true
       by_act (Step name moment) is = due 0 name moment (λ most low. (subst (λ a. AreUpTo config most (moments_in (a ∷ []))) is low).0)
       by_act (Done name moment) is = due (most_steps config) name moment (λ most low. (subst (λ a. AreUpTo config most (moments_in (a ∷ []))) is low).0)
       by_act a is = refl

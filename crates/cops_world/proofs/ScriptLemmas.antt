@@ -30,7 +30,7 @@ use Rattle.cops_world.specs.Acting.{IsNew, HasActed}
 use Rattle.cops_world.specs.declared.scripts.HeadSoFar.{HeadSoFar}
 use Rattle.cops_world.specs.HeadRules.{HeadAnswers, IsHeadAt}
 use Rattle.cops_world.specs.ScriptRules.{IsAnswered, line_answers, line_refuses, end_answers, end_refuses, script_rules}
-use Rattle.cops_world.specs.ScriptRuns.{Answers, AreAnswered, acts_in, addressee, events_of, is_lack, named_in, replies_in, replies_to, AreSpared, text_of, text_in, WritesScript, WritesFront}
+use Rattle.cops_world.specs.ScriptRuns.{AddressedReplies, AreAnswered, AreSpared, WritesFront, WritesScript, acts_in, addressee, events_of, is_lack, named_in, replies_in, replies_to, text_in, text_of}
 use Rattle.cops_world.proofs.AnswersTo.{IsThere, said_in-there, new_at, answers_to-from}
 use Rattle.cops_world.proofs.CutLemmas.{said_in-cut}
 use Rattle.cops_world.proofs.Fronts.{ActsAreTold, KeepsActs, KeepsFronts, act_keeps, act_keeps_acts, answers_to-along, named_by, no_replies, nobody_keeps, nobody_keeps_acts, replies_along, said_in-named, unformed_keeps, unformed_keeps_acts}
@@ -53,7 +53,7 @@ module _ {W : Type 0} (setup : W → Config) (StandsFor : W → ℕ → SoloClus
 
   -- answers that were given, one after another
   pub record AreGiven (config : Config) (old : W) (lines : List (List ℕ)) (text : List ℕ) (new : W) : Type 0 where
-    pub told : Answers
+    pub told : AddressedReplies
     pub each : length told ≡ length lines
     pub whole : text ≡ text_of config.tenants told
     pub same : setup new ≡ config
@@ -215,7 +215,7 @@ module _ {W : Type 0} (setup : W → Config) (StandsFor : W → ℕ → SoloClus
 
   -- the answers after the head are the definition's, and go on as it does
   pub given_right : (config : Config) (world : W) (rest : List (List ℕ)) (text : List ℕ) (new : W) → IsNew setup StandsFor config world → (p : AreGiven config world rest text new) → AreSpared p.told →
-      (others : List (List ℕ)) → (more : Answers) × (answers_to config (rest ++ others) ≡ p.told ++ more)
+      (others : List (List ℕ)) → (more : AddressedReplies) × (answers_to config (rest ++ others) ≡ p.told ++ more)
   given_right config world rest text new fresh p spared others =
       let found = p.right spared (new_at config) (stands_new config world fresh) in
       (answers_from (config_at config) (map (said_in config.tenants) others) found.0, answers_to-from config (rest ++ others) ∙ found.2 others)

@@ -12,19 +12,19 @@ use Rattle.cops_node.specs.declared.NodeCall.TheVariants as node_call
 use Rattle.cops_node.specs.declared.NodeId.{NodeId}
 use Rattle.cops_node.specs.declared.NodeReply.{NodeReply}
 use Rattle.cops_node.specs.Log.{LogStep, Late, Replied, Directed, Next, Call, Restart}
-use Rattle.cops_node.specs.Place.{place_of, number_of}
+use Rattle.cops_node.specs.Place.{node_number, place_of}
 use Rattle.cops_node.specs.SoloNode.{SoloNode, new_node}
 use Rattle.cops_node.specs.Step.{node_step}
 use Rattle.cops_session.specs.declared.Answer.{Answer}
 use Rattle.cops_session.specs.declared.Answer.TheVariants as answer_is
 use Rattle.cops_session.specs.declared.Progress.{Progress}
 use Rattle.cops_session.specs.declared.Progress.TheVariants as session_progress
-use Rattle.cops_session.specs.Request.{Action, Write, Fetch, home_of, next, answer, call_after, is_late, attempt_of}
+use Rattle.cops_session.specs.Request.{Action, Fetch, Write, answer, attempt_of, call_after, is_late, key_home, next}
 use Rattle.cops_session.specs.Session.{Session, Running, new_session, obs_of, request_of, request_begun, context_created, context_deleted, session_after}
 use Rattle.cops_session.specs.Session as session
 use Rattle.cops_repl.specs.declared.Progress.{Progress as CarrierProgress}
 use Rattle.cops_repl.specs.declared.Progress.TheVariants as carrier_progress
-use Rattle.cops_repl.specs.Carrier.{Carrier, Stream, new_carrier, carrier_after, calls_of}
+use Rattle.cops_repl.specs.Carrier.{Carrier, Stream, carrier_after, new_carrier, stream_calls}
 use Rattle.cops_repl.specs.Carrier as carrier
 use Rattle.cops_world.specs.Causal.{Traced}
 use Rattle.cops_world.specs.Cluster.{SoloCluster, Actor, OfSession, OfCarrier, new_cluster, find_actor, find_session, with_actor, with_new_actor, call_node, session_stepped, carrier_stepped, has_node}
@@ -53,7 +53,7 @@ IsExpectedEntry e = is_expected_of_node e.reply ≡ true
 
 abbrev pub IsActorFine : TenantConfig → List ℕ → Actor → Type 0
 IsActorFine config name (OfSession s) = (running : Running) → s.running ≡ Some running → RepliesAreFine running.action running.log
-IsActorFine config name (OfCarrier k) = Zipped (IsFineStep config.shards k.stream) (calls_of config.shards k.stream (carrier_replies k.log)) (carrier_replies k.log)
+IsActorFine config name (OfCarrier k) = Zipped (IsFineStep config.shards k.stream) (stream_calls config.shards k.stream (carrier_replies k.log)) (carrier_replies k.log)
 
 pub record IsServed (config : TenantConfig) (c : SoloCluster) (ts : List Traced) : Type 0 where
   pub trails : (n : ℕ) → AllByRecursion IsExpectedEntry (node_of config c n).trail
@@ -81,7 +81,7 @@ module _ (config : TenantConfig) (c : SoloCluster) (id : NodeId) (moment : ℕ) 
       ]
     where
       number : ℕ
-      number = number_of config.shards id
+      number = node_number config.shards id
 
       default : SoloNode
       default = new_node config.data_centres
@@ -113,7 +113,7 @@ module _ (config : TenantConfig) (c : SoloCluster) (ts : List Traced) (inv : IsS
   served_called =
       record {
         trails = trails_called config c directed.node moment directed.call
-            (reply_expected (place_of config directed.node) (node_of config c (number_of config.shards directed.node)) reply_to directed.call (node_of config after_it (number_of config.shards directed.node)) called.change calls.ready) served.trails;
+            (reply_expected (place_of config directed.node) (node_of config c (node_number config.shards directed.node)) reply_to directed.call (node_of config after_it (node_number config.shards directed.node)) called.change calls.ready) served.trails;
         actors = served.actors;
       }
 
@@ -160,7 +160,7 @@ module _ (config : TenantConfig) (some : 0 < config.shards) (c : SoloCluster) (t
     abbrev CalledTurn : Running → ℕ → Directed → Type 0
     CalledTurn running moment directed = FineTurn config s running (record { moment = moment; outcome = Replied (call_node config directed.node moment directed.call c).reply })
 
-    put_answers : (context : ℕ) (key value : List ℕ) (moment : ℕ) (solo after : SoloNode) (reply : NodeReply) → Change (place_of config (home_of config s.dc key)) (node_call.Put key value (all_of (obs_of context s)) (near_of (obs_of context s))) solo reply after →
+    put_answers : (context : ℕ) (key value : List ℕ) (moment : ℕ) (solo after : SoloNode) (reply : NodeReply) → Change (place_of config (key_home config s.dc key)) (node_call.Put key value (all_of (obs_of context s)) (near_of (obs_of context s))) solo reply after →
         (a : Answer) → answer config (record { dc = s.dc; obs = obs_of context s; action = Write key value }) (record { moment = moment; outcome = Replied reply } ∷ []) ≡ Some a → IsFineAnswer a
     put_answers context key value moment solo after reply (IsRefused same acked is) a e =
         let refused = put-refused config s.dc (obs_of context s) key value moment is.0 in
@@ -178,10 +178,10 @@ module _ (config : TenantConfig) (some : 0 < config.shards) (c : SoloCluster) (t
     put_turn : (number context : ℕ) (key value : List ℕ) (moment : ℕ) (directed : Directed) → s.running ≡ Some (run number context (Write key value) []) →
         next config (request_of s (run number context (Write key value) [])) [] moment ≡ Call directed → CalledTurn (run number context (Write key value) []) moment directed
     put_turn number context key value moment directed runs e =
-        let sent : Directed = record { node = home_of config s.dc key; call = node_call.Put key value (all_of (obs_of context s)) (near_of (obs_of context s)) } in
+        let sent : Directed = record { node = key_home config s.dc key; call = node_call.Put key value (all_of (obs_of context s)) (near_of (obs_of context s)) } in
         let ready = session_ready config some c ts inv name s found (run number context (Write key value) []) moment sent runs (put-next config s.dc (obs_of context s) key value moment) in
         let turn = call_node config sent.node moment sent.call c in
-        let n = number_of config.shards sent.node in
+        let n = node_number config.shards sent.node in
         let same : sent ≡ directed = (let both : Call sent ≡ Call directed = sym (put-next config s.dc (obs_of context s) key value moment) ∙ e in cc) in
         subst (CalledTurn (run number context (Write key value) []) moment) same (record {
           replies = tt;
@@ -193,10 +193,10 @@ module _ (config : TenantConfig) (some : 0 < config.shards) (c : SoloCluster) (t
     get_turn number context keys log moment directed runs e =
         let chosen = get-next config s.dc (obs_of context s) keys log moment directed e in
         let q = chosen.asked in
-        let sent : Directed = record { node = home_of config s.dc q.key; call = node_call.Get q.key q.wanted } in
+        let sent : Directed = record { node = key_home config s.dc q.key; call = node_call.Get q.key q.wanted } in
         let ready = session_ready config some c ts inv name s found (run number context (Fetch keys) log) moment sent runs (e ∙ ap Call chosen.call) in
         let turn = call_node config sent.node moment sent.call c in
-        let n = number_of config.shards sent.node in
+        let n = node_number config.shards sent.node in
         let new : IsFineReply q turn.reply = fault_fine sent.call turn.reply (reply_asked (place_of config sent.node) (node_of config c n) turn.reply sent.call (node_of config turn.after n) (called config c ts inv served moment sent ready).change ready.ready) in
         let step : LogStep = record { moment = moment; outcome = Replied turn.reply } in
         let are : RepliesAreFine (Fetch keys) (log ++ step ∷ []) = get-stepped IsFineReply keys log moment turn.reply q (fine_before (run number context (Fetch keys) log) runs) chosen.at new in

@@ -14,12 +14,12 @@ use Rattle.cops_node.specs.declared.NodeCall.TheVariants as node_call
 use Rattle.cops_node.specs.declared.NodeId.{NodeId}
 use Rattle.cops_node.specs.declared.NodeReply.{NodeReply}
 use Rattle.cops_node.specs.Log.{Directed}
-use Rattle.cops_node.specs.Place.{place_of, number_of, own_number}
+use Rattle.cops_node.specs.Place.{node_number, own_number, place_of}
 use Rattle.cops_node.specs.SoloNode.{new_node}
 use Rattle.cops_repl.specs.declared.Progress.{Progress}
 use Rattle.cops_repl.specs.declared.Progress.TheVariants as carrier_progress
-use Rattle.cops_repl.specs.Carrier.{Carrier, Stream, pull, check, commit, acknowledge}
-use Rattle.cops_session.specs.Request.{home_of}
+use Rattle.cops_repl.specs.Carrier.{Carrier, Stream, ack_call, check, commit_call, pull}
+use Rattle.cops_session.specs.Request.{key_home}
 use Rattle.cops_world.specs.declared.acts.Act.{Act}
 use Rattle.cops_world.specs.Causal.{Traced}
 use Rattle.cops_world.specs.Cluster.{SoloCluster, new_cluster, has_node, call_node, carrier_stepped}
@@ -52,15 +52,15 @@ abbrev pub AreEquivalent : TenantConfig → SoloCluster → List Traced → Type
 AreEquivalent config c ts = (n : ℕ) → AllByRecursion (IsEquivalent config n) (entries (node_of config c n))
 
 equivalent_called : (config : TenantConfig) (c after : SoloCluster) (id : NodeId) (call : NodeCall) (reply : NodeReply) → Called config c id call reply after → (ts : List Traced) → AreEquivalent config c ts →
-    ((e : Entry) → Stores (place_of config id) call (node_of config c (number_of config.shards id)) reply e → IsEquivalent config (number_of config.shards id) e) → AreEquivalent config after ts
+    ((e : Entry) → Stores (place_of config id) call (node_of config c (node_number config.shards id)) reply e → IsEquivalent config (node_number config.shards id) e) → AreEquivalent config after ts
 equivalent_called config c after id call reply called ts old new n =
-    elim (eqb_tells n (number_of config.shards id)) [
+    elim (eqb_tells n (node_number config.shards id)) [
       | inr other ↦ subst (λ solo. AllByRecursion (IsEquivalent config n) (entries solo)) (sym (called.others n other.1)) (old n)
       | inl here ↦ subst (λ m. AllByRecursion (IsEquivalent config m) (entries (node_of config after m))) (sym here.1) (by_change called.change)
     ]
   where
     number : ℕ
-    number = number_of config.shards id
+    number = node_number config.shards id
 
     by_change : Change (place_of config id) call (node_of config c number) reply (node_of config after number) → AllByRecursion (IsEquivalent config number) (entries (node_of config after number))
     by_change (IsRefused same acked is) = subst (AllByRecursion (IsEquivalent config number)) (sym same) (old number)
@@ -68,14 +68,14 @@ equivalent_called config c after id call reply called ts old new n =
     by_change (Joined e more acked is) = subst (AllByRecursion (IsEquivalent config number)) (sym more) (Every-append (IsEquivalent config number) (entries (node_of config c number)) (e ∷ []) (old number) (new e is, tt))
     by_change (Taken same is) = subst (AllByRecursion (IsEquivalent config number)) (sym same) (old number)
 
-shard_is : (config : TenantConfig) (id : NodeId) → has_node config id.dc id.shard ≡ true → number_of config.shards id % config.shards ≡ id.shard
+shard_is : (config : TenantConfig) (id : NodeId) → has_node config id.dc id.shard ≡ true → node_number config.shards id % config.shards ≡ id.shard
 shard_is config id there =
     let e : nat_lt id.shard config.shards ≡ true = and_right (nat_lt id.dc config.data_centres) (nat_lt id.shard config.shards) there in
     let below : id.shard < config.shards = grind (arith, nat_tests) in
     mod-mul-add id.dc config.shards id.shard below
 
 -- of a node with this number, of the data centre and the shard of the id
-at_id : (config : TenantConfig) (id origin : NodeId) (e : Entry) → has_node config id.dc id.shard ≡ true → nat_lt origin.dc config.data_centres ≡ true → origin.shard ≡ id.shard → e.version.node ≡ number_of config.shards origin → shard_of e.key config.shards ≡ id.shard → IsEquivalent config (number_of config.shards id) e
+at_id : (config : TenantConfig) (id origin : NodeId) (e : Entry) → has_node config id.dc id.shard ≡ true → nat_lt origin.dc config.data_centres ≡ true → origin.shard ≡ id.shard → e.version.node ≡ node_number config.shards origin → shard_of e.key config.shards ≡ id.shard → IsEquivalent config (node_number config.shards id) e
 at_id config id origin e there within same is home =
     record { dc = origin.dc; within = within; issued_at = is ∙ ap (λ s. origin.dc * config.shards + s) (same ∙ sym (shard_is config id there)); home = home ∙ sym (shard_is config id there) }
 
@@ -85,18 +85,18 @@ Before config = Both (Both (IsTraced config) (IsFlowing config)) (AreEquivalent 
 module _ (config : TenantConfig) (some : 0 < config.shards) (c : SoloCluster) (ts : List Traced) (inv : Before config c ts) where
   by_session : (dc : ℕ) → nat_lt dc config.data_centres ≡ true → (moment : ℕ) (directed : Directed) → IsSessionCall config dc directed → AreEquivalent config (call_node config directed.node moment directed.call c).after ts
   by_session dc placed moment directed (IsPutCall key value deps near is) =
-      let home = home_of config dc key in
+      let home = key_home config dc key in
       let sent : Directed = record { node = home; call = node_call.Put key value deps near } in
       let turn = call_node config home moment sent.call c in
       let there = home-there config dc key some placed in
-      let solo = node_of config c (number_of config.shards home) in
+      let solo = node_of config c (node_number config.shards home) in
       subst (λ (d : Directed). AreEquivalent config (call_node config d.node moment d.call c).after ts) (sym is)
       (equivalent_called config c turn.after home sent.call turn.reply (call_changes config c home moment sent.call there inv.0.0.sized) ts inv.1 (λ e stores.
       at_id config home home e there placed refl
       (ap (λ (f : Entry). f.version.node) stores.3 ∙ (next-above (clock config.first_clock solo.recs) (greatest_clock deps) (own_number (place_of config home)) stores.0 stores.2).1)
       (ap (λ (f : Entry). shard_of f.key config.shards) stores.3)))
   by_session dc placed moment directed (IsGetCall key wanted is) =
-      let home = home_of config dc key in
+      let home = key_home config dc key in
       let sent : Directed = record { node = home; call = node_call.Get key wanted } in
       let turn = call_node config home moment sent.call c in
       subst (λ (d : Directed). AreEquivalent config (call_node config d.node moment d.call c).after ts) (sym is)
@@ -104,7 +104,7 @@ module _ (config : TenantConfig) (some : 0 < config.shards) (c : SoloCluster) (t
 
   -- what the calls of a carrier leave, if what they store is equivalent
   called_at : (moment : ℕ) (directed : Directed) → has_node config directed.node.dc directed.node.shard ≡ true →
-      ((reply : NodeReply) (e : Entry) → Stores (place_of config directed.node) directed.call (node_of config c (number_of config.shards directed.node)) reply e → IsEquivalent config (number_of config.shards directed.node) e) →
+      ((reply : NodeReply) (e : Entry) → Stores (place_of config directed.node) directed.call (node_of config c (node_number config.shards directed.node)) reply e → IsEquivalent config (node_number config.shards directed.node) e) →
       AreEquivalent config (call_node config directed.node moment directed.call c).after ts
   called_at moment directed there new =
       let turn = call_node config directed.node moment directed.call c in
@@ -126,11 +126,11 @@ module _ (config : TenantConfig) (some : 0 < config.shards) (c : SoloCluster) (t
     by_delivery moment e directed offered (Committing near same) =
         let end : NodeId = record { dc = stream.to_dc; shard = stream.origin.shard } in
         let there : has_node config stream.to_dc stream.origin.shard ≡ true = and_true (nat_lt stream.to_dc config.data_centres) (nat_lt stream.origin.shard config.shards) is.to_is (and_right (nat_lt stream.origin.dc config.data_centres) (nat_lt stream.origin.shard config.shards) is.origin_is) in
-        subst (WellAt moment) (sym same) (called_at moment (commit stream e) there (λ reply f stores.
+        subst (WellAt moment) (sym same) (called_at moment (commit_call stream e) there (λ reply f stores.
         at_id config end stream.origin f there (and_left (nat_lt stream.origin.dc config.data_centres) (nat_lt stream.origin.shard config.shards) is.origin_is) refl
         (ap (λ (g : Entry). g.version.node) stores.1 ∙ of_origin-node (origin_of config stream) (entries (node_of config c (origin_of config stream))) offered.place e offered.at)
         (ap (λ (g : Entry). shard_of g.key config.shards) stores.1 ∙ at_origin e offered)))
-    by_delivery moment e directed offered (Acking r brought kind same) = subst (WellAt moment) (sym same) (called_at moment (acknowledge stream e) is.origin_is (λ reply f stores. absurd stores))
+    by_delivery moment e directed offered (Acking r brought kind same) = subst (WellAt moment) (sym same) (called_at moment (ack_call stream e) is.origin_is (λ reply f stores. absurd stores))
 
     by_stage : (moment : ℕ) (directed : Directed) → Stage (Delivered config c stream) config.shards stream directed → WellAt moment directed
     by_stage moment directed (Pulling same) = subst (WellAt moment) (sym same) (called_at moment (pull stream) is.origin_is (λ reply f stores. absurd stores))

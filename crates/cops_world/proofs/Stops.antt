@@ -15,7 +15,7 @@ use Rattle.cops_session.specs.declared.Answer.{Answer}
 use Rattle.cops_session.specs.declared.Answer.TheVariants as answer
 use Rattle.cops_session.specs.declared.Progress.{Progress}
 use Rattle.cops_session.specs.declared.Progress.TheVariants as session_progress
-use Rattle.cops_session.specs.Kept.{Kept as KeptSession}
+use Rattle.cops_session.specs.Kept.{KeptSession}
 use Rattle.cops_session.specs.Request.{next}
 use Rattle.cops_session.specs.Session.{OpenContext, Running, Session, context_extended, has_restarted, moment_after, moment_at, request_of, session_after}
 use Rattle.cops_session.specs.Session as session
@@ -26,14 +26,14 @@ use Rattle.cops_repl.specs.declared.Progress.{Progress as CarrierProgress}
 use Rattle.cops_repl.specs.declared.Progress.TheVariants as carrying
 use Rattle.cops_repl.specs.Carrier.{Carrier, carrier_after}
 use Rattle.cops_repl.specs.Carrier as carrier
-use Rattle.cops_repl.specs.Stands.{Kept as KeptCarrier, is_done}
+use Rattle.cops_repl.specs.Stands.{KeptCarrier, is_done}
 use Rattle.cops_world.specs.declared.actors.Actor.{Actor as Kept}
 use Rattle.cops_world.specs.declared.actors.Actor.TheVariants as kept
 use Rattle.cops_world.specs.declared.actors.Stepped.{Stepped}
 use Rattle.cops_world.specs.declared.replies.Reply.{Reply}
 use Rattle.cops_world.specs.declared.replies.Reply.TheVariants.{Refused}
 use Rattle.cops_world.specs.ActorsStand.{ActorSteps, CarrierSteps, SessionSteps, NodesTurn, IsAfter, StepsCluster, reply_of_carrying}
-use Rattle.cops_world.specs.Cluster.{SoloCluster, Turn, Actor, OfSession, OfCarrier, find_actor, session_in, with_actor, without_actor, call_node, request_does, running_step, carrier_does, carrier_step, carrier_stepped, step_of, reply_of_progress}
+use Rattle.cops_world.specs.Cluster.{ActEffect, Actor, OfCarrier, OfSession, SoloCluster, call_node, carrier_does, carrier_step, carrier_stepped, find_actor, reply_of_progress, request_does, running_step, session_in, step_of, with_actor, without_actor}
 use Rattle.cops_world.specs.Events.{is_out_of_memory}
 use Rattle.cops_world.specs.Lacks.{ActorStops, CarrierStops, SessionStops, StepStops, moment_of}
 use Rattle.cops_world.proofs.ActorMoves.{found_again}
@@ -76,7 +76,7 @@ module _ (config : TenantConfig) (name : List ℕ) (before : SoloCluster) (nodes
   -- ---- sessions
 
   module _ (s : Session) (running : Running) (kept_after : KeptSession) (reply : Reply) (runs : s.running ≡ Some running) (found : find_actor name before ≡ Some (OfSession s)) (lack : is_out_of_memory reply ≡ true) where
-    abbrev Stopped : Turn → Type 0
+    abbrev Stopped : ActEffect → Type 0
     Stopped turn = (after : SoloCluster) × SessionStops turn name moment s before after
         × StepsCluster config name before nodes (record { reply = reply; after = after }) (record { reply = reply; is_over = false }) (kept.OfSession kept_after)
 
@@ -99,7 +99,7 @@ module _ (config : TenantConfig) (name : List ℕ) (before : SoloCluster) (nodes
         by_shown (session_progress.Restarted times) = refl
         by_shown (session_progress.Done ended) = refl
 
-    session_stops : (turn : Turn) (step : LogStep) (shown : Progress) → reply ≡ reply_of_progress shown → HasStepped config s running step shown kept_after →
+    session_stops : (turn : ActEffect) (step : LogStep) (shown : Progress) → reply ≡ reply_of_progress shown → HasStepped config s running step shown kept_after →
         ((nodes ≡ before.nodes) × (moment_after running step ≡ at)) ⊎ ((nodes ≡ turn.after.nodes) × (moment_of name turn.after ≡ Some (moment_after running step))) → Stopped turn
     session_stops turn step shown is stepped called =
         let stopped : Session = record s { moment = moment_after running step; running = None } in
@@ -117,7 +117,7 @@ module _ (config : TenantConfig) (name : List ℕ) (before : SoloCluster) (nodes
         Stopped (request_does config name s running at before n)
     request_stops shown is (Call d) (answered, made, stepped) = by_turn made
       where
-        turn : Turn
+        turn : ActEffect
         turn = request_does config name s running at before (Call d)
 
         step : NodeReply → LogStep

@@ -13,14 +13,14 @@ use Rattle.cops_node.specs.declared.NodeId.{NodeId}
 use Rattle.cops_node.specs.declared.NodeReply.{NodeReply}
 use Rattle.cops_node.specs.declared.NodeReply.TheVariants.{Checked, Committed, Already}
 use Rattle.cops_node.specs.Log.{LogStep, Replied, Directed, Call}
-use Rattle.cops_node.specs.Place.{place_of, number_of}
-use Rattle.cops_node.specs.SoloNode.{SoloNode, queue, front}
+use Rattle.cops_node.specs.Place.{node_number, place_of}
+use Rattle.cops_node.specs.SoloNode.{SoloNode, queue}
 use Rattle.cops_node.specs.Step.{was_committed, reply_pull}
 use Rattle.cops_repl.specs.declared.Progress.{Progress}
 use Rattle.cops_repl.specs.declared.Progress.TheVariants as carrier_progress
-use Rattle.cops_repl.specs.Carrier.{Carrier, Stream, new_carrier, carrier_after, pair_of_entry, calls_of, pull, check, commit, acknowledge}
+use Rattle.cops_repl.specs.Carrier.{Carrier, Stream, ack_call, carrier_after, check, commit_call, new_carrier, pair_of_entry, pull, stream_calls}
 use Rattle.cops_repl.specs.Carrier as carrier
-use Rattle.cops_session.specs.Request.{Action, Write, Fetch, home_of, next}
+use Rattle.cops_session.specs.Request.{Action, Fetch, Write, key_home, next}
 use Rattle.cops_session.specs.Session.{Session, Running, obs_of, request_of}
 use Rattle.cops_world.specs.Causal.{Traced}
 use Rattle.cops_world.specs.Cluster.{SoloCluster, Actor, OfSession, OfCarrier, find_actor, with_actor, with_new_actor, without_actor, has_node, call_node, carrier_stepped}
@@ -47,12 +47,13 @@ use Rattle.cops_world.proofs.AfterActs.{after_acts}
 use Rattle.cops_world.proofs.Past.{traced_kept, traced_at_first, new_nodes}
 use Rattle.cops_world.proofs.Streams.{DeliveredBy, Delivered, OnStream, IsFlowing, committed-grown, offered-grown, arrived-grown, still_at, carriers_called, carriers_same, put-joins, on_stream-grown}
 use Rattle.std.proofs.lemmas.Bool.Decides.{leb_tells}
+use Rattle.cops_outbox.specs.Queues.{front}
 
 -- ---- the calls of sessions
 
 pub data IsSessionCall (config : TenantConfig) (dc : ℕ) (directed : Directed) : Type 0 where
-  IsPutCall : (key value : List ℕ) (deps near : List Pair) → directed ≡ record { node = home_of config dc key; call = node_call.Put key value deps near } → IsSessionCall config dc directed
-  IsGetCall : (key : List ℕ) (wanted : Wanted) → directed ≡ record { node = home_of config dc key; call = node_call.Get key wanted } → IsSessionCall config dc directed
+  IsPutCall : (key value : List ℕ) (deps near : List Pair) → directed ≡ record { node = key_home config dc key; call = node_call.Put key value deps near } → IsSessionCall config dc directed
+  IsGetCall : (key : List ℕ) (wanted : Wanted) → directed ≡ record { node = key_home config dc key; call = node_call.Get key wanted } → IsSessionCall config dc directed
 
 abbrev run : ℕ → ℕ → Action → List LogStep → Running
 run number context action log = record { number = number; context = context; action = action; log = log }
@@ -60,7 +61,7 @@ run number context action log = record { number = number; context = context; act
 called_by : (config : TenantConfig) (ts : List Traced) (s : Session) (number context : ℕ) (action : Action) (log : List LogStep) (moment : ℕ) (directed : Directed) → IsRunning config ts s (run number context action log) →
     next config (request_of s (run number context action log)) log moment ≡ Call directed → IsSessionCall config s.dc directed
 called_by config ts s number context (Write key value) log moment directed is e =
-    let sent : Directed = record { node = home_of config s.dc key; call = node_call.Put key value (all_of (obs_of context s)) (near_of (obs_of context s)) } in
+    let sent : Directed = record { node = key_home config s.dc key; call = node_call.Put key value (all_of (obs_of context s)) (near_of (obs_of context s)) } in
     let at_start = subst (λ l. next config (request_of s (run number context (Write key value) l)) l moment ≡ Call directed) is.replies_are e in
     let same : sent ≡ directed = (let both : Call sent ≡ Call directed = sym (put-next config s.dc (obs_of context s) key value moment) ∙ at_start in cc) in
     IsPutCall key value (all_of (obs_of context s)) (near_of (obs_of context s)) (sym same)
@@ -91,20 +92,20 @@ module _ (config : TenantConfig) (some : 0 < config.shards) (c : SoloCluster) (t
 
   -- a call that stores nothing and takes nothing
   pub flowing-called : (after : SoloCluster) (id : NodeId) (call : NodeCall) (reply : NodeReply) → Called config c id call reply after →
-      ((e : Entry) → Stores (place_of config id) call (node_of config c (number_of config.shards id)) reply e → MayJoin config c (number_of config.shards id) e) →
-      ((acked : List ℕ) → Takes (place_of config id) call (node_of config c (number_of config.shards id)) reply acked → (dc : ℕ) → slice_index acked dc ≤ length (held config c (dc * config.shards + number_of config.shards id % config.shards) (number_of config.shards id))) →
+      ((e : Entry) → Stores (place_of config id) call (node_of config c (node_number config.shards id)) reply e → MayJoin config c (node_number config.shards id) e) →
+      ((acked : List ℕ) → Takes (place_of config id) call (node_of config c (node_number config.shards id)) reply acked → (dc : ℕ) → slice_index acked dc ≤ length (held config c (dc * config.shards + node_number config.shards id % config.shards) (node_number config.shards id))) →
       IsFlowing config after ts
   flowing-called after id call reply called joins takes = record { streamed = streamed_called called inv.streamed joins takes; carriers = carriers_called called inv.carriers }
 
   pub flowing-session_called : IsTraced config c ts → (dc : ℕ) → nat_lt dc config.data_centres ≡ true → (moment : ℕ) (directed : Directed) → IsSessionCall config dc directed → IsFlowing config (call_node config directed.node moment directed.call c).after ts
   flowing-session_called traced dc placed moment directed (IsPutCall key value deps near is) =
-      let sent : Directed = record { node = home_of config dc key; call = node_call.Put key value deps near } in
+      let sent : Directed = record { node = key_home config dc key; call = node_call.Put key value deps near } in
       let after = call_node config sent.node moment sent.call c in
       subst (λ (d : Directed). IsFlowing config (call_node config d.node moment d.call c).after ts) (sym is)
       (flowing-called after.after sent.node sent.call after.reply (call_changes config c sent.node moment sent.call (home-there config dc key some placed) traced.sized)
       (λ e stores. put-joins config c inv.streamed sent.node key value deps near after.reply e stores) (λ acked takes. absurd takes))
   flowing-session_called traced dc placed moment directed (IsGetCall key wanted is) =
-      let sent : Directed = record { node = home_of config dc key; call = node_call.Get key wanted } in
+      let sent : Directed = record { node = key_home config dc key; call = node_call.Get key wanted } in
       let after = call_node config sent.node moment sent.call c in
       subst (λ (d : Directed). IsFlowing config (call_node config d.node moment d.call c).after ts) (sym is)
       (flowing-called after.after sent.node sent.call after.reply (call_changes config c sent.node moment sent.call (home-there config dc key some placed) traced.sized)
@@ -132,7 +133,7 @@ module _ (config : TenantConfig) (some : 0 < config.shards) (c : SoloCluster) (t
     pull_delivers reply after called = by_change called.change
       where
         number : ℕ
-        number = number_of config.shards k.stream.origin
+        number = node_number config.shards k.stream.origin
 
         by_front : (o : Option Entry) → front (queue (place_of config k.stream.origin) k.stream.to_dc (node_of config c number)) ≡ o → DeliveredBy config after k.stream (node_call.Pull k.stream.to_dc) (reply_pull o)
         by_front (Some e) is = offered-grown config c after (entries_grow called) k.stream e (pulled-offered config c inv.streamed k.stream stream_is e is)
@@ -149,7 +150,7 @@ module _ (config : TenantConfig) (some : 0 < config.shards) (c : SoloCluster) (t
     check_delivers near reply after called = by_change called.change
       where
         number : ℕ
-        number = number_of config.shards (check config.shards k.stream near).node
+        number = node_number config.shards (check config.shards k.stream near).node
 
         by_was : (b : Bool) → was_committed near.version (node_of config c number) ≡ b → DeliveredBy config after k.stream (node_call.DepCheck near.key near.version) (Checked b)
         by_was true is = committed-grown config c after (entries_grow called) number near.version is
@@ -161,7 +162,7 @@ module _ (config : TenantConfig) (some : 0 < config.shards) (c : SoloCluster) (t
         by_change (Joined e more acked is) = absurd is
         by_change (Taken same is) = absurd is
 
-    commit_delivers : (e : Entry) → IsOffered config c k.stream e → (reply : NodeReply) (after : SoloCluster) → CalledAt (commit k.stream e).node (node_call.Commit e) reply after → Delivered config after k.stream (commit k.stream e) reply
+    commit_delivers : (e : Entry) → IsOffered config c k.stream e → (reply : NodeReply) (after : SoloCluster) → CalledAt (commit_call k.stream e).node (node_call.Commit e) reply after → Delivered config after k.stream (commit_call k.stream e) reply
     commit_delivers e offered reply after called = by_change called.change
       where
         number : ℕ
@@ -179,14 +180,14 @@ module _ (config : TenantConfig) (some : 0 < config.shards) (c : SoloCluster) (t
             let counted = ap length there ∙ length-append (held config c number origin) (e ∷ []) in
             record { place = offered.place; at = still_at config c after (entries_grow called) origin origin offered.place e offered.at; within = (let l = last in omega arith) }
 
-        by_change : Change (place_of config (commit k.stream e).node) (node_call.Commit e) (node_of config c number) reply (node_of config after number) → DeliveredBy config after k.stream (node_call.Commit e) reply
+        by_change : Change (place_of config (commit_call k.stream e).node) (node_call.Commit e) (node_of config c number) reply (node_of config after number) → DeliveredBy config after k.stream (node_call.Commit e) reply
         by_change (IsRefused same acked is) = subst (DeliveredBy config after k.stream (node_call.Commit e)) (sym is.1) tt
         by_change (Answers same acked (inl is)) = subst (DeliveredBy config after k.stream (node_call.Commit e)) (sym is.0) (arrived-grown config c after (entries_grow called) k.stream e (committed-arrived config c inv.streamed k.stream stream_is e offered is.1))
         by_change (Answers same acked (inr is)) = subst (DeliveredBy config after k.stream (node_call.Commit e)) (sym is.0) tt
         by_change (Joined f more acked is) = subst (DeliveredBy config after k.stream (node_call.Commit e)) (sym is.0) (joined f more is.1 is.2)
         by_change (Taken same is) = absurd is
 
-    ack_delivers : (e : Entry) (reply : NodeReply) (after : SoloCluster) → Delivered config after k.stream (acknowledge k.stream e) reply
+    ack_delivers : (e : Entry) (reply : NodeReply) (after : SoloCluster) → Delivered config after k.stream (ack_call k.stream e) reply
     ack_delivers e reply after = tt
 
     arrived_by : (e : Entry) (r : NodeReply) → DeliveredBy config c k.stream (node_call.Commit e) r → (r ≡ Committed) ⊎ (r ≡ Already) → IsArrived config c k.stream e
@@ -209,7 +210,7 @@ module _ (config : TenantConfig) (some : 0 < config.shards) (c : SoloCluster) (t
         let called = call_changes config c sent.node moment sent.call (home-there config k.stream.to_dc near.key some stream_is.to_is) traced.sized in
         subst (Brings moment) (sym is) (record { flows = flowing-called turn.after sent.node sent.call turn.reply called (λ f stores. absurd stores) (λ acked takes. absurd takes); delivers = check_delivers near turn.reply turn.after called })
     delivers_by moment e directed offered (Committing near is) =
-        let sent = commit k.stream e in
+        let sent = commit_call k.stream e in
         let turn = call_node config sent.node moment sent.call c in
         let called = call_changes config c sent.node moment sent.call destination-there traced.sized in
         subst (Brings moment) (sym is) (record {
@@ -217,7 +218,7 @@ module _ (config : TenantConfig) (some : 0 < config.shards) (c : SoloCluster) (t
           delivers = commit_delivers e offered turn.reply turn.after called;
         })
     delivers_by moment e directed offered (Acking r brought kind is) =
-        let sent = acknowledge k.stream e in
+        let sent = ack_call k.stream e in
         let turn = call_node config sent.node moment sent.call c in
         let called = call_changes config c sent.node moment sent.call stream_is.origin_is traced.sized in
         subst (Brings moment) (sym is) (record {

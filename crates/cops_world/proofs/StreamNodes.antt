@@ -8,7 +8,7 @@ use Rattle.cops_types.specs.Version.{no_version, version_lt}
 use Rattle.cops_node.specs.declared.NodeCall.{NodeCall}
 use Rattle.cops_node.specs.declared.NodeId.{NodeId}
 use Rattle.cops_node.specs.declared.NodeReply.{NodeReply}
-use Rattle.cops_node.specs.Place.{place_of, number_of}
+use Rattle.cops_node.specs.Place.{node_number, place_of}
 use Rattle.cops_node.specs.SoloNode.{SoloNode}
 use Rattle.cops_world.specs.Cluster.{SoloCluster}
 use Rattle.cops_node.proofs.Chains.{of_origin, of_origin-push, IsChain, last_version, chain-push, IsFront, front-same, front-more, front-extended}
@@ -147,13 +147,13 @@ module _ (config : TenantConfig) (c after : SoloCluster) (number : ℕ) (others 
 
 -- a call keeps the streams if what it stores may join, and what it takes may be taken
 pub streamed_called : {config : TenantConfig} {c after : SoloCluster} {id : NodeId} {call : NodeCall} {reply : NodeReply} (called : Called config c id call reply after) → IsStreamed config c →
-    ((e : Entry) → Stores (place_of config id) call (node_of config c (number_of config.shards id)) reply e → MayJoin config c (number_of config.shards id) e) →
-    ((acked : List ℕ) → Takes (place_of config id) call (node_of config c (number_of config.shards id)) reply acked → (dc : ℕ) → slice_index acked dc ≤ length (held config c (dc * config.shards + number_of config.shards id % config.shards) (number_of config.shards id))) →
+    ((e : Entry) → Stores (place_of config id) call (node_of config c (node_number config.shards id)) reply e → MayJoin config c (node_number config.shards id) e) →
+    ((acked : List ℕ) → Takes (place_of config id) call (node_of config c (node_number config.shards id)) reply acked → (dc : ℕ) → slice_index acked dc ≤ length (held config c (dc * config.shards + node_number config.shards id % config.shards) (node_number config.shards id))) →
     IsStreamed config after
 streamed_called {config} {c} {after} {id} {call} {reply} called inv joins takes = by_change called.change
   where
     number : ℕ
-    number = number_of config.shards id
+    number = node_number config.shards id
 
     same_acked : (node_of config after number).acked ≡ (node_of config c number).acked → (dc : ℕ) → slice_index (node_of config after number).acked dc ≤ length (held config c (dc * config.shards + number % config.shards) number)
     same_acked same dc = subst (λ as'. slice_index as' dc ≤ length (held config c (dc * config.shards + number % config.shards) number)) (sym same) (inv.acked_held number dc)

@@ -18,9 +18,9 @@ use Rattle.cops_node.specs.declared.NodeId.{NodeId}
 use Rattle.cops_node.specs.declared.NodeReply.{NodeReply}
 use Rattle.cops_node.specs.declared.NodeReply.TheVariants.{Checked, Pulled, Committed, Already}
 use Rattle.cops_node.specs.Log.{Directed}
-use Rattle.cops_node.specs.Place.{place_of, number_of, own_number}
+use Rattle.cops_node.specs.Place.{node_number, own_number, place_of}
 use Rattle.cops_node.specs.Step.{was_committed}
-use Rattle.cops_repl.specs.Carrier.{Stream, pair_of_entry, calls_of}
+use Rattle.cops_repl.specs.Carrier.{Stream, pair_of_entry, stream_calls}
 use Rattle.cops_world.specs.Causal.{Traced}
 use Rattle.cops_world.specs.Cluster.{SoloCluster, NamedActor, Actor, OfSession, OfCarrier}
 use Rattle.cops_world.proofs.ActorsKeep.{EachActor}
@@ -40,7 +40,7 @@ DeliveredBy config c stream (node_call.Pull dc) (Pulled e) = IsOffered config c 
 DeliveredBy config c stream (node_call.Commit e) Committed = IsArrived config c stream e
 DeliveredBy config c stream (node_call.Commit e) Already = IsArrived config c stream e
 DeliveredBy config c stream (node_call.DepCheck key version) (Checked true) =
-    was_committed version (node_of config c (number_of config.shards (record { dc = stream.to_dc; shard = shard_of key config.shards }))) ≡ true
+    was_committed version (node_of config c (node_number config.shards (record { dc = stream.to_dc; shard = shard_of key config.shards }))) ≡ true
 DeliveredBy config c stream call reply = Unit {0}
 
 abbrev pub Delivered : TenantConfig → SoloCluster → Stream → Directed → NodeReply → Type 0
@@ -48,7 +48,7 @@ Delivered config c stream directed reply = DeliveredBy config c stream directed.
 
 abbrev pub OnStream : TenantConfig → SoloCluster → List ℕ → Actor → Type 0
 OnStream config c name (OfSession s) = Unit {0}
-OnStream config c name (OfCarrier k) = Zipped (Delivered config c k.stream) (calls_of config.shards k.stream (carrier_replies k.log)) (carrier_replies k.log)
+OnStream config c name (OfCarrier k) = Zipped (Delivered config c k.stream) (stream_calls config.shards k.stream (carrier_replies k.log)) (carrier_replies k.log)
 
 pub record IsFlowing (config : TenantConfig) (c : SoloCluster) (ts : List Traced) : Type 0 where
   pub streamed : IsStreamed config c
@@ -93,7 +93,7 @@ module _ (config : TenantConfig) (c after : SoloCluster) (grows : (n : ℕ) → 
   delivered-grown stream (node_call.Pull dc) (Pulled e) is = offered-grown stream e is
   delivered-grown stream (node_call.Commit e) Committed is = arrived-grown stream e is
   delivered-grown stream (node_call.Commit e) Already is = arrived-grown stream e is
-  delivered-grown stream (node_call.DepCheck key version) (Checked true) is = committed-grown (number_of config.shards (record { dc = stream.to_dc; shard = shard_of key config.shards })) version is
+  delivered-grown stream (node_call.DepCheck key version) (Checked true) is = committed-grown (node_number config.shards (record { dc = stream.to_dc; shard = shard_of key config.shards })) version is
   delivered-grown stream call reply is = tt
 
   zipped-grown : (stream : Stream) (calls : List Directed) (rs : List NodeReply) → Zipped (Delivered config c stream) calls rs → Zipped (Delivered config after stream) calls rs
@@ -103,7 +103,7 @@ module _ (config : TenantConfig) (c after : SoloCluster) (grows : (n : ℕ) → 
 
   pub on_stream-grown : (name : List ℕ) (a : Actor) → OnStream config c name a → OnStream config after name a
   on_stream-grown name (OfSession s) is = tt
-  on_stream-grown name (OfCarrier k) is = zipped-grown k.stream (calls_of config.shards k.stream (carrier_replies k.log)) (carrier_replies k.log) is
+  on_stream-grown name (OfCarrier k) is = zipped-grown k.stream (stream_calls config.shards k.stream (carrier_replies k.log)) (carrier_replies k.log) is
 
 -- what was delivered does not hang on the actors
 pub carriers_same : (config : TenantConfig) (c : SoloCluster) (actors : List NamedActor) → EachActor (OnStream config c) c → EachActor (OnStream config (record c { actors = actors })) c
@@ -124,9 +124,9 @@ last-below [] last top first each = first
 last-below (e ∷ es) last top first each = last-below es e.version top (each e (inl refl)) (λ f at. each f (inr at))
 
 pub put-joins : (config : TenantConfig) (c : SoloCluster) (inv : IsStreamed config c) (id : NodeId) (key value : List ℕ) (deps near : List Pair) (reply : NodeReply) (e : Entry) →
-    Stores (place_of config id) (node_call.Put key value deps near) (node_of config c (number_of config.shards id)) reply e → MayJoin config c (number_of config.shards id) e
+    Stores (place_of config id) (node_call.Put key value deps near) (node_of config c (node_number config.shards id)) reply e → MayJoin config c (node_number config.shards id) e
 put-joins config c inv id key value deps near reply e stores =
-    let n = number_of config.shards id in
+    let n = node_number config.shards id in
     let solo = node_of config c n in
     let above = next-above (clock config.first_clock solo.recs) (greatest_clock deps) (own_number (place_of config id)) stores.0 stores.2 in
     let last = last_version no_version (held config c n n) in

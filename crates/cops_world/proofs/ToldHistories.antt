@@ -18,7 +18,7 @@ use Rattle.cops_session.specs.declared.Progress.{Progress}
 use Rattle.cops_session.specs.declared.Progress.TheVariants as session_progress
 use Rattle.cops_session.specs.Request.{Write, Fetch}
 use Rattle.cops_session.specs.Request as request
-use Rattle.cops_session.specs.Session.{Session, Running, new_session, obs_of, create_refusal, context_refusal, context_created, context_deleted, put_refusal, get_refusal, request_begun, request_of, moment_at, session_after}
+use Rattle.cops_session.specs.Session.{Running, Session, context_created, context_deleted, context_refusal, create_refusal, get_refusal, moment_at, new_session, obs_of, request_begun, request_of, session_after, session_put_refusal}
 use Rattle.cops_session.specs.Session as session
 use Rattle.cops_repl.specs.declared.Delivery.{Delivery}
 use Rattle.cops_repl.specs.declared.Progress.{Progress as CarrierProgress}
@@ -30,7 +30,7 @@ use Rattle.cops_world.specs.declared.acts.Act.TheVariants.{Open, Create, Delete,
 use Rattle.cops_world.specs.declared.replies.Reply.{Reply}
 use Rattle.cops_world.specs.declared.replies.Reply.TheVariants.{Opened, Created, Deleted, Started, Lists}
 use Rattle.cops_world.specs.Causal.{Operation, Effect, effect_of, operation_by, operation_ended, operations, operations_from, stepped_actor}
-use Rattle.cops_world.specs.Cluster.{SoloCluster, Turn, Actor, OfSession, OfCarrier, new_cluster, find_actor, find_session, session_in, with_actor, with_new_actor, reply_with, unless_refused, on_found, call_node, session_stepped, request_does, running_step, carrier_stepped, carrier_does, step_of, actor_step, actor_steps, actor_refusal, goes_on, most_steps, cluster_step, has_node, has_stream, collect_at}
+use Rattle.cops_world.specs.Cluster.{ActEffect, Actor, OfCarrier, OfSession, SoloCluster, actor_refusal, actor_step, actor_steps, call_node, carrier_does, carrier_stepped, cluster_step, collect_at, find_actor, find_session, goes_on, has_node, has_stream, most_steps, new_cluster, on_found, reply_with, request_does, running_step, session_in, session_stepped, step_of, unless_refused, with_actor, with_new_actor}
 use Rattle.cops_world.specs.Events.{replies_from, solo_replies}
 use Rattle.cops_world.specs.Told.{Contexts, contexts_after, operation_of, operation_told, operations_told, operations_told_from, with_context}
 use Rattle.cops_world.proofs.ActorsKeep.{EachActor, actor_found, each-with_actor, each-with_new, each-without, session_actor}
@@ -119,13 +119,13 @@ module _ (config : TenantConfig) (contexts : Contexts) (name : List ℕ) where
   steps_know zero c moment knows = step_knows c moment (find_actor name c) refl knows
   steps_know (suc more) c moment knows = by_goes (goes_on step.reply) (steps_know more step.after moment first)
     where
-      step : Turn
+      step : ActEffect
       step = actor_step config name moment c
 
       first : Knows contexts step.after
       first = step_knows c moment (find_actor name c) refl knows
 
-      turn_by : Bool → Turn
+      turn_by : Bool → ActEffect
       turn_by b = elim b [ true ↦ actor_steps more config name moment step.after | false ↦ step ]
 
       by_goes : (b : Bool) → Knows contexts (actor_steps more config name moment step.after).after → Knows contexts (turn_by b).after
@@ -135,14 +135,14 @@ module _ (config : TenantConfig) (contexts : Contexts) (name : List ℕ) where
 -- ---- acts
 
 -- a turn after which what each actor runs is known
-abbrev KnowsAfter : Contexts → Act → Turn → Type 0
+abbrev KnowsAfter : Contexts → Act → ActEffect → Type 0
 KnowsAfter contexts act turn = Knows (contexts_after act turn.reply contexts) turn.after
 
-by_refusal : (refusal : Option Fault) (c : SoloCluster) (turn : Turn) (G : Turn → Type 0) → ((fault : Fault) → G (unless_refused (Some fault) c turn)) → G turn → G (unless_refused refusal c turn)
+by_refusal : (refusal : Option Fault) (c : SoloCluster) (turn : ActEffect) (G : ActEffect → Type 0) → ((fault : Fault) → G (unless_refused (Some fault) c turn)) → G turn → G (unless_refused refusal c turn)
 by_refusal (Some fault) c turn G refused passed = refused fault
 by_refusal None c turn G refused passed = passed
 
-by_session : (found : Option Session) (c : SoloCluster) (act : Session → Turn) (G : Turn → Type 0) → G (on_found None c act) → ((s : Session) → found ≡ Some s → G (act s)) → G (on_found found c act)
+by_session : (found : Option Session) (c : SoloCluster) (act : Session → ActEffect) (G : ActEffect → Type 0) → G (on_found None c act) → ((s : Session) → found ≡ Some s → G (act s)) → G (on_found found c act)
 by_session (Some s) c act G none some = some s refl
 by_session None c act G none some = none
 
@@ -178,22 +178,22 @@ knows_after config contexts (Create name) c knows = stays config contexts c know
 knows_after config contexts (Delete name number) c knows = stays config contexts c knows name (context_deleted number) (λ s. Deleted) (context_refusal number) (λ s. refl)
 knows_after config contexts (Put name number key value) c knows =
     let act : Act = Put name number key value in
-    let G : Turn → Type 0 = KnowsAfter contexts act in
-    let begins : Session → Turn = λ s. reply_with Started (with_actor name (OfSession (request_begun number (Write key value) s)) c) in
-    let asked : Session → Turn = λ s. unless_refused (put_refusal config number key s) c (begins s) in
+    let G : ActEffect → Type 0 = KnowsAfter contexts act in
+    let begins : Session → ActEffect = λ s. reply_with Started (with_actor name (OfSession (request_begun number (Write key value) s)) c) in
+    let asked : Session → ActEffect = λ s. unless_refused (session_put_refusal config number key s) c (begins s) in
     by_refusal (first_refusal ((not (is_key key), BadKey) ∷ (not (is_value value), ValueTooLong) ∷ [])) c (on_found (find_session name c) c asked) G (λ fault. knows)
     (by_session (find_session name c) c asked G knows
-    (λ s found. by_refusal (put_refusal config number key s) c (begins s) G (λ fault. knows) (begun config contexts c knows name number (request_begun number (Write key value) s) refl)))
+    (λ s found. by_refusal (session_put_refusal config number key s) c (begins s) G (λ fault. knows) (begun config contexts c knows name number (request_begun number (Write key value) s) refl)))
 knows_after config contexts (Get name number keys) c knows =
     let act : Act = Get name number keys in
-    let G : Turn → Type 0 = KnowsAfter contexts act in
-    let begins : Session → Turn = λ s. reply_with Started (with_actor name (OfSession (request_begun number (Fetch keys) s)) c) in
-    let asked : Session → Turn = λ s. unless_refused (get_refusal config number keys s) c (begins s) in
+    let G : ActEffect → Type 0 = KnowsAfter contexts act in
+    let begins : Session → ActEffect = λ s. reply_with Started (with_actor name (OfSession (request_begun number (Fetch keys) s)) c) in
+    let asked : Session → ActEffect = λ s. unless_refused (get_refusal config number keys s) c (begins s) in
     by_refusal (first_refusal ((nat_lt (length keys) 1, Syntax) ∷ (not (list_all is_key keys), BadKey) ∷ [])) c (on_found (find_session name c) c asked) G (λ fault. knows)
     (by_session (find_session name c) c asked G knows
     (λ s found. by_refusal (get_refusal config number keys s) c (begins s) G (λ fault. knows) (begun config contexts c knows name number (request_begun number (Fetch keys) s) refl)))
 knows_after config contexts (Show name number) c knows =
-    let shows : Session → Turn = λ s. reply_with (Lists (all_of (obs_of number s)) (near_of (obs_of number s))) c in
+    let shows : Session → ActEffect = λ s. reply_with (Lists (all_of (obs_of number s)) (near_of (obs_of number s))) c in
     by_session (find_session name c) c (λ s. unless_refused (context_refusal number s) c (shows s)) (λ turn. Knows contexts turn.after) knows
     (λ s found. by_refusal (context_refusal number s) c (shows s) (λ turn. Knows contexts turn.after) (λ fault. knows) knows)
 knows_after config contexts (Carry name dc shard to_dc) c knows =

@@ -14,7 +14,7 @@ use Rattle.cops_node.specs.declared.NodeCall.TheVariants as node_call
 use Rattle.cops_node.specs.declared.NodeId.{NodeId}
 use Rattle.cops_node.specs.Log.{LogStep, Replied, Next, Call, Restart, Ended}
 use Rattle.cops_session.specs.Request.{Write, Fetch}
-use Rattle.cops_session.specs.Session.{Session, Running, new_session, create_refusal, context_refusal, context_created, context_deleted, put_refusal, get_refusal, request_begun, obs_of}
+use Rattle.cops_session.specs.Session.{Running, Session, context_created, context_deleted, context_refusal, create_refusal, get_refusal, new_session, obs_of, request_begun, session_put_refusal}
 use Rattle.cops_repl.specs.declared.Delivery.{Delivery}
 use Rattle.cops_repl.specs.declared.Delivery.TheVariants as delivery
 use Rattle.cops_repl.specs.declared.Progress.{Progress as CarrierProgress}
@@ -26,7 +26,7 @@ use Rattle.cops_world.specs.declared.acts.Act.TheVariants.{Open, Create, Delete,
 use Rattle.cops_world.specs.declared.replies.Reply.{Reply}
 use Rattle.cops_world.specs.declared.replies.Reply.TheVariants.{Opened, Created, Deleted, Started, Lists}
 use Rattle.cops_world.specs.Causal.{Operation, Effect, effect_of, operation_by, operation_ended, operations_from, stepped_actor}
-use Rattle.cops_world.specs.Cluster.{SoloCluster, Turn, Actor, OfSession, OfCarrier, find_actor, find_session, session_in, with_actor, with_new_actor, reply_with, unless_refused, on_found, on_session, call_node, carrier_stepped, carrier_does, running_step, step_of, actor_step, actor_steps, actor_refusal, goes_on, most_steps, collect_at, cluster_step, reply_of_delivery, has_node, has_stream}
+use Rattle.cops_world.specs.Cluster.{ActEffect, Actor, OfCarrier, OfSession, SoloCluster, actor_refusal, actor_step, actor_steps, call_node, carrier_does, carrier_stepped, cluster_step, collect_at, find_actor, find_session, goes_on, has_node, has_stream, most_steps, on_found, on_session, reply_of_delivery, reply_with, running_step, session_in, step_of, unless_refused, with_actor, with_new_actor}
 use Rattle.cops_world.specs.Events.{replies_from}
 use Rattle.cops_world.specs.Laws.{HasToldOperations}
 use Rattle.cops_world.specs.Cluster.{new_cluster}
@@ -82,10 +82,10 @@ pub actor_steps_run : (more : ℕ) (config : TenantConfig) (c : SoloCluster) (na
 actor_steps_run zero config c name moment = actor_step_runs config c name moment
 actor_steps_run (suc more) config c name moment = by_goes (goes_on step.reply) refl (actor_steps_run more config step.after name moment)
   where
-    step : Turn
+    step : ActEffect
     step = actor_step config name moment c
 
-    turn_by : Bool → Turn
+    turn_by : Bool → ActEffect
     turn_by b = elim b [ true ↦ actor_steps more config name moment step.after | false ↦ step ]
 
     by_goes : (b : Bool) → goes_on step.reply ≡ b → Runs step.after name (actor_steps more config name moment step.after).reply → Runs c name (turn_by b).reply
@@ -117,11 +117,11 @@ stepped_told c act name reply steps runs = by_effect (effect_of reply) refl
         ∙ ap (option_map (λ (o : Operation). o.effect)) (operation_by-context c effect name)
         ∙ ap (λ n. option_map (λ (o : Operation). o.effect) (option_map {U = Operation} (λ n. record { session = name; context = n; effect = effect }) n)) found.1
 
-plain_unless : (refusal : Option Fault) (c : SoloCluster) (turn : Turn) → effect_of turn.reply ≡ None → effect_of (unless_refused refusal c turn).reply ≡ None
+plain_unless : (refusal : Option Fault) (c : SoloCluster) (turn : ActEffect) → effect_of turn.reply ≡ None → effect_of (unless_refused refusal c turn).reply ≡ None
 plain_unless None c turn plain = plain
 plain_unless (Some fault) c turn plain = refl
 
-plain_on : (found : Option Session) (c : SoloCluster) (act : Session → Turn) → ((s : Session) → effect_of (act s).reply ≡ None) → effect_of (on_found found c act).reply ≡ None
+plain_on : (found : Option Session) (c : SoloCluster) (act : Session → ActEffect) → ((s : Session) → effect_of (act s).reply ≡ None) → effect_of (on_found found c act).reply ≡ None
 plain_on None c act plain = refl
 plain_on (Some s) c act plain = plain s
 
@@ -139,21 +139,21 @@ module _ (config : TenantConfig) (c : SoloCluster) where
 
   plain_put : (name : List ℕ) (number : ℕ) (key value : List ℕ) → effect_of (cluster_step config (Put name number key value) c).reply ≡ None
   plain_put name number key value =
-      let begins : Session → Turn = λ s. reply_with Started (with_actor name (OfSession (request_begun number (Write key value) s)) c) in
-      let asked : Session → Turn = λ s. unless_refused (put_refusal config number key s) c (begins s) in
+      let begins : Session → ActEffect = λ s. reply_with Started (with_actor name (OfSession (request_begun number (Write key value) s)) c) in
+      let asked : Session → ActEffect = λ s. unless_refused (session_put_refusal config number key s) c (begins s) in
       plain_unless (first_refusal ((not (is_key key), BadKey) ∷ (not (is_value value), ValueTooLong) ∷ [])) c (on_session name c asked)
-      (plain_on (find_session name c) c asked (λ s. plain_unless (put_refusal config number key s) c (begins s) refl))
+      (plain_on (find_session name c) c asked (λ s. plain_unless (session_put_refusal config number key s) c (begins s) refl))
 
   plain_get : (name : List ℕ) (number : ℕ) (keys : List (List ℕ)) → effect_of (cluster_step config (Get name number keys) c).reply ≡ None
   plain_get name number keys =
-      let begins : Session → Turn = λ s. reply_with Started (with_actor name (OfSession (request_begun number (Fetch keys) s)) c) in
-      let asked : Session → Turn = λ s. unless_refused (get_refusal config number keys s) c (begins s) in
+      let begins : Session → ActEffect = λ s. reply_with Started (with_actor name (OfSession (request_begun number (Fetch keys) s)) c) in
+      let asked : Session → ActEffect = λ s. unless_refused (get_refusal config number keys s) c (begins s) in
       plain_unless (first_refusal ((nat_lt (length keys) 1, Syntax) ∷ (not (list_all is_key keys), BadKey) ∷ [])) c (on_session name c asked)
       (plain_on (find_session name c) c asked (λ s. plain_unless (get_refusal config number keys s) c (begins s) refl))
 
   plain_show : (name : List ℕ) (number : ℕ) → effect_of (cluster_step config (Show name number) c).reply ≡ None
   plain_show name number =
-      let shows : Session → Turn = λ s. reply_with (Lists (all_of (obs_of number s)) (near_of (obs_of number s))) c in
+      let shows : Session → ActEffect = λ s. reply_with (Lists (all_of (obs_of number s)) (near_of (obs_of number s))) c in
       plain_on (find_session name c) c (λ s. unless_refused (context_refusal number s) c (shows s)) (λ s. plain_unless (context_refusal number s) c (shows s) refl)
 
 act_told : (config : TenantConfig) (act : Act) (c : SoloCluster) → IsTold c act (cluster_step config act c).reply

@@ -22,11 +22,11 @@ use Rattle.cops_node.specs.declared.NodeReply.{NodeReply}
 use Rattle.cops_node.specs.declared.Place.{Place}
 use Rattle.cops_node.specs.declared.Wanted.{Wanted}
 use Rattle.cops_node.specs.declared.Wanted.TheVariants.{Latest, Exactly}
-use Rattle.cops_node.specs.Place.{place_of, number_of}
+use Rattle.cops_node.specs.Place.{node_number, place_of}
 use Rattle.cops_node.specs.SoloNode.{SoloNode}
 use Rattle.cops_node.specs.Step.{was_committed, reply_latest, reply_exact}
 use Rattle.cops_repl.specs.Carrier.{pair_of_entry}
-use Rattle.cops_session.specs.Request.{home_of}
+use Rattle.cops_session.specs.Request.{key_home}
 use Rattle.cops_world.specs.Causal.{Traced}
 use Rattle.cops_world.specs.Cluster.{SoloCluster, NamedActor, Actor, find_actor, session_in, has_node}
 use Rattle.cops_world.proofs.ActorsKeep.{EachActor, IsKnown}
@@ -95,7 +95,7 @@ module _ {config : TenantConfig} {c after : SoloCluster} {id : NodeId} {call : N
   pub known_still : (name : List ℕ) → IsKnown c name → IsKnown after name
   known_still name known = ap (λ o. is_some (option_and_then session_in o)) (found_still name) ∙ known
 
-  pub traced-call : (ts : List Traced) → ((e : Entry) → Stores (place_of config id) call (node_of config c (number_of config.shards id)) reply e → IsPutEntry ts e) → IsTraced config c ts → IsTraced config after ts
+  pub traced-call : (ts : List Traced) → ((e : Entry) → Stores (place_of config id) call (node_of config c (node_number config.shards id)) reply e → IsPutEntry ts e) → IsTraced config c ts → IsTraced config after ts
   traced-call ts stored inv =
       record {
         history = inv.history;
@@ -146,7 +146,7 @@ next-above clock deps_clock node version e = by_test (nat_lt (max clock deps_clo
 
 -- ---- where a session's calls go
 
-pub home-there : (config : TenantConfig) (dc : ℕ) (key : List ℕ) → 0 < config.shards → nat_lt dc config.data_centres ≡ true → has_node config (home_of config dc key).dc (home_of config dc key).shard ≡ true
+pub home-there : (config : TenantConfig) (dc : ℕ) (key : List ℕ) → 0 < config.shards → nat_lt dc config.data_centres ≡ true → has_node config (key_home config dc key).dc (key_home config dc key).shard ≡ true
 home-there config dc key some placed =
     and_true (nat_lt dc config.data_centres) (nat_lt (shard_of key config.shards) config.shards) placed
     (let less : sum key % config.shards < config.shards = mod-lt (sum key) some in grind (arith, nat_tests))

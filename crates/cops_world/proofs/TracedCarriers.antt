@@ -12,12 +12,12 @@ use Rattle.cops_node.specs.declared.NodeReply.{NodeReply}
 use Rattle.cops_node.specs.declared.NodeReply.TheVariants.{Pulled}
 use Rattle.cops_node.specs.declared.Place.{Place}
 use Rattle.cops_node.specs.Log.{LogStep, Replied, Directed, Call}
-use Rattle.cops_node.specs.Place.{place_of, number_of, own_number}
-use Rattle.cops_node.specs.SoloNode.{SoloNode, issued, queue, front}
+use Rattle.cops_node.specs.Place.{node_number, own_number, place_of}
+use Rattle.cops_node.specs.SoloNode.{SoloNode, issued, queue}
 use Rattle.cops_node.specs.Step.{reply_pull}
 use Rattle.cops_repl.specs.declared.Progress.{Progress}
 use Rattle.cops_repl.specs.declared.Progress.TheVariants as carrier_progress
-use Rattle.cops_repl.specs.Carrier.{Carrier, Stream, carrier_after, pull, check, commit, acknowledge}
+use Rattle.cops_repl.specs.Carrier.{Carrier, Stream, ack_call, carrier_after, check, commit_call, pull}
 use Rattle.cops_repl.specs.Carrier as carrier
 use Rattle.cops_world.specs.Causal.{Traced}
 use Rattle.cops_world.specs.Cluster.{SoloCluster, OfCarrier, find_actor, has_node, call_node, carrier_stepped}
@@ -28,6 +28,7 @@ use Rattle.cops_node.proofs.NodeTurns.{entries, Stores, Change, IsRefused, Answe
 use Rattle.cops_world.proofs.NodeEffects.{node_of, call_changes}
 use Rattle.cops_world.proofs.Provenance.{IsPutEntry, IsPulled, IsTraced, IsActor, IsCarrier}
 use Rattle.cops_world.proofs.TracedCalls.{traced-call, home-there}
+use Rattle.cops_outbox.specs.Queues.{front}
 
 drop-Among : {A : Type 0} (n : ℕ) (xs : List A) (x : A) → Among x (drop n xs) → Among x xs
 drop-Among zero xs x there = there
@@ -108,8 +109,8 @@ module _ (config : TenantConfig) (c : SoloCluster) (ts : List Traced) (inv : IsT
     -- what a call of the carrier is to show
     record GoesWell (moment : ℕ) (directed : Directed) : Type 0 where
       pub there : has_node config directed.node.dc directed.node.shard ≡ true
-      pub stores_put : (reply : NodeReply) (e : Entry) → Stores (place_of config directed.node) directed.call (node_of config c (number_of config.shards directed.node)) reply e → IsPutEntry ts e
-      pub replies_well : (reply : NodeReply) (after : SoloNode) → Change (place_of config directed.node) directed.call (node_of config c (number_of config.shards directed.node)) reply after → Well reply
+      pub stores_put : (reply : NodeReply) (e : Entry) → Stores (place_of config directed.node) directed.call (node_of config c (node_number config.shards directed.node)) reply e → IsPutEntry ts e
+      pub replies_well : (reply : NodeReply) (after : SoloNode) → Change (place_of config directed.node) directed.call (node_of config c (node_number config.shards directed.node)) reply after → Well reply
 
     pulled_put : (e : Entry) → Among (Pulled e) (carrier_replies k.log) → IsPutEntry ts e
     pulled_put e there = each_reply (IsPulled ts) k.log is_carrier.pulled (Pulled e) there
@@ -119,29 +120,29 @@ module _ (config : TenantConfig) (c : SoloCluster) (ts : List Traced) (inv : IsT
         subst (GoesWell moment) (sym is) (record {
           there = is_carrier.stream_is.origin_is;
           stores_put = λ reply e stores. absurd stores;
-          replies_well = λ reply after change. pull_well (place_of config k.stream.origin) k.stream.to_dc (node_of config c (number_of config.shards k.stream.origin)) after reply (inv.entries_are (number_of config.shards k.stream.origin)) change;
+          replies_well = λ reply after change. pull_well (place_of config k.stream.origin) k.stream.to_dc (node_of config c (node_number config.shards k.stream.origin)) after reply (inv.entries_are (node_number config.shards k.stream.origin)) change;
         })
     goes_well some moment directed (IsCheck e near pulled among is) =
         let call = check config.shards k.stream near in
         subst (GoesWell moment) (sym is) (record {
           there = home-there config k.stream.to_dc near.key some is_carrier.stream_is.to_is;
           stores_put = λ reply e stores. absurd stores;
-          replies_well = λ reply after change. check_well (place_of config call.node) near (node_of config c (number_of config.shards call.node)) after reply change;
+          replies_well = λ reply after change. check_well (place_of config call.node) near (node_of config c (node_number config.shards call.node)) after reply change;
         })
     goes_well some moment directed (IsCommit e pulled is) =
-        let call = commit k.stream e in
+        let call = commit_call k.stream e in
         subst (GoesWell moment) (sym is) (record {
           there = and_true (nat_lt k.stream.to_dc config.data_centres) (nat_lt k.stream.origin.shard config.shards) is_carrier.stream_is.to_is
               (and_right (nat_lt k.stream.origin.dc config.data_centres) (nat_lt k.stream.origin.shard config.shards) is_carrier.stream_is.origin_is);
           stores_put = λ reply f stores. subst (IsPutEntry ts) (sym stores.1) (pulled_put e pulled);
-          replies_well = λ reply after change. commit_well (place_of config call.node) e (node_of config c (number_of config.shards call.node)) after reply change;
+          replies_well = λ reply after change. commit_well (place_of config call.node) e (node_of config c (node_number config.shards call.node)) after reply change;
         })
     goes_well some moment directed (IsAck e pulled is) =
-        let call = acknowledge k.stream e in
+        let call = ack_call k.stream e in
         subst (GoesWell moment) (sym is) (record {
           there = is_carrier.stream_is.origin_is;
           stores_put = λ reply f stores. absurd stores;
-          replies_well = λ reply after change. ack_well (place_of config call.node) k.stream.to_dc e.version (node_of config c (number_of config.shards call.node)) after reply change;
+          replies_well = λ reply after change. ack_well (place_of config call.node) k.stream.to_dc e.version (node_of config c (node_number config.shards call.node)) after reply change;
         })
 
     pub traced-carrier_called : 0 < config.shards → (moment : ℕ) (directed : Directed) → carrier.next config.shards k.stream k.log ≡ Call directed →
@@ -156,5 +157,5 @@ module _ (config : TenantConfig) (c : SoloCluster) (ts : List Traced) (inv : IsT
         stepped call.after (traced-call called ts (well.stores_put call.reply) inv) found (carrier_after k step)
         (record {
           stream_is = is_carrier.stream_is;
-          pulled = Every-append (λ (s : LogStep). IsPulled ts s.outcome) k.log (step ∷ []) is_carrier.pulled (well.replies_well call.reply (node_of config call.after (number_of config.shards directed.node)) called.change, tt);
+          pulled = Every-append (λ (s : LogStep). IsPulled ts s.outcome) k.log (step ∷ []) is_carrier.pulled (well.replies_well call.reply (node_of config call.after (node_number config.shards directed.node)) called.change, tt);
         }) (carrier.progress config.shards k step)

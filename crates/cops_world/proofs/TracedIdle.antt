@@ -10,7 +10,7 @@ use Rattle.cops_types.specs.Key.{key_eq}
 use Rattle.cops_types.specs.Pairs.{holds, greatest_per_key}
 use Rattle.cops_types.specs.TenantConfig.{TenantConfig}
 use Rattle.cops_session.specs.Request.{Action, Write, Fetch}
-use Rattle.cops_session.specs.Session.{Session, Running, new_session, is_open, obs_of, is_busy, is_spent, has_repeats, request_begun, context_created, context_deleted, put_refusal, get_refusal}
+use Rattle.cops_session.specs.Session.{Running, Session, context_created, context_deleted, get_refusal, has_repeats, is_busy, is_open, new_session, obs_of, request_begun, session_put_refusal}
 use Rattle.cops_repl.specs.Carrier.{Stream, new_carrier}
 use Rattle.cops_world.specs.Causal.{Traced, put_by, past_after}
 use Rattle.cops_world.specs.Cluster.{SoloCluster, OfSession, OfCarrier, find_actor, find_session, with_actor, with_new_actor}
@@ -21,6 +21,7 @@ use Rattle.cops_types.proofs.Elements.{Among, Every-append, Every-weaker, Every-
 use Rattle.cops_world.proofs.Moves.{IsStream, head_passes, flipped}
 use Rattle.cops_world.proofs.Provenance.{IsTraced, IsActor, IsSession, IsContext, IsRunning, IsFound}
 use Rattle.cops_session.proofs.RequestReplies.{put-open, get-open, get-begun}
+use Rattle.cops_handles.specs.Rows.{is_spent}
 
 module _ (config : TenantConfig) (c : SoloCluster) (ts : List Traced) (inv : IsTraced config c ts) where
   pub session_of : (name : List ℕ) (s : Session) → find_session name c ≡ Some s → IsSession config ts name s
@@ -124,7 +125,7 @@ module _ (config : TenantConfig) (c : SoloCluster) (ts : List Traced) (inv : IsT
       ((running : Running) → (request_begun number action s).running ≡ Some running → IsRunning config ts (request_begun number action s) running) → IsSession config ts name (request_begun number action s)
   begun name s number action is runs = record { placed = is.placed; contexts_are = is.contexts_are; numbered = is.numbered; running_is = runs }
 
-  pub traced-put_begun : (name : List ℕ) (s : Session) (number : ℕ) (key value : List ℕ) → find_session name c ≡ Some s → put_refusal config number key s ≡ None →
+  pub traced-put_begun : (name : List ℕ) (s : Session) (number : ℕ) (key value : List ℕ) → find_session name c ≡ Some s → session_put_refusal config number key s ≡ None →
       IsTraced config (with_actor name (OfSession (request_begun number (Write key value) s)) c) ts
   traced-put_begun name s number key value found ok =
       let first = head_passes (is_busy s) Busy ((not (is_open number s), NoContext) ∷ (not (can_put config.quota.deps (obs_of number s) key), DependenciesFull) ∷ (is_spent s.next_request, IdsSpent) ∷ []) ok in

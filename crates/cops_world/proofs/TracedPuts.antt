@@ -17,7 +17,7 @@ use Rattle.cops_node.specs.declared.NodeId.{NodeId}
 use Rattle.cops_node.specs.declared.NodeReply.{NodeReply}
 use Rattle.cops_node.specs.declared.NodeReply.TheVariants.{Stored, Refused}
 use Rattle.cops_node.specs.Log.{LogStep, Replied}
-use Rattle.cops_node.specs.Place.{place_of, number_of, own_number}
+use Rattle.cops_node.specs.Place.{node_number, own_number, place_of}
 use Rattle.cops_node.specs.SoloNode.{SoloNode}
 use Rattle.cops_node.specs.Step.{entry_of_put, version_of_put}
 use Rattle.cops_repl.specs.Carrier.{pair_of_entry}
@@ -25,7 +25,7 @@ use Rattle.cops_session.specs.declared.Answer.{Answer}
 use Rattle.cops_session.specs.declared.Answer.TheVariants as answer_is
 use Rattle.cops_session.specs.declared.Progress.{Progress}
 use Rattle.cops_session.specs.declared.Progress.TheVariants as session_progress
-use Rattle.cops_session.specs.Request.{Write, home_of, answer, attempt_of}
+use Rattle.cops_session.specs.Request.{Write, answer, attempt_of, key_home}
 use Rattle.cops_session.specs.Session.{Session, Running, OpenContext, is_open, obs_of, request_of, context_extended, session_after, moment_after, shown, has_restarted}
 use Rattle.cops_world.specs.Causal.{Traced, Wrote, past_of_put}
 use Rattle.cops_world.specs.Cluster.{SoloCluster, OfSession, find_session, with_actor, reply_of_progress, session_stepped}
@@ -53,10 +53,10 @@ module _ (config : TenantConfig) (c after : SoloCluster) (ts : List Traced) (inv
   step = record { moment = moment; outcome = Replied reply }
 
   abbrev home : NodeId
-  home = home_of config s.dc key
+  home = key_home config s.dc key
 
   abbrev node : SoloNode
-  node = node_of config c (number_of config.shards home)
+  node = node_of config c (node_number config.shards home)
 
   abbrev call : NodeCall
   call = Put key value (all_of (obs_of context s)) (near_of (obs_of context s))
@@ -92,7 +92,7 @@ module _ (config : TenantConfig) (c after : SoloCluster) (ts : List Traced) (inv
       subst (λ obs. Covers (past_of_put ts) (near_of obs) (past_in ts name context)) (sym same) (subst (λ n. Covers (past_of_put ts) (near_of x.0.obs) (past_in ts name n)) x.2 is.covered)
 
   module _ (called : Called config c home call reply after) (e : Entry) (version : Timestamp)
-      (joins : entries (node_of config after (number_of config.shards home)) ≡ entries node ++ e ∷ []) (replied : reply ≡ Stored version)
+      (joins : entries (node_of config after (node_number config.shards home)) ≡ entries node ++ e ∷ []) (replied : reply ≡ Stored version)
       (next : version_of_put (place_of config home) node (all_of (obs_of context s)) ≡ Some version)
       (e-is : e ≡ entry_of_put (place_of config home) node version key value (all_of (obs_of context s)) (near_of (obs_of context s))) where
     abbrev pair : Pair
@@ -101,7 +101,7 @@ module _ (config : TenantConfig) (c after : SoloCluster) (ts : List Traced) (inv
     abbrev this : Traced
     this = record { operation = record { session = name; context = context; effect = Wrote pair }; past = past_in ts name context }
 
-    above : (version.clock ≡ max (clock config.first_clock node.recs) (greatest_clock (all_of (obs_of context s))) + 1) × (version.node ≡ number_of config.shards home)
+    above : (version.clock ≡ max (clock config.first_clock node.recs) (greatest_clock (all_of (obs_of context s))) + 1) × (version.node ≡ node_number config.shards home)
     above = next-above (clock config.first_clock node.recs) (greatest_clock (all_of (obs_of context s))) (own_number (place_of config home)) version next
 
     unput : Among pair (puts_of ts) → ⊥
@@ -187,7 +187,7 @@ module _ (config : TenantConfig) (c after : SoloCluster) (ts : List Traced) (inv
   pub put_stepped : Called config c home call reply after → let turn = session_stepped config name s put step after in IsTraced config turn.after (history_after ts after name turn.reply)
   put_stepped called = by_change called.change
     where
-      by_change : Change (place_of config home) call node reply (node_of config after (number_of config.shards home)) → let turn = session_stepped config name s put step after in IsTraced config turn.after (history_after ts after name turn.reply)
+      by_change : Change (place_of config home) call node reply (node_of config after (node_number config.shards home)) → let turn = session_stepped config name s put step after in IsTraced config turn.after (history_after ts after name turn.reply)
       by_change (IsRefused same acked is) = put_refused called (λ e stores. let both : Stored stores.0 ≡ Refused is.0 = sym stores.1 ∙ is.1 in cc) is.0 is.1
       by_change (Answers same acked is) = absurd is
       by_change (Joined e more acked is) = put_stored called e is.0 more is.1 is.2 is.3

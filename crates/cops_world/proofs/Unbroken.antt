@@ -11,16 +11,16 @@ use Rattle.cops_node.specs.declared.NodeCall.{NodeCall}
 use Rattle.cops_node.specs.declared.NodeCall.TheVariants.{Get, DepCheck, Pull, Commit}
 use Rattle.cops_node.specs.declared.NodeReply.{NodeReply}
 use Rattle.cops_node.specs.declared.NodeReply.TheVariants as node_reply
-use Rattle.cops_node.specs.Log.{LogStep, Directed, Next, Ended, is_asked, fault_in, first_fault}
+use Rattle.cops_node.specs.Log.{Directed, Ended, LogStep, Next, fault_in, first_fault, is_asked, replies_of}
 use Rattle.cops_session.specs.declared.Answer.{Answer}
 use Rattle.cops_session.specs.declared.Answer.TheVariants as answer_is
-use Rattle.cops_session.specs.Request.{Action, Write, Fetch, attempt_of, replies_of, values_or_full, call_or_answer, unless_fault, answer_in, answer}
+use Rattle.cops_session.specs.Request.{Action, Write, Fetch, attempt_of, values_or_full, call_or_answer, unless_fault, answer_in, answer}
 use Rattle.cops_session.specs.Session.{shown}
 use Rattle.cops_session.specs.Transaction.{ReadRequest, gets, final_reads}
 use Rattle.cops_repl.specs.declared.Delivery.{Delivery}
 use Rattle.cops_repl.specs.declared.Progress.{Progress as CarrierProgress}
 use Rattle.cops_repl.specs.declared.Progress.TheVariants as carrier_progress
-use Rattle.cops_repl.specs.Carrier.{Stream, pull, calls_of, is_foreign, end_by, fault_or_end, first_end, complete, call_or_end, unless_end, next}
+use Rattle.cops_repl.specs.Carrier.{Stream, call_or_end, carrier_next, end_by, fault_or_end, finished_delivery, first_end, is_foreign, pull, stream_calls, unless_end}
 use Rattle.cops_repl.specs.Carrier as carrier
 use Rattle.cops_world.specs.Cluster.{reply_of_answer, reply_of_progress, reply_of_delivery}
 use Rattle.cops_world.specs.Laws.{is_expected_of_node, is_expected}
@@ -131,22 +131,22 @@ module _ (shards : ℕ) (stream : Stream) where
   pulled_or_ends dc (node_reply.Refused fault) none = cc
   pulled_or_ends dc reply none = cc
 
-  complete_fine : (rs : List NodeReply) → first_end shards stream (calls_of shards stream rs) rs ≡ None → slice_get (calls_of shards stream rs) (length rs) ≡ None → IsFineDelivery (complete rs)
+  complete_fine : (rs : List NodeReply) → first_end shards stream (stream_calls shards stream rs) rs ≡ None → slice_get (stream_calls shards stream rs) (length rs) ≡ None → IsFineDelivery (finished_delivery rs)
   complete_fine [] none past = cc
   complete_fine (node_reply.Pulled e ∷ rs) none past = refl
   complete_fine (r ∷ rs) none past = let pulled = pulled_or_ends stream.to_dc r (no_end_first (end_of_reply (Pull stream.to_dc) r) None none) in cc
 
   -- so is then the end
-  pub ended_fine : (log : List LogStep) (ending : Delivery) → Zipped IsFineStep (calls_of shards stream (carrier_replies log)) (carrier_replies log) → next shards stream log ≡ Ended ending → IsFineDelivery ending
+  pub ended_fine : (log : List LogStep) (ending : Delivery) → Zipped IsFineStep (stream_calls shards stream (carrier_replies log)) (carrier_replies log) → carrier_next shards stream log ≡ Ended ending → IsFineDelivery ending
   ended_fine log ending z e =
       let rs = carrier_replies log in
-      chosen (first_end shards stream (calls_of shards stream rs) rs) (slice_get (calls_of shards stream rs) (length rs)) refl refl (first_end_fine (calls_of shards stream rs) rs z) e
+      chosen (first_end shards stream (stream_calls shards stream rs) rs) (slice_get (stream_calls shards stream rs) (length rs)) refl refl (first_end_fine (stream_calls shards stream rs) rs z) e
     where
-      chosen : (ends : Option Delivery) (found : Option Directed) → first_end shards stream (calls_of shards stream (carrier_replies log)) (carrier_replies log) ≡ ends →
-          slice_get (calls_of shards stream (carrier_replies log)) (length (carrier_replies log)) ≡ found → IsFineEnd ends → unless_end ends (call_or_end found (complete (carrier_replies log))) ≡ Ended ending → IsFineDelivery ending
+      chosen : (ends : Option Delivery) (found : Option Directed) → first_end shards stream (stream_calls shards stream (carrier_replies log)) (carrier_replies log) ≡ ends →
+          slice_get (stream_calls shards stream (carrier_replies log)) (length (carrier_replies log)) ≡ found → IsFineEnd ends → unless_end ends (call_or_end found (finished_delivery (carrier_replies log))) ≡ Ended ending → IsFineDelivery ending
       chosen (Some d) found ends is fine e = let same : d ≡ ending = cc in subst IsFineDelivery same fine
       chosen None (Some call) ends is fine e = cc
-      chosen None None ends is fine e = let same : complete (carrier_replies log) ≡ ending = cc in subst IsFineDelivery same (complete_fine (carrier_replies log) ends is)
+      chosen None None ends is fine e = let same : finished_delivery (carrier_replies log) ≡ ending = cc in subst IsFineDelivery same (complete_fine (carrier_replies log) ends is)
 
   pub carrier_shown_fine : (n : Next Delivery) → ((ending : Delivery) → n ≡ Ended ending → IsFineDelivery ending) → (reply : CarrierProgress) → carrier.shown n ≡ reply → (d : Delivery) → reply ≡ carrier_progress.Done d → IsFineDelivery d
   carrier_shown_fine (Ended ending) fine reply is d e = let same : carrier_progress.Done ending ≡ carrier_progress.Done d = is ∙ e in let ends : ending ≡ d = cc in subst IsFineDelivery ends (fine ending refl)

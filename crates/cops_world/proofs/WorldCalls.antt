@@ -19,7 +19,7 @@ use Rattle.cops_world.specs.declared.actors.ActorId.{ActorId}
 use Rattle.cops_world.specs.declared.actors.Stepped.{Stepped}
 use Rattle.cops_world.specs.declared.replies.Reply.{Reply}
 use Rattle.cops_world.specs.declared.replies.Reply.TheVariants.{Refused}
-use Rattle.cops_world.specs.Cluster.{SoloCluster, Turn, Actor, actor_refusal, actor_step, cluster_step, collect_at, has_node, has_stream, reply_with, unless_refused, with_new_actor}
+use Rattle.cops_world.specs.Cluster.{ActEffect, Actor, SoloCluster, actor_refusal, actor_step, cluster_step, collect_at, has_node, has_stream, reply_with, unless_refused, with_new_actor}
 use Rattle.cops_world.specs.Events.{config_at}
 use Rattle.cops_world.specs.Worlds.{World, IsWorld, HasSizes, Moves, join_step}
 use Rattle.cops_world.proofs.WorldJoins.{refused_moves, same_moves, taken_moves}
@@ -66,7 +66,7 @@ name_taken old id there solo reply = by (old.actors id) refl
     by None e = absurd (true≢false (sym there ∙ ap is_some e))
 
 -- a new actor, where its place is there
-abbrev pub join_where : (TenantConfig → Bool) → List ℕ → Actor → Reply → TenantConfig → SoloCluster → Turn
+abbrev pub join_where : (TenantConfig → Bool) → List ℕ → Actor → Reply → TenantConfig → SoloCluster → ActEffect
 join_where exists name solo told config cluster = unless_refused (actor_refusal config (exists config) name cluster) cluster (reply_with told (with_new_actor name solo cluster))
 
 module _ (old : World) (slot : ℕ) (name : List ℕ) (exists : TenantConfig → Bool) (solo : Actor) (told : Reply) where

@@ -25,7 +25,7 @@ use Rattle.cops_world.specs.ActorsStand.{RunsAt}
 use Rattle.cops_world.specs.ActorTables.{same_actor}
 use Rattle.cops_world.specs.Events.{config_at}
 use Rattle.cops_world.specs.Cluster.{new_cluster}
-use Rattle.cops_world.specs.Worlds.{HasSizes, IsKeptWorld, IsWorld, KeptWorld, StandsAt, world_of}
+use Rattle.cops_world.specs.Worlds.{ClusterStandsAt, HasSizes, IsKeptWorld, IsWorld, KeptWorld, world_of}
 use Rattle.cops_world.proofs.ActorTableLemmas.{same_actor-is}
 use Rattle.cops_world.proofs.WorldJoins.{quota_at}
 use Rattle.cops_world.proofs.WorldSteps.{table_after}
@@ -168,14 +168,14 @@ no_count (suc tenants) (suc slot) = no_count tenants slot
 pub new_stands : (config : Config) (nodes : Cluster) (kept : KeptWorld) → kept.setup ≡ config → kept.nodes ≡ nodes → kept.entries ≡ [] → kept.counts ≡ replicate (length config.tenants) 0 →
     ((slot : ℕ) (tenant : Tenant) → slice_get config.tenants slot ≡ Some tenant → HasTenant (tenant_config config tenant) slot nodes) →
     ((slot : ℕ) (tenant : Tenant) → slice_get config.tenants slot ≡ Some tenant → nodes_of (tenant_config config tenant) slot nodes ≡ replicate (config.data_centres * config.shards) (new_node config.data_centres)) →
-    (slot : ℕ) → slot < length config.tenants → StandsAt (world_of kept) slot (new_cluster (config_at config slot))
+    (slot : ℕ) → slot < length config.tenants → ClusterStandsAt (world_of kept) slot (new_cluster (config_at config slot))
 new_stands config nodes kept setup_is nodes_are no_entries no_counts tenants fresh slot within =
     let at = tenant_at config.tenants slot within in
     let quota = quota_at config slot at.0 at.1 in
     let Fresh : TenantConfig → Type 0 = λ c. HasTenant c slot nodes × (nodes_of c slot nodes ≡ (new_cluster c).nodes) in
     let stood = subst Fresh (sym quota) (tenants slot at.0 at.1, fresh slot at.0 at.1) in
     let new : KeptWorld = record { setup = config; nodes = nodes; entries = []; counts = replicate (length config.tenants) 0 } in
-    subst (λ (k : KeptWorld). StandsAt (world_of k) slot (new_cluster (config_at config slot)))
+    subst (λ (k : KeptWorld). ClusterStandsAt (world_of k) slot (new_cluster (config_at config slot)))
     (λ i. record { setup = sym setup_is i; nodes = sym nodes_are i; entries = sym no_entries i; counts = sym no_counts i })
     (record {
       has = stood.0;

@@ -10,7 +10,7 @@ use Rattle.cops_node.specs.declared.NodeReply.{NodeReply}
 use Rattle.cops_node.specs.declared.NodeReply.TheVariants as node_reply
 use Rattle.cops_node.specs.declared.Place.{Place}
 use Rattle.cops_node.specs.Clusters.{Cluster, IsCall, nodes_of}
-use Rattle.cops_node.specs.Place.{place_of, number_of}
+use Rattle.cops_node.specs.Place.{node_number, place_of}
 use Rattle.cops_node.specs.Shape.{Shape}
 use Rattle.cops_node.specs.SoloNode.{SoloNode, new_node}
 use Rattle.cops_node.specs.Step.{node_step, effect, audited, unchanged}
@@ -23,7 +23,7 @@ use Rattle.cops_world.specs.ActorsStand.{ActorStandsFor}
 use Rattle.cops_world.specs.Cluster.{SoloCluster, actor_step, goes_on, reply_of_collect}
 use Rattle.cops_world.specs.Events.{config_at, is_out_of_memory}
 use Rattle.cops_world.specs.Lacks.{Lacks, Stays, StepStops, StepsStop}
-use Rattle.cops_world.specs.Worlds.{World, IsWorld, Leaves, Moves, StandsAt}
+use Rattle.cops_world.specs.Worlds.{ClusterStandsAt, IsWorld, Leaves, Moves, World}
 use Rattle.cops_world.proofs.Stops.{actor_stops}
 use Rattle.cops_world.proofs.WorldKeeps.{sizes_at}
 use Rattle.cops_world.proofs.WorldMoves.{kept_alike}
@@ -39,7 +39,7 @@ pub spared_leaves : (Left : TenantConfig → SoloCluster → SoloCluster → Typ
 spared_leaves Left old slot reply new spared = λ lack. absurd (true≢false (sym lack ∙ spared))
 
 pub same_leaves : (old : World) (slot : ℕ) (reply : Reply) (new : World) → new ≡ old → Leaves Stays old slot reply new
-same_leaves old slot reply new same = λ lack cluster stands. (cluster, refl, subst (λ w. StandsAt w slot cluster) (sym same) stands)
+same_leaves old slot reply new same = λ lack cluster stands. (cluster, refl, subst (λ w. ClusterStandsAt w slot cluster) (sym same) stands)
 
 -- each actor is as it was
 pub deed_leaves : (old : World) (slot : ℕ) (reply : Reply) (actors : ActorId → Option Kept) → (IsTrue (is_out_of_memory reply) → (q : ActorId) → actors q ≡ old.actors q) → Leaves Stays old slot reply (record old { actors = actors })
@@ -67,11 +67,11 @@ collect_spared place moment solo = by (nat_lt (length solo.trail) place.quota.au
 pub collect_leaves : (old : World) (slot : ℕ) (id : NodeId) (moment : ℕ) (answered : NodeReply) (nodes : Cluster) (reply : Reply) → (config_at old.setup slot).shards ≡ old.nodes.shape.shards →
     IsCall old.nodes id slot moment node_call.Collect answered nodes → reply ≡ reply_of_collect answered → Leaves Stays old slot reply (record old { nodes = nodes })
 collect_leaves old slot id moment answered nodes reply shards made is = λ lack cluster stands. elim made.turn [
-  | inl refused ↦ (cluster, refl, subst (λ ns. StandsAt (record old { nodes = ns }) slot cluster) (sym refused.1) stands)
+  | inl refused ↦ (cluster, refl, subst (λ ns. ClusterStandsAt (record old { nodes = ns }) slot cluster) (sym refused.1) stands)
   | inr turn ↦
       let config = config_at old.setup slot in
       let turned = (turn config shards stands.has).reply_is in
-      let node = slice_index_or (nodes_of config slot old.nodes) (number_of config.shards id) (new_node config.data_centres) in
+      let node = slice_index_or (nodes_of config slot old.nodes) (node_number config.shards id) (new_node config.data_centres) in
       absurd (true≢false (sym lack ∙ ap is_out_of_memory (is ∙ ap reply_of_collect turned) ∙ collect_spared (place_of config id) moment node))
 ]
 

@@ -9,33 +9,33 @@ use Rattle.cops_types.specs.Key.{key_eq}
 use Rattle.cops_types.specs.TenantConfig.{TenantConfig}
 use Rattle.cops_node.specs.Clusters.{Cluster, HasTenant, nodes_of}
 use Rattle.cops_session.specs.Request.{Write, Fetch}
-use Rattle.cops_session.specs.Session.{Session, obs_of, create_refusal, context_refusal, context_created, context_deleted, put_refusal, get_refusal, request_begun}
+use Rattle.cops_session.specs.Session.{Session, context_created, context_deleted, context_refusal, create_refusal, get_refusal, obs_of, request_begun, session_put_refusal}
 use Rattle.cops_world.specs.declared.actors.Actor.{Actor as Kept}
 use Rattle.cops_world.specs.declared.actors.ActorId.{ActorId}
 use Rattle.cops_world.specs.declared.actors.Deed.{Deed}
 use Rattle.cops_world.specs.declared.actors.Deed.TheVariants.{Create, Delete, Put, Get, Show}
 use Rattle.cops_world.specs.declared.replies.Reply.{Reply}
 use Rattle.cops_world.specs.declared.replies.Reply.TheVariants.{Created, Deleted, Started, Lists, Refused}
-use Rattle.cops_world.specs.Actors.{AreSame, ActorsStandFor, AreDistinct}
+use Rattle.cops_world.specs.Actors.{ActorsStandFor, AreSame, HaveDistinctNames}
 use Rattle.cops_world.specs.ActorsStand.{ActorStandsFor, HasDone}
 use Rattle.cops_world.specs.ActorTables.{same_actor}
 use Rattle.cops_world.specs.ActorTurns.{ActorTurn, actor_turn, unless_actor_refused, actor_does, session_does}
-use Rattle.cops_world.specs.Cluster.{SoloCluster, Turn, NamedActor, Actor, OfSession, OfCarrier, session_in, find_actor, with_actor, on_found, reply_with, unless_refused}
+use Rattle.cops_world.specs.Cluster.{ActEffect, Actor, NamedActor, OfCarrier, OfSession, SoloCluster, find_actor, on_found, reply_with, session_in, unless_refused, with_actor}
 use Rattle.cops_world.specs.Deeds.{deed_step, session_deed}
 use Rattle.cops_world.specs.Events.{config_at, is_out_of_memory}
-use Rattle.cops_world.specs.Worlds.{World, StandsAt, Moves}
+use Rattle.cops_world.specs.Worlds.{ClusterStandsAt, Moves, World}
 use Rattle.cops_world.proofs.ActorMoves.{absent_too, found_too, put_in_place, with_actor-same, count-with_actor}
 use Rattle.cops_world.proofs.ActorTableLemmas.{same_actor-refl, other_slot, other_name}
 
 -- ---- a deed on the cluster
 
 -- the turn is that of the actor, put in its place
-record Agrees (name : List ℕ) (cluster : SoloCluster) (turn : Turn) (own : ActorTurn) : Type 0 where
+record Agrees (name : List ℕ) (cluster : SoloCluster) (turn : ActEffect) (own : ActorTurn) : Type 0 where
   reply_is : turn.reply ≡ own.reply
   actors_are : turn.after.actors ≡ (with_actor name own.after cluster).actors
   nodes_stay : turn.after.nodes ≡ cluster.nodes
 
-module _ (name : List ℕ) (cluster : SoloCluster) (distinct : AreDistinct cluster.actors) (s : Session) (found : find_actor name cluster ≡ Some (OfSession s)) where
+module _ (name : List ℕ) (cluster : SoloCluster) (distinct : HaveDistinctNames cluster.actors) (s : Session) (found : find_actor name cluster ≡ Some (OfSession s)) where
   same_again : (reply : Reply) → Agrees name cluster (reply_with reply cluster) (actor_turn reply (OfSession s))
   same_again reply = record { reply_is = refl; actors_are = sym (with_actor-same name (OfSession s) cluster distinct found); nodes_stay = refl }
 
@@ -51,11 +51,11 @@ module _ (name : List ℕ) (cluster : SoloCluster) (distinct : AreDistinct clust
   deed_of_session : (config : TenantConfig) (deed : Deed) → Agrees name cluster (session_deed config name cluster deed s) (session_does config s deed)
   deed_of_session config Create = changes (create_refusal config s) (Created s.next_context) (OfSession (context_created s))
   deed_of_session config (Delete number) = changes (context_refusal number s) Deleted (OfSession (context_deleted number s))
-  deed_of_session config (Put number key value) = changes (put_refusal config number key s) Started (OfSession (request_begun number (Write key value) s))
+  deed_of_session config (Put number key value) = changes (session_put_refusal config number key s) Started (OfSession (request_begun number (Write key value) s))
   deed_of_session config (Get number keys) = changes (get_refusal config number keys s) Started (OfSession (request_begun number (Fetch keys) s))
   deed_of_session config (Show number) = shows (context_refusal number s) (Lists (all_of (obs_of number s)) (near_of (obs_of number s)))
 
-deed_found : (config : TenantConfig) (name : List ℕ) (deed : Deed) (cluster : SoloCluster) (actor : Actor) → AreDistinct cluster.actors → find_actor name cluster ≡ Some actor →
+deed_found : (config : TenantConfig) (name : List ℕ) (deed : Deed) (cluster : SoloCluster) (actor : Actor) → HaveDistinctNames cluster.actors → find_actor name cluster ≡ Some actor →
     Agrees name cluster (deed_step config name deed cluster) (actor_does config deed actor)
 deed_found config name deed cluster (OfSession s) distinct found =
     subst (λ o. Agrees name cluster (on_found (option_and_then session_in o) cluster (session_deed config name cluster deed)) (session_does config s deed)) (sym found)
@@ -73,7 +73,7 @@ deed_absent config name deed cluster none = ap (λ o. on_found (option_and_then 
 pub actors_alone : {A : Type 0} (Stands : A → Actor → Type 0) (kept : List ℕ → Option A) (one other : SoloCluster) → one.actors ≡ other.actors → ActorsStandFor Stands kept one → ActorsStandFor Stands kept other
 actors_alone Stands kept one other same h = record {
   same = λ name. subst (λ (actors : List NamedActor). AreSame Stands (kept name) (option_map (λ a. a.actor) (find (λ a. key_eq a.name name) actors))) same (h.same name);
-  distinct = subst AreDistinct same h.distinct;
+  distinct = subst HaveDistinctNames same h.distinct;
 }
 
 -- the same actors by name
@@ -84,7 +84,7 @@ kept_alike Stands one other cluster same h = record { same = λ name. subst (λ 
 pub others_stay : (old : World) (nodes : Cluster) (actors : ActorId → Option Kept) (counts : List ℕ) (slot other : ℕ) → slot ≢ other →
     ((config : TenantConfig) → nodes_of config other nodes ≡ nodes_of config other old.nodes) → ((config : TenantConfig) → HasTenant config other old.nodes → HasTenant config other nodes) →
     ((q : ActorId) → slot ≢ q.slot → actors q ≡ old.actors q) → slice_index counts other ≡ slice_index old.counts other →
-    (cluster : SoloCluster) → StandsAt old other cluster → StandsAt (record old { nodes = nodes; actors = actors; counts = counts }) other cluster
+    (cluster : SoloCluster) → ClusterStandsAt old other cluster → ClusterStandsAt (record old { nodes = nodes; actors = actors; counts = counts }) other cluster
 others_stay old nodes actors counts slot other differ same_nodes keeps same_actors same_count cluster h = record {
   has = keeps (config_at old.setup other) h.has;
   nodes_are = same_nodes (config_at old.setup other) ∙ h.nodes_are;
@@ -108,15 +108,15 @@ module _ (old : World) (slot : ℕ) (name : List ℕ) (actors : ActorId → Opti
   new_world : World
   new_world = record old { actors = actors }
 
-  deed_own : IsFalse (is_out_of_memory reply) → (cluster : SoloCluster) → StandsAt old slot cluster →
-      (reply ≡ (deed_step (config_at old.setup slot) name deed cluster).reply) × StandsAt (record old { actors = actors }) slot (deed_step (config_at old.setup slot) name deed cluster).after
+  deed_own : IsFalse (is_out_of_memory reply) → (cluster : SoloCluster) → ClusterStandsAt old slot cluster →
+      (reply ≡ (deed_step (config_at old.setup slot) name deed cluster).reply) × ClusterStandsAt (record old { actors = actors }) slot (deed_step (config_at old.setup slot) name deed cluster).after
   deed_own spared cluster h = by_actor (old.actors (id_of slot name)) refl
     where
       config : TenantConfig
       config = config_at old.setup slot
 
-      Own : Turn → Type 0
-      Own turn = (reply ≡ turn.reply) × StandsAt (record old { actors = actors }) slot turn.after
+      Own : ActEffect → Type 0
+      Own turn = (reply ≡ turn.reply) × ClusterStandsAt (record old { actors = actors }) slot turn.after
 
       by_actor : (o : Option Kept) → old.actors (id_of slot name) ≡ o → Own (deed_step config name deed cluster)
       by_actor None none =

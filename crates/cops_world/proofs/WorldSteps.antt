@@ -13,7 +13,7 @@ use Rattle.cops_node.specs.Clusters.{Cluster, HasTenant, nodes_of, IsCall}
 use Rattle.cops_node.specs.Log.{Next, Call, Restart, Ended}
 use Rattle.cops_session.specs.declared.Answer.{Answer}
 use Rattle.cops_session.specs.declared.Progress.{Progress}
-use Rattle.cops_session.specs.Kept.{Kept as KeptSession}
+use Rattle.cops_session.specs.Kept.{KeptSession}
 use Rattle.cops_session.specs.Request.{next}
 use Rattle.cops_session.specs.Session.{Session, Running, request_of, moment_at}
 use Rattle.cops_session.specs.Stepping.{DoesNext}
@@ -26,9 +26,9 @@ use Rattle.cops_world.specs.declared.replies.Reply.TheVariants.{Refused}
 use Rattle.cops_world.specs.Actors.{ActorsStandFor}
 use Rattle.cops_world.specs.ActorsStand.{ActorStandsFor, ActorSteps, SessionSteps, NodesTurn, IsAfter, StepsCluster}
 use Rattle.cops_world.specs.ActorTables.{same_actor}
-use Rattle.cops_world.specs.Cluster.{SoloCluster, Turn, Actor, OfSession, OfCarrier, find_actor, with_actor, without_actor, actor_step, actor_steps, step_of, goes_on, collect_at, reply_of_collect}
+use Rattle.cops_world.specs.Cluster.{ActEffect, Actor, OfCarrier, OfSession, SoloCluster, actor_step, actor_steps, collect_at, find_actor, goes_on, reply_of_collect, step_of, with_actor, without_actor}
 use Rattle.cops_world.specs.Events.{config_at, is_out_of_memory}
-use Rattle.cops_world.specs.Worlds.{World, StandsAt, Moves, IsWorld}
+use Rattle.cops_world.specs.Worlds.{ClusterStandsAt, IsWorld, Moves, World}
 use Rattle.cops_world.proofs.ActorMoves.{absent_too, found_too, put_in_place, leaves, count-with_actor, count-without}
 use Rattle.cops_world.proofs.ActorTableLemmas.{same_actor-refl, other_slot, other_name}
 use Rattle.cops_world.proofs.ClusterSteps.{actor_turn}
@@ -127,8 +127,8 @@ module _ (old : World) (whole : IsWorld old) (slot : ℕ) (name : List ℕ) (mom
   counts_elsewhere true other differ = get_or-set_other old.counts slot other (slice_index old.counts slot - 1) 0 (λ same. differ (sym same))
 
   -- the tenant's own cluster
-  pub stands_after : (cluster : SoloCluster) (solo : Actor) (turn : Turn) → StandsAt old slot cluster → slot < length old.counts → find_actor name cluster ≡ Some solo → StepsCluster config_of_slot name cluster (nodes_of config_of_slot slot nodes) turn stepped after →
-      StandsAt stepped_world slot turn.after
+  pub stands_after : (cluster : SoloCluster) (solo : Actor) (turn : ActEffect) → ClusterStandsAt old slot cluster → slot < length old.counts → find_actor name cluster ≡ Some solo → StepsCluster config_of_slot name cluster (nodes_of config_of_slot slot nodes) turn stepped after →
+      ClusterStandsAt stepped_world slot turn.after
   stands_after cluster solo turn stood within found took = record {
     has = once_tenants old.nodes nodes slot slot h.once config_of_slot stood.has;
     nodes_are = sym took.nodes_are;
@@ -170,7 +170,7 @@ module _ (old : World) (whole : IsWorld old) (slot : ℕ) (name : List ℕ) (mom
           minus_one n = omega arith
 
   -- the actor of the tenant's own cluster takes this step
-  pub solo_steps : config_of_slot.shards ≡ old.nodes.shape.shards → (cluster : SoloCluster) → StandsAt old slot cluster → (solo : Actor) × (find_actor name cluster ≡ Some solo)
+  pub solo_steps : config_of_slot.shards ≡ old.nodes.shape.shards → (cluster : SoloCluster) → ClusterStandsAt old slot cluster → (solo : Actor) × (find_actor name cluster ≡ Some solo)
       × ActorSteps (NodesTurn config_of_slot cluster.nodes (nodes_of config_of_slot slot nodes)) (nodes_of config_of_slot slot nodes ≡ cluster.nodes) config_of_slot moment stepped solo after
   solo_steps shards cluster stood =
       let solo = found_too (ActorStandsFor config_of_slot) name (λ n. old.actors (id_of slot n)) (λ n. actors (id_of slot n)) cluster stood.actors_are before h.there in (
@@ -224,7 +224,7 @@ steps_end (suc more) name moment old slot reply new ends h = record {
       let one = h.own spared cluster stands in
       let turn = actor_step (config_at old.setup slot) name moment cluster in
       let last : goes_on turn.reply ≡ false = ap goes_on (sym one.0) ∙ ends in
-      subst (λ (t : Turn). (reply ≡ t.reply) × StandsAt new slot t.after)
+      subst (λ (t : ActEffect). (reply ≡ t.reply) × ClusterStandsAt new slot t.after)
       (sym (ap (λ b. elim b [ true ↦ actor_steps more (config_at old.setup slot) name moment turn.after | false ↦ turn ]) last)) one;
   others = h.others;
 }
@@ -240,7 +240,7 @@ steps_on more name moment old slot first mid reply new goes h later = record {
       let turn = actor_step (config_at old.setup slot) name moment cluster in
       let on : goes_on turn.reply ≡ true = ap goes_on (sym one.0) ∙ goes in
       let rest = later.own spared turn.after one.1 in
-      subst (λ (t : Turn). (reply ≡ t.reply) × StandsAt new slot t.after)
+      subst (λ (t : ActEffect). (reply ≡ t.reply) × ClusterStandsAt new slot t.after)
       (ap (λ (c : Config). actor_steps more (config_at c slot) name moment turn.after) h.same
       ∙ sym (ap (λ b. elim b [ true ↦ actor_steps more (config_at old.setup slot) name moment turn.after | false ↦ turn ]) on)) rest;
   others = λ other differ cluster stands. later.others other differ cluster (h.others other differ cluster stands);
@@ -257,8 +257,8 @@ collect_moves old slot id moment answered nodes reply shards made is = record {
   others = λ other differ. others_stay old nodes old.actors old.counts slot other differ (λ config. made.others config other (λ same. differ (sym same))) (λ config. made.tenants config other) (λ q apart. refl) refl;
 }
   where
-    by_turn : IsFalse (is_out_of_memory reply) → (cluster : SoloCluster) → StandsAt old slot cluster → NodesTurn (config_at old.setup slot) cluster.nodes (nodes_of (config_at old.setup slot) slot nodes) moment id node_call.Collect answered →
-        (reply ≡ (collect_at (config_at old.setup slot) id moment cluster).reply) × StandsAt (record old { nodes = nodes }) slot (collect_at (config_at old.setup slot) id moment cluster).after
+    by_turn : IsFalse (is_out_of_memory reply) → (cluster : SoloCluster) → ClusterStandsAt old slot cluster → NodesTurn (config_at old.setup slot) cluster.nodes (nodes_of (config_at old.setup slot) slot nodes) moment id node_call.Collect answered →
+        (reply ≡ (collect_at (config_at old.setup slot) id moment cluster).reply) × ClusterStandsAt (record old { nodes = nodes }) slot (collect_at (config_at old.setup slot) id moment cluster).after
     by_turn spared cluster stood (inl (lack, stays)) = absurd (true≢false (ap is_out_of_memory (sym (is ∙ ap reply_of_collect lack)) ∙ spared))
     by_turn spared cluster stood (inr (reply_is, moved)) = (
       is ∙ ap reply_of_collect reply_is,

@@ -12,11 +12,11 @@ AreSame Stands None (Some actor) = ⊥
 AreSame Stands (Some kept) None = ⊥
 
 -- no two have one name
-abbrev pub AreDistinct : List NamedActor → Type 0
-AreDistinct [] = Unit {0}
-AreDistinct (a ∷ actors) = (list_any (λ b. key_eq b.name a.name) actors ≡ false) × AreDistinct actors
+abbrev pub HaveDistinctNames : List NamedActor → Type 0
+HaveDistinctNames [] = Unit {0}
+HaveDistinctNames (a ∷ actors) = (list_any (λ b. key_eq b.name a.name) actors ≡ false) × HaveDistinctNames actors
 
 -- the actors that are kept, by name, are those of the cluster
 pub record ActorsStandFor {A : Type 0} (Stands : A → Actor → Type 0) (kept : List ℕ → Option A) (cluster : SoloCluster) : Type 0 where
   pub same : (name : List ℕ) → AreSame Stands (kept name) (find_actor name cluster)
-  pub distinct : AreDistinct cluster.actors
+  pub distinct : HaveDistinctNames cluster.actors

@@ -7,12 +7,12 @@ use Rattle.cops_node.specs.declared.NodeId.{NodeId}
 use Rattle.cops_node.specs.declared.NodeReply.{NodeReply}
 use Rattle.cops_node.specs.declared.NodeReply.TheVariants as node_reply
 use Rattle.cops_node.specs.Log.{Directed, Replied}
-use Rattle.cops_node.specs.Place.{place_of, number_of}
+use Rattle.cops_node.specs.Place.{node_number, place_of}
 use Rattle.cops_node.specs.Shape.{Shape}
 use Rattle.cops_node.specs.SoloNode.{SoloNode, new_node}
 use Rattle.cops_node.specs.Step.{node_step}
 use Rattle.cops_session.specs.declared.Progress.{Progress}
-use Rattle.cops_session.specs.Kept.{Kept as KeptSession}
+use Rattle.cops_session.specs.Kept.{KeptSession}
 use Rattle.cops_session.specs.Request.{next}
 use Rattle.cops_session.specs.Session.{Session, Running, request_of, moment_at}
 use Rattle.cops_session.specs.Stepping.{DoesNext}
@@ -20,13 +20,13 @@ use Rattle.cops_session.specs.SessionStands.{SessionStandsFor}
 use Rattle.cops_repl.specs.declared.Progress.{Progress as CarrierProgress}
 use Rattle.cops_repl.specs.declared.Progress.TheVariants as carrying
 use Rattle.cops_repl.specs.Carrier.{Carrier}
-use Rattle.cops_repl.specs.Stands.{CarrierStandsFor, IsStepOf, Kept as KeptCarrier, RunsIn, is_done}
+use Rattle.cops_repl.specs.Stands.{CarrierStandsFor, IsStepOf, KeptCarrier, RunsIn, is_done}
 use Rattle.cops_world.specs.declared.actors.Actor.{Actor as Kept}
 use Rattle.cops_world.specs.declared.actors.Actor.TheVariants as kept
 use Rattle.cops_world.specs.declared.actors.Stepped.{Stepped}
 use Rattle.cops_world.specs.declared.replies.Reply.{Reply}
 use Rattle.cops_world.specs.declared.replies.Reply.TheVariants.{Working, Refused}
-use Rattle.cops_world.specs.Cluster.{SoloCluster, Turn, Actor, OfSession, OfCarrier, with_actor, without_actor, reply_of_progress, reply_of_delivery}
+use Rattle.cops_world.specs.Cluster.{ActEffect, Actor, OfCarrier, OfSession, SoloCluster, reply_of_delivery, reply_of_progress, with_actor, without_actor}
 use Rattle.cops_world.specs.ActorTurns.{ActorTurn}
 use Rattle.cops_world.specs.Events.{is_out_of_memory}
 
@@ -82,7 +82,7 @@ HasDone config actor turn reply after = IsFalse (is_out_of_memory reply) → (re
 abbrev pub NodesTurn : TenantConfig → List SoloNode → List SoloNode → ℕ → NodeId → NodeCall → NodeReply → Type 0
 NodesTurn config before after at id call reply =
     ((reply ≡ node_reply.Refused OutOfMemory) × (after ≡ before))
-    ⊎ (let number = number_of config.shards id in
+    ⊎ (let number = node_number config.shards id in
     let turn = node_step (place_of config id) at call (slice_index_or before number (new_node config.data_centres)) in
     (reply ≡ turn.reply) × (after ≡ slice_set before number turn.after))
 
@@ -92,7 +92,7 @@ IsAfter config name before after actor false = (solo : Actor) × (after.actors �
 IsAfter config name before after actor true = after.actors ≡ (without_actor name before).actors
 
 -- the step did to the cluster what the definition's does
-pub record StepsCluster (config : TenantConfig) (name : List ℕ) (before : SoloCluster) (nodes : List SoloNode) (turn : Turn) (stepped : Stepped) (after : Kept) : Type 0 where
+pub record StepsCluster (config : TenantConfig) (name : List ℕ) (before : SoloCluster) (nodes : List SoloNode) (turn : ActEffect) (stepped : Stepped) (after : Kept) : Type 0 where
   pub reply_is : stepped.reply ≡ turn.reply
   pub nodes_are : turn.after.nodes ≡ nodes
   pub actors_are : IsAfter config name before turn.after after stepped.is_over

@@ -4,15 +4,15 @@ use Rattle.cops_types.specs.TenantConfig.{TenantConfig}
 use Rattle.cops_session.specs.Session.{Session}
 use Rattle.cops_world.specs.declared.actors.Deed.{Deed}
 use Rattle.cops_world.specs.declared.actors.Deed.TheVariants.{Create, Delete, Put, Get, Show}
-use Rattle.cops_world.specs.Cluster.{SoloCluster, Turn, create_act, delete_act, get_act, on_session, put_act, session_acts, session_shows, show_act}
+use Rattle.cops_world.specs.Cluster.{ActEffect, SoloCluster, create_act, delete_act, get_act, on_session, put_act, session_acts, session_shows, show_act}
 
 -- as the act of the same name, once keys and values are known to be some
-abbrev pub session_deed : TenantConfig → List ℕ → SoloCluster → Deed → Session → Turn
+abbrev pub session_deed : TenantConfig → List ℕ → SoloCluster → Deed → Session → ActEffect
 session_deed config name cluster Create s = session_acts name cluster (create_act config s)
 session_deed config name cluster (Delete number) s = session_acts name cluster (delete_act number s)
 session_deed config name cluster (Put number key value) s = session_acts name cluster (put_act config number key value s)
 session_deed config name cluster (Get number keys) s = session_acts name cluster (get_act config number keys s)
 session_deed config name cluster (Show number) s = session_shows cluster (show_act number s)
 
-abbrev pub deed_step : TenantConfig → List ℕ → Deed → SoloCluster → Turn
+abbrev pub deed_step : TenantConfig → List ℕ → Deed → SoloCluster → ActEffect
 deed_step config name deed cluster = on_session name cluster (session_deed config name cluster deed)

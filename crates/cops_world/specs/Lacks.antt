@@ -5,7 +5,7 @@ use Rattle.cops_types.specs.TenantConfig.{TenantConfig}
 use Rattle.cops_session.specs.Session.{Session, is_busy, moment_at}
 use Rattle.cops_world.specs.declared.acts.Act.{Act}
 use Rattle.cops_world.specs.declared.acts.Act.TheVariants.{Open, Create, Delete, Put, Get, Show, Carry, Step, Done, Collect}
-use Rattle.cops_world.specs.Cluster.{SoloCluster, Turn, Actor, OfSession, OfCarrier, find_actor, find_session, with_actor, without_actor, actor_step, goes_on, most_steps}
+use Rattle.cops_world.specs.Cluster.{ActEffect, Actor, OfCarrier, OfSession, SoloCluster, actor_step, find_actor, find_session, goes_on, most_steps, with_actor, without_actor}
 
 -- the moment of the session of this name
 abbrev pub moment_of : List ℕ → SoloCluster → Option ℕ
@@ -13,18 +13,18 @@ moment_of name cluster = option_map (λ s. s.moment) (find_session name cluster)
 
 -- a session's step stopped: its request has ended, and its contexts are as they were;
 -- no node was changed, or the nodes and the session's moment are those that the definition's step leaves
-pub record SessionStops (turn : Turn) (name : List ℕ) (moment : ℕ) (session : Session) (before after : SoloCluster) : Type 0 where
+pub record SessionStops (turn : ActEffect) (name : List ℕ) (moment : ℕ) (session : Session) (before after : SoloCluster) : Type 0 where
   pub ran : is_busy session ≡ true
   pub at : ℕ
   pub called : ((after.nodes ≡ before.nodes) × (at ≡ moment_at moment session)) ⊎ ((after.nodes ≡ turn.after.nodes) × (moment_of name turn.after ≡ Some at))
   pub actors_are : after.actors ≡ (with_actor name (OfSession (record session { moment = at; running = None })) before).actors
 
 -- a carrier's step stopped: it is gone; no node was changed, or the nodes are those that the definition's step leaves
-pub record CarrierStops (turn : Turn) (name : List ℕ) (before after : SoloCluster) : Type 0 where
+pub record CarrierStops (turn : ActEffect) (name : List ℕ) (before after : SoloCluster) : Type 0 where
   pub called : (after.nodes ≡ before.nodes) ⊎ (after.nodes ≡ turn.after.nodes)
   pub actors_are : after.actors ≡ (without_actor name before).actors
 
-abbrev pub ActorStops : Turn → List ℕ → ℕ → Option Actor → SoloCluster → SoloCluster → Type 0
+abbrev pub ActorStops : ActEffect → List ℕ → ℕ → Option Actor → SoloCluster → SoloCluster → Type 0
 ActorStops turn name moment (Some (OfSession session)) before after = SessionStops turn name moment session before after
 ActorStops turn name moment (Some (OfCarrier carrier)) before after = CarrierStops turn name before after
 ActorStops turn name moment None before after = ⊥

@@ -13,6 +13,7 @@ use Rattle.cops_world.specs.declared.replies.Reply.{Reply}
 use Rattle.cops_world.specs.declared.replies.Reply.TheVariants.{Restarted, Refused}
 use Rattle.cops_world.specs.Cluster.{SoloCluster, find_session, actor_step, goes_on, most_steps}
 use Rattle.cops_world.specs.Laws.{cluster_of}
+use Rattle.cops_session.specs.Reading.{first_moment}
 
 -- the moment that an act hands in, and those of a list of acts
 abbrev pub moment_in : Act → Option ℕ
@@ -56,15 +57,10 @@ ends_attempt (Restarted times) = true
 ends_attempt (Refused Overrun) = true
 ends_attempt reply = false
 
--- an attempt starts at the moment of its first step
-abbrev pub start_of : List LogStep → Option ℕ
-start_of [] = None
-start_of (first ∷ steps) = Some first.moment
-
 -- the start of the attempt of the request that the session of this name runs
 abbrev pub attempt_start : List ℕ → SoloCluster → Option ℕ
 attempt_start name cluster =
-    option_and_then (λ (r : Running). start_of (attempt_of r.action r.log).steps)
+    option_and_then (λ (r : Running). first_moment (attempt_of r.action r.log).steps)
     (option_and_then (λ (s : Session). s.running) (find_session name cluster))
 
 -- one of the moments is past the start by more than this time
@@ -73,12 +69,12 @@ has_passed trans_time moments (Some start) = list_any (nat_lt (start + trans_tim
 has_passed trans_time moments None = false
 
 -- a step ends an attempt only where one of the moments is past the attempt's start by more than `trans_time`
-abbrev pub is_due : TenantConfig → List ℕ → ActorStep → Bool
-is_due config moments step =
+abbrev pub ends_when_due : TenantConfig → List ℕ → ActorStep → Bool
+ends_when_due config moments step =
     if ends_attempt (reply_to config step) then has_passed config.trans_time moments (attempt_start step.name step.from) else true
 
 -- so it is for each step of each act, and the moments handed in up to and by that act
 abbrev pub RestartsOnlyLate : TenantConfig → List Act → Type 0
 RestartsOnlyLate config acts =
     (before after : List Act) (act : Act) → acts ≡ before ++ act ∷ after →
-    IsTrue (list_all (is_due config (moments_in (before ++ act ∷ []))) (steps_of config act (cluster_of config before)))
+    IsTrue (list_all (ends_when_due config (moments_in (before ++ act ∷ []))) (steps_of config act (cluster_of config before)))

@@ -16,8 +16,8 @@ use Rattle.cops_world.specs.MainTheorem.{KeepsCausality, MainTheorem}
 use Rattle.cops_world.specs.Script.{Output, Written, BadConfig, NoTenant, Said, OfNobody, Unformed, Acts, answer_line, answers_to, events_in, said_in, script_out, slot_of_name}
 
 -- the answers to lines: to each the tenant and the reply, or nobody
-abbrev pub Answers : Type 0
-Answers = List (Option (ℕ × Reply))
+abbrev pub AddressedReplies : Type 0
+AddressedReplies = List (Option (ℕ × Reply))
 
 -- it says that memory was refused
 abbrev pub is_lack : Option (ℕ × Reply) → Bool
@@ -25,10 +25,10 @@ is_lack None = false
 is_lack (Some answer) = is_out_of_memory answer.1
 
 -- none of them says so
-abbrev pub AreSpared : Answers → Type 0
+abbrev pub AreSpared : AddressedReplies → Type 0
 AreSpared told = IsFalse (list_any is_lack told)
 
-abbrev pub text_of : List Tenant → Answers → List ℕ
+abbrev pub text_of : List Tenant → AddressedReplies → List ℕ
 text_of tenants told = flat_map (answer_line tenants) told
 
 -- the tenant that an answer is to
@@ -41,7 +41,7 @@ abbrev pub named_in : List Tenant → List ℕ → Option ℕ
 named_in tenants line = slot_of_name tenants (first_word line)
 
 -- the replies to the tenant of a slot
-abbrev pub replies_to : ℕ → Answers → List Reply
+abbrev pub replies_to : ℕ → AddressedReplies → List Reply
 replies_to slot [] = []
 replies_to slot (None ∷ told) = replies_to slot told
 replies_to slot (Some answer ∷ told) = if answer.0 == slot then answer.1 ∷ replies_to slot told else replies_to slot told
@@ -50,7 +50,7 @@ replies_to slot (Some answer ∷ told) = if answer.0 == slot then answer.1 ∷ r
 abbrev pub events_of : Config → List (List ℕ) → List Event
 events_of config lines = events_in (map (said_in config.tenants) lines)
 
-abbrev pub act_replies : List Said → Answers → List Reply
+abbrev pub act_replies : List Said → AddressedReplies → List Reply
 act_replies [] told = []
 act_replies (said ∷ more) [] = []
 act_replies (OfNobody ∷ more) (answer ∷ told) = act_replies more told
@@ -58,7 +58,7 @@ act_replies (Unformed slot ∷ more) (answer ∷ told) = act_replies more told
 act_replies (Acts event ∷ more) (None ∷ told) = act_replies more told
 act_replies (Acts event ∷ more) (Some answer ∷ told) = answer.1 ∷ act_replies more told
 
-abbrev pub replies_in : Config → List (List ℕ) → Answers → List Reply
+abbrev pub replies_in : Config → List (List ℕ) → AddressedReplies → List Reply
 replies_in config lines told = act_replies (map (said_in config.tenants) lines) told
 
 -- what the tenant of a slot does by these lines
@@ -68,7 +68,7 @@ acts_in config lines slot = own slot (events_in (map (said_in config.tenants) li
 -- Lines are answered, each to the tenant that it names. What a tenant is told before a first reply that memory was refused is what
 -- the definition tells him, whatever the others are told; and what it tells him keeps the causal laws. The main theorem holds of the events
 -- that the lines are, and of the replies to them that are written.
-pub record AreAnswered (config : Config) (lines : List (List ℕ)) (told : Answers) : Type 0 where
+pub record AreAnswered (config : Config) (lines : List (List ℕ)) (told : AddressedReplies) : Type 0 where
   pub addressed : map addressee told ≡ map (named_in config.tenants) lines
   pub right : (slot : ℕ) → slot < length config.tenants → IsFrontOf (before_lack (replies_to slot told)) (replies_to slot (answers_to config lines))
   pub causal : (slot : ℕ) → slot < length config.tenants → KeepsCausality (config_at config slot) (acts_in config lines slot)
@@ -80,7 +80,7 @@ pub record WritesScript (bytes : List ℕ) (old_contents new_contents : Option (
   pub config : Config
   pub lines : List (List ℕ)
   pub head : head_of (lines_of bytes) ≡ Whole config lines
-  pub told : Answers
+  pub told : AddressedReplies
   pub each : length told ≡ length lines
   pub answered : AreAnswered config lines told
   pub right : AreSpared told → told ≡ answers_to config lines
@@ -99,7 +99,7 @@ pub record WritesSome (bytes : List ℕ) (old_contents new_contents : Option (Li
   pub lines : List (List ℕ)
   pub others : List (List ℕ)
   pub head : head_of (lines_of bytes) ≡ Whole config (lines ++ others)
-  pub told : Answers
+  pub told : AddressedReplies
   pub answered : AreAnswered config lines told
   pub right : AreSpared told → AppendsFront old_contents new_contents (text_in (script_out bytes))
   pub written : AppendsFront old_contents new_contents (text_of config.tenants told)

@@ -8,7 +8,7 @@ use Rattle.cops_types.specs.Sink.{AppendsFront}
 use Rattle.cops_world.specs.declared.solo_machine.SoloRefusal.{SoloRefusal}
 use Rattle.cops_world.specs.declared.solo_machine.SoloRefusal.TheVariants.{BadConfig, UnknownTenant}
 use Rattle.cops_world.specs.Script.{NoTenant, alone_config, alone_lines, answers_to, slot_of_name, solo_out}
-use Rattle.cops_world.specs.ScriptRuns.{Answers, AreAnswered, AreSpared, text_of, text_in}
+use Rattle.cops_world.specs.ScriptRuns.{AddressedReplies, AreAnswered, AreSpared, text_in, text_of}
 
 -- the bytes are a script with a tenant of this name, each of his lines is answered, and the answers are written;
 -- where none is for want of memory they are those of the definition
@@ -18,7 +18,7 @@ pub record WritesSolo (name bytes : List ℕ) (old_contents new_contents : Optio
   pub slot : ℕ
   pub head : head_of (lines_of bytes) ≡ Whole config lines
   pub there : slot_of_name config.tenants name ≡ Some slot
-  pub told : Answers
+  pub told : AddressedReplies
   pub each : length told ≡ length (alone_lines name lines)
   pub answered : AreAnswered (alone_config config name) (alone_lines name lines) told
   pub right : AreSpared told → told ≡ answers_to (alone_config config name) (alone_lines name lines)
@@ -33,7 +33,7 @@ pub record WritesSomeSolo (name bytes : List ℕ) (old_contents new_contents : O
   pub slot : ℕ
   pub head : head_of (lines_of bytes) ≡ Whole config (lines ++ others)
   pub there : slot_of_name config.tenants name ≡ Some slot
-  pub told : Answers
+  pub told : AddressedReplies
   pub answered : AreAnswered (alone_config config name) (alone_lines name lines) told
   pub right : AreSpared told → AppendsFront old_contents new_contents (text_in (solo_out name bytes))
   pub written : AppendsFront old_contents new_contents (text_of (alone_config config name).tenants told)

@@ -3,13 +3,13 @@ use Rattle.std.specs.Prelude.{ℕ, List, Option, slice_get, slice_index_or}
 use Rattle.cops_types.specs.TenantConfig.{TenantConfig}
 use Rattle.cops_node.specs.declared.AuditEntry.{AuditEntry}
 use Rattle.cops_node.specs.declared.NodeId.{NodeId}
-use Rattle.cops_node.specs.Place.{number_of}
+use Rattle.cops_node.specs.Place.{node_number}
 use Rattle.cops_node.specs.SoloNode.{new_node}
 use Rattle.cops_world.specs.Cluster.{SoloCluster}
 
 -- the audit of a node of the tenant's cluster
 abbrev pub trail_at : TenantConfig → NodeId → SoloCluster → List AuditEntry
-trail_at config id cluster = (slice_index_or cluster.nodes (number_of config.shards id) (new_node config.data_centres)).trail
+trail_at config id cluster = (slice_index_or cluster.nodes (node_number config.shards id) (new_node config.data_centres)).trail
 
 -- the call at a place of it
 abbrev pub audited_at : TenantConfig → NodeId → ℕ → SoloCluster → Option AuditEntry

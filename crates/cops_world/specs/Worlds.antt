@@ -12,7 +12,7 @@ use Rattle.cops_world.specs.declared.replies.Reply.{Reply}
 use Rattle.cops_world.specs.Actors.{ActorsStandFor}
 use Rattle.cops_world.specs.ActorTables.{same_actor}
 use Rattle.cops_world.specs.ActorsStand.{ActorStandsFor, RunsAt}
-use Rattle.cops_world.specs.Cluster.{SoloCluster, Turn, Actor, actor_refusal, reply_with, unless_refused, with_new_actor}
+use Rattle.cops_world.specs.Cluster.{ActEffect, Actor, SoloCluster, actor_refusal, reply_with, unless_refused, with_new_actor}
 use Rattle.cops_world.specs.Events.{config_at, is_out_of_memory}
 use Rattle.cops_world.specs.GoodHeads.{is_good}
 
@@ -50,7 +50,7 @@ pub record IsKeptWorld (kept : KeptWorld) : Type 0 where
   pub distinct : IsDistinct same_actor (keys_of kept.entries)
 
 -- the tenant of a slot has this cluster
-pub record StandsAt (world : World) (slot : ℕ) (cluster : SoloCluster) : Type 0 where
+pub record ClusterStandsAt (world : World) (slot : ℕ) (cluster : SoloCluster) : Type 0 where
   pub has : HasTenant (config_at world.setup slot) slot world.nodes
   pub nodes_are : nodes_of (config_at world.setup slot) slot world.nodes ≡ cluster.nodes
   pub actors_are : ActorsStandFor (ActorStandsFor (config_at world.setup slot)) (λ name. world.actors (record { slot = slot; name = name })) cluster
@@ -61,7 +61,7 @@ abbrev pub setup_of : KeptWorld → Config
 setup_of kept = kept.setup
 
 abbrev pub HasCluster : KeptWorld → ℕ → SoloCluster → Type 0
-HasCluster kept = StandsAt (world_of kept)
+HasCluster kept = ClusterStandsAt (world_of kept)
 
 -- a tenant's configuration has the sizes of the whole one
 pub record HasSizes (config : TenantConfig) (setup : Config) : Type 0 where
@@ -70,17 +70,17 @@ pub record HasSizes (config : TenantConfig) (setup : Config) : Type 0 where
   pub restarts : config.restarts ≡ setup.restarts
 
 -- the tenant's cluster took this turn, unless memory was refused, and no other tenant's changed
-pub record Moves (turn_of : TenantConfig → SoloCluster → Turn) (old : World) (slot : ℕ) (reply : Reply) (new : World) : Type 0 where
+pub record Moves (turn_of : TenantConfig → SoloCluster → ActEffect) (old : World) (slot : ℕ) (reply : Reply) (new : World) : Type 0 where
   pub same : new.setup ≡ old.setup
-  pub own : IsFalse (is_out_of_memory reply) → (cluster : SoloCluster) → StandsAt old slot cluster →
-      (reply ≡ (turn_of (config_at old.setup slot) cluster).reply) × StandsAt new slot (turn_of (config_at old.setup slot) cluster).after
-  pub others : (other : ℕ) → slot ≢ other → (cluster : SoloCluster) → StandsAt old other cluster → StandsAt new other cluster
+  pub own : IsFalse (is_out_of_memory reply) → (cluster : SoloCluster) → ClusterStandsAt old slot cluster →
+      (reply ≡ (turn_of (config_at old.setup slot) cluster).reply) × ClusterStandsAt new slot (turn_of (config_at old.setup slot) cluster).after
+  pub others : (other : ℕ) → slot ≢ other → (cluster : SoloCluster) → ClusterStandsAt old other cluster → ClusterStandsAt new other cluster
 
 -- where memory was refused, this holds of what is left of the tenant's cluster
 abbrev pub Leaves : (TenantConfig → SoloCluster → SoloCluster → Type 0) → World → ℕ → Reply → World → Type 0
 Leaves Left old slot reply new =
-    IsTrue (is_out_of_memory reply) → (cluster : SoloCluster) → StandsAt old slot cluster → (after : SoloCluster) × Left (config_at old.setup slot) cluster after × StandsAt new slot after
+    IsTrue (is_out_of_memory reply) → (cluster : SoloCluster) → ClusterStandsAt old slot cluster → (after : SoloCluster) × Left (config_at old.setup slot) cluster after × ClusterStandsAt new slot after
 
 -- a new actor joins, where its place exists, unless its name is taken or the tenant has as many as he may
-abbrev pub join_step : List ℕ → Actor → Reply → TenantConfig → SoloCluster → Turn
+abbrev pub join_step : List ℕ → Actor → Reply → TenantConfig → SoloCluster → ActEffect
 join_step name actor reply config cluster = unless_refused (actor_refusal config true name cluster) cluster (reply_with reply (with_new_actor name actor cluster))

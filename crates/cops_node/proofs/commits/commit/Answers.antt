@@ -7,7 +7,7 @@ use Rattle.cops_node.specs.declared.replies.Replies.{Replies}
 use Rattle.cops_node.specs.declared.NodeReply.TheVariants.{OutOfOrder}
 use Rattle.cops_node.specs.Parts.{StandsAt}
 use Rattle.cops_node.specs.Place.{is_home, is_other_equivalent}
-use Rattle.cops_node.specs.Step.{Turn, commit_refusal}
+use Rattle.cops_node.specs.Step.{CallEffect, commit_refusal}
 use Rattle.cops_node.proofs.Stored.{commit_is_new, commit_out_of_order, commit_refused, commit_done, next_is, not_true, not_false, equivalent_of}
 use Rattle.cops_node.proofs.commits.commit.Goals as goal
 
@@ -18,7 +18,7 @@ returns-then-ne-clause-done c = λ outbox solo moment h.
     let last = c.mark_for-mark.ensures solo.recs h.marks in
     let next = next_is c.parts-parts.result.now entry c.mark_for-mark.result c.version-2.result solo.recs c.parts-parts.ensures c.version-2.ensures last ∙ not_true (version_eq c.parts-parts.result.now.prev c.mark_for-mark.result) (sym c.ne.ensures ∙ c.if-ne.true) in
     let turn = commit_out_of_order c.args.place.now solo entry c.out_of_order.result.told above next (ap (λ (r : Replies). r.told) c.out_of_order.ensures ∙ ap OutOfOrder (last ∙ ap (λ (v : Timestamp). mark v.node solo.recs) c.version-2.ensures)) in
-    (ap (λ (t : Turn). t.reply) turn, subst (λ (t : Turn). StandsAt c.args.slot c.args.place.now c.args.counters.now c.args.store.now outbox t.after) turn h)
+    (ap (λ (t : CallEffect). t.reply) turn, subst (λ (t : CallEffect). StandsAt c.args.slot c.args.place.now c.args.counters.now c.args.store.now outbox t.after) turn h)
 
 pub returns-in-Some-clause-done : goal.returns-in-Some-clause-done
 returns-in-Some-clause-done c = λ outbox solo moment h.
@@ -27,7 +27,7 @@ returns-in-Some-clause-done c = λ outbox solo moment h.
     let last = c.mark_for-mark.ensures solo.recs h.marks in
     let next = next_is c.parts-parts.result.now entry c.mark_for-mark.result c.version-2.result solo.recs c.parts-parts.ensures c.version-2.ensures last ∙ not_false (version_eq c.parts-parts.result.now.prev c.mark_for-mark.result) (sym c.ne.ensures ∙ c.if-ne.false) in
     let turn = commit_refused c.args.place.now solo entry c.in-Some.fault above next (ap (commit_refusal c.args.place.now solo) (sym c.parts-parts.ensures) ∙ sym (c.in-Some.ensures.records solo.recs h.rows)) in
-    (ap (λ (r : Replies). r.told) c.refused-in-Some.ensures ∙ ap (λ (t : Turn). t.reply) turn, subst (λ (t : Turn). StandsAt c.args.slot c.args.place.now c.args.counters.now c.args.store.now outbox t.after) turn h)
+    (ap (λ (r : Replies). r.told) c.refused-in-Some.ensures ∙ ap (λ (t : CallEffect). t.reply) turn, subst (λ (t : CallEffect). StandsAt c.args.slot c.args.place.now c.args.counters.now c.args.store.now outbox t.after) turn h)
 
 pub keep-requires-clause-new_version : goal.keep-requires-clause-new_version
 keep-requires-clause-new_version c =

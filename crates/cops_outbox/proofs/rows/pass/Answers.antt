@@ -5,7 +5,7 @@ use Rattle.std.specs.Vec.{with_item}
 use Rattle.cops_outbox.specs.declared.rows.Row.{Row}
 use Rattle.cops_outbox.specs.declared.rows.Span.{Span}
 use Rattle.cops_outbox.specs.declared.rows.Line.{Line}
-use Rattle.cops_outbox.specs.Lines.{next_in, row_at, span_at}
+use Rattle.cops_outbox.specs.Lines.{cell_at, next_in, span_at}
 use Rattle.cops_outbox.proofs.Lines.{row_at_span, read_at, kept_there, line_passed, line_released, none_waits, waited_for, passed_less, needed_released}
 use Rattle.cops_outbox.proofs.rows.pass.Goals as goal
 
@@ -22,9 +22,9 @@ release-line-requires-clause-row c =
     let le = c.requires.line.2.within c.args.dc in
     (c.requires.line.1, kept_there c.args.rows.now.slots c.requires.line.0 (length c.args.line.now.waits.items) c.requires.line.1 c.args.line.now c.requires.line.2 (omega arith))
 
-moved : (rows : List (Option Row)) (dc : ℕ) (line : Line) (span next : Span) → dc < length line.waits.items → span ≡ get_or line.waits.items dc span → next ≡ record { first = next_in (row_at rows span.first); count = span.count - 1 }
-    → next ≡ record { first = next_in (row_at rows (span_at dc line).first); count = (span_at dc line).count - 1 }
-moved rows dc line span next lt read is = is ∙ ap (λ (s : Span). record { first = next_in (row_at rows s.first); count = s.count - 1 }) (read_at line dc span lt read)
+moved : (rows : List (Option Row)) (dc : ℕ) (line : Line) (span next : Span) → dc < length line.waits.items → span ≡ get_or line.waits.items dc span → next ≡ record { first = next_in (cell_at rows span.first); count = span.count - 1 }
+    → next ≡ record { first = next_in (cell_at rows (span_at dc line).first); count = (span_at dc line).count - 1 }
+moved rows dc line span next lt read is = is ∙ ap (λ (s : Span). record { first = next_in (cell_at rows s.first); count = s.count - 1 }) (read_at line dc span lt read)
 
 pub returns-else-not-is_waited_for-clause-shorter : goal.returns-else-not-is_waited_for-clause-shorter
 returns-else-not-is_waited_for-clause-shorter c = λ own slot h.

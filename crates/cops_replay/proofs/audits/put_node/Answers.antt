@@ -7,7 +7,7 @@ use Rattle.cops_node.specs.Parts.{solo_of}
 use Rattle.cops_node.specs.Place.{place_of}
 use Rattle.cops_replay.specs.Audits.{record_of}
 use Rattle.cops_replay.specs.AuditText.{ended, records_text}
-use Rattle.cops_replay.specs.Pages.{Puts, page}
+use Rattle.cops_replay.specs.Pages.{PutsText, page}
 use Rattle.cops_replay.specs.RecordText.{record_line}
 use Rattle.cops_replay.proofs.PageLemmas.{Puts-ends, Puts-then}
 use Rattle.cops_replay.proofs.AuditTexts.{node_text_cut, node_text_one_more, take_whole}
@@ -38,7 +38,7 @@ loop-place-preserved g c =
     sym (c.in-Some.ensures.solo place c.requires.place) in
     let old = page c.args.out.now.items (g.W.Write.contents (sink_writer c.args.sink.now)) (sink_failures c.args.sink.now) in
     let new = page c.put_entry.new.out.items (g.W.Write.contents (sink_writer c.put_entry.new.sink)) (sink_failures c.put_entry.new.sink) in
-    subst (λ l. Puts {T = Unit {0}} l old (Ok tt) new) (sym (node_text_one_more name id trail c.loop-place.place entry found))
+    subst (λ l. PutsText {T = Unit {0}} l old (Ok tt) new) (sym (node_text_one_more name id trail c.loop-place.place entry found))
     (Puts-then (records_text name (map (record_of id) (take c.loop-place.place trail))) (ended (record_line name (record_of id entry)))
     old (page c.loop-place.out.items (g.W.Write.contents (sink_writer c.loop-place.sink)) (sink_failures c.loop-place.sink)) tt (Ok tt) new c.loop-place.invariant c.in_default-put_entry.ensures)
 
@@ -53,4 +53,4 @@ returns g c =
     let old = page c.args.out.now.items (g.W.Write.contents (sink_writer c.args.sink.now)) (sink_failures c.args.sink.now) in
     let new = page c.loop-place.out.items (g.W.Write.contents (sink_writer c.loop-place.sink)) (sink_failures c.loop-place.sink) in
     let all : take c.loop-place.place trail ≡ trail = take_whole trail c.loop-place.place (omega arith) in
-    subst (λ (t : List AuditEntry). Puts {T = Unit {0}} (records_text name (map (record_of id) t)) old (Ok tt) new) all c.loop-place.invariant
+    subst (λ (t : List AuditEntry). PutsText {T = Unit {0}} (records_text name (map (record_of id) t)) old (Ok tt) new) all c.loop-place.invariant

@@ -6,7 +6,7 @@ use Rattle.cops_types.specs.Sink.{sink_failures, sink_writer}
 use Rattle.cops_types.specs.TenantConfig.{tenant_config}
 use Rattle.cops_replay.specs.Audits.{records_of}
 use Rattle.cops_replay.specs.AuditText.{his_nodes, records_text, tenants_text}
-use Rattle.cops_replay.specs.Pages.{Puts, page}
+use Rattle.cops_replay.specs.Pages.{PutsText, page}
 use Rattle.cops_replay.proofs.PageLemmas.{Puts-ends, Puts-then}
 use Rattle.cops_replay.proofs.AuditTexts.{tenants_text_cut, tenants_text_one_more}
 use Rattle.cops_replay.proofs.audits.put_records.Goals as goal
@@ -34,6 +34,6 @@ loop-slot-preserved g c =
     let found : slice_get config.tenants i ≡ Some tenant = ap (λ (ts : List Tenant). slice_get ts i) (sym c.as_slice-tenants.ensures.value) ∙ slice_get-get_or c.as_slice-tenants.result.now i tenant below ∙ ap Some (sym c.index-tenants-slot.is) in
     let old = page c.args.out.now.items (g.W.Write.contents (sink_writer c.args.sink.now)) (sink_failures c.args.sink.now) in
     let new = page c.put_tenant.new.out.items (g.W.Write.contents (sink_writer c.put_tenant.new.sink)) (sink_failures c.put_tenant.new.sink) in
-    subst (λ l. Puts {T = Unit {0}} l old (Ok tt) new) (sym (tenants_text_one_more config nodes config.tenants i tenant found))
+    subst (λ l. PutsText {T = Unit {0}} l old (Ok tt) new) (sym (tenants_text_one_more config nodes config.tenants i tenant found))
     (Puts-then (tenants_text config nodes 0 (take i config.tenants)) (records_text tenant.name (records_of (tenant_config config tenant) (nodes (tenant_config config tenant) i)))
     old (page c.loop-slot.out.items (g.W.Write.contents (sink_writer c.loop-slot.sink)) (sink_failures c.loop-slot.sink)) tt (Ok tt) new c.loop-slot.invariant c.in_default.ensures)

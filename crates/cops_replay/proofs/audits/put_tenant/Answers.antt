@@ -6,7 +6,7 @@ use Rattle.cops_node.specs.Parts.{solo_of}
 use Rattle.cops_node.specs.Place.{place_of}
 use Rattle.cops_replay.specs.Audits.{record_of, records_from}
 use Rattle.cops_replay.specs.AuditText.{his_nodes, records_text}
-use Rattle.cops_replay.specs.Pages.{Puts, page}
+use Rattle.cops_replay.specs.Pages.{PutsText, page}
 use Rattle.cops_replay.proofs.PageLemmas.{Puts-ends, Puts-then}
 use Rattle.cops_replay.proofs.AuditTexts.{his_node, nodes_text_cut, nodes_text_one_more, place_there, slot_there}
 use Rattle.cops_replay.proofs.audits.put_tenant.Goals as goal
@@ -38,7 +38,7 @@ loop-place-preserved g c =
     let found = his_node c.args.config.now tenant c.args.slot c.args.nodes.now i c.index-nodes-place.result c.requires.nodes below c.index-nodes-place.is in
     let old = page c.args.out.now.items (g.W.Write.contents (sink_writer c.args.sink.now)) (sink_failures c.args.sink.now) in
     let new = page c.put_node.new.out.items (g.W.Write.contents (sink_writer c.put_node.new.sink)) (sink_failures c.put_node.new.sink) in
-    subst (λ l. Puts {T = Unit {0}} l old (Ok tt) new) (sym (nodes_text_one_more name shards nodes i solo found))
+    subst (λ l. PutsText {T = Unit {0}} l old (Ok tt) new) (sym (nodes_text_one_more name shards nodes i solo found))
     (Puts-then (records_text name (records_from shards 0 (take i nodes))) (records_text name (map (record_of (id_of shards i)) solo.trail))
     old (page c.loop-place.out.items (g.W.Write.contents (sink_writer c.loop-place.sink)) (sink_failures c.loop-place.sink)) tt (Ok tt) new c.loop-place.invariant c.in_default.ensures)
 

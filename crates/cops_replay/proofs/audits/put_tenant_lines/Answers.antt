@@ -3,7 +3,7 @@ use Rattle.std.specs.Prelude.{flat_map, slice_get}
 use Rattle.std.proofs.lemmas.Option.{slice_get-get_or}
 use Rattle.cops_types.specs.Sink.{sink_failures, sink_writer}
 use Rattle.cops_replay.specs.AuditText.{tenant_text}
-use Rattle.cops_replay.specs.Pages.{Puts, page}
+use Rattle.cops_replay.specs.Pages.{PutsText, page}
 use Rattle.cops_replay.proofs.PageLemmas.{Puts-ends, Puts-then}
 use Rattle.cops_replay.proofs.AuditTexts.{flat_map_cut, flat_map_one_more}
 use Rattle.cops_replay.proofs.audits.put_tenant_lines.Goals as goal
@@ -28,5 +28,5 @@ loop-tenant-preserved g c =
     let found : slice_get tenants i ≡ Some tenant = slice_get-get_or tenants i tenant below ∙ ap Some (sym c.tenant-item.is) in
     let old = page c.args.out.now.items (g.W.Write.contents (sink_writer c.args.sink.now)) (sink_failures c.args.sink.now) in
     let new = page c.put_tenant_line.new.out.items (g.W.Write.contents (sink_writer c.put_tenant_line.new.sink)) (sink_failures c.put_tenant_line.new.sink) in
-    subst (λ l. Puts {T = Unit {0}} l old (Ok tt) new) (sym (flat_map_one_more tenant_text tenants i tenant found))
+    subst (λ l. PutsText {T = Unit {0}} l old (Ok tt) new) (sym (flat_map_one_more tenant_text tenants i tenant found))
     (Puts-then (flat_map tenant_text (take i tenants)) (tenant_text tenant) old (page c.loop-tenant.out.items (g.W.Write.contents (sink_writer c.loop-tenant.sink)) (sink_failures c.loop-tenant.sink)) tt (Ok tt) new c.loop-tenant.invariant c.in_default.ensures)

@@ -1,7 +1,7 @@
 use Rattle.std.proofs.Common.{◌≡◌, ◌∙◌, ap, sym, subst, arith, length, map, List, [], ◌++◌, ◌∷◌, Vec, Global}
 use Rattle.std.proofs.lemmas.List.{map-append}
 use Rattle.cops_node.specs.declared.AuditEntry.{AuditEntry}
-use Rattle.cops_node.specs.Trails.{BLOCK, Noted, IsTrail, joined}
+use Rattle.cops_node.specs.Trails.{BLOCK, IsTrail, Noted, concat_blocks}
 use Rattle.cops_node.proofs.TrailLemmas.{IsTrail-next, joined_next}
 use Rattle.cops_node.proofs.trails.Trail.reserve.Goals as goal
 
@@ -26,4 +26,4 @@ invariant_of-self-2 c =
 
 pub returns-clause-calls : goal.returns-clause-calls
 returns-clause-calls c =
-    (λ i. joined (full_blocks c i) ++ none_last c i) ∙ joined_next (map items c.self.inside.full.items) c.self.inside.last.items ∙ ap (λ (n : Noted). n.calls) c.self.view_is
+    (λ i. concat_blocks (full_blocks c i) ++ none_last c i) ∙ joined_next (map items c.self.inside.full.items) c.self.inside.last.items ∙ ap (λ (n : Noted). n.calls) c.self.view_is

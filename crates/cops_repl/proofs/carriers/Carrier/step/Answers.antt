@@ -1,7 +1,7 @@
 use Rattle.std.proofs.Common.{◌≡◌, ◌∙◌, ℕ, ap, max, subst}
 use Rattle.cops_repl.specs.declared.stages.After.{After}
 use Rattle.cops_repl.specs.declared.stages.Stage.{Stage}
-use Rattle.cops_repl.specs.Stands.{IsStepFrom, Kept, stream_of}
+use Rattle.cops_repl.specs.Stands.{IsStepFrom, KeptCarrier, stream_of}
 use Rattle.cops_repl.proofs.CarrierSteps.{step_goes, step_ends}
 use Rattle.cops_repl.proofs.carriers.Carrier.step.Goals as goal
 
@@ -9,10 +9,10 @@ pub returns-in-Goes-clause-called : goal.returns-in-Goes-clause-called
 returns-in-Goes-clause-called g c =
     let route = c.self.inside.route in
     let made = c.step.ensures.called in
-    let inside : Kept = record { stream = stream_of route; shards = route.shards; moment = c.self.inside.moment; stage = c.self.inside.stage } in
+    let inside : KeptCarrier = record { stream = stream_of route; shards = route.shards; moment = c.self.inside.moment; stage = c.self.inside.stage } in
     let from = subst (λ (a : After). IsStepFrom route.shards (stream_of route) c.self.inside.stage made.0 made.1 a) c.in-Goes.is
     (subst (λ (s : Stage). IsStepFrom route.shards (stream_of route) s made.0 made.1 c.step.result) c.replace-stage.ensures.value made.3) in
-    let now : c.max-self-inside.result ≡ max c.args.self.now.moment c.args.moment = c.max-self-inside.ensures ∙ ap (λ (k : Kept). max k.moment c.args.moment) c.self.view_is in (
+    let now : c.max-self-inside.result ≡ max c.args.self.now.moment c.args.moment = c.max-self-inside.ensures ∙ ap (λ (k : KeptCarrier). max k.moment c.args.moment) c.self.view_is in (
       made.0,
       made.1,
       subst (λ (m : ℕ). g.N.Nodes.Answers c.args.nodes.now made.0.node c.args.slot m made.0.call made.1 c.step.new.nodes) now made.2,
@@ -23,10 +23,10 @@ pub returns-in-Ends-clause-called : goal.returns-in-Ends-clause-called
 returns-in-Ends-clause-called g c =
     let route = c.self.inside.route in
     let made = c.step.ensures.called in
-    let inside : Kept = record { stream = stream_of route; shards = route.shards; moment = c.self.inside.moment; stage = c.self.inside.stage } in
+    let inside : KeptCarrier = record { stream = stream_of route; shards = route.shards; moment = c.self.inside.moment; stage = c.self.inside.stage } in
     let from = subst (λ (a : After). IsStepFrom route.shards (stream_of route) c.self.inside.stage made.0 made.1 a) c.in-Ends.is
     (subst (λ (s : Stage). IsStepFrom route.shards (stream_of route) s made.0 made.1 c.step.result) c.replace-stage.ensures.value made.3) in
-    let now : c.max-self-inside.result ≡ max c.args.self.now.moment c.args.moment = c.max-self-inside.ensures ∙ ap (λ (k : Kept). max k.moment c.args.moment) c.self.view_is in (
+    let now : c.max-self-inside.result ≡ max c.args.self.now.moment c.args.moment = c.max-self-inside.ensures ∙ ap (λ (k : KeptCarrier). max k.moment c.args.moment) c.self.view_is in (
       made.0,
       made.1,
       subst (λ (m : ℕ). g.N.Nodes.Answers c.args.nodes.now made.0.node c.args.slot m made.0.call made.1 c.step.new.nodes) now made.2,

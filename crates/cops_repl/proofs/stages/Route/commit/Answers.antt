@@ -1,4 +1,4 @@
-use Rattle.cops_repl.specs.Carrier.{commit}
+use Rattle.cops_repl.specs.Carrier.{commit_call}
 use Rattle.cops_repl.specs.Stands.{stream_of}
 use Rattle.cops_repl.proofs.Fitting.{commit_fits}
 use Rattle.cops_repl.proofs.NextSteps.{asks_commit}
@@ -20,7 +20,7 @@ returns-clause-called g c =
     let route = c.args.self.now in
     let stream = stream_of route in
     let entry = c.args.entry in (
-      commit stream entry,
+      commit_call stream entry,
       c.step-reply.result,
       c.step-reply.ensures.answers,
       (asks_commit route.shards stream entry, c.after_commit.ensures.follows route.shards stream entry (λ i. record { key = c.key.ensures i; version = c.version.ensures i })),

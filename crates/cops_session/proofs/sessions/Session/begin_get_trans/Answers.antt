@@ -1,18 +1,18 @@
 use Rattle.std.proofs.Common.{◌≡◌, ◌∙◌, ℕ, Bool, true, false, List, [], ◌∷◌, length, ap, sym, refl, subst, arith, ◌⊎◌, inl, inr}
 use Rattle.std.specs.Prelude.{Option, Some, None, not, nat_lt, is_some}
 use Rattle.std.proofs.lemmas.Bool.Decides.{nat_tests}
-use Rattle.cops_handles.specs.Rows.{row_at}
-use Rattle.cops_session.specs.Kept.{Kept}
+use Rattle.cops_handles.specs.Rows.{is_spent, row_at}
+use Rattle.cops_session.specs.Kept.{KeptSession}
 use Rattle.cops_session.specs.SessionStands.{SessionStandsFor}
 use Rattle.std.proofs.lemmas.Result.{err_from_is_err_and}
 use Rattle.cops_session.proofs.RepeatLaws.{AreDistinct-no_repeats}
 use Rattle.cops_session.proofs.SessionLaws.{get_refusal-closed, get_refusal-open, SessionStandsFor-get_begun}
-use Rattle.cops_session.specs.Session.{has_repeats, is_spent}
+use Rattle.cops_session.specs.Session.{has_repeats}
 use Rattle.cops_session.proofs.sessions.Session.begin_get_trans.Goals as goal
 
 pub returns-in_err-get-clause-refused : goal.returns-in_err-get-clause-refused
 returns-in_err-get-clause-refused c = λ config session stand.
-    let stands = subst (λ (k : Kept). SessionStandsFor config k session) (sym c.self.view_is) stand in
+    let stands = subst (λ (k : KeptSession). SessionStandsFor config k session) (sym c.self.view_is) stand in
     let idle = sym c.is_some.ensures ∙ c.if-is_some.false in
     let some : nat_lt (length c.args.keys.now) 1 ≡ false = let h = c.is_empty.ensures in let e = c.if-is_empty.false in grind (arith, nat_tests) in
     let p = err_from_is_err_and c.from_residual.result c.from_residual.ensures.1 in
@@ -20,7 +20,7 @@ returns-in_err-get-clause-refused c = λ config session stand.
 
 pub returns-then-keys-gt32-clause-refused : goal.returns-then-keys-gt32-clause-refused
 returns-then-keys-gt32-clause-refused c = λ config session stand.
-    let stands = subst (λ (k : Kept). SessionStandsFor config k session) (sym c.self.view_is) stand in
+    let stands = subst (λ (k : KeptSession). SessionStandsFor config k session) (sym c.self.view_is) stand in
     let idle = sym c.is_some.ensures ∙ c.if-is_some.false in
     let some : nat_lt (length c.args.keys.now) 1 ≡ false = let h = c.is_empty.ensures in let e = c.if-is_empty.false in grind (arith, nat_tests) in
     let many : nat_lt 32 (length c.args.keys.now) ≡ true = let h = c.if-keys-gt32.true in grind (arith, nat_tests) in
@@ -28,7 +28,7 @@ returns-then-keys-gt32-clause-refused c = λ config session stand.
 
 pub returns-then-has_repeats-clause-refused : goal.returns-then-has_repeats-clause-refused
 returns-then-has_repeats-clause-refused c = λ config session stand.
-    let stands = subst (λ (k : Kept). SessionStandsFor config k session) (sym c.self.view_is) stand in
+    let stands = subst (λ (k : KeptSession). SessionStandsFor config k session) (sym c.self.view_is) stand in
     let idle = sym c.is_some.ensures ∙ c.if-is_some.false in
     let some : nat_lt (length c.args.keys.now) 1 ≡ false = let h = c.is_empty.ensures in let e = c.if-is_empty.false in grind (arith, nat_tests) in
     let few : nat_lt 32 (length c.args.keys.now) ≡ false = let h = c.if-keys-gt32.false in grind (arith, nat_tests) in
@@ -36,14 +36,14 @@ returns-then-has_repeats-clause-refused c = λ config session stand.
 
 pub returns-then-self-clause-refused : goal.returns-then-self-clause-refused
 returns-then-self-clause-refused c = λ config session stand.
-    let stands = subst (λ (k : Kept). SessionStandsFor config k session) (sym c.self.view_is) stand in
+    let stands = subst (λ (k : KeptSession). SessionStandsFor config k session) (sym c.self.view_is) stand in
     let idle = sym c.is_some.ensures ∙ c.if-is_some.false in
     let some : nat_lt (length c.args.keys.now) 1 ≡ false = let h = c.is_empty.ensures in let e = c.if-is_empty.false in grind (arith, nat_tests) in
     let few : nat_lt 32 (length c.args.keys.now) ≡ false = let h = c.if-keys-gt32.false in grind (arith, nat_tests) in
     inr (get_refusal-open config _ session stands c.args.handle c.args.keys.now c.in_ok-get.field-0.now false false true some idle c.in_ok-get.ensures few (sym c.has_repeats.ensures ∙ c.if-has_repeats.false) (ap is_spent c.if-self.true))
 
 pub begin-requires-2-clause-ready : goal.begin-requires-2-clause-ready
-begin-requires-2-clause-ready c = (c.in_ok-get.field-0.now, ap (λ (k : Kept). row_at c.args.handle k.contexts.rows) (sym c.self.view_is) ∙ c.in_ok-get.ensures)
+begin-requires-2-clause-ready c = (c.in_ok-get.field-0.now, ap (λ (k : KeptSession). row_at c.args.handle k.contexts.rows) (sym c.self.view_is) ∙ c.in_ok-get.ensures)
 
 pub returns-clause-begun : goal.returns-clause-begun
 returns-clause-begun c = λ config session stand. (
@@ -53,8 +53,8 @@ returns-clause-begun c = λ config session stand. (
 
 pub returns-clause-refused : goal.returns-clause-refused
 returns-clause-refused c = λ config session stand.
-    let stands = subst (λ (k : Kept). SessionStandsFor config k session) (sym c.self.view_is) stand in
+    let stands = subst (λ (k : KeptSession). SessionStandsFor config k session) (sym c.self.view_is) stand in
     let idle = sym c.is_some.ensures ∙ c.if-is_some.false in
     let some : nat_lt (length c.args.keys.now) 1 ≡ false = let h = c.is_empty.ensures in let e = c.if-is_empty.false in grind (arith, nat_tests) in
     let few : nat_lt 32 (length c.args.keys.now) ≡ false = let h = c.if-keys-gt32.false in grind (arith, nat_tests) in
-    get_refusal-open config _ session stands c.args.handle c.args.keys.now c.in_ok-get.field-0.now false false false some idle c.in_ok-get.ensures few (sym c.has_repeats.ensures ∙ c.if-has_repeats.false) (ap (λ (k : Kept). is_spent k.next_request) c.self.view_is ∙ c.begin-2.ensures.left)
+    get_refusal-open config _ session stands c.args.handle c.args.keys.now c.in_ok-get.field-0.now false false false some idle c.in_ok-get.ensures few (sym c.has_repeats.ensures ∙ c.if-has_repeats.false) (ap (λ (k : KeptSession). is_spent k.next_request) c.self.view_is ∙ c.begin-2.ensures.left)

@@ -1,7 +1,7 @@
 use Rattle.std.proofs.Common.{◌≡◌, ◌∙◌, ℕ, Bool, true, false, List, [], ◌∷◌, length, ap, sym, refl, subst, arith, ◌⊎◌, inl, inr}
 use Rattle.std.specs.Prelude.{Option, Some, None, not, nat_lt, is_some}
 use Rattle.std.proofs.lemmas.Bool.Decides.{nat_tests}
-use Rattle.cops_session.specs.Kept.{Kept}
+use Rattle.cops_session.specs.Kept.{KeptSession}
 use Rattle.cops_session.specs.SessionStands.{SessionStandsFor}
 use Rattle.cops_session.proofs.SessionLaws.{context_refusal-open, context_refusal-closed, SessionStandsFor-deleted}
 use Rattle.cops_session.proofs.sessions.Session.delete_context.Goals as goal
@@ -9,7 +9,7 @@ use Rattle.cops_session.proofs.sessions.Session.delete_context.Goals.{in-Ok, in-
 
 pub returns-clause-deleted : goal.returns-clause-deleted
 returns-clause-deleted c = λ config session stand.
-    let stands = subst (λ (k : Kept). SessionStandsFor config k session) (sym c.self.view_is) stand in
+    let stands = subst (λ (k : KeptSession). SessionStandsFor config k session) (sym c.self.view_is) stand in
     let idle = sym c.is_some.ensures ∙ c.if-is_some.false in
     elim c.match-close.branch [
       | in-Ok w ↦
@@ -20,7 +20,7 @@ returns-clause-deleted c = λ config session stand.
 
 pub returns-clause-refused : goal.returns-clause-refused
 returns-clause-refused c = λ config session stand.
-    let stands = subst (λ (k : Kept). SessionStandsFor config k session) (sym c.self.view_is) stand in
+    let stands = subst (λ (k : KeptSession). SessionStandsFor config k session) (sym c.self.view_is) stand in
     let idle = sym c.is_some.ensures ∙ c.if-is_some.false in
     elim c.match-close.branch [
       | in-Ok w ↦ rw w.result-is (context_refusal-open config _ session stands c.args.handle _ idle w.in-Ok.ensures.before)

@@ -4,7 +4,7 @@ use Rattle.cops_session.specs.declared.Progress.{Progress}
 use Rattle.cops_session.specs.declared.Progress.TheVariants.{Working, Restarted, Done}
 use Rattle.cops_session.specs.declared.Answer.TheVariants as answer
 use Rattle.cops_session.specs.declared.ongoing.Work.TheVariants.{Get}
-use Rattle.cops_session.specs.Kept.{Kept}
+use Rattle.cops_session.specs.Kept.{KeptSession}
 use Rattle.cops_session.specs.Request.{next}
 use Rattle.cops_session.specs.Session.{moment_at, request_of}
 use Rattle.cops_session.specs.SessionStands.{SessionStandsFor}
@@ -16,11 +16,11 @@ pub returns-in-Working-clause-stepped : goal.returns-in-Working-clause-stepped
 returns-in-Working-clause-stepped g c = λ config session running stand is.
     let inside = c.self.inside in
     let turn = c.read_step-moment.result in
-    let kept : Kept = record { setting = inside.setting; moment = inside.moment; contexts = inside.contexts; next_request = inside.next_request; running = inside.running } in
-    let after : Kept = record { setting = inside.setting; moment = turn.moment; contexts = inside.contexts; next_request = inside.next_request; running = Some (record { number = c.args.number; context = c.args.context; work = Get c.in-Working.reading }) } in
-    let stands = subst (λ (k : Kept). SessionStandsFor config (record k { running = Some (record { number = c.args.number; context = c.args.context; work = Get c.args.reading }) }) session) (sym c.self.view_is) stand in
+    let kept : KeptSession = record { setting = inside.setting; moment = inside.moment; contexts = inside.contexts; next_request = inside.next_request; running = inside.running } in
+    let after : KeptSession = record { setting = inside.setting; moment = turn.moment; contexts = inside.contexts; next_request = inside.next_request; running = Some (record { number = c.args.number; context = c.args.context; work = Get c.in-Working.reading }) } in
+    let stands = subst (λ (k : KeptSession). SessionStandsFor config (record k { running = Some (record { number = c.args.number; context = c.args.context; work = Get c.args.reading }) }) session) (sym c.self.view_is) stand in
     subst
-    (λ (k : Kept). DoesNext (λ id call reply. g.N.Nodes.Answers c.args.nodes.now id k.setting.slot (moment_at c.args.moment session) call reply c.read_step-moment.new.nodes) (c.read_step-moment.new.nodes ≡ c.args.nodes.now)
+    (λ (k : KeptSession). DoesNext (λ id call reply. g.N.Nodes.Answers c.args.nodes.now id k.setting.slot (moment_at c.args.moment session) call reply c.read_step-moment.new.nodes) (c.read_step-moment.new.nodes ≡ c.args.nodes.now)
     config session running (moment_at c.args.moment session) Working after (next config (request_of session running) running.log (moment_at c.args.moment session)))
     c.self.view_is
     (get_steps config kept after session running c.args.number c.args.context (λ t id call reply. g.N.Nodes.Answers c.args.nodes.now id inside.setting.slot t call reply c.read_step-moment.new.nodes)
@@ -31,11 +31,11 @@ pub returns-in-Restarted-clause-stepped : goal.returns-in-Restarted-clause-stepp
 returns-in-Restarted-clause-stepped g c = λ config session running stand is.
     let inside = c.self.inside in
     let turn = c.read_step-moment.result in
-    let kept : Kept = record { setting = inside.setting; moment = inside.moment; contexts = inside.contexts; next_request = inside.next_request; running = inside.running } in
-    let after : Kept = record { setting = inside.setting; moment = turn.moment; contexts = inside.contexts; next_request = inside.next_request; running = Some (record { number = c.args.number; context = c.args.context; work = Get c.in-Restarted.reading }) } in
-    let stands = subst (λ (k : Kept). SessionStandsFor config (record k { running = Some (record { number = c.args.number; context = c.args.context; work = Get c.args.reading }) }) session) (sym c.self.view_is) stand in
+    let kept : KeptSession = record { setting = inside.setting; moment = inside.moment; contexts = inside.contexts; next_request = inside.next_request; running = inside.running } in
+    let after : KeptSession = record { setting = inside.setting; moment = turn.moment; contexts = inside.contexts; next_request = inside.next_request; running = Some (record { number = c.args.number; context = c.args.context; work = Get c.in-Restarted.reading }) } in
+    let stands = subst (λ (k : KeptSession). SessionStandsFor config (record k { running = Some (record { number = c.args.number; context = c.args.context; work = Get c.args.reading }) }) session) (sym c.self.view_is) stand in
     subst
-    (λ (k : Kept). DoesNext (λ id call reply. g.N.Nodes.Answers c.args.nodes.now id k.setting.slot (moment_at c.args.moment session) call reply c.read_step-moment.new.nodes) (c.read_step-moment.new.nodes ≡ c.args.nodes.now)
+    (λ (k : KeptSession). DoesNext (λ id call reply. g.N.Nodes.Answers c.args.nodes.now id k.setting.slot (moment_at c.args.moment session) call reply c.read_step-moment.new.nodes) (c.read_step-moment.new.nodes ≡ c.args.nodes.now)
     config session running (moment_at c.args.moment session) (Restarted c.in-Restarted.reading.restarts) after (next config (request_of session running) running.log (moment_at c.args.moment session)))
     c.self.view_is
     (get_steps config kept after session running c.args.number c.args.context (λ t id call reply. g.N.Nodes.Answers c.args.nodes.now id inside.setting.slot t call reply c.read_step-moment.new.nodes)
@@ -46,11 +46,11 @@ pub returns-in-Failed-clause-stepped : goal.returns-in-Failed-clause-stepped
 returns-in-Failed-clause-stepped g c = λ config session running stand is.
     let inside = c.self.inside in
     let turn = c.read_step-moment.result in
-    let kept : Kept = record { setting = inside.setting; moment = inside.moment; contexts = inside.contexts; next_request = inside.next_request; running = inside.running } in
-    let after : Kept = record { setting = inside.setting; moment = turn.moment; contexts = inside.contexts; next_request = inside.next_request; running = inside.running } in
-    let stands = subst (λ (k : Kept). SessionStandsFor config (record k { running = Some (record { number = c.args.number; context = c.args.context; work = Get c.args.reading }) }) session) (sym c.self.view_is) stand in
+    let kept : KeptSession = record { setting = inside.setting; moment = inside.moment; contexts = inside.contexts; next_request = inside.next_request; running = inside.running } in
+    let after : KeptSession = record { setting = inside.setting; moment = turn.moment; contexts = inside.contexts; next_request = inside.next_request; running = inside.running } in
+    let stands = subst (λ (k : KeptSession). SessionStandsFor config (record k { running = Some (record { number = c.args.number; context = c.args.context; work = Get c.args.reading }) }) session) (sym c.self.view_is) stand in
     subst
-    (λ (k : Kept). DoesNext (λ id call reply. g.N.Nodes.Answers c.args.nodes.now id k.setting.slot (moment_at c.args.moment session) call reply c.read_step-moment.new.nodes) (c.read_step-moment.new.nodes ≡ c.args.nodes.now)
+    (λ (k : KeptSession). DoesNext (λ id call reply. g.N.Nodes.Answers c.args.nodes.now id k.setting.slot (moment_at c.args.moment session) call reply c.read_step-moment.new.nodes) (c.read_step-moment.new.nodes ≡ c.args.nodes.now)
     config session running (moment_at c.args.moment session) (Done (answer.Refused c.in-Failed.fault)) after (next config (request_of session running) running.log (moment_at c.args.moment session)))
     c.self.view_is
     (get_steps config kept after session running c.args.number c.args.context (λ t id call reply. g.N.Nodes.Answers c.args.nodes.now id inside.setting.slot t call reply c.read_step-moment.new.nodes)

@@ -3,7 +3,7 @@ use Rattle.std.specs.Prelude.{Some}
 use Rattle.cops_session.specs.declared.Answer.{Answer}
 use Rattle.cops_session.specs.declared.Progress.TheVariants.{Done}
 use Rattle.cops_session.specs.declared.ongoing.Work.TheVariants.{Put}
-use Rattle.cops_session.specs.Kept.{Kept}
+use Rattle.cops_session.specs.Kept.{KeptSession}
 use Rattle.cops_session.specs.Request.{next}
 use Rattle.cops_session.specs.Session.{moment_at, request_of}
 use Rattle.cops_session.specs.SessionStands.{SessionStandsFor}
@@ -15,13 +15,13 @@ pub returns-in_default-clause-stepped : goal.returns-in_default-clause-stepped
 returns-in_default-clause-stepped g c = λ config session running number stand is.
     let inside = c.self.inside in
     let now = c.max-self-inside.result in
-    let kept : Kept = record { setting = inside.setting; moment = inside.moment; contexts = inside.contexts; next_request = inside.next_request; running = inside.running } in
-    let after : Kept = record { setting = inside.setting; moment = now; contexts = inside.contexts; next_request = inside.next_request; running = inside.running } in
+    let kept : KeptSession = record { setting = inside.setting; moment = inside.moment; contexts = inside.contexts; next_request = inside.next_request; running = inside.running } in
+    let after : KeptSession = record { setting = inside.setting; moment = now; contexts = inside.contexts; next_request = inside.next_request; running = inside.running } in
     let ended : Answer = c.write_step.result in
     let called = c.write_step.ensures.called in
-    let stands = subst (λ (k : Kept). SessionStandsFor config (record k { running = Some (record { number = number; context = c.args.context; work = Put c.args.writing }) }) session) (sym c.self.view_is) stand in
+    let stands = subst (λ (k : KeptSession). SessionStandsFor config (record k { running = Some (record { number = number; context = c.args.context; work = Put c.args.writing }) }) session) (sym c.self.view_is) stand in
     subst
-    (λ (k : Kept). DoesNext (λ id call reply. g.N.Nodes.Answers c.args.nodes.now id k.setting.slot (moment_at c.args.moment session) call reply c.write_step.new.nodes) (c.write_step.new.nodes ≡ c.args.nodes.now)
+    (λ (k : KeptSession). DoesNext (λ id call reply. g.N.Nodes.Answers c.args.nodes.now id k.setting.slot (moment_at c.args.moment session) call reply c.write_step.new.nodes) (c.write_step.new.nodes ≡ c.args.nodes.now)
     config session running (moment_at c.args.moment session) (Done ended) after (next config (request_of session running) running.log (moment_at c.args.moment session)))
     c.self.view_is
     (put_steps config kept after session running number c.args.context (λ t id call reply. g.N.Nodes.Answers c.args.nodes.now id inside.setting.slot t call reply c.write_step.new.nodes)

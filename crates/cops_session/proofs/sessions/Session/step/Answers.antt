@@ -2,7 +2,7 @@ use Rattle.std.proofs.Common.{◌≡◌, ◌∙◌, ap, sym, refl, subst, true}
 use Rattle.std.specs.Prelude.{Option, Some}
 use Rattle.cops_session.specs.declared.ongoing.Ongoing.{Ongoing}
 use Rattle.cops_session.specs.declared.ongoing.Work.TheVariants.{Put, Get}
-use Rattle.cops_session.specs.Kept.{Kept, is_running}
+use Rattle.cops_session.specs.Kept.{KeptSession, is_running}
 use Rattle.cops_session.specs.Request.{next}
 use Rattle.cops_session.specs.Session.{moment_at, request_of}
 use Rattle.cops_session.specs.SessionStands.{RunningStandsFor, SessionStandsFor}
@@ -14,11 +14,11 @@ pub returns-in-Put-clause-stepped : goal.returns-in-Put-clause-stepped
 returns-in-Put-clause-stepped g c = λ config session stand.
     let inside = c.self.inside in
     let ongoing = c.in-Some.ongoing in
-    let kept : Kept = record { setting = inside.setting; moment = inside.moment; contexts = inside.contexts; next_request = inside.next_request; running = inside.running } in
-    let stands : SessionStandsFor config kept session = subst (λ (k : Kept). SessionStandsFor config k session) (sym c.self.view_is) stand in
+    let kept : KeptSession = record { setting = inside.setting; moment = inside.moment; contexts = inside.contexts; next_request = inside.next_request; running = inside.running } in
+    let stands : SessionStandsFor config kept session = subst (λ (k : KeptSession). SessionStandsFor config k session) (sym c.self.view_is) stand in
     let runs : inside.running ≡ Some ongoing = sym c.take.ensures.value ∙ c.in-Some.is in
     let found = has_running config session ongoing session.running (subst (λ (r : Option Ongoing). RunningStandsFor config session r session.running) runs stands.running_is) in
-    let asked : is_running c.args.handle inside.running ≡ true = ap (λ (k : Kept). is_running c.args.handle k.running) c.self.view_is ∙ sym c.runs.ensures ∙ c.if-not-runs.false in
+    let asked : is_running c.args.handle inside.running ≡ true = ap (λ (k : KeptSession). is_running c.args.handle k.running) c.self.view_is ∙ sym c.runs.ensures ∙ c.if-not-runs.false in
     let own : ongoing.number ≡ c.args.handle = is_number ongoing.number c.args.handle (sym (ap (is_running c.args.handle) runs) ∙ asked) in
     let with : SessionStandsFor config (record kept { running = Some (record { number = ongoing.number; context = ongoing.context; work = Put c.in-Put.writing }) }) session =
     subst (λ (r : Option Ongoing). SessionStandsFor config (record kept { running = r }) session) (runs ∙ ap (λ w. Some (record { number = ongoing.number; context = ongoing.context; work = w })) c.in-Put.is) stands in (
@@ -26,7 +26,7 @@ returns-in-Put-clause-stepped g c = λ config session stand.
       found.1,
       sym found.2 ∙ own,
       subst
-          (λ (k : Kept). DoesNext (λ id call reply. g.N.Nodes.Answers c.args.nodes.now id k.setting.slot (moment_at c.args.moment session) call reply c.put.new.nodes) (c.put.new.nodes ≡ c.args.nodes.now)
+          (λ (k : KeptSession). DoesNext (λ id call reply. g.N.Nodes.Answers c.args.nodes.now id k.setting.slot (moment_at c.args.moment session) call reply c.put.new.nodes) (c.put.new.nodes ≡ c.args.nodes.now)
           config session found.0 (moment_at c.args.moment session) c.put.result c.put.new.self (next config (request_of session found.0) found.0.log (moment_at c.args.moment session)))
           c.self.view_is
           (c.put.ensures.stepped config session found.0 ongoing.number with found.1),
@@ -36,11 +36,11 @@ pub returns-in-Get-clause-stepped : goal.returns-in-Get-clause-stepped
 returns-in-Get-clause-stepped g c = λ config session stand.
     let inside = c.self.inside in
     let ongoing = c.in-Some.ongoing in
-    let kept : Kept = record { setting = inside.setting; moment = inside.moment; contexts = inside.contexts; next_request = inside.next_request; running = inside.running } in
-    let stands : SessionStandsFor config kept session = subst (λ (k : Kept). SessionStandsFor config k session) (sym c.self.view_is) stand in
+    let kept : KeptSession = record { setting = inside.setting; moment = inside.moment; contexts = inside.contexts; next_request = inside.next_request; running = inside.running } in
+    let stands : SessionStandsFor config kept session = subst (λ (k : KeptSession). SessionStandsFor config k session) (sym c.self.view_is) stand in
     let runs : inside.running ≡ Some ongoing = sym c.take.ensures.value ∙ c.in-Some.is in
     let found = has_running config session ongoing session.running (subst (λ (r : Option Ongoing). RunningStandsFor config session r session.running) runs stands.running_is) in
-    let asked : is_running c.args.handle inside.running ≡ true = ap (λ (k : Kept). is_running c.args.handle k.running) c.self.view_is ∙ sym c.runs.ensures ∙ c.if-not-runs.false in
+    let asked : is_running c.args.handle inside.running ≡ true = ap (λ (k : KeptSession). is_running c.args.handle k.running) c.self.view_is ∙ sym c.runs.ensures ∙ c.if-not-runs.false in
     let own : ongoing.number ≡ c.args.handle = is_number ongoing.number c.args.handle (sym (ap (is_running c.args.handle) runs) ∙ asked) in
     let with : SessionStandsFor config (record kept { running = Some (record { number = ongoing.number; context = ongoing.context; work = Get c.in-Get.reading }) }) session =
     subst (λ (r : Option Ongoing). SessionStandsFor config (record kept { running = r }) session) (runs ∙ ap (λ w. Some (record { number = ongoing.number; context = ongoing.context; work = w })) c.in-Get.is) stands in (
@@ -48,7 +48,7 @@ returns-in-Get-clause-stepped g c = λ config session stand.
       found.1,
       sym found.2 ∙ own,
       subst
-          (λ (k : Kept). DoesNext (λ id call reply. g.N.Nodes.Answers c.args.nodes.now id k.setting.slot (moment_at c.args.moment session) call reply c.get.new.nodes) (c.get.new.nodes ≡ c.args.nodes.now)
+          (λ (k : KeptSession). DoesNext (λ id call reply. g.N.Nodes.Answers c.args.nodes.now id k.setting.slot (moment_at c.args.moment session) call reply c.get.new.nodes) (c.get.new.nodes ≡ c.args.nodes.now)
           config session found.0 (moment_at c.args.moment session) c.get.result c.get.new.self (next config (request_of session found.0) found.0.log (moment_at c.args.moment session)))
           c.self.view_is
           (c.get.ensures.stepped config session found.0 with found.1),

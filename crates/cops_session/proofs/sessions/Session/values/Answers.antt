@@ -1,7 +1,7 @@
 use Rattle.std.proofs.Common.{◌≡◌, ◌∙◌, ℕ, Bool, true, false, List, [], ◌∷◌, length, ap, sym, refl, subst, arith, ◌⊎◌, inl, inr}
 use Rattle.std.specs.Prelude.{Option, Some, None, not, nat_lt, is_some}
 use Rattle.std.proofs.lemmas.Bool.Decides.{nat_tests}
-use Rattle.cops_session.specs.Kept.{Kept}
+use Rattle.cops_session.specs.Kept.{KeptSession}
 use Rattle.cops_session.specs.SessionStands.{SessionStandsFor}
 use Rattle.cops_session.specs.Session.{OpenContext, context_extended}
 use Rattle.cops_session.specs.SessionStands.{ContextsStandFor}
@@ -13,7 +13,7 @@ use Rattle.cops_session.proofs.sessions.Session.values.Goals.{in-Ok, in-Err}
 
 pub returns-clause-stands : goal.returns-clause-stands
 returns-clause-stands c = λ opens stand.
-    let stands = subst (λ (k : Kept). ContextsStandFor k.contexts.rows opens) (sym c.self.view_is) stand in
+    let stands = subst (λ (k : KeptSession). ContextsStandFor k.contexts.rows opens) (sym c.self.view_is) stand in
     elim c.match-see_reads.branch [
       | in-Ok w ↦
           rw w.result-is (subst (λ (rs : List Read). ContextsStandFor c.see_reads.new.contexts.rows (context_extended c.args.context (observations_of rs) opens)) c.as_slice.ensures (w.in-Ok.ensures.stands opens stands))
