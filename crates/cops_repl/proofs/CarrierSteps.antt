@@ -54,7 +54,7 @@ module _ (inside seen : KeptCarrier) (same : inside ≡ seen) (moment now : ℕ)
       let after : LeadTo shards solo.stream (replies_of log) stage = subst (λ rs. LeadTo shards solo.stream rs stage) (sym (replies-push solo.log (max solo.moment moment) reply)) (here.1 (replies_of solo.log) led) in
       record {
         asked = here.0 (replies_of solo.log) led;
-        progress_of = sym (ap progress_of (call_follows shards solo.stream (replies_of log) stage after).1);
+        shown = sym (ap progress_of (call_follows shards solo.stream (replies_of log) stage after).1);
         stands =
             record {
               shards_are = shards_are;
@@ -73,6 +73,6 @@ module _ (inside seen : KeptCarrier) (same : inside ≡ seen) (moment now : ℕ)
       let here = subst (λ (s : Stream). IsStepFrom shards s inside.stage d reply (Ends ending)) stream_is (subst (λ (n : ℕ). IsStepFrom n inside.stream inside.stage d reply (Ends ending)) shards_are from) in
       record {
         asked = here.0 (replies_of solo.log) led;
-        progress_of = sym (ap progress_of (ap (next_after shards solo.stream) (replies-push solo.log (max solo.moment moment) reply) ∙ here.1 (replies_of solo.log) led));
+        shown = sym (ap progress_of (ap (next_after shards solo.stream) (replies-push solo.log (max solo.moment moment) reply) ∙ here.1 (replies_of solo.log) led));
         stands = refl;
       }
