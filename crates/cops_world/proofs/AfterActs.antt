@@ -109,13 +109,13 @@ module _ (config : TenantConfig) (c : SoloCluster) (name : List ℕ) where
   carrier_does_context k moment (Call directed) found goes =
       let call = call_node config directed.node moment directed.call c in
       let step : LogStep = record { moment = moment; outcome = Replied call.reply } in
-      carrier_stepped_context k (carrier_after k step) (carrier.progress config.shards k step) call.after found refl goes
+      carrier_stepped_context k (carrier_after k step) (carrier.delivery_progress config.shards k step) call.after found refl goes
   carrier_does_context k moment Restart found goes = refl
   carrier_does_context k moment (Ended ending) found goes = absurd (delivery_ends ending goes)
 
   step_of_context : (moment : ℕ) (found : Option Actor) → find_actor name c ≡ found → KeepsContext (step_of config name moment c found)
   step_of_context moment (Some (OfSession s)) found goes = running_step_context s moment s.running found refl goes
-  step_of_context moment (Some (OfCarrier k)) found goes = carrier_does_context k (max k.moment moment) (carrier.next config.shards k.stream k.log) found goes
+  step_of_context moment (Some (OfCarrier k)) found goes = carrier_does_context k (max k.moment moment) (carrier.carrier_next config.shards k.stream k.log) found goes
   step_of_context moment None found goes = cc
 
   pub actor_step_context : (moment : ℕ) → KeepsContext (actor_step config name moment c)

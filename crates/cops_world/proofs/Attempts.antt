@@ -73,7 +73,7 @@ RequestReads config c dc (Fetch keys) log = AttemptReads config c dc keys (attem
 -- a carrier that ended is none
 abbrev pub IsActorTimed : TenantConfig → SoloCluster → List ℕ → Actor → Type 0
 IsActorTimed config c name (OfSession s) = (running : Running) → s.running ≡ Some running → RequestReads config c s.dc running.action running.log
-IsActorTimed config c name (OfCarrier k) = (ending : Delivery) → carrier.next config.shards k.stream k.log ≡ Ended ending → ⊥
+IsActorTimed config c name (OfCarrier k) = (ending : Delivery) → carrier.carrier_next config.shards k.stream k.log ≡ Ended ending → ⊥
 
 pub record IsTimed (config : TenantConfig) (c : SoloCluster) (ts : List Traced) : Type 0 where
   pub long_there : (n : ℕ) → AreLongThere config.trans_time (node_of config c n).recs (node_of config c n).moment
@@ -240,14 +240,14 @@ module _ (config : TenantConfig) (c : SoloCluster) (ts : List Traced) (timed : I
       timed_session (request_begun number action s) ts (λ running runs.
       let same : first ≡ running = (let both : Some first ≡ Some running = runs in cc) in subst (λ (r : Running). RequestReads config c s.dc r.action r.log) same are)
 
-  carried : (k : Carrier) (step : LogStep) → IsTimed config (carrier_stepped name (carrier_after k step) (carrier.progress config.shards k step) c).after ts
-  carried k step = by_next (carrier.next config.shards k.stream (k.log ++ step ∷ [])) refl
+  carried : (k : Carrier) (step : LogStep) → IsTimed config (carrier_stepped name (carrier_after k step) (carrier.delivery_progress config.shards k step) c).after ts
+  carried k step = by_next (carrier.carrier_next config.shards k.stream (k.log ++ step ∷ [])) refl
     where
       goes_on : IsActorTimed config c name (OfCarrier (carrier_after k step)) → IsTimed config (with_actor name (OfCarrier (carrier_after k step)) c) ts
       goes_on open_still =
           record { long_there = timed.long_there; actors = each-with_actor (IsActorTimed config c) (IsActorTimed config c) c name (OfCarrier (carrier_after k step)) open_still (λ other a apart p. p) timed.actors }
 
-      by_next : (n : Next Delivery) → carrier.next config.shards k.stream (k.log ++ step ∷ []) ≡ n → IsTimed config (carrier_stepped name (carrier_after k step) (carrier.shown n) c).after ts
+      by_next : (n : Next Delivery) → carrier.carrier_next config.shards k.stream (k.log ++ step ∷ []) ≡ n → IsTimed config (carrier_stepped name (carrier_after k step) (carrier.progress_of n) c).after ts
       by_next (Ended ending) is = record { long_there = timed.long_there; actors = each-without (IsActorTimed config c) c name timed.actors }
       by_next (Call directed) is = goes_on (λ ending ends. let never : Call directed ≡ Ended ending = sym is ∙ ends in cc)
       by_next Restart is = goes_on (λ ending ends. let never : Restart ≡ Ended ending = sym is ∙ ends in cc)

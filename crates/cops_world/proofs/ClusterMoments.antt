@@ -185,7 +185,7 @@ module _ (config : TenantConfig) (most : ℕ) where
   carrier_within c name k moment (Call directed) low is =
       let call = call_node config directed.node moment directed.call c in
       let step : LogStep = record { moment = moment; outcome = Replied call.reply } in
-      carried_within call.after name (carrier_after k step) (carrier.progress config.shards k step) low (call_within c directed.node moment directed.call low is)
+      carried_within call.after name (carrier_after k step) (carrier.delivery_progress config.shards k step) low (call_within c directed.node moment directed.call low is)
   carrier_within c name k moment Restart low is = is
   carrier_within c name k moment (Ended ending) low is = is
 
@@ -193,7 +193,7 @@ module _ (config : TenantConfig) (most : ℕ) where
   step_of_within c name moment (Some (OfSession s)) low found is = running_within c is name s (ap (option_and_then session_in) found) moment s.running low refl
   step_of_within c name moment (Some (OfCarrier k)) low found is =
       let old : k.moment ≤ most = actor_found (IsActorWithin most) c name (OfCarrier k) is.actors found in
-      carrier_within c name k (max k.moment moment) (carrier.next config.shards k.stream k.log) (omega arith) is
+      carrier_within c name k (max k.moment moment) (carrier.carrier_next config.shards k.stream k.log) (omega arith) is
   step_of_within c name moment None low found is = is
 
   pub actor_step_within : (c : SoloCluster) (name : List ℕ) (moment : ℕ) → moment ≤ most → IsWithin config most c → IsWithin config most (actor_step config name moment c).after

@@ -138,13 +138,13 @@ module _ (config : TenantConfig) (name : List ℕ) (before : SoloCluster) (nodes
 
       by_turn : AtNodes at d.node d.call p.reply → Took (carrier_step config name c at before)
       by_turn (inl (lack, stays)) =
-          let ends : carrier.progress config.shards c (step_of_reply p.reply) ≡ carrying.Done (delivery.Refused OutOfMemory) =
-          ap (λ r. carrier.progress config.shards c (step_of_reply r)) lack ∙ ap carrier.shown (carrier_refused config.shards c.stream c.log d at OutOfMemory p.step_of.asked) in
+          let ends : carrier.delivery_progress config.shards c (step_of_reply p.reply) ≡ carrying.Done (delivery.Refused OutOfMemory) =
+          ap (λ r. carrier.delivery_progress config.shards c (step_of_reply r)) lack ∙ ap carrier.progress_of (carrier_refused config.shards c.stream c.log d at OutOfMemory p.step_of.asked) in
           absurd (not_spared stepped.reply spared (p.reply_is ∙ ap reply_of_carrying (p.step_of.shown ∙ ends)))
       by_turn (inr (is, moved)) =
           let turn = call_node config d.node at d.call before in
           subst Took (sym whole_turn)
-          (subst (λ r. Took (carrier_stepped name (carrier_after c (step_of_reply r)) (carrier.progress config.shards c (step_of_reply r)) turn.after)) is
+          (subst (λ r. Took (carrier_stepped name (carrier_after c (step_of_reply r)) (carrier.delivery_progress config.shards c (step_of_reply r)) turn.after)) is
           (subst (λ shown. Took (carrier_stepped name (carrier_after c (step_of_reply p.reply)) shown turn.after)) p.step_of.shown
           (by_shown p.reply turn.after p.shown refl (sym moved) p.reply_is p.over_is p.step_of.stands)))
 

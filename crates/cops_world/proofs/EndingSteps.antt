@@ -200,7 +200,7 @@ module _ (config : TenantConfig) (c : SoloCluster) (name : List ℕ) (k : Carrie
   abbrev HasFewAfter : SoloCluster → Type 0
   HasFewAfter after = (next : Carrier) → find_actor name after ≡ Some (OfCarrier next) → length (near_in (carrier_replies next.log)) ≤ config.quota.deps
 
-  carried_left : (moment : ℕ) (directed : Directed) (reply : NodeReply) (after : SoloCluster) (shown : CarrierProgress) → carrier.next config.shards k.stream k.log ≡ Call directed → find_actor name after ≡ Some (OfCarrier k) →
+  carried_left : (moment : ℕ) (directed : Directed) (reply : NodeReply) (after : SoloCluster) (shown : CarrierProgress) → carrier.carrier_next config.shards k.stream k.log ≡ Call directed → find_actor name after ≡ Some (OfCarrier k) →
       let turn = carrier_stepped name (carrier_after k (record { moment = moment; outcome = Replied reply })) shown after in
       HasFewAfter turn.after → goes_on turn.reply ≡ true → Fewer config (IsActorLeft config (find_actor name turn.after)) n
   carried_left moment directed reply after carrier_progress.Working is still few goes =
@@ -213,11 +213,11 @@ module _ (config : TenantConfig) (c : SoloCluster) (name : List ℕ) (k : Carrie
       (fewer.0, fewer.1, subst (λ a. IsActorLeft config a fewer.0) (sym there) (subst (λ rs. IsCarrierLeft config rs fewer.0) (sym more) fewer.2))
   carried_left moment directed reply after (carrier_progress.Done ending) is still few goes = absurd (delivery_ends ending goes)
 
-  carrier_does_left : (moment : ℕ) (next : Next Delivery) → carrier.next config.shards k.stream k.log ≡ next → HasFewAfter (carrier_does config name k moment c next).after →
+  carrier_does_left : (moment : ℕ) (next : Next Delivery) → carrier.carrier_next config.shards k.stream k.log ≡ next → HasFewAfter (carrier_does config name k moment c next).after →
       goes_on (carrier_does config name k moment c next).reply ≡ true → Fewer config (IsActorLeft config (find_actor name (carrier_does config name k moment c next).after)) n
   carrier_does_left moment (Call directed) is few goes =
       let call = call_node config directed.node moment directed.call c in
-      carried_left moment directed call.reply call.after (carrier.progress config.shards k (record { moment = moment; outcome = Replied call.reply })) is found few goes
+      carried_left moment directed call.reply call.after (carrier.delivery_progress config.shards k (record { moment = moment; outcome = Replied call.reply })) is found few goes
   carrier_does_left moment Restart is few goes =
       let rs = carrier_replies k.log in
       absurd (never-restarts (first_end config.shards k.stream (stream_calls config.shards k.stream rs) rs) (slice_get (stream_calls config.shards k.stream rs) (length rs)) (finished_delivery rs) is)
@@ -237,7 +237,7 @@ module _ (config : TenantConfig) (some : 0 < config.shards) where
   step_of_left c ts inv name moment n (Some (OfSession s)) found left goes = running_left config some c ts inv.0 inv.1 name s found n moment s.running refl left goes
   step_of_left c ts inv name moment n (Some (OfCarrier k)) found left goes =
       let next = step_of_keeps bounded_kept c ts name moment (Some (OfCarrier k)) found inv in
-      carrier_does_left config c name k found n left (max k.moment moment) (carrier.next config.shards k.stream k.log) refl
+      carrier_does_left config c name k found n left (max k.moment moment) (carrier.carrier_next config.shards k.stream k.log) refl
       (λ later there. carrier_near config some _ _ next.0 next.1 name later there) goes
   step_of_left c ts inv name moment n None found left goes = cc
 

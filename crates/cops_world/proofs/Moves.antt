@@ -76,11 +76,11 @@ pub record Leads (config : TenantConfig) (B P : SoloCluster → List Traced → 
       find_session name c ≡ Some s → s.running ≡ Some running → request.next config (request_of s running) running.log moment ≡ Ended answer →
       B c ts → P c (history_after ts c name (reply_of_answer answer))
   pub carrier_called : (c : SoloCluster) (ts : List Traced) (name : List ℕ) (k : Carrier) (moment : ℕ) (directed : Directed) →
-      find_actor name c ≡ Some (OfCarrier k) → carrier.next config.shards k.stream k.log ≡ Call directed →
+      find_actor name c ≡ Some (OfCarrier k) → carrier.carrier_next config.shards k.stream k.log ≡ Call directed →
       B c ts →
       let call = call_node config directed.node moment directed.call c in
       let step : LogStep = record { moment = moment; outcome = Replied call.reply } in
-      P (carrier_stepped name (carrier_after k step) (carrier.progress config.shards k step) call.after).after ts
+      P (carrier_stepped name (carrier_after k step) (carrier.delivery_progress config.shards k step) call.after).after ts
   pub collected : (c : SoloCluster) (ts : List Traced) (id : NodeId) (moment : ℕ) → has_node config id.dc id.shard ≡ true →
       B c ts → P (call_node config id moment node_call.Collect c).after ts
 
@@ -196,13 +196,13 @@ module _ {config : TenantConfig} {P : SoloCluster → List Traced → Type 0} (k
   running_step_keeps c ts name s moment None found runs p = p
 
   carrier_does_keeps : (c : SoloCluster) (ts : List Traced) (name : List ℕ) (k : Carrier) (moment : ℕ) (next : Next Delivery) → find_actor name c ≡ Some (OfCarrier k) →
-      carrier.next config.shards k.stream k.log ≡ next → P c ts →
+      carrier.carrier_next config.shards k.stream k.log ≡ next → P c ts →
       P (carrier_does config name k moment c next).after (history_after ts c name (carrier_does config name k moment c next).reply)
   carrier_does_keeps c ts name k moment (Call directed) found is p =
       let call = call_node config directed.node moment directed.call c in
       let step : LogStep = record { moment = moment; outcome = Replied call.reply } in
       plainly c ts (Step name moment) (carrier_does config name k moment c (Call directed))
-      (plain_carrier name (carrier_after k step) (carrier.progress config.shards k step) call.after)
+      (plain_carrier name (carrier_after k step) (carrier.delivery_progress config.shards k step) call.after)
       (kept.carrier_called c ts name k moment directed found is p)
   carrier_does_keeps c ts name k moment Restart found is p = p
   carrier_does_keeps c ts name k moment (Ended ending) found is p =
@@ -212,7 +212,7 @@ module _ {config : TenantConfig} {P : SoloCluster → List Traced → Type 0} (k
       P (step_of config name moment c found).after (history_after ts c name (step_of config name moment c found).reply)
   step_of_keeps c ts name moment (Some (OfSession s)) found p = running_step_keeps c ts name s moment s.running (ap (option_and_then session_in) found) refl p
   step_of_keeps c ts name moment (Some (OfCarrier k)) found p =
-      carrier_does_keeps c ts name k (max k.moment moment) (carrier.next config.shards k.stream k.log) found refl p
+      carrier_does_keeps c ts name k (max k.moment moment) (carrier.carrier_next config.shards k.stream k.log) found refl p
   step_of_keeps c ts name moment None found p = p
 
   pub actor_step_keeps : (c : SoloCluster) (ts : List Traced) (name : List ℕ) (moment : ℕ) → P c ts →

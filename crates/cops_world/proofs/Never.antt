@@ -124,20 +124,20 @@ module _ (config : TenantConfig) (some : 0 < config.shards) where
       stepped_fine after carrier_progress.Working next fine = refl
       stepped_fine after (carrier_progress.Done d) next fine = fine d refl
 
-      carrier_does_fine : (moment : ℕ) (next : Next Delivery) → carrier.next config.shards k.stream k.log ≡ next → IsFine (carrier_does config name k moment c next).reply
+      carrier_does_fine : (moment : ℕ) (next : Next Delivery) → carrier.carrier_next config.shards k.stream k.log ≡ next → IsFine (carrier_does config name k moment c next).reply
       carrier_does_fine moment (Call directed) is =
           let call = call_node config directed.node moment directed.call c in
           let step : LogStep = record { moment = moment; outcome = Replied call.reply } in
-          let n = carrier.next config.shards k.stream (k.log ++ step ∷ []) in
-          stepped_fine (carrier_after k step) (carrier.progress config.shards k step) call.after
+          let n = carrier.carrier_next config.shards k.stream (k.log ++ step ∷ []) in
+          stepped_fine (carrier_after k step) (carrier.delivery_progress config.shards k step) call.after
           (carrier_shown_fine config.shards k.stream n (λ ending ends. ended_fine config.shards k.stream (k.log ++ step ∷ []) ending (carrier_fine config some c ts inv.0 inv.1 name k found moment directed is) ends)
-          (carrier.progress config.shards k step) refl)
+          (carrier.delivery_progress config.shards k step) refl)
       carrier_does_fine moment Restart is = refl
       carrier_does_fine moment (Ended ending) is = ended_fine config.shards k.stream k.log ending (fine_carrier config some c ts inv.0 inv.1 name k found) is
 
     step_of_fine : (name : List ℕ) (moment : ℕ) (found : Option Actor) → find_actor name c ≡ found → IsFine (step_of config name moment c found).reply
     step_of_fine name moment (Some (OfSession s)) found = running_fine name s (ap (option_and_then session_in) found) moment s.running refl
-    step_of_fine name moment (Some (OfCarrier k)) found = carrier_does_fine name k found (max k.moment moment) (carrier.next config.shards k.stream k.log) refl
+    step_of_fine name moment (Some (OfCarrier k)) found = carrier_does_fine name k found (max k.moment moment) (carrier.carrier_next config.shards k.stream k.log) refl
     step_of_fine name moment None found = refl
 
     step_fine : (name : List ℕ) (moment : ℕ) → IsFine (actor_step config name moment c).reply

@@ -219,7 +219,7 @@ module _ (shards : ℕ) (stream : Stream) where
   complete_other (node_reply.Pulled e ∷ rs) = tt
   complete_other (r ∷ rs) = tt
 
-  ending_other : (log : List LogStep) (ending : Delivery) → Zipped IsOtherStep (stream_calls shards stream (carrier_replies log)) (carrier_replies log) → carrier.next shards stream log ≡ Ended ending → IsOtherEnd (Some ending)
+  ending_other : (log : List LogStep) (ending : Delivery) → Zipped IsOtherStep (stream_calls shards stream (carrier_replies log)) (carrier_replies log) → carrier.carrier_next shards stream log ≡ Ended ending → IsOtherEnd (Some ending)
   ending_other log ending z e =
       let rs = carrier_replies log in
       chosen (first_end shards stream (stream_calls shards stream rs) rs) (slice_get (stream_calls shards stream rs) (length rs)) (first_end_other (stream_calls shards stream rs) rs z) e
@@ -237,8 +237,8 @@ module _ (shards : ℕ) (stream : Stream) where
   delivery_other (delivery.OutOfOrder mark) other e = cc
 
   -- a step of a carrier never ends an attempt
-  pub carrier_other : (log : List LogStep) (moment : ℕ) (directed : Directed) (reply : NodeReply) → carrier.next shards stream log ≡ Call directed → IsOther (fault_in directed.call reply) → (ending : Delivery) →
-      carrier.next shards stream (log ++ record { moment = moment; outcome = Replied reply } ∷ []) ≡ Ended ending → ends_attempt (reply_of_delivery ending) ≡ true → ⊥
+  pub carrier_other : (log : List LogStep) (moment : ℕ) (directed : Directed) (reply : NodeReply) → carrier.carrier_next shards stream log ≡ Call directed → IsOther (fault_in directed.call reply) → (ending : Delivery) →
+      carrier.carrier_next shards stream (log ++ record { moment = moment; outcome = Replied reply } ∷ []) ≡ Ended ending → ends_attempt (reply_of_delivery ending) ≡ true → ⊥
   carrier_other log moment directed reply e other ending ends overrun =
       let n = carrier-next shards stream log directed e in
       let old = endless_other (stream_calls shards stream (carrier_replies log)) (carrier_replies log) n.no_end in

@@ -13,7 +13,7 @@ use Rattle.cops_repl.specs.declared.Delivery.TheVariants as delivery
 use Rattle.cops_repl.specs.Carrier.{Stream, call_or_end, end_of, first_end, next_after, unless_end}
 use Rattle.cops_repl.specs.Carrier as carrier
 
-calls_same : (shards : ℕ) (stream : Stream) (replies : List NodeReply) (fault : Fault) → carrier.calls_of shards stream (replies ++ node_reply.Refused fault ∷ []) ≡ carrier.calls_of shards stream replies
+calls_same : (shards : ℕ) (stream : Stream) (replies : List NodeReply) (fault : Fault) → carrier.stream_calls shards stream (replies ++ node_reply.Refused fault ∷ []) ≡ carrier.stream_calls shards stream replies
 calls_same shards stream [] fault = refl
 calls_same shards stream (Pulled entry ∷ replies) fault = refl
 calls_same shards stream (reply ∷ replies) fault = refl
@@ -36,13 +36,13 @@ first_end-push shards stream (c ∷ calls) (r ∷ replies) d fault none at =
     ap (λ x. option_or x (first_end shards stream calls (replies ++ node_reply.Refused fault ∷ []))) parts.0 ∙ first_end-push shards stream calls replies d fault parts.1 at
 
 -- a carrier whose call is refused has ended
-pub carrier_refused : (shards : ℕ) (stream : Stream) (log : List LogStep) (d : Directed) (moment : ℕ) (fault : Fault) → carrier.next shards stream log ≡ Call d →
-    carrier.next shards stream (log ++ record { moment = moment; outcome = Replied (node_reply.Refused fault) } ∷ []) ≡ Ended (delivery.Refused fault)
+pub carrier_refused : (shards : ℕ) (stream : Stream) (log : List LogStep) (d : Directed) (moment : ℕ) (fault : Fault) → carrier.carrier_next shards stream log ≡ Call d →
+    carrier.carrier_next shards stream (log ++ record { moment = moment; outcome = Replied (node_reply.Refused fault) } ∷ []) ≡ Ended (delivery.Refused fault)
 carrier_refused shards stream log d moment fault e =
     let replies = carrier.replies_of log in
-    let calls = carrier.calls_of shards stream replies in
-    let parts = goes_on (first_end shards stream calls replies) (slice_get calls (length replies)) (carrier.complete replies) d e in
+    let calls = carrier.stream_calls shards stream replies in
+    let parts = goes_on (first_end shards stream calls replies) (slice_get calls (length replies)) (carrier.finished_delivery replies) d e in
     let more = replies ++ node_reply.Refused fault ∷ [] in
     ap (next_after shards stream) (filter_map-append (λ (s : LogStep). reply_in s.outcome) log (record { moment = moment; outcome = Replied (node_reply.Refused fault) } ∷ []))
-    ∙ ap (λ cs. unless_end (first_end shards stream cs more) (call_or_end (slice_get cs (length more)) (carrier.complete more))) (calls_same shards stream replies fault)
-    ∙ ap (λ x. unless_end x (call_or_end (slice_get calls (length more)) (carrier.complete more))) (first_end-push shards stream calls replies d fault parts.0 parts.1)
+    ∙ ap (λ cs. unless_end (first_end shards stream cs more) (call_or_end (slice_get cs (length more)) (carrier.finished_delivery more))) (calls_same shards stream replies fault)
+    ∙ ap (λ x. unless_end x (call_or_end (slice_get calls (length more)) (carrier.finished_delivery more))) (first_end-push shards stream calls replies d fault parts.0 parts.1)

@@ -351,12 +351,12 @@ module _ (config : TenantConfig) (some : 0 < config.shards) (c : SoloCluster) (t
 
   module _ (name : List ℕ) (k : Carrier) (found : find_actor name c ≡ Some (OfCarrier k)) where
     stepped_never : (after : Carrier) (n : Next Delivery) (next : SoloCluster) → ((ending : Delivery) → n ≡ Ended ending → ends_attempt (reply_of_delivery ending) ≡ true → ⊥) →
-        ends_attempt (carrier_stepped name after (carrier.shown n) next).reply ≡ true → ⊥
+        ends_attempt (carrier_stepped name after (carrier.progress_of n) next).reply ≡ true → ⊥
     stepped_never after (Ended ending) next never ends = never ending refl ends
     stepped_never after (Call directed) next never ends = cc
     stepped_never after Restart next never ends = cc
 
-    carrier_never : (moment : ℕ) (next : Next Delivery) → carrier.next config.shards k.stream k.log ≡ next → ends_attempt (carrier_does config name k moment c next).reply ≡ true → ⊥
+    carrier_never : (moment : ℕ) (next : Next Delivery) → carrier.carrier_next config.shards k.stream k.log ≡ next → ends_attempt (carrier_does config name k moment c next).reply ≡ true → ⊥
     carrier_never moment (Call directed) e ends =
         let call = call_node config directed.node moment directed.call c in
         let step : LogStep = record { moment = moment; outcome = Replied call.reply } in
@@ -364,7 +364,7 @@ module _ (config : TenantConfig) (some : 0 < config.shards) (c : SoloCluster) (t
         let n = node_number config.shards directed.node in
         let called = call_changes config c directed.node moment directed.call served.calls.there inv.traced.sized in
         let other = fault_other directed.call call.reply (reply_asked (place_of config directed.node) (node_of config c n) call.reply directed.call (node_of config call.after n) called.change served.calls.ready) in
-        stepped_never (carrier_after k step) (carrier.next config.shards k.stream (k.log ++ step ∷ [])) call.after (carrier_other config.shards k.stream k.log moment directed call.reply e other) ends
+        stepped_never (carrier_after k step) (carrier.carrier_next config.shards k.stream (k.log ++ step ∷ [])) call.after (carrier_other config.shards k.stream k.log moment directed call.reply e other) ends
     carrier_never moment Restart e ends = cc
     carrier_never moment (Ended ending) e ends = actor_found (IsActorTimed config c) c name (OfCarrier k) timed.actors found ending e
 
@@ -372,7 +372,7 @@ module _ (config : TenantConfig) (some : 0 < config.shards) (c : SoloCluster) (t
 
   step_of_due : (name : List ℕ) (moment : ℕ) (found : Option Actor) → find_actor name c ≡ found → ends_attempt (step_of config name moment c found).reply ≡ true → IsDue config c name moment
   step_of_due name moment (Some (OfSession s)) found ends = running_due name s (ap (option_and_then session_in) found) moment s.running refl ends
-  step_of_due name moment (Some (OfCarrier k)) found ends = absurd (carrier_never name k found (max k.moment moment) (carrier.next config.shards k.stream k.log) refl ends)
+  step_of_due name moment (Some (OfCarrier k)) found ends = absurd (carrier_never name k found (max k.moment moment) (carrier.carrier_next config.shards k.stream k.log) refl ends)
   step_of_due name moment None found ends = cc
 
   step_due : (name : List ℕ) (moment : ℕ) → ends_attempt (actor_step config name moment c).reply ≡ true → IsDue config c name moment

@@ -266,26 +266,26 @@ module _ (config : TenantConfig) (some : 0 < config.shards) (c : SoloCluster) (t
     pub fine_carrier : IsActorFine config name (OfCarrier k)
     fine_carrier = actor_found (IsActorFine config) c name (OfCarrier k) served.actors found
 
-    pub carrier_turn : (moment : ℕ) (directed : Directed) → carrier.next config.shards k.stream k.log ≡ Call directed →
+    pub carrier_turn : (moment : ℕ) (directed : Directed) → carrier.carrier_next config.shards k.stream k.log ≡ Call directed →
         ServedCall config some c ts inv k.stream (stream_is config some c ts inv.flowing inv.traced name k found) moment directed
     carrier_turn moment directed e =
         carrier_served config some c ts inv k.stream (stream_is config some c ts inv.flowing inv.traced name k found) moment directed
         (stage_now config some c ts inv.flowing inv.traced name k found directed e)
 
-    pub carrier_fine : (moment : ℕ) (directed : Directed) → carrier.next config.shards k.stream k.log ≡ Call directed →
+    pub carrier_fine : (moment : ℕ) (directed : Directed) → carrier.carrier_next config.shards k.stream k.log ≡ Call directed →
         IsActorFine config name (OfCarrier (carrier_after k (record { moment = moment; outcome = Replied (call_node config directed.node moment directed.call c).reply })))
     carrier_fine moment directed e =
         carrier-stepped (IsFineStep config.shards k.stream) config.shards k.stream k.log moment directed (call_node config directed.node moment directed.call c).reply fine_carrier (carrier-next config.shards k.stream k.log directed e)
         (carrier_turn moment directed e).brings
 
-    pub carried : (moment : ℕ) (directed : Directed) → carrier.next config.shards k.stream k.log ≡ Call directed →
+    pub carried : (moment : ℕ) (directed : Directed) → carrier.carrier_next config.shards k.stream k.log ≡ Call directed →
         let call = call_node config directed.node moment directed.call c in
         let step : LogStep = record { moment = moment; outcome = Replied call.reply } in
-        IsServed config (carrier_stepped name (carrier_after k step) (carrier.progress config.shards k step) call.after).after ts
+        IsServed config (carrier_stepped name (carrier_after k step) (carrier.delivery_progress config.shards k step) call.after).after ts
     carried moment directed e =
         let call = call_node config directed.node moment directed.call c in
         let step : LogStep = record { moment = moment; outcome = Replied call.reply } in
-        served_carrier config call.after ts (served_called config c ts inv served moment directed (carrier_turn moment directed e).calls) name (carrier_after k step) (carrier.progress config.shards k step) (carrier_fine moment directed e)
+        served_carrier config call.after ts (served_called config c ts inv served moment directed (carrier_turn moment directed e).calls) name (carrier_after k step) (carrier.delivery_progress config.shards k step) (carrier_fine moment directed e)
 
   pub collect_ready : (id : NodeId) → has_node config id.dc id.shard ≡ true → ReadyCall config c (record { node = id; call = node_call.Collect })
   collect_ready id there = record { there = there; ready = tt }

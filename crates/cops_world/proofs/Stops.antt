@@ -169,7 +169,7 @@ module _ (config : TenantConfig) (name : List ℕ) (before : SoloCluster) (nodes
       by_turn (inr (turned, changed)) =
           let turn = call_node config d.node at d.call before in
           let step : LogStep = record { moment = at; outcome = Replied turn.reply } in
-          inr (changed ∙ same_nodes (carrier_after c step) (carrier.progress config.shards c step) turn.after ∙ ap (λ (n : Next Delivery). (carrier_does config name c at before n).after.nodes) (sym p.step_of.asked))
+          inr (changed ∙ same_nodes (carrier_after c step) (carrier.delivery_progress config.shards c step) turn.after ∙ ap (λ (n : Next Delivery). (carrier_does config name c at before n).after.nodes) (sym p.step_of.asked))
 
   -- ---- any actor
 

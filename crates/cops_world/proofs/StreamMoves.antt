@@ -230,7 +230,7 @@ module _ (config : TenantConfig) (some : 0 < config.shards) (c : SoloCluster) (t
     brings_by moment directed (Pulling is) = subst (Brings moment) (sym is) (pulls moment)
     brings_by moment directed (Delivering e offered is) = delivers_by moment e directed offered is
 
-    pub stage_now : (directed : Directed) → carrier.next config.shards k.stream k.log ≡ Call directed → Stage (Delivered config c k.stream) config.shards k.stream directed
+    pub stage_now : (directed : Directed) → carrier.carrier_next config.shards k.stream k.log ≡ Call directed → Stage (Delivered config c k.stream) config.shards k.stream directed
     stage_now directed e = stage (Delivered config c k.stream) config.shards k.stream k.log directed (carrier-next config.shards k.stream k.log directed e) replies_are
 
     -- after the call the carrier has one more reply, or is gone
@@ -249,10 +249,10 @@ module _ (config : TenantConfig) (some : 0 < config.shards) (c : SoloCluster) (t
           carriers = (let last = without_actor name after in each-without (OnStream config last) after name (carriers_same config after last.actors flows.carriers));
         }
 
-    pub flowing-carrier_called : (moment : ℕ) (directed : Directed) → carrier.next config.shards k.stream k.log ≡ Call directed →
+    pub flowing-carrier_called : (moment : ℕ) (directed : Directed) → carrier.carrier_next config.shards k.stream k.log ≡ Call directed →
         let call = call_node config directed.node moment directed.call c in
         let step : LogStep = record { moment = moment; outcome = Replied call.reply } in
-        IsFlowing config (carrier_stepped name (carrier_after k step) (carrier.progress config.shards k step) call.after).after ts
+        IsFlowing config (carrier_stepped name (carrier_after k step) (carrier.delivery_progress config.shards k step) call.after).after ts
     flowing-carrier_called moment directed e =
         let brought = brings_by moment directed (stage_now directed e) in
         let call = call_node config directed.node moment directed.call c in
@@ -260,7 +260,7 @@ module _ (config : TenantConfig) (some : 0 < config.shards) (c : SoloCluster) (t
         let old : OnStream config call.after name (OfCarrier k) = actor_found (OnStream config call.after) call.after name (OfCarrier k) brought.flows.carriers found in
         flowing-stepped call.after brought.flows (carrier_after k step)
         (carrier-stepped (Delivered config call.after k.stream) config.shards k.stream k.log moment directed call.reply old (carrier-next config.shards k.stream k.log directed e) brought.delivers)
-        (carrier.progress config.shards k step)
+        (carrier.delivery_progress config.shards k step)
 
 pub flowing_kept : (config : TenantConfig) → 0 < config.shards → Leads config (Both (IsTraced config) (IsFlowing config)) (IsFlowing config)
 flowing_kept config some =

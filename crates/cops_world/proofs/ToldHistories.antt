@@ -106,13 +106,13 @@ module _ (config : TenantConfig) (contexts : Contexts) (name : List ℕ) where
   carrier_knows c k moment (Call directed) knows =
       let call = call_node config directed.node moment directed.call c in
       let step : LogStep = record { moment = moment; outcome = Replied call.reply } in
-      carrier_stepped_knows (carrier_after k step) (carrier.progress config.shards k step) call.after knows
+      carrier_stepped_knows (carrier_after k step) (carrier.delivery_progress config.shards k step) call.after knows
   carrier_knows c k moment Restart knows = knows
   carrier_knows c k moment (Ended ending) knows = knows
 
   step_knows : (c : SoloCluster) (moment : ℕ) (found : Option Actor) → find_actor name c ≡ found → Knows contexts c → Knows contexts (step_of config name moment c found).after
   step_knows c moment (Some (OfSession s)) found knows = running_knows c s moment s.running found refl knows
-  step_knows c moment (Some (OfCarrier k)) found knows = carrier_knows c k (max k.moment moment) (carrier.next config.shards k.stream k.log) knows
+  step_knows c moment (Some (OfCarrier k)) found knows = carrier_knows c k (max k.moment moment) (carrier.carrier_next config.shards k.stream k.log) knows
   step_knows c moment None found knows = knows
 
   steps_know : (more : ℕ) (c : SoloCluster) (moment : ℕ) → Knows contexts c → Knows contexts (actor_steps more config name moment c).after

@@ -58,7 +58,7 @@ module _ (config : TenantConfig) (c : SoloCluster) (name : List ℕ) where
   plain_carrier k moment (Call directed) =
       let call = call_node config directed.node moment directed.call c in
       let step : LogStep = record { moment = moment; outcome = Replied call.reply } in
-      plain_carrier_stepped (carrier_after k step) (carrier.progress config.shards k step) call.after
+      plain_carrier_stepped (carrier_after k step) (carrier.delivery_progress config.shards k step) call.after
   plain_carrier k moment Restart = refl
   plain_carrier k moment (Ended ending) = plain_delivery ending
 
@@ -72,7 +72,7 @@ module _ (config : TenantConfig) (c : SoloCluster) (name : List ℕ) where
 
   step_runs : (moment : ℕ) (found : Option Actor) → find_actor name c ≡ found → Runs c name (step_of config name moment c found).reply
   step_runs moment (Some (OfSession s)) found = running_runs s moment s.running found refl
-  step_runs moment (Some (OfCarrier k)) found = no_end c name (step_of config name moment c (Some (OfCarrier k))).reply (plain_carrier k (max k.moment moment) (carrier.next config.shards k.stream k.log))
+  step_runs moment (Some (OfCarrier k)) found = no_end c name (step_of config name moment c (Some (OfCarrier k))).reply (plain_carrier k (max k.moment moment) (carrier.carrier_next config.shards k.stream k.log))
   step_runs moment None found = no_end c name (step_of config name moment c None).reply refl
 
   pub actor_step_runs : (moment : ℕ) → Runs c name (actor_step config name moment c).reply

@@ -145,10 +145,10 @@ module _ (config : TenantConfig) (c : SoloCluster) (ts : List Traced) (inv : IsT
           replies_well = λ reply after change. ack_well (place_of config call.node) k.stream.to_dc e.version (node_of config c (node_number config.shards call.node)) after reply change;
         })
 
-    pub traced-carrier_called : 0 < config.shards → (moment : ℕ) (directed : Directed) → carrier.next config.shards k.stream k.log ≡ Call directed →
+    pub traced-carrier_called : 0 < config.shards → (moment : ℕ) (directed : Directed) → carrier.carrier_next config.shards k.stream k.log ≡ Call directed →
         let call = call_node config directed.node moment directed.call c in
         let step : LogStep = record { moment = moment; outcome = Replied call.reply } in
-        IsTraced config (carrier_stepped name (carrier_after k step) (carrier.progress config.shards k step) call.after).after ts
+        IsTraced config (carrier_stepped name (carrier_after k step) (carrier.delivery_progress config.shards k step) call.after).after ts
     traced-carrier_called some moment directed e =
         let well = goes_well some moment directed (carrier_call config.shards k.stream k.log directed e) in
         let call = call_node config directed.node moment directed.call c in
@@ -158,4 +158,4 @@ module _ (config : TenantConfig) (c : SoloCluster) (ts : List Traced) (inv : IsT
         (record {
           stream_is = is_carrier.stream_is;
           pulled = Every-append (λ (s : LogStep). IsPulled ts s.outcome) k.log (step ∷ []) is_carrier.pulled (well.replies_well call.reply (node_of config call.after (node_number config.shards directed.node)) called.change, tt);
-        }) (carrier.progress config.shards k step)
+        }) (carrier.delivery_progress config.shards k step)

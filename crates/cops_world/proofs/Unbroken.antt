@@ -148,6 +148,6 @@ module _ (shards : ℕ) (stream : Stream) where
       chosen None (Some call) ends is fine e = cc
       chosen None None ends is fine e = let same : finished_delivery (carrier_replies log) ≡ ending = cc in subst IsFineDelivery same (complete_fine (carrier_replies log) ends is)
 
-  pub carrier_shown_fine : (n : Next Delivery) → ((ending : Delivery) → n ≡ Ended ending → IsFineDelivery ending) → (reply : CarrierProgress) → carrier.shown n ≡ reply → (d : Delivery) → reply ≡ carrier_progress.Done d → IsFineDelivery d
+  pub carrier_shown_fine : (n : Next Delivery) → ((ending : Delivery) → n ≡ Ended ending → IsFineDelivery ending) → (reply : CarrierProgress) → carrier.progress_of n ≡ reply → (d : Delivery) → reply ≡ carrier_progress.Done d → IsFineDelivery d
   carrier_shown_fine (Ended ending) fine reply is d e = let same : carrier_progress.Done ending ≡ carrier_progress.Done d = is ∙ e in let ends : ending ≡ d = cc in subst IsFineDelivery ends (fine ending refl)
   carrier_shown_fine n fine reply is d e = let same = is ∙ e in cc
