@@ -17,3 +17,4 @@ pub mod Parts
 pub mod Clusters
 pub mod Taken
 pub mod Trails
+pub use Rattle.cops_outbox.specs.Queues

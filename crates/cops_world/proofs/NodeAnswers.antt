@@ -23,7 +23,7 @@ use Rattle.cops_world.specs.declared.replies.Reply.TheVariants as reply
 use Rattle.cops_world.specs.Laws.{is_expected_of_node, is_expected}
 use Rattle.cops_node.proofs.NodeTurns.{Change, IsRefused, Answers, Joined, Taken, IsReply, Stores, Takes, IsRefusal, is_node_fault}
 use Rattle.cops_world.proofs.TracedCalls.{exact-is}
-use Rattle.cops_outbox.specs.Queues.{front}
+use Rattle.cops_node.specs.Queues.{front}
 
 -- ---- the replies
 

@@ -30,7 +30,7 @@ use Rattle.cops_node.proofs.MarkLaws.{ever-collected}
 use Rattle.cops_node.proofs.NodeTurns.{IsRefusal}
 use Rattle.cops_world.specs.Cluster.{SoloCluster, call_node, has_node}
 use Rattle.cops_world.proofs.NodeEffects.{node_of, IsSized, number_within}
-use Rattle.cops_outbox.specs.Queues.{front}
+use Rattle.cops_node.specs.Queues.{front}
 
 -- ---- what holds of the records and the moment after a call
 

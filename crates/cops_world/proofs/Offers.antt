@@ -22,7 +22,7 @@ use Rattle.cops_world.proofs.Moves.{IsStream}
 use Rattle.cops_node.proofs.NodeTurns.{entries, Takes}
 use Rattle.cops_world.proofs.NodeEffects.{node_of}
 use Rattle.cops_world.proofs.StreamNodes.{held, IsStreamed, MayJoin, AsNext}
-use Rattle.cops_outbox.specs.Queues.{front}
+use Rattle.cops_node.specs.Queues.{front}
 
 abbrev pub origin_of : TenantConfig → Stream → ℕ
 origin_of config stream = node_number config.shards stream.origin

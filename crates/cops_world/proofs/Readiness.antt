@@ -48,7 +48,7 @@ use Rattle.cops_world.proofs.TracedCalls.{home-there}
 use Rattle.cops_world.proofs.TracedIdle.{session_of}
 use Rattle.cops_world.proofs.Unbroken.{IsOwn, IsFineStep, step_fine}
 use Rattle.cops_session.proofs.WantedVersions.{deps_read, IsAskedFor, IsFirst, IsSecond, asked_for, outdated-is, wanted-among, IsBare, reads_bare}
-use Rattle.cops_outbox.specs.Queues.{front}
+use Rattle.cops_node.specs.Queues.{front}
 
 -- a call at a node that is there and ready
 pub record ReadyCall (config : TenantConfig) (c : SoloCluster) (directed : Directed) : Type 0 where

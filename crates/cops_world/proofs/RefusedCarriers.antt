@@ -7,7 +7,7 @@ use Rattle.cops_types.specs.declared.faults.Fault.{Fault}
 use Rattle.cops_node.specs.declared.NodeReply.{NodeReply}
 use Rattle.cops_node.specs.declared.NodeReply.TheVariants as node_reply
 use Rattle.cops_node.specs.declared.NodeReply.TheVariants.{Pulled}
-use Rattle.cops_node.specs.Log.{LogStep, Replied, reply_in, Directed, Call, Ended}
+use Rattle.cops_node.specs.Log.{LogStep, Replied, replies_of, reply_in, Directed, Call, Ended}
 use Rattle.cops_repl.specs.declared.Delivery.{Delivery}
 use Rattle.cops_repl.specs.declared.Delivery.TheVariants as delivery
 use Rattle.cops_repl.specs.Carrier.{Stream, call_or_end, end_of, first_end, next_after, unless_end}
@@ -39,7 +39,7 @@ first_end-push shards stream (c ∷ calls) (r ∷ replies) d fault none at =
 pub carrier_refused : (shards : ℕ) (stream : Stream) (log : List LogStep) (d : Directed) (moment : ℕ) (fault : Fault) → carrier.carrier_next shards stream log ≡ Call d →
     carrier.carrier_next shards stream (log ++ record { moment = moment; outcome = Replied (node_reply.Refused fault) } ∷ []) ≡ Ended (delivery.Refused fault)
 carrier_refused shards stream log d moment fault e =
-    let replies = carrier.replies_of log in
+    let replies = replies_of log in
     let calls = carrier.stream_calls shards stream replies in
     let parts = goes_on (first_end shards stream calls replies) (slice_get calls (length replies)) (carrier.finished_delivery replies) d e in
     let more = replies ++ node_reply.Refused fault ∷ [] in

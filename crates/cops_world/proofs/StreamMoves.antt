@@ -47,7 +47,7 @@ use Rattle.cops_world.proofs.AfterActs.{after_acts}
 use Rattle.cops_world.proofs.Past.{traced_kept, traced_at_first, new_nodes}
 use Rattle.cops_world.proofs.Streams.{DeliveredBy, Delivered, OnStream, IsFlowing, committed-grown, offered-grown, arrived-grown, still_at, carriers_called, carriers_same, put-joins, on_stream-grown}
 use Rattle.std.proofs.lemmas.Bool.Decides.{leb_tells}
-use Rattle.cops_outbox.specs.Queues.{front}
+use Rattle.cops_node.specs.Queues.{front}
 
 -- ---- the calls of sessions
 

@@ -28,7 +28,7 @@ use Rattle.cops_node.proofs.NodeTurns.{entries, Stores, Change, IsRefused, Answe
 use Rattle.cops_world.proofs.NodeEffects.{node_of, call_changes}
 use Rattle.cops_world.proofs.Provenance.{IsPutEntry, IsPulled, IsTraced, IsActor, IsCarrier}
 use Rattle.cops_world.proofs.TracedCalls.{traced-call, home-there}
-use Rattle.cops_outbox.specs.Queues.{front}
+use Rattle.cops_node.specs.Queues.{front}
 
 drop-Among : {A : Type 0} (n : ℕ) (xs : List A) (x : A) → Among x (drop n xs) → Among x xs
 drop-Among zero xs x there = there
