@@ -12,6 +12,8 @@ import subprocess
 import sys
 import tempfile
 import threading
+from collections import namedtuple
+from contextlib import contextmanager
 from concurrent.futures import FIRST_COMPLETED, ThreadPoolExecutor, wait
 
 ROOT = os.path.dirname(os.path.dirname(os.path.realpath(__file__)))
@@ -270,34 +272,52 @@ def module_of(path):
     return inside[1].replace("/", "::") if inside and inside[1] not in ("lib", "main") else ""
 
 
+# The last line of a check of some functions alone.
+COUNTS = re.compile(r"only=(\d+) proved=(\d+)$")
 # What the prover says where a proof file names a step, a goal or a field that the edit took away, and of what cites that proof.
 IS_GONE = re.compile(r"(\./)?proofs/.*(has no field|is not in scope|has no `|was not admitted|was rejected, was not checked|were not checked)")
 
 
 def judge(outcome, texts):
     """Whether the prover refused an edited crate for what it means, and the line that shows it, or why this doesn't count."""
-    lines = outcome.text.splitlines()
     last = outcome.last_line("logic=", "only=")
-    counts = re.match(r"only=(\d+) proved=(\d+)$", last)
+    counts = COUNTS.match(last)
     if outcome.status == 0 or counts and counts[1] == counts[2]:
         return False, "NOT REFUSED: it is still proved"
-    if outcome.status != 1 or not (counts or last == "logic=not-proved"):
-        return False, f"BAD EDIT: it did not reach the prover: {next((it for it in lines if 'error' in it), lines[-1] if lines else '')[:300]}"
-    unread = next((it for it in lines if is_unread(it, texts)), "")
-    if unread:
-        return False, f"BAD EDIT: the prover can't read it: {unread[:300]}"
-    if re.search(r"module .Rattle-\w+-.*Run the lower steps again", outcome.text):
-        return False, "BAD EDIT: the proof of a crate below could not be used"
-    # (a long message goes on in lines that begin with two spaces)
-    goes_on = [*lines[1:], ""]
-    told = [line + more[1:] * more.startswith("  ") for line, more in zip(lines, goes_on) if re.match(r"(note: )?\S+:\d+:\d+:", line)]
-    errors = [it for it in told if ": error" in it]
-    gone = [it for it in errors if IS_GONE.match(it)]
-    # (a goal that is left open beside a name that is gone may be open for that alone)
-    shown = [it for it in errors if it not in gone] or ([] if gone else [it for it in told if it.startswith("note: ")])
+    bad = unfit(outcome, texts)
+    if bad:
+        return False, f"BAD EDIT: {bad}"
+    shown, gone = evidence(told_in(outcome))
     if gone and not shown:
         return False, f"ONLY A NAME IS GONE, so the contract was not tried: keep the names that proof files cite, and turn a value: {gone[0][:300]}"
     return True, f"refused: {shown[0][:300] if shown else last}"
+
+
+def unfit(outcome, texts):
+    """Why what the prover said of edited texts is no verdict on their meaning, or nothing."""
+    lines, last = outcome.text.splitlines(), outcome.last_line("logic=", "only=")
+    if outcome.status != 1 or not (COUNTS.match(last) or last == "logic=not-proved"):
+        return f"it did not reach the prover: {next((it for it in lines if 'error' in it), lines[-1] if lines else '')[:300]}"
+    unread = next((it for it in lines if is_unread(it, texts)), "")
+    if unread:
+        return f"the prover can't read it: {unread[:300]}"
+    if re.search(r"module .Rattle-\w+-.*Run the lower steps again", outcome.text):
+        return "the proof of a crate below could not be used"
+    return ""
+
+
+def told_in(outcome):
+    """The errors and notes that have a place. A long message goes on in lines that begin with two spaces."""
+    lines = outcome.text.splitlines()
+    return [line + more[1:] * more.startswith("  ") for line, more in zip(lines, [*lines[1:], ""]) if re.match(r"(note: )?\S+:\d+:\d+:", line)]
+
+
+def evidence(told):
+    """Of what was told, what shows that a meaning is refused, and what shows no more than that a name is gone."""
+    errors = [it for it in told if ": error" in it]
+    gone = [it for it in errors if IS_GONE.match(it)]
+    # (a goal that is left open beside a name that is gone may be open for that alone)
+    return [it for it in errors if it not in gone] or ([] if gone else [it for it in told if it.startswith("note: ")]), gone
 
 
 def is_unread(line, texts):
@@ -314,13 +334,7 @@ def try_edit(edit, folder):
         texts = edited(edit, folder)
     except (OSError, ValueError) as error:
         return False, f"{name_of(edit)}: BAD EDIT: {error}", 0.0
-    before = {}
-    for path, text in texts.items():
-        with open(f"{folder}/{path}", encoding="utf-8") as file:
-            before[path] = file.read()
-        with open(f"{folder}/{path}", "w", encoding="utf-8") as file:
-            file.write(text)
-    try:
+    with written(texts, folder):
         # The functions of the edited modules first: where one of them is refused, so is the crate. Only then all.
         modules = [module_of(it) for it in texts]
         only = [it for module in modules for it in ("--only", module)] if all(modules) else []
@@ -331,11 +345,179 @@ def try_edit(edit, folder):
             outcome = rt(folder, "check", "--jobs", "1")
             seconds += outcome.seconds
             is_refused, why = judge(outcome, texts)
+    return is_refused, f"{name_of(edit)}: {why} ({seconds:.0f} s)", seconds
+
+
+def read(path):
+    with open(path, encoding="utf-8") as file:
+        return file.read()
+
+
+@contextmanager
+def written(texts, folder):
+    """Has these texts in the files of a folder, and those from before when it ends."""
+    before = {path: read(f"{folder}/{path}") for path in texts}
+    try:
+        for path, text in texts.items():
+            write(f"{folder}/{path}", text)
+        yield
     finally:
         for path, text in before.items():
-            with open(f"{folder}/{path}", "w", encoding="utf-8") as file:
-                file.write(text)
-    return is_refused, f"{name_of(edit)}: {why} ({seconds:.0f} s)", seconds
+            write(f"{folder}/{path}", text)
+
+
+def write(path, text):
+    with open(path, "w", encoding="utf-8") as file:
+        file.write(text)
+
+
+# --- batches: edits of different functions of a crate, tried by one check ---
+
+# What the functions of an `impl` or a trait belong to, once the parameters of its types are left out.
+OWNER = re.compile(r"(?:impl (?:(?:\w+::)*(\w+) for )?|(?:pub(?:\(\w+\))? )?trait )(\w+)\b")
+# The head of a function. (What a `const fn` gives may be a constant of others, so its edits are tried alone.)
+HEAD = re.compile(r"( *)(?:pub(?:\(\w+\))? )?fn (\w+)")
+# A change of a file: in which function, from where to where, and what stands there then.
+Change = namedtuple("Change", "function begin end new")
+
+
+class Function:
+    """A function in a file of src/: the lines of its head, of where its body begins and of its end, and the folder of its proof."""
+
+    def __init__(self, path, folder, name, first, body, last):
+        self.path, self.first, self.body, self.last = path, first, body, last
+        self.proofs = rf"(\./)?proofs/{folder}(fn/)?{name}/"
+
+    def has(self, told):
+        """Whether an error or a note is of this function: at its lines or in its proof."""
+        path, line = re.match(r"(?:note: )?(\S+?):(\d+):", told).groups()
+        return path == self.path and self.first < int(line) <= self.last + 1 or bool(re.match(self.proofs, path))
+
+
+def functions_of(path, text):
+    """The functions with a body of a file, of its `impl` blocks and traits, as `rt fmt` lays them out."""
+    lines, owner, found, i = text.splitlines(), None, [], 0
+    while i < len(lines):
+        if re.match(r"\S", lines[i]):
+            owner = OWNER.match(without_parameters(lines[i]))
+        head = HEAD.match(lines[i])
+        span = body_of(lines, i) if head and len(head[1]) == (4 if owner else 0) else None
+        if span:
+            found.append(Function(path, folder_of(path, owner, text), head[2], i, *span))
+        i = span[1] if span else i + 1
+    return found
+
+
+def folder_of(path, owner, text):
+    """The folder of the proofs of a file's functions, or of those of an `impl` in it. Those of a type that another file declares stand with the type."""
+    module = "".join(f"{it}/" for it in module_of(path).split("::") if it)
+    if not owner:
+        return module
+    trait, name = owner.groups()
+    is_own = trait or re.search(rf"\b(struct|enum|trait|type) {name}\b", text)
+    return (module if is_own else r"(\w+/)*") + name + (rf"{trait}[\w+]*/" if trait else r"(\+[\w+]+)?/")
+
+
+def without_parameters(line):
+    line, more = line.replace("->", ""), None
+    while line != more:
+        line, more = re.sub(r"<[^<>]*>", "", line), line
+    return line
+
+
+def body_of(lines, first):
+    """The lines where the body of a function begins and ends, or nothing where it has none: each is at the indentation of its head."""
+    indentation = re.match(" *", lines[first])[0]
+    level = [k for k in range(first, len(lines)) if re.match(indentation + r"\S", lines[k])]
+    begin = next((k for k in level if lines[k].endswith("{") or k > first and not re.match(r" *(\)|where\b)", lines[k])), first)
+    end = next((k for k in level if k > begin and lines[k] == indentation + "}"), None)
+    return (begin, end) if end and lines[begin].endswith("{") else None
+
+
+def changes_of(edit, folder):
+    """What an edit changes in the bodies of functions, or nothing where it changes more, or can't be made."""
+    try:
+        texts = edited(edit, folder)
+    except (OSError, ValueError):
+        return []
+    changes = []
+    for path, text in texts.items():
+        old = read(f"{folder}/{path}")
+        begin = len(os.path.commonprefix([old, text]))
+        behind = len(os.path.commonprefix([old[begin:][::-1], text[begin:][::-1]]))
+        end = len(old) - behind
+        first, last = old.count("\n", 0, begin), old.count("\n", 0, end)
+        own = [it for it in functions_of(path, old) if it.body < first and last < it.last]
+        if not own:
+            return []
+        changes.append(Change(own[0], begin, end, text[begin : len(text) - behind]))
+    return changes
+
+
+def batches(edits, folder):
+    """Puts edits into groups of which no two change one function. One that changes more than bodies is a group of its own. A group has the changes by edit."""
+    groups, alone = [], []
+    for edit in edits:
+        changes = changes_of(edit, folder)
+        own = {it.function.proofs for it in changes}
+        group = next((it for it in groups if own.isdisjoint(its.function.proofs for of in it.values() for its in of)), None)
+        if not changes:
+            alone.append({edit: []})
+        elif group:
+            group[edit] = changes
+        else:
+            groups.append({edit: changes})
+    return [*groups, *alone]
+
+
+def together(batch, folder):
+    """The texts of the files that the edits of a batch change, with all their changes."""
+    texts = {}
+    for it in sorted((it for of in batch.values() for it in of), key=lambda it: -it.begin):
+        path = it.function.path
+        text = texts.get(path) or read(f"{folder}/{path}")
+        texts[path] = text[: it.begin] + it.new + text[it.end :]
+    return texts
+
+
+def try_batch(batch, folder, spent=0.0):
+    """Tries the edits of a batch by one check, and gives each with what `try_edit` gives.
+
+    An edit is refused where the check shows it in the function that it changes. The others, as those whose function
+    waited for the proof of one that it calls, are tried again with fewer beside them, at last alone by `try_edit`.
+    """
+    if len(batch) == 1:
+        edit = next(iter(batch))
+        is_refused, text, seconds = try_edit(edit, folder)
+        yield edit, is_refused, text, spent + seconds
+        return
+    texts = together(batch, folder)
+    with written(texts, folder):
+        outcome = rt(folder, "check", "--jobs", "1")
+    shown, spent = shown_in(outcome, texts, batch), spent + outcome.seconds
+    for edit, line in shown.items():
+        yield edit, True, f"{name_of(edit)}: refused: {line[:300]} ({spent / len(shown):.0f} s, in a batch)", spent / len(shown)
+    left, spent = [it for it in batch if it not in shown], 0.0 if shown else spent
+    half = len(left) // 2
+    for part in [left] if shown else [left[:half], left[half:]]:
+        if part:
+            yield from try_batch({it: batch[it] for it in part}, folder, spent)
+        spent = 0.0
+
+
+def shown_in(outcome, texts, batch):
+    """The edits of a batch whose meaning the prover refuses, each with the line that shows it in the edit's own function.
+
+    Where something else is refused too, edits bear on more than their functions, and nothing is shown.
+    """
+    if unfit(outcome, texts):
+        return {}
+    told = [it for it in told_in(outcome) if ": error" in it or "is not proved" in it]
+    owners = {it: [edit for edit, changes in batch.items() if any(its.function.has(it) for its in changes)] for it in told}
+    if any(len(owners[it]) != 1 and not IS_GONE.match(it) for it in told):
+        return {}
+    shown = {edit: evidence([it for it in told if edit in owners[it]])[0] for edit in batch}
+    return {edit: lines[0] for edit, lines in shown.items() if lines}
 
 
 # --- side by side ---
