@@ -1,9 +1,9 @@
 -- How many node replies a carrier has.
-use Rattle.std.specs.Prelude.{◌≡◌, ℕ, ◌+◌, ◌≤◌, List, [], ◌∷◌, length, filter_map}
+use Rattle.std.specs.Prelude.{◌≡◌, ℕ, ◌+◌, ◌≤◌, List, [], ◌∷◌, length}
 use Rattle.cops_types.specs.declared.pairs.Pair.{Pair}
 use Rattle.cops_node.specs.declared.NodeReply.{NodeReply}
 use Rattle.cops_node.specs.declared.NodeReply.TheVariants.{Pulled}
-use Rattle.cops_node.specs.Log.{LogStep, replies_of, reply_in}
+use Rattle.cops_node.specs.Log.{LogStep, replies_of}
 use Rattle.cops_repl.specs.declared.Progress.TheVariants.{Working}
 use Rattle.cops_repl.specs.Carrier.{Stream, carrier_next, progress_of}
 

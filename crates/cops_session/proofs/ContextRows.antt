@@ -1,10 +1,9 @@
 -- Contexts in a table stand for those of the definitions.
-use Rattle.std.proofs.Common.{◌≡◌, ℕ, Bool, true, false, cond, ◌==◌, List, [], ◌∷◌, ◌++◌, map, length, refl, sym, ◌∙◌, ap, subst, arith, append-nil}
-use Rattle.std.specs.Prelude.{Option, Some, None, find, filter, is_some, not, unwrap_or, IsTrue, if◌then◌else◌}
+use Rattle.std.proofs.Common.{◌≡◌, ℕ, Bool, true, false, cond, ◌==◌, List, [], ◌∷◌, ◌++◌, length, refl, sym, ◌∙◌, ap, subst, arith, append-nil}
+use Rattle.std.specs.Prelude.{Option, Some, None, find, filter, is_some, not, unwrap_or}
 use Rattle.std.specs.Cmp.{IsTotalOrder}
 use Rattle.std.specs.Option.{option_map}
 use Rattle.std.specs.Ordering.{nat_cmp, on}
-use Rattle.std.specs.declared.cmp.Ordering.{Ordering}
 use Rattle.std.specs.declared.cmp.Ordering.TheVariants.{Less}
 use Rattle.std.proofs.lemmas.Bool.Decides.{nat_tests}
 use Rattle.std.proofs.lemmas.Cmp.{nat_cmp_total, on_total}
@@ -13,7 +12,7 @@ use Rattle.cops_types.proofs.Rising.{Rises-is_rising}
 use Rattle.cops_types.proofs.SortedSet.{AllAbove, Rises}
 use Rattle.cops_context.specs.Lists.{Lists, ListsStandFor}
 use Rattle.cops_handles.specs.declared.tables.Open.{Open}
-use Rattle.cops_handles.specs.Rows.{AreIssued, has_number, row_at, replaced, closed}
+use Rattle.cops_handles.specs.Rows.{AreIssued, row_at, replaced, closed}
 use Rattle.cops_session.specs.Session.{OpenContext, context_extended}
 use Rattle.cops_session.specs.SessionStands.{ContextsStandFor, obs_in}
 

@@ -1,25 +1,20 @@
 -- A get transaction that runs stands for its log: after each step too.
-use Rattle.std.proofs.Common.{◌≡◌, ℕ, suc, zero, ◌+◌, ◌-◌, ◌<◌, ◌≤◌, Bool, true, false, List, [], ◌∷◌, ◌++◌, map, length, get_or, refl, sym, ◌∙◌, ap, subst, arith, append-nil}
-use Rattle.std.specs.Prelude.{Option, Some, None, slice_get, nat_lt, nat_le, unwrap_or, max, if◌then◌else◌}
+use Rattle.std.proofs.Common.{◌≡◌, ℕ, suc, zero, ◌+◌, ◌-◌, ◌<◌, ◌≤◌, true, false, List, [], ◌∷◌, ◌++◌, map, length, get_or, refl, sym, ◌∙◌, ap, subst, arith}
+use Rattle.std.specs.Prelude.{Option, Some, None, slice_get, nat_lt, nat_le, unwrap_or}
 use Rattle.std.proofs.lemmas.Bool.Decides.{nat_tests}
 use Rattle.std.proofs.lemmas.List.Elements.{filter_map-append}
 use Rattle.cops_types.specs.declared.contexts.Read.{Read}
 use Rattle.cops_types.specs.declared.faults.Fault.{Fault}
 use Rattle.cops_types.specs.declared.faults.Fault.TheVariants.{Overrun}
 use Rattle.cops_types.specs.Context.{Observation}
-use Rattle.cops_types.specs.Key.{shard_of}
 use Rattle.cops_types.specs.TenantConfig.{TenantConfig}
-use Rattle.cops_node.specs.declared.NodeCall.{NodeCall}
 use Rattle.cops_node.specs.declared.NodeCall.TheVariants.{Get}
-use Rattle.cops_node.specs.declared.NodeId.{NodeId}
 use Rattle.cops_node.specs.declared.NodeReply.{NodeReply}
 use Rattle.cops_node.specs.declared.NodeReply.TheVariants.{Gone}
-use Rattle.cops_node.specs.declared.Wanted.{Wanted}
 use Rattle.cops_node.specs.declared.Wanted.TheVariants.{Latest, Exactly}
-use Rattle.cops_node.specs.Log.{Call, Directed, Ended, Late, LogStep, Next, Outcome, Replied, Restart, fault_in, first_fault, replies_of, reply_in}
+use Rattle.cops_node.specs.Log.{Call, Directed, Ended, LogStep, Replied, Restart, fault_in, first_fault, replies_of, reply_in}
 use Rattle.cops_session.specs.declared.Answer.{Answer}
 use Rattle.cops_session.specs.declared.Answer.TheVariants as ended
-use Rattle.cops_session.specs.declared.Progress.{Progress}
 use Rattle.cops_session.specs.declared.Progress.TheVariants as shows
 use Rattle.cops_session.specs.declared.ongoing.Reading.{Reading}
 use Rattle.cops_session.specs.declared.ongoing.Round.{Round}
@@ -27,10 +22,10 @@ use Rattle.cops_session.specs.declared.ongoing.Round.TheVariants.{First, Second}
 use Rattle.cops_session.specs.declared.rounds.Wish.{Wish}
 use Rattle.cops_session.specs.Asking.{is_gone}
 use Rattle.cops_session.specs.Reading.{IsOfAttempt, IsReading, RoundStandsFor, first_moment, is_past}
-use Rattle.cops_session.specs.Request.{Attempt, Fetch, Request, answer, answer_in, attempt_after, attempt_of, begins_again, call_after, call_or_answer, complete, is_late, key_home, next, request_calls, unless_fault, unless_late, values_or_full}
+use Rattle.cops_session.specs.Request.{Attempt, Fetch, Request, answer_in, attempt_of, begins_again, call_after, call_or_answer, complete, is_late, key_home, next, request_calls, unless_fault, unless_late, values_or_full}
 use Rattle.cops_session.specs.Rounds.{FirstReads, wishes_of}
-use Rattle.cops_session.specs.Session.{has_restarted, progress, raised, shown}
-use Rattle.cops_session.specs.Stands.{IsFirstOf, IsOver, IsSecondOf}
+use Rattle.cops_session.specs.Session.{has_restarted, progress, shown}
+use Rattle.cops_session.specs.Stands.{IsFirstOf, IsOver}
 use Rattle.cops_session.specs.Transaction.{ReadRequest, gets, reads_of}
 use Rattle.cops_session.proofs.Faults.{attempt_of-push, ended_by_fault, ended_with_reads, fault_of_next}
 use Rattle.cops_session.proofs.RoundsStand.{length-gets, length-push, slice_get-at}

@@ -1,38 +1,27 @@
 -- A session stands for that of the definitions, after each call too.
-use Rattle.std.proofs.Common.{◌≡◌, ℕ, ◌+◌, ◌-◌, ◌^◌, ◌==◌, ◌<◌, ◌≤◌, Bool, true, false, List, [], ◌∷◌, ◌++◌, length, refl, sym, ◌∙◌, ap, subst, arith, ◌⊎◌, inl, inr}
-use Rattle.std.specs.Prelude.{Option, Some, None, Result, is_some, find, filter, max, nat_le, nat_lt, not, unwrap_or, if◌then◌else◌}
-use Rattle.std.specs.Option.{option_map}
+use Rattle.std.proofs.Common.{◌≡◌, ℕ, ◌+◌, ◌==◌, Bool, true, false, List, [], ◌∷◌, length, refl, sym, ◌∙◌, ap, subst, arith, ◌⊎◌, inl, inr}
+use Rattle.std.specs.Prelude.{Option, Some, None, Result, is_some, nat_le, nat_lt, not}
 use Rattle.std.proofs.lemmas.Bool.Decides.{nat_tests}
-use Rattle.cops_types.specs.declared.contexts.Read.{Read}
 use Rattle.cops_types.specs.declared.faults.Fault.{Fault}
 use Rattle.cops_types.specs.declared.faults.Fault.TheVariants.{Busy, NoContext, TooManyContexts, IdsSpent, DependenciesFull, TooManyKeys, RepeatedKey, Syntax, OutOfMemory}
-use Rattle.cops_types.specs.Context.{Observation, all_of, near_of, can_put}
+use Rattle.cops_types.specs.Context.{all_of, near_of, can_put}
 use Rattle.cops_types.specs.Refusal.{IsAnswer, refused_if}
 use Rattle.cops_types.specs.Search.{first_refusal}
 use Rattle.cops_types.specs.TenantConfig.{TenantConfig}
-use Rattle.cops_node.specs.declared.NodeCall.{NodeCall}
-use Rattle.cops_node.specs.declared.NodeId.{NodeId}
-use Rattle.cops_node.specs.declared.NodeReply.{NodeReply}
-use Rattle.cops_node.specs.Log.{Directed, LogStep, Late, Replied, Next, Call, Restart, Ended, first_fault}
+use Rattle.cops_node.specs.Log.{Directed, first_fault}
 use Rattle.cops_context.specs.Lists.{Lists, ListsStandFor}
 use Rattle.cops_handles.specs.declared.tables.Open.{Open}
-use Rattle.cops_handles.specs.Rows.{Rows, closed, is_spent, open_refusal, opened, row_at}
-use Rattle.cops_session.specs.declared.Answer.{Answer}
-use Rattle.cops_session.specs.declared.Answer.TheVariants as answer
-use Rattle.cops_session.specs.declared.Progress.{Progress}
-use Rattle.cops_session.specs.declared.Progress.TheVariants.{Working, Restarted, Done}
+use Rattle.cops_handles.specs.Rows.{closed, is_spent, open_refusal, opened, row_at}
 use Rattle.cops_session.specs.declared.ongoing.Ongoing.{Ongoing}
-use Rattle.cops_session.specs.declared.ongoing.Reading.{Reading}
 use Rattle.cops_session.specs.declared.ongoing.Round.TheVariants.{First}
 use Rattle.cops_session.specs.declared.ongoing.Work.TheVariants.{Put, Get}
 use Rattle.cops_session.specs.declared.ongoing.PendingPut.{PendingPut}
-use Rattle.cops_session.specs.declared.settings.Setting.{Setting}
 use Rattle.cops_session.specs.Kept.{KeptSession, is_running}
-use Rattle.cops_session.specs.Reading.{IsOfAttempt, IsReading}
-use Rattle.cops_session.specs.Request.{Fetch, Request, Write, request_calls, values_or_full}
+use Rattle.cops_session.specs.Reading.{IsReading}
+use Rattle.cops_session.specs.Request.{Fetch, Request, Write, request_calls}
 use Rattle.cops_session.specs.Rounds.{FirstReads}
-use Rattle.cops_session.specs.Session.{OpenContext, Running, Session, context_created, context_deleted, context_extended, context_refusal, create_refusal, get_refusal, has_repeats, obs_of, request_begun, request_of, session_put_refusal}
-use Rattle.cops_session.specs.SessionStands.{ContextsStandFor, RunningStandsFor, SessionStandsFor, obs_in}
+use Rattle.cops_session.specs.Session.{Running, Session, context_created, context_deleted, context_refusal, create_refusal, get_refusal, has_repeats, obs_of, request_begun, session_put_refusal}
+use Rattle.cops_session.specs.SessionStands.{ContextsStandFor, RunningStandsFor, SessionStandsFor}
 use Rattle.cops_session.specs.Stepping.{runs}
 use Rattle.cops_session.specs.Stands.{AreDistinctKeys, IsFirstOf}
 use Rattle.cops_session.proofs.ContextRows.{ContextsStandFor-closed, ContextsStandFor-opened, is_open-none, is_open-some, length-stands}

@@ -1,5 +1,5 @@
 -- A session stands for that of the definitions after each step.
-use Rattle.std.proofs.Common.{◌≡◌, ℕ, Bool, true, false, List, [], ◌∷◌, ◌++◌, refl, sym, ◌∙◌, ap, subst, arith, ◌⊎◌, inl, inr}
+use Rattle.std.proofs.Common.{◌≡◌, ℕ, false, List, [], ◌∷◌, ◌++◌, refl, sym, ◌∙◌, ap, subst, arith, ◌⊎◌, inl, inr}
 use Rattle.std.specs.Prelude.{Option, Some, None, max, nat_lt, if◌then◌else◌}
 use Rattle.std.proofs.lemmas.Bool.Decides.{nat_tests}
 use Rattle.cops_types.specs.declared.contexts.Read.{Read}
@@ -14,7 +14,7 @@ use Rattle.cops_node.specs.declared.NodeCall.TheVariants as call
 use Rattle.cops_node.specs.declared.NodeId.{NodeId}
 use Rattle.cops_node.specs.declared.NodeReply.{NodeReply}
 use Rattle.cops_node.specs.declared.NodeReply.TheVariants as reply
-use Rattle.cops_node.specs.Log.{LogStep, Late, Replied, Next, Call, Restart, Ended}
+use Rattle.cops_node.specs.Log.{LogStep, Replied, Next, Call, Restart, Ended}
 use Rattle.cops_handles.specs.declared.tables.Open.{Open}
 use Rattle.cops_context.specs.Lists.{Lists}
 use Rattle.cops_session.specs.declared.Answer.{Answer}
@@ -31,7 +31,7 @@ use Rattle.cops_session.specs.declared.reading.ReadStep.{ReadStep}
 use Rattle.cops_session.specs.declared.settings.Setting.{Setting}
 use Rattle.cops_session.specs.Kept.{KeptSession}
 use Rattle.cops_session.specs.Reading.{IsReading}
-use Rattle.cops_session.specs.Request.{Action, Fetch, Request, Write, key_home, next, values_or_full}
+use Rattle.cops_session.specs.Request.{Fetch, Request, Write, key_home, next, values_or_full}
 use Rattle.cops_session.specs.Session.{OpenContext, Running, Session, context_extended, has_restarted, moment_after, moment_at, obs_of, progress, raised, request_of, seen_in, session_after}
 use Rattle.cops_session.specs.SessionStands.{ContextsStandFor, IsSettingOf, IsWriting, RunningStandsFor, SessionStandsFor, obs_in}
 use Rattle.cops_session.specs.Stepping.{DoesNext, HasStepped}

@@ -1,5 +1,5 @@
 -- A step of a get transaction does what comes next.
-use Rattle.std.proofs.Common.{◌≡◌, ℕ, ◌+◌, ◌<◌, ◌≤◌, Bool, true, false, List, [], ◌∷◌, ◌++◌, length, refl, sym, ◌∙◌, ap, subst, arith, ◌⊎◌, inl, inr}
+use Rattle.std.proofs.Common.{◌≡◌, ℕ, ◌+◌, ◌<◌, ◌≤◌, true, false, List, [], ◌∷◌, ◌++◌, length, refl, sym, ◌∙◌, ap, subst, ◌⊎◌, inl, inr}
 use Rattle.std.specs.Prelude.{Option, Some, None, nat_lt, slice_get, unwrap_or, max, if◌then◌else◌}
 use Rattle.cops_types.specs.declared.contexts.Read.{Read}
 use Rattle.cops_types.specs.declared.faults.Fault.{Fault}
@@ -13,7 +13,7 @@ use Rattle.cops_node.specs.declared.NodeId.{NodeId}
 use Rattle.cops_node.specs.declared.NodeReply.{NodeReply}
 use Rattle.cops_node.specs.declared.NodeReply.TheVariants.{Gone as GoneAt}
 use Rattle.cops_node.specs.declared.Wanted.TheVariants.{Latest, Exactly}
-use Rattle.cops_node.specs.Log.{Call, Late, LogStep, Next, Replied, Restart, fault_in, replies_of}
+use Rattle.cops_node.specs.Log.{Late, LogStep, Next, Replied, fault_in, replies_of}
 use Rattle.cops_session.specs.declared.Answer.{Answer}
 use Rattle.cops_session.specs.declared.asking.FirstAnswer.{FirstAnswer}
 use Rattle.cops_session.specs.declared.asking.FirstAnswer.TheVariants as first
@@ -29,11 +29,11 @@ use Rattle.cops_session.specs.declared.rounds.AfterFirst.TheVariants.{More as Mo
 use Rattle.cops_session.specs.declared.rounds.AfterSecond.TheVariants.{More as MoreSecond, Complete as CompleteSecond}
 use Rattle.cops_session.specs.declared.rounds.Wish.{Wish}
 use Rattle.cops_session.specs.declared.settings.Setting.{Setting}
-use Rattle.cops_session.specs.Asking.{StandsAfterAsking, StandsAfterAskingAgain, is_gone}
+use Rattle.cops_session.specs.Asking.{StandsAfterAsking, StandsAfterAskingAgain}
 use Rattle.cops_session.specs.Reading.{IsReading, RoundStandsFor, is_past}
 use Rattle.cops_session.specs.Request.{Request, Fetch, attempt_of, begins_again, next}
 use Rattle.cops_session.specs.Rounds.{FirstReads, SecondReads}
-use Rattle.cops_session.specs.Session.{has_restarted, raised}
+use Rattle.cops_session.specs.Session.{has_restarted}
 use Rattle.cops_session.specs.SessionStands.{IsSettingOf}
 use Rattle.cops_session.specs.Stands.{AreDistinctKeys, IsFirstOf, IsOver, IsSecondOf}
 use Rattle.cops_session.specs.Transaction.{ReadRequest, gets}

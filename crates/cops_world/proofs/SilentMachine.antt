@@ -1,5 +1,5 @@
 -- What the machine of a script whose replies are not written has done keeps to its rules.
-use Rattle.std.proofs.Common.{◌≡◌, ℕ, List, [], refl, sym, subst, ap, ◌∙◌, append-nil}
+use Rattle.std.proofs.Common.{◌≡◌, ℕ, List, [], refl, sym, subst, ◌∙◌, append-nil}
 use Rattle.std.specs.Prelude.{Option, Some}
 use Rattle.cops_types.specs.declared.configs.Config.{Config}
 use Rattle.cops_types.specs.Head.{Begun}

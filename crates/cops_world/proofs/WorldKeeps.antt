@@ -1,5 +1,5 @@
 -- What a world keeps whatever its tenants do: its actors run at its nodes, and its tenants have its sizes.
-use Rattle.std.proofs.Common.{◌≡◌, ℕ, zero, suc, ◌+◌, ◌*◌, ◌<◌, ◌≤◌, Bool, true, false, true≢false, ◌&&◌, cond, get_or, Fits, w64, List, [], ◌∷◌, length, map, ◌⊎◌, inl, inr, refl, sym, subst, ap, ◌∙◌, arith, rules}
+use Rattle.std.proofs.Common.{◌≡◌, ℕ, zero, suc, ◌+◌, ◌*◌, ◌<◌, ◌≤◌, Bool, true, false, true≢false, ◌&&◌, cond, get_or, Fits, w64, List, [], ◌∷◌, length, map, ◌⊎◌, inl, inr, refl, sym, subst, ap, ◌∙◌, arith}
 use Rattle.std.specs.Prelude.{Option, Some, None, IsTrue, nat_le, replicate, slice_get, slice_index}
 use Rattle.std.specs.List.{IsDistinct, list_all}
 use Rattle.std.proofs.lemmas.Bool.{leb-false, leb-true}

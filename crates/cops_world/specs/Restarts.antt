@@ -4,7 +4,6 @@ use Rattle.std.specs.List.{list_all, list_any}
 use Rattle.std.specs.Option.{option_and_then}
 use Rattle.cops_types.specs.declared.faults.Fault.TheVariants.{Overrun}
 use Rattle.cops_types.specs.TenantConfig.{TenantConfig}
-use Rattle.cops_node.specs.Log.{LogStep}
 use Rattle.cops_session.specs.Request.{attempt_of}
 use Rattle.cops_session.specs.Session.{Session, Running}
 use Rattle.cops_world.specs.declared.acts.Act.{Act}

@@ -1,5 +1,5 @@
 -- How byte strings that an act borrows are given.
-use Rattle.std.specs.Prelude.{ℕ, List, [], Option, Some, None}
+use Rattle.std.specs.Prelude.{ℕ, List, [], Some, None}
 use Rattle.cops_types.specs.Words.{parts_at, space}
 use Rattle.cops_world.specs.declared.slices.Form.{Form}
 use Rattle.cops_world.specs.declared.slices.Form.TheVariants.{InLine, Listed}

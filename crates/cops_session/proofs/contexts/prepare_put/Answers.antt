@@ -1,5 +1,4 @@
-use Rattle.std.proofs.Common.{◌≡◌, ◌∙◌, ap, sym, subst}
-use Rattle.std.specs.Prelude.{Some}
+use Rattle.std.proofs.Common.{◌∙◌, ap}
 use Rattle.std.proofs.lemmas.Result.{IfOk-weaker, on_ok_weaker, on_err_weaker}
 use Rattle.cops_session.proofs.ContextRows.{open_while_taken, row_back, same_rows_back, stand_back, stood}
 use Rattle.cops_session.proofs.contexts.prepare_put.Goals as goal

@@ -1,5 +1,4 @@
-use Rattle.std.proofs.Common.{◌≡◌, ◌∙◌, ◌∷◌, [], ap, sym, subst}
-use Rattle.std.specs.Prelude.{Some}
+use Rattle.std.proofs.Common.{◌∷◌, [], ap}
 use Rattle.cops_types.specs.Context.{Put}
 use Rattle.cops_session.proofs.ContextRows.{open_while_taken, stand_back_extended}
 use Rattle.cops_session.proofs.contexts.see_put.Goals as goal

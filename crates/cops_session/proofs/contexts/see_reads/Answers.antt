@@ -1,6 +1,5 @@
-use Rattle.std.proofs.Common.{◌≡◌, ◌∙◌, ◌∷◌, [], ap, sym, subst}
-use Rattle.std.specs.Prelude.{Some}
-use Rattle.std.proofs.lemmas.Result.{IfOk-weaker, on_ok_weaker, on_err_weaker}
+use Rattle.std.proofs.Common.{◌∙◌, ap}
+use Rattle.std.proofs.lemmas.Result.{on_ok_weaker, on_err_weaker}
 use Rattle.cops_types.specs.Context.{observations_of}
 use Rattle.cops_session.proofs.ContextRows.{open_while_taken, same_rows_back, stand_back_extended, stood}
 use Rattle.cops_session.proofs.contexts.see_reads.Goals as goal

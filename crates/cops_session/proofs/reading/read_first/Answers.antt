@@ -1,5 +1,4 @@
-use Rattle.std.proofs.Common.{◌≡◌, ◌∙◌, ap, sym, subst}
-use Rattle.std.specs.Prelude.{Some}
+use Rattle.std.proofs.Common.{◌≡◌}
 use Rattle.cops_session.specs.declared.asking.FirstAnswer.TheVariants as asked
 use Rattle.cops_session.specs.declared.rounds.AfterFirst.TheVariants as after
 use Rattle.cops_session.proofs.TurnLaws.{first_turned}

@@ -1,4 +1,4 @@
-use Rattle.std.proofs.Common.{◌≡◌, ◌∙◌, ap, sym, refl, subst}
+use Rattle.std.proofs.Common.{◌≡◌, ◌∙◌, sym, refl}
 use Rattle.cops_session.proofs.TurnLaws.{late_turned}
 use Rattle.cops_session.proofs.reading.read_step.Goals as goal
 

@@ -1,7 +1,5 @@
 use Rattle.std.proofs.Common.{◌≡◌}
-use Rattle.cops_types.specs.declared.line_runs.fault.RunFault.{RunFault}
 use Rattle.cops_types.specs.declared.line_runs.fault.RunFault.TheVariants.{WriteFault}
-use Rattle.cops_world.specs.declared.scripts.BadConfig.{BadConfig}
 use Rattle.cops_world.proofs.SilentRuns.{bad_head, left_by, left_by_read, never_written}
 use Rattle.cops_world.proofs.script_worlds.script_world_in.Goals as goal
 

@@ -1,4 +1,4 @@
-use Rattle.std.proofs.Common.{◌≡◌, ◌∙◌, ap, subst, ◌<◌, ◌≤◌, ℕ, length, arith}
+use Rattle.std.proofs.Common.{◌∙◌, ap, subst, arith}
 use Rattle.cops_session.specs.declared.ongoing.Round.{Round}
 use Rattle.cops_session.specs.Reading.{RoundStandsFor}
 use Rattle.cops_session.proofs.RoundsStand.{first_begins, second_has_keys}

@@ -1,5 +1,5 @@
-use Rattle.std.proofs.Common.{◌≡◌, ◌∙◌, ℕ, Bool, true, false, List, [], ◌∷◌, length, ap, sym, refl, subst, arith, ◌⊎◌, inl, inr}
-use Rattle.std.specs.Prelude.{Option, Some, None, not, nat_lt, is_some}
+use Rattle.std.proofs.Common.{◌≡◌, ◌∙◌, true, false, length, ap, sym, refl, subst, arith, inr}
+use Rattle.std.specs.Prelude.{Some, nat_lt}
 use Rattle.std.proofs.lemmas.Bool.Decides.{nat_tests}
 use Rattle.cops_handles.specs.Rows.{is_spent, row_at}
 use Rattle.cops_session.specs.Kept.{KeptSession}

@@ -1,6 +1,5 @@
-use Rattle.std.proofs.Common.{◌≡◌, ◌∙◌, ℕ, ap, sym, refl, subst, inl, inr}
+use Rattle.std.proofs.Common.{◌≡◌, ◌∙◌, ap, sym, refl, subst}
 use Rattle.std.specs.Prelude.{Some}
-use Rattle.cops_session.specs.declared.Progress.{Progress}
 use Rattle.cops_session.specs.declared.Progress.TheVariants.{Working, Restarted, Done}
 use Rattle.cops_session.specs.declared.Answer.TheVariants as answer
 use Rattle.cops_session.specs.declared.ongoing.Work.TheVariants.{Get}
@@ -9,7 +8,7 @@ use Rattle.cops_session.specs.Request.{next}
 use Rattle.cops_session.specs.Session.{moment_at, request_of}
 use Rattle.cops_session.specs.SessionStands.{SessionStandsFor}
 use Rattle.cops_session.specs.Stepping.{DoesNext}
-use Rattle.cops_session.proofs.StepLaws.{completes, fails, get_steps, restarts, works}
+use Rattle.cops_session.proofs.StepLaws.{fails, get_steps, restarts, works}
 use Rattle.cops_session.proofs.sessions.Session.get.Goals as goal
 
 pub returns-in-Working-clause-stepped : goal.returns-in-Working-clause-stepped

@@ -1,6 +1,5 @@
 use Rattle.std.proofs.Common.{rules, ◌<◌, ◌∷◌, ◌∙◌, [], inl, length, refl, sym, ap}
 use Rattle.cops_types.specs.Sink.{sink_writer}
-use Rattle.cops_wire.specs.Connection.{connection_sink}
 use Rattle.cops_wire.specs.Requests.{KeepsShape}
 use Rattle.cops_wire.proofs.AnsweredRequests.{map_err, map_ok, on_err}
 use Rattle.cops_wire.proofs.Conversations.{first_of}
