@@ -382,7 +382,7 @@ Change = namedtuple("Change", "function begin end new")
 
 
 class Function:
-    """A function in a file of src/: the lines of its head, of where its body begins and of its end, and the folder of its proof."""
+    """A function in a file of src/: the lines where its attributes, its body and its end stand, and the folder of its proof."""
 
     def __init__(self, path, folder, name, first, body, last):
         self.path, self.first, self.body, self.last = path, first, body, last
@@ -403,9 +403,16 @@ def functions_of(path, text):
         head = HEAD.match(lines[i])
         span = body_of(lines, i) if head and len(head[1]) == (4 if owner else 0) else None
         if span:
-            found.append(Function(path, folder_of(path, owner, text), head[2], i, *span))
+            found.append(Function(path, folder_of(path, owner, text), head[2], attributes_of(lines, i), *span))
         i = span[1] if span else i + 1
     return found
+
+
+def attributes_of(lines, head):
+    """The line where the attributes of a function begin, at which the prover tells of it."""
+    while head and re.match(r" *#\[", lines[head - 1]):
+        head -= 1
+    return head
 
 
 def folder_of(path, owner, text):
