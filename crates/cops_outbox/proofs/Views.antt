@@ -1,10 +1,11 @@
 -- Facts about the queues of all slots and data centres.
-use Rattle.std.proofs.Common.{◌≡◌, ◌≢◌, inl, inr, ℕ, zero, suc, ◌+◌, ◌<◌, ◌≤◌, Bool, true, false, not, ◌&&◌, ◌||◌, List, [], ◌∷◌, ◌++◌, length, map, refl, sym, ap, ◌∙◌, subst, arith, get_or, set, eq-eqb}
+use Rattle.std.proofs.Common.{◌≡◌, ◌≢◌, inl, inr, ℕ, zero, suc, ◌+◌, ◌-◌, ◌<◌, ◌≤◌, nat_lt, Bool, true, false, not, ◌&&◌, ◌||◌, List, [], ◌∷◌, ◌++◌, length, map, refl, sym, ap, ◌∙◌, subst, arith, get_or, set, eq-eqb}
 use Rattle.std.specs.Prelude.{Option, ◌==◌, nat_le, if◌then◌else◌, drop, replicate, count_by, is_some}
-use Rattle.std.specs.List.{list_any, range_with_len, sum_by}
+use Rattle.std.specs.List.{list_any, range_with_len, sum_by, AllByRecursion}
 use Rattle.std.proofs.lemmas.Bool.{cases_eq}
-use Rattle.std.proofs.lemmas.List.{get_or-set_same, get_or-set_other, length-set, set-get_or, map-set, get_or-map, length-map}
-use Rattle.std.proofs.lemmas.List.Sums.{sum_by-set, sum_by-cons}
+use Rattle.std.proofs.lemmas.Bool.Decides.{nat_tests}
+use Rattle.std.proofs.lemmas.List.{get_or_append_left, get_or-append_right, get_or-set_same, get_or-set_other, length-append, length-set, set-get_or, map-append, map-set, get_or-map, length-map}
+use Rattle.std.proofs.lemmas.List.Sums.{sum_by-append, sum_by-set, sum_by-cons}
 use Rattle.cops_types.specs.declared.records.EntryParts.{EntryParts as Entry}
 use Rattle.cops_outbox.specs.declared.rows.Row.{Row}
 use Rattle.cops_outbox.specs.declared.rows.Span.{Span}
@@ -280,19 +281,20 @@ sum_none (l ∷ lines) data_centres each =
     let rest = sum_none lines data_centres (λ s k lt is. each (suc s) k (omega arith) is) in
     sum_by-cons (λ (l : Line). l.kept.count) l lines ∙ (let both : l.kept.count + sum_by (λ (l : Line). l.kept.count) lines ≡ 0 = omega arith in both)
 
+empty_line : (rows : List (Option Row)) (own data_centres s : ℕ) (l : Line) → IsEmpty data_centres l → IsLine rows own data_centres s l
+empty_line rows own data_centres s l empty = record {
+  kept = empty_chain rows s l.last l.kept (ap (λ (k : Span). k.count) empty.kept);
+  all = empty.all;
+  waits = λ dc. empty_chain rows s l.last (span_at dc l) (ap (λ (k : Span). k.count) (empty.waits dc));
+  within = λ dc. let zero_is : (span_at dc l).count ≡ 0 = ap (λ (k : Span). k.count) (empty.waits dc) in omega arith;
+  itself = ap (λ (k : Span). k.count) (empty.waits own);
+}
+
 pub lines_empty : (rows : List (Option Row)) (own tenants data_centres : ℕ) (lines : List Line) → rows ≡ [] → length lines ≡ tenants → ((s : ℕ) (l : Line) → s < length lines → l ≡ get_or lines s l → IsEmpty data_centres l) → AreLines rows own tenants data_centres lines
 lines_empty rows own tenants data_centres lines none long each = record {
   all = long;
   counted = sum_none lines data_centres each ∙ ap (count_by is_some) (sym none);
-  each = λ s l lt is.
-      let empty = each s l (omega arith) is in
-      record {
-        kept = empty_chain rows s l.last l.kept (ap (λ (k : Span). k.count) empty.kept);
-        all = empty.all;
-        waits = λ dc. empty_chain rows s l.last (span_at dc l) (ap (λ (k : Span). k.count) (empty.waits dc));
-        within = λ dc. let zero_is : (span_at dc l).count ≡ 0 = ap (λ (k : Span). k.count) (empty.waits dc) in omega arith;
-        itself = ap (λ (k : Span). k.count) (empty.waits own);
-      };
+  each = λ s l lt is. empty_line rows own data_centres s l (each s l (omega arith) is);
   needed = λ s l lt is. inl (ap (λ (k : Span). k.count) (each s l (omega arith) is).kept);
 }
 
@@ -304,6 +306,64 @@ pub queues_empty : (rows : List (Option Row)) (tenants data_centres : ℕ) (line
 queues_empty rows tenants data_centres lines long each =
     range_replicate (entries_by_slot rows lines) 0 data_centres (replicate tenants [])
     (λ dc. map_replicate (λ (l : Line). entries_in rows (span_at dc l)) lines (λ s l lt is. empty_entries rows (span_at dc l) (ap (λ (k : Span). k.count) ((each s l lt is).waits dc))) ∙ ap (λ n. replicate n []) long)
+
+pub empty_at : (data_centres : ℕ) (lines : List Line) → AllByRecursion (IsEmpty data_centres) lines → (s : ℕ) (l : Line) → s < length lines → l ≡ get_or lines s l → IsEmpty data_centres l
+empty_at data_centres [] h s l lt is = absurd (omega arith)
+empty_at data_centres (x ∷ lines) h zero l lt is = subst (IsEmpty data_centres) (sym is) h.0
+empty_at data_centres (x ∷ lines) h (suc s) l lt is = empty_at data_centres lines h.1 s l (omega arith) is
+
+-- a list that is filled up with what is read past its end
+padded_read : {A : Type 0} (xs : List A) (n i : ℕ) (d : A) → get_or (xs ++ replicate n d) i d ≡ get_or xs i d
+padded_read [] zero i d = refl
+padded_read [] (suc n) zero d = refl
+padded_read [] (suc n) (suc i) d = padded_read [] n i d
+padded_read (x ∷ xs) n zero d = refl
+padded_read (x ∷ xs) n (suc i) d = padded_read xs n i d
+
+-- ---- more slots, in whose queues nothing waits
+
+module _ (rows : List (Option Row)) (own tenants data_centres : ℕ) (lines more : List Line)
+    (h : AreLines rows own tenants data_centres lines)
+    (none : AllByRecursion (IsEmpty data_centres) more) where
+  -- a line of those that were there, or of those that are new
+  at_line : (P : ℕ → Line → Type 0) (s : ℕ) (l : Line) → l ≡ get_or (lines ++ more) s l → s < length (lines ++ more)
+      → (s < tenants → l ≡ get_or lines s l → P s l) → (IsEmpty data_centres l → P s l) → P s l
+  at_line P s l is lt old new = by (nat_lt s tenants) refl
+    where
+      by : (b : Bool) → nat_lt s tenants ≡ b → P s l
+      by true e =
+          let within : s < tenants = grind (arith, nat_tests) in
+          let long = h.all in
+          old within (is ∙ get_or_append_left lines more l s (omega arith))
+      by false e =
+          let past : tenants ≤ s = grind (arith, nat_tests) in
+          let long = length-append lines more in
+          let all = h.all in
+          new (empty_at data_centres more none (s - tenants) l (omega arith) (is ∙ get_or-append_right lines more tenants s l h.all past))
+
+  pub lines_past : (count : ℕ) → count ≡ length (lines ++ more) → AreLines rows own count data_centres (lines ++ more)
+  lines_past count long = record {
+    all = sym long;
+    counted = sum_by-append (λ (l : Line). l.kept.count) lines more ∙ (let sum = sum_none more data_centres (empty_at data_centres more none) in let were = h.counted in omega arith);
+    each = λ s l lt is. at_line (λ s l. IsLine rows own data_centres s l) s l is (omega arith) (h.each s l) (λ empty. empty_line rows own data_centres s l empty);
+    needed = λ s l lt is. at_line (λ s l. IsNeeded l) s l is (omega arith) (h.needed s l) (λ empty. inl (ap (λ (k : Span). k.count) empty.kept));
+  }
+
+  -- each queue is as before, and empty where the slot is new
+  pub queue_past : (s dc : ℕ) → get_or (get_or (queues_in rows (lines ++ more) data_centres) dc []) s [] ≡ get_or (get_or (queues_in rows lines data_centres) dc []) s []
+  queue_past s dc = at 0 data_centres dc
+    where
+      slot_past : (dc : ℕ) → get_or (entries_by_slot rows (lines ++ more) dc) s [] ≡ get_or (entries_by_slot rows lines dc) s []
+      slot_past dc =
+          ap (λ es. get_or es s []) (map-append (λ (l : Line). entries_in rows (span_at dc l)) lines more
+          ∙ ap (λ es. entries_by_slot rows lines dc ++ es) (map_replicate (λ (l : Line). entries_in rows (span_at dc l)) more
+          (λ n l lt is. empty_entries rows (span_at dc l) (ap (λ (k : Span). k.count) ((empty_at data_centres more none n l lt is).waits dc)))))
+          ∙ padded_read (entries_by_slot rows lines dc) (length more) s []
+
+      at : (first n dc : ℕ) → get_or (get_or (map (entries_by_slot rows (lines ++ more)) (range_with_len first n)) dc []) s [] ≡ get_or (get_or (map (entries_by_slot rows lines) (range_with_len first n)) dc []) s []
+      at first zero dc = refl
+      at first (suc n) zero = slot_past first
+      at first (suc n) (suc dc) = at (first + 1) n dc
 
 -- ---- what contracts see
 

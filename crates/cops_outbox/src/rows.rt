@@ -1,7 +1,7 @@
 //! The table of all entries that wait, and the line of each slot in it.
 ghost use Rattle.std.specs.Prelude.{◌≡◌, ◌≢◌, ℕ, ◌+◌, ◌-◌, ◌<◌, ◌≤◌, ◌^◌, ◌==◌, ◌++◌, [], ◌∷◌, drop, length, slice_index_or, count_by, is_some, if◌then◌else◌, Some, None, IfOk, nat_le, not, ◌&&◌};
 ghost use Rattle.std.specs.Option.{option_copied};
-ghost use Rattle.std.specs.List.{list_any, range_with_len};
+ghost use Rattle.std.specs.List.{list_any, range_with_len, AllByRecursion};
 ghost use Rattle.slab.specs.Slab.{HasRoomFor, slab_len};
 ghost use Rattle.cops_outbox.specs.Queues.{front, is_front};
 ghost use Rattle.cops_outbox.specs.Lines.{IsAdded, IsCleared, IsEmpty, IsGone, IsLine, IsLonger, IsNeeded, IsQueueChain, IsRowOf, IsShorter, cell_at, entries_in, extended as span_with, next_in, nowhere, span_at};
@@ -44,6 +44,22 @@ pub(crate) fn empty(alloc: Global, data_centres: usize) -> Result<Line, AllocErr
         kept: nowhere,
         waits: vec![in alloc; nowhere; data_centres]?,
     })
+}
+
+// That many lines with no rows.
+pub(crate) fn empty_lines(
+    alloc: Global,
+    data_centres: usize,
+    count: usize,
+) -> Result<Vec<Line>, AllocError>
+    ensures empty { IfOk result (λ lines. AllByRecursion (IsEmpty data_centres) lines.items) }
+    ensures len { IfOk result (λ lines. length lines.items ≡ count) }
+{
+    let mut lines = Vec::new(alloc);
+    for _slot in 0..count {
+        lines.push(empty(alloc, data_centres)?)?;
+    }
+    Ok(lines)
 }
 
 // The span with one more row behind it.

@@ -218,3 +218,25 @@ fn one_data_centre_sends_nothing(rt: HostRuntime) {
     assert_eq!(rt; seen(&outbox, 0), ((0, 0), (0, 0)));
     assert!(rt; !outbox.is_full(0, 0));
 }
+
+/// Makes the slot, again where memory was refused, which leaves the outbox as it was.
+fn admit(rt: &impl Abort, outbox: &mut Outbox, slot: usize)
+    requires { slot < 64 }
+    ensures tenants { slot < outbox.new.tenants }
+    ensures data_centres { length outbox.new.queues ≡ length outbox.old.queues }
+{
+    match outbox.admit(slot) {
+        Ok(()) => {}
+        Err(_) => outbox.admit(slot).expect(rt, "memory"),
+    }
+}
+
+#[test]
+fn refused_slots_change_nothing(rt: HostRuntime) {
+    let alloc = rt.alloc();
+    let mut outbox = with_one_each(&rt, alloc);
+    admit(&rt, &mut outbox, 5);
+    assert_eq!(rt; seen(&outbox, 1), ((1, 1), (2, 1)));
+    assert_eq!(rt; outbox.waiting(5, 1), 0);
+    assert_eq!(rt; front(&outbox, 5, 2), 0);
+}

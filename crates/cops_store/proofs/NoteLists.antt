@@ -1,6 +1,6 @@
 -- Facts about what is noted as due of each slot.
 use Rattle.std.proofs.Common.{◌≡◌, ℕ, zero, suc, ◌+◌, ◌-◌, ◌<◌, ◌≤◌, Bool, true, false, not, ◌&&◌, ◌||◌, List, [], ◌∷◌, ◌++◌, length, map, filter, refl, sym, ap, ◌∙◌, subst, arith, append_assoc, get_or, set, cond, nat_eq, nat_lt, vec_len, vec_capacity}
-use Rattle.std.specs.Prelude.{Some}
+use Rattle.std.specs.Prelude.{replicate, Some}
 use Rattle.std.specs.List.{list_any, AllByRecursion}
 use Rattle.std.proofs.lemmas.Bool.Decides.{nat_tests, Decides-eqb}
 use Rattle.std.proofs.lemmas.List.{length-set, length-map, map-append, get_or-map, get_or-set_same}
@@ -10,7 +10,7 @@ use Rattle.cops_store.specs.declared.table.SlotKey.{SlotKey}
 use Rattle.cops_store.specs.declared.table.Due.{Due}
 use Rattle.cops_store.specs.declared.notes.SlotNotes.{SlotNotes}
 use Rattle.cops_store.specs.Contents.{is_ripe}
-use Rattle.cops_store.specs.Notes.{notes_in, rooms_in, IsOwn, AreOwn, IsOneMore}
+use Rattle.cops_store.specs.Notes.{notes_in, rooms_in, IsNothing, IsOwn, AreOwn, IsOneMore}
 use Rattle.cops_store.specs.Tables.{Chains, same_place, is_hit, hits, renewed}
 use Rattle.cops_store.proofs.Lists.{each_append, each_weaker, each_both, each_filter, each_map}
 use Rattle.cops_store.proofs.Collections.{renewed_miss}
@@ -203,3 +203,36 @@ none_noted (s ∷ slots) h = ap (λ xs. xs ++ notes_in slots) h.0 ∙ none_noted
 pub none_own : (first : ℕ) (slots : List SlotNotes) → AllByRecursion (λ s. s.list.items ≡ []) slots → AreOwn first slots
 none_own first [] h = tt
 none_own first (s ∷ slots) h = (subst (AllByRecursion (λ d. (d.place.slot ≡ first) × (s.least ≤ d.stale))) (sym h.0) tt, none_own (suc first) slots h.1)
+
+pub empty_lists : (slots : List SlotNotes) → AllByRecursion IsNothing slots → AllByRecursion (λ s. s.list.items ≡ []) slots
+empty_lists slots h = each_weaker IsNothing (λ s. s.list.items ≡ []) (λ s none. none.0) slots h
+
+-- more slots of which nothing is due
+pub added_notes : (slots more : List SlotNotes) → AllByRecursion IsNothing more → notes_in (slots ++ more) ≡ notes_in slots
+added_notes [] more h = none_noted more (empty_lists more h)
+added_notes (s ∷ slots) more h = ap (λ xs. s.list.items ++ xs) (added_notes slots more h)
+
+pub added_own : (first : ℕ) (slots more : List SlotNotes) → AllByRecursion IsNothing more → AreOwn first slots → AreOwn first (slots ++ more)
+added_own first [] more none h = none_own first more (empty_lists more none)
+added_own first (s ∷ slots) more none h = (h.0, added_own (suc first) slots more none h.1)
+
+no_rooms : (more : List SlotNotes) → AllByRecursion IsNothing more → rooms_in more ≡ replicate (length more) false
+no_rooms [] h = refl
+no_rooms (s ∷ more) h =
+    let first : nat_lt (vec_len s.list) (vec_capacity s.list) ≡ false = full (vec_len s.list) (vec_capacity s.list) h.0.1 in
+    let rest = no_rooms more h.1 in
+    λ i. first i ∷ rest i
+  where
+    full : (len capacity : ℕ) → capacity ≡ 0 → nat_lt len capacity ≡ false
+    full len capacity none = grind (arith, nat_tests)
+
+pub added_rooms : (slots more : List SlotNotes) → AllByRecursion IsNothing more → rooms_in (slots ++ more) ≡ rooms_in slots ++ replicate (length more) false
+added_rooms slots more h = map-append (λ (s : SlotNotes). nat_lt (vec_len s.list) (vec_capacity s.list)) slots more ∙ ap (λ rooms. rooms_in slots ++ rooms) (no_rooms more h)
+
+-- a slot that isn't there has no room, before and after
+pub room_past : (rooms : List Bool) (more slot : ℕ) → get_or (rooms ++ replicate more false) slot false ≡ get_or rooms slot false
+room_past [] zero slot = refl
+room_past [] (suc more) zero = refl
+room_past [] (suc more) (suc slot) = room_past [] more slot
+room_past (b ∷ rooms) more zero = refl
+room_past (b ∷ rooms) more (suc slot) = room_past rooms more slot

@@ -27,6 +27,10 @@ abbrev pub AreOwn : ℕ → List SlotNotes → Type 0
 AreOwn slot [] = Unit {0}
 AreOwn slot (s ∷ slots) = IsOwn slot s × AreOwn (suc slot) slots
 
+-- nothing is due, and there is no room for a note
+abbrev pub IsNothing : SlotNotes → Type 0
+IsNothing s = (s.list.items ≡ []) × (vec_capacity s.list ≡ 0)
+
 -- there is one more note
 abbrev pub IsOneMore : List Due → List Due → Due → Type 0
 IsOneMore notes notes' noted = (test : Due → Bool) → list_any test notes' ≡ (list_any test notes || test noted)

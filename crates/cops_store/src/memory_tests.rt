@@ -134,3 +134,27 @@ fn refused_growth_changes_nothing(rt: HostRuntime) {
     assert_in_use(&rt, store.in_use(0), 3, 9);
     assert_in_use(&rt, store.in_use(1), 18, 54);
 }
+
+/// Makes the slot, again where memory was refused, which leaves the store as it was.
+fn admit(rt: &impl Abort, store: &mut Store, slot: usize)
+    requires { slot < 64 }
+    ensures { slot < store.new.tenants }
+{
+    match store.admit(slot) {
+        Ok(()) => {}
+        Err(_) => store.admit(slot).expect(rt, "memory"),
+    }
+}
+
+#[test]
+fn refused_slots_change_nothing(rt: HostRuntime) {
+    let alloc = rt.alloc();
+    let mut store = new_store(&rt, alloc);
+    let kept = entry_of(&rt, alloc, b"x", 1);
+    insist(&rt, alloc, &mut store, 1, &kept);
+    admit(&rt, &mut store, 5);
+    assert_in_use(&rt, store.in_use(5), 0, 0);
+    insist(&rt, alloc, &mut store, 5, &kept);
+    assert_in_use(&rt, store.in_use(5), 1, 3);
+    assert_kept(&rt, &store, 1, b"x", 1);
+}

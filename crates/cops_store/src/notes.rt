@@ -1,8 +1,8 @@
 //! What is noted as due, slot by slot: no slot walks another's notes.
-ghost use Rattle.std.specs.Prelude.{◌≡◌, ◌≤◌, ◌<◌, ℕ, [], false, not, nat_eq, map, filter, length, vec_len, vec_capacity, IfOk, OnOk, IsOk, IsTrue};
+ghost use Rattle.std.specs.Prelude.{◌≡◌, ◌≤◌, ◌<◌, ◌++◌, ℕ, [], false, not, nat_eq, map, filter, length, replicate, vec_len, vec_capacity, IfOk, OnOk, OnErr, IsOk, IsTrue};
 ghost use Rattle.std.specs.List.{AllByRecursion};
 ghost use Rattle.cops_store.specs.declared.table.SlotKey.{SlotKey};
-ghost use Rattle.cops_store.specs.Notes.{has_room, IsOneMore};
+ghost use Rattle.cops_store.specs.Notes.{has_room, IsNothing, IsOneMore};
 ghost use Rattle.cops_store.specs.Tables.{chains_of, hits, is_hit as may_hit, renewed as renewed_note};
 
 use crate::table::{self, Due, SlotKey};
@@ -45,20 +45,40 @@ fn least_of(notes: &[Due]) -> u64
     least
 }
 
+// That many slots of which nothing is due.
+fn no_notes(alloc: Global, slots: usize) -> Result<Vec<SlotNotes>, AllocError>
+    ensures none { IfOk result (λ list. AllByRecursion IsNothing list.items) }
+    ensures len { IfOk result (λ list. length list.items ≡ slots) }
+{
+    let mut list = Vec::with_capacity(alloc, slots)?;
+    for _slot in 0..slots {
+        list.push(SlotNotes {
+            list: Vec::new(alloc),
+            least: u64::MAX,
+        })?;
+    }
+    Ok(list)
+}
+
 impl DueNotes {
     // Nothing is due of any slot.
     pub(crate) fn new(alloc: Global, slots: usize) -> Result<Self, AllocError>
         ensures items { IfOk result (λ notes. notes.items ≡ []) }
         ensures slots { IfOk result (λ notes. length notes.rooms ≡ slots) }
     {
-        let mut list = Vec::with_capacity(alloc, slots)?;
-        for _slot in 0..slots {
-            list.push(SlotNotes {
-                list: Vec::new(alloc),
-                least: u64::MAX,
-            })?;
-        }
-        Ok(DueNotes { slots: list })
+        let slots = no_notes(alloc, slots)?;
+        Ok(DueNotes { slots })
+    }
+
+    // Makes that many more slots, of which nothing is due.
+    pub(crate) fn add_slots(&mut self, alloc: Global, more: usize) -> Result<(), AllocError>
+        ensures items { self.new.items ≡ self.old.items }
+        ensures rooms { OnOk result (self.new.rooms ≡ self.old.rooms ++ replicate more false) }
+        ensures err { OnErr result (self.new ≡ self.old) }
+    {
+        let mut added = no_notes(alloc, more)?;
+        self.slots.append(&mut added)?;
+        Ok(())
     }
 
     // Makes room for one more note of the slot.

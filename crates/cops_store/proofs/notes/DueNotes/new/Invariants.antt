@@ -1,9 +1,0 @@
-use Rattle.std.proofs.Common.{◌≡◌, [], length}
-use Rattle.std.specs.List.{AllByRecursion}
-use Rattle.cops_store.proofs.notes.DueNotes.new.Given as goal
-
-abbrev pub invariant-loop-slot : goal.invariant-loop-slot
-invariant-loop-slot l = record {
-  none : AllByRecursion (λ s. s.list.items ≡ []) l.list.items;
-  long : length l.list.items ≡ l._slot;
-}
