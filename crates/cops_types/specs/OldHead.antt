@@ -5,7 +5,7 @@ use Rattle.std.specs.Option.{option_map, option_and_then}
 use Rattle.std.specs.Str.{bytes_eq}
 use Rattle.cops_types.specs.declared.configs.Config.{Config}
 use Rattle.cops_types.specs.declared.configs.Tenant.{Tenant}
-use Rattle.cops_types.specs.Head.{Front, AtStart, Within, Begun, HeadReading, Whole, BadAt, joined}
+use Rattle.cops_types.specs.Head.{Front, AtStart, Within, Begun, HeadReading, Whole, BadAt, head_with}
 use Rattle.cops_types.specs.HeadLines.{begin_line, cluster_in, tenant_in_to}
 
 abbrev pub last_old_clock : ℕ
@@ -27,7 +27,7 @@ abbrev pub old_next_within : Config → List ℕ → Option Front
 old_next_within config line =
     if bytes_eq line begin_line
     then (if nat_lt 0 (length config.tenants) then Some (Begun config) else None)
-    else option_and_then (joined config) (old_tenant_in line)
+    else option_and_then (head_with config) (old_tenant_in line)
 
 -- how far the head has come with one more line, where it may stand here
 abbrev pub old_front_after : Front → List ℕ → Option Front

@@ -28,7 +28,7 @@ use Rattle.cops_session.specs.SessionStands.{RunningStandsFor, SessionStandsFor,
 use Rattle.cops_session.specs.Stepping as stepping
 use Rattle.cops_session.specs.Transaction.{outdated, reads_of, wanted_version}
 use Rattle.cops_wire.specs.Requests.{Backend, DoesNext, Ends, HasFewRestarts, KeepsShape, RequestGoesOn, Steps, backend}
-use Rattle.cops_wire.specs.Running.{Gives, HasEnded, HasFewKeys, HasStepped}
+use Rattle.cops_wire.specs.Running.{ShowsAnswer, HasEnded, HasFewKeys, HasStepped}
 
 -- ---- one step
 
@@ -46,7 +46,7 @@ module _ {N M : Type 0} (Calls : N → NodeId → ℕ → ℕ → NodeCall → N
   pub stepped : (shape : N → Shape) (session : Session) (running : Running) (old new : N) (old_moments new_moments : M) (given : ℕ) (shown : Progress) (kept : KeptSession) (answer : Option Answer)
       → session.running ≡ Some running → GivesMoment old_moments given new_moments → shape new ≡ shape old
       → stepping.DoesNext (λ id call reply. Calls old id slot (moment_at given session) call reply new) (new ≡ old) config session running (moment_at given session) shown kept (next config (request_of session running) running.log (moment_at given session))
-      → Gives shown answer → HasStepped (KeepsShape shape Calls) GivesMoment config slot (backend session old old_moments) kept new new_moments answer
+      → ShowsAnswer shown answer → HasStepped (KeepsShape shape Calls) GivesMoment config slot (backend session old old_moments) kept new new_moments answer
   stepped shape session running old new old_moments new_moments given shown kept answer runs gives same does is =
       let d = does_next (KeepsShape shape Calls) session running (moment_at given session) old new shown kept (next config (request_of session running) running.log (moment_at given session)) (λ id call reply called. (called, same)) does in
       record {

@@ -25,9 +25,9 @@ HasFewKeys (Write key value) = Unit {0}
 HasFewKeys (Fetch keys) = length keys ≤ 32
 
 -- the answer is there exactly where the step ends the request
-abbrev pub Gives : Progress → Option Answer → Type 0
-Gives shown (Some ended) = shown ≡ Done ended
-Gives shown None = RequestGoesOn shown
+abbrev pub ShowsAnswer : Progress → Option Answer → Type 0
+ShowsAnswer shown (Some ended) = shown ≡ Done ended
+ShowsAnswer shown None = RequestGoesOn shown
 
 module _ {N M : Type 0} (Calls : N → NodeId → ℕ → ℕ → NodeCall → NodeReply → N → Type 0) (GivesMoment : M → ℕ → M → Type 0) (config : TenantConfig) (slot : ℕ) where
   -- one step was taken, and the kept session stands for the one after it
@@ -36,7 +36,7 @@ module _ {N M : Type 0} (Calls : N → NodeId → ℕ → ℕ → NodeCall → N
     pub stands : SessionStandsFor config kept after
     pub shown : Progress
     pub steps : Steps Calls GivesMoment config slot old shown (backend after nodes moments)
-    pub gives : Gives shown answer
+    pub gives : ShowsAnswer shown answer
 
   -- the request ended with this answer, and the kept session stands for the one after it
   pub record HasEnded (old : Backend Session N M) (kept : KeptSession) (nodes : N) (moments : M) (answer : Answer) : Type 0 where
