@@ -6,6 +6,7 @@ pub mod Slots
 pub mod TrailLemmas
 pub mod Stored
 mod Examples
+pub mod FoundLemmas
 pub mod Fresh
 pub mod Greatest
 pub mod MarkLaws

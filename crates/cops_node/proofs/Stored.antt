@@ -81,6 +81,13 @@ pub put_is_new : (slot : ℕ) (place : Place) (counters : Counters) (store : Con
     version_of_put place solo deps ≡ Some version → LacksVersion key version (rows_of slot store)
 put_is_new slot place counters store outbox solo key deps version h is = is_new key version (rows_of slot store) solo.recs h.rows (put_above place solo deps version is)
 
+-- the mark of a put's node is kept
+pub put_within : (slot : ℕ) (place : Place) (counters : Counters) (store : Contents) (outbox : Queues) (solo : SoloNode) (deps : List Pair) (version : Timestamp) → StandsAt slot place counters store outbox solo →
+    version_of_put place solo deps ≡ Some version → version.node / place.shards < length counters.marks.items
+put_within slot place counters store outbox solo deps version h is =
+    let own : version.node ≡ own_number place = (next_facts (clock place.first_clock solo.recs) (greatest_clock deps) (own_number place) version is).1 in
+    subst (λ n. version.node / place.shards < n) (sym h.marks.all) (subst (λ n. n / place.shards < place.data_centres) (sym own) (own_within place h.place_is))
+
 module _ (slot now : ℕ) (place : Place) (counters counters' : Counters) (store middle store' : Contents) (outbox outbox' : Queues) (solo : SoloNode) (key value : List ℕ) (deps near : List Pair) (version prev : Timestamp) (entry : Entry)
     (moment : solo.moment ≡ now) (h : StandsAt slot place counters store outbox solo)
     (version_is : version_of_put place solo deps ≡ Some version) (allowed : node_put_refusal place solo key value ≡ None)

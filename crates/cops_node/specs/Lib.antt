@@ -1,8 +1,10 @@
 pub mod Log
 pub mod Place
+pub mod Rows
 pub mod Run
 pub mod Same
 pub mod Shape
+pub mod ShortKeys
 pub mod SoloNode
 pub mod Step
 pub use Rattle.cops_types.specs.Context

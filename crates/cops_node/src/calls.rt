@@ -3,8 +3,8 @@ ghost use Rattle.std.specs.Prelude.{◌≡◌, IsTrue, IfOk, OnErr};
 ghost use Rattle.cops_node.specs.Parts.{HasSolo, IsDone, IsUnchanged, OthersStay};
 ghost use Rattle.cops_node.specs.Place.{fits};
 
+use crate::answered::Answered;
 use crate::parts::{self, Counters};
-use crate::replies::Replies;
 use crate::{NodeCall, Place, commits, gets, puts, queues};
 use cops_outbox::Outbox;
 use cops_store::Store;
@@ -19,32 +19,35 @@ pub(crate) fn act(
     outbox: &mut Outbox,
     slot: usize,
     now: u64,
-    call: &NodeCall,
-) -> Result<Replies, AllocError>
+    call: NodeCall,
+) -> Result<Answered, AllocError>
     requires stands { HasSolo slot now place.now counters.old store.old outbox.old }
-    requires fits { IsTrue (fits place.now call.now) }
-    ensures done { IfOk result (λ replies. IsDone slot now place.now call.now replies.told counters.old store.old outbox.old counters.new store.new outbox.new) }
-    ensures kept { IfOk result (λ replies. replies.kept ≡ replies.told) }
+    requires fits { IsTrue (fits place.now call) }
+    ensures done { IfOk result (λ answered. IsDone slot now place.now call answered.told counters.old store.old outbox.old counters.new store.new outbox.new) }
+    ensures kept { IfOk result (λ answered. answered.kept ≡ record { call = call; reply = answered.told }) }
     ensures others { OthersStay slot store.old outbox.old store.new outbox.new }
     ensures err { OnErr result (IsUnchanged counters.old store.old outbox.old counters.new store.new outbox.new) }
 {
     match call {
         NodeCall::Get(key, wanted) => {
-            gets::get(alloc, place, counters, store, slot, now, key, wanted)
+            gets::get(alloc, place, counters, store, slot, now, &key, wanted)
         }
         NodeCall::Put(key, value, deps, near) => puts::put(
             alloc, place, counters, store, outbox, slot, now, key, value, deps, near,
         ),
-        NodeCall::DepCheck(_, version) => {
-            Ok(Replies::checked(parts::was_committed(place, counters, *version)))
+        NodeCall::DepCheck(key, version) => {
+            let committed = parts::was_committed(place, counters, version);
+            let answered = Answered::checked(alloc, &key, version, committed)?;
+            Ok(answered)
         }
-        NodeCall::Pull(dc) => queues::pull(alloc, outbox, slot, *dc as usize),
+        NodeCall::Pull(dc) => queues::pull(alloc, outbox, slot, dc),
         NodeCall::Commit(entry) => {
             commits::commit(alloc, place, counters, store, slot, now, entry)
         }
         NodeCall::Ack(dc, version) => {
-            Ok(queues::acknowledged(outbox.ack(slot, *dc as usize, *version)))
+            let answer = outbox.ack(slot, dc as usize, version);
+            Ok(queues::acknowledged(answer, dc, version))
         }
-        NodeCall::Collect => Ok(Replies::removed(store.collect(slot, now, place.trans_time))),
+        NodeCall::Collect => Ok(Answered::removed(store.collect(slot, now, place.trans_time))),
     }
 }

@@ -8,9 +8,10 @@ ghost use Rattle.cops_node.specs.declared.NodeCall.{NodeCall};
 ghost use Rattle.cops_node.specs.Parts.{HasSolo, IsDone, IsPlace};
 ghost use Rattle.cops_node.specs.Place.{fits};
 
+use crate::answered::Answered;
 use crate::parts::{self, Counters};
-use crate::replies::Replies;
-use crate::{NodeReply, Place};
+use crate::rows::PackedExchange;
+use crate::{NodeCall, NodeReply, Place};
 use cops_store::Store;
 use cops_types::{Entry, Key};
 use std::alloc::{AllocError, Global};
@@ -65,36 +66,40 @@ pub(crate) fn commit(
     store: &mut Store,
     slot: usize,
     now: u64,
-    entry: &Entry,
-) -> Result<Replies, AllocError>
+    entry: Entry,
+) -> Result<Answered, AllocError>
     requires stands { (outbox : Queues) × HasSolo slot now place.now counters.old store.old outbox }
-    requires fits { IsTrue (fits place.now (NodeCall.Commit entry.now)) }
-    ensures done { IfOk result (λ replies. (outbox : Queues) → IsDone slot now place.now (NodeCall.Commit entry.now) replies.told counters.old store.old outbox counters.new store.new outbox) }
-    ensures kept { IfOk result (λ replies. replies.kept ≡ replies.told) }
+    requires fits { IsTrue (fits place.now (NodeCall.Commit entry)) }
+    ensures done { IfOk result (λ answered. (outbox : Queues) → IsDone slot now place.now (NodeCall.Commit entry) answered.told counters.old store.old outbox counters.new store.new outbox) }
+    ensures kept { IfOk result (λ answered. answered.kept ≡ record { call = NodeCall.Commit entry; reply = answered.told }) }
     ensures others { (other : ℕ) → other ≢ slot → rows_of other store.new ≡ rows_of other store.old }
     ensures tenants { store.new.tenants ≡ store.old.tenants }
     ensures counters { OnErr result (counters.new ≡ counters.old) }
     ensures rows { OnErr result (store.new.rows ≡ store.old.rows) }
 {
     if parts::was_committed(place, counters, entry.version()) {
-        return Ok(Replies {
+        return Ok(Answered {
             told: NodeReply::Already,
-            kept: NodeReply::Already,
+            kept: PackedExchange::already(entry),
         });
     }
     let mark = parts::mark_for(place, counters, entry.version());
     let parts = entry.parts();
     if parts.prev != mark {
-        return Ok(Replies::out_of_order(&mark));
+        return Ok(Answered {
+            told: NodeReply::OutOfOrder(mark),
+            kept: PackedExchange::out_of_order(entry, mark),
+        });
     }
     if let Some(fault) = store.refused(slot, &parts.key, &parts.value, &place.quota) {
-        return Ok(Replies::refused(fault));
+        let answered = Answered::refused(alloc, NodeCall::Commit(entry), fault)?;
+        return Ok(answered);
     }
-    let copy = entry.copy(alloc)?;
-    reserve(store, slot, &parts.key)?;
-    keep(place, counters, store, slot, now, copy);
-    Ok(Replies {
+    let shared = entry.copy(alloc)?;
+    reserve(store, slot, &entry.key())?;
+    keep(place, counters, store, slot, now, entry);
+    Ok(Answered {
         told: NodeReply::Committed,
-        kept: NodeReply::Committed,
+        kept: PackedExchange::committed(shared),
     })
 }

@@ -1,14 +1,15 @@
 //! What a node answers for a key.
-ghost use Rattle.std.specs.Prelude.{◌≡◌, List, IfOk};
+ghost use Rattle.std.specs.Prelude.{◌≡◌, List, None, IfOk};
 ghost use Rattle.cops_types.specs.Records.{Tracked, StandsFor, latest as latest_record, exact as exact_record};
 ghost use Rattle.cops_store.specs.Contents.{rows_of};
 ghost use Rattle.cops_node.specs.Parts.{AreMarks, IsPlace};
 ghost use Rattle.cops_node.specs.SoloNode.{SoloNode};
 ghost use Rattle.cops_node.specs.Step.{found as found_reply, reply_latest, reply_exact, reply_get};
 
+use crate::answered::Answered;
 use crate::parts::{self, Counters};
-use crate::replies::Replies;
-use crate::{NodeReply, Place, Wanted};
+use crate::rows::PackedExchange;
+use crate::{NodeCall, NodeReply, Place, Wanted};
 use cops_store::Store;
 use cops_types::{Key, Record, Version};
 use std::alloc::{AllocError, Global};
@@ -24,13 +25,49 @@ fn found(alloc: Global, stored: &Record) -> Result<NodeReply, AllocError>
 }
 
 // What a slot answers for the greatest version of a key.
-fn latest(alloc: Global, store: &Store, slot: usize, key: &Key) -> Result<NodeReply, AllocError>
-    ensures { IfOk result (λ reply. (tracked : List Tracked) → StandsFor (rows_of slot store.now) tracked → reply ≡ reply_latest (latest_record key.now tracked)) }
+fn latest(alloc: Global, store: &Store, slot: usize, key: &Key) -> Result<Answered, AllocError>
+    requires { (tracked : List Tracked) × StandsFor (rows_of slot store.now) tracked }
+    ensures told { IfOk result (λ answered. (tracked : List Tracked) → StandsFor (rows_of slot store.now) tracked → answered.told ≡ reply_latest (latest_record key.now tracked)) }
+    ensures kept { IfOk result (λ answered. answered.kept ≡ record { call = NodeCall.Get key.now Wanted.Latest; reply = answered.told }) }
 {
     match store.latest(slot, key) {
-        Some(stored) => found(alloc, stored),
-        None => Ok(NodeReply::Absent),
+        Some(stored) => {
+            let told = found(alloc, stored)?;
+            let entry = stored.entry.copy(alloc)?;
+            Ok(Answered {
+                told,
+                kept: PackedExchange::found_latest(entry),
+            })
+        }
+        None => Ok(Answered {
+            told: NodeReply::Absent,
+            kept: PackedExchange::absent(alloc, key)?,
+        }),
     }
+}
+
+// What a slot answers for a version of a key that it doesn't keep.
+fn missing(
+    alloc: Global,
+    key: &Key,
+    version: Version,
+    now: u64,
+    was_here: bool,
+) -> Result<Answered, AllocError>
+    ensures told { IfOk result (λ answered. answered.told ≡ reply_exact now was_here None) }
+    ensures kept { IfOk result (λ answered. answered.kept ≡ record { call = NodeCall.Get key.now (Wanted.Exactly version); reply = answered.told }) }
+{
+    if was_here {
+        let call = NodeCall::Get(*key, Wanted::Exactly(version));
+        return Ok(Answered {
+            told: NodeReply::Gone(now),
+            kept: PackedExchange::in_full(alloc, call, NodeReply::Gone(now))?,
+        });
+    }
+    Ok(Answered {
+        told: NodeReply::NotYet,
+        kept: PackedExchange::not_yet(alloc, key, version)?,
+    })
 }
 
 // What a slot answers for one version of a key.
@@ -42,39 +79,21 @@ fn exactly(
     version: Version,
     now: u64,
     was_here: bool,
-) -> Result<NodeReply, AllocError>
-    ensures { IfOk result (λ reply. (tracked : List Tracked) → StandsFor (rows_of slot store.now) tracked → reply ≡ reply_exact now was_here (exact_record key.now version tracked)) }
+) -> Result<Answered, AllocError>
+    requires { (tracked : List Tracked) × StandsFor (rows_of slot store.now) tracked }
+    ensures told { IfOk result (λ answered. (tracked : List Tracked) → StandsFor (rows_of slot store.now) tracked → answered.told ≡ reply_exact now was_here (exact_record key.now version tracked)) }
+    ensures kept { IfOk result (λ answered. answered.kept ≡ record { call = NodeCall.Get key.now (Wanted.Exactly version); reply = answered.told }) }
 {
     match store.exactly(slot, key, version) {
-        Some(stored) => found(alloc, stored),
-        None => Ok(if was_here {
-            NodeReply::Gone(now)
-        } else {
-            NodeReply::NotYet
-        }),
-    }
-}
-
-// What a slot answers for a key.
-fn answer(
-    alloc: Global,
-    place: &Place,
-    counters: &Counters,
-    store: &Store,
-    slot: usize,
-    now: u64,
-    key: &Key,
-    wanted: &Wanted,
-) -> Result<NodeReply, AllocError>
-    requires { IsPlace place.now }
-    ensures { IfOk result (λ reply. (solo : SoloNode) → StandsFor (rows_of slot store.now) solo.recs → AreMarks place.now counters.now.marks.items solo.recs → solo.moment ≡ now → reply ≡ reply_get key.now wanted.now solo) }
-{
-    match wanted {
-        Wanted::Latest => latest(alloc, store, slot, key),
-        Wanted::Exactly(version) => {
-            let was_here = parts::was_committed(place, counters, *version);
-            exactly(alloc, store, slot, key, *version, now, was_here)
+        Some(stored) => {
+            let told = found(alloc, stored)?;
+            let entry = stored.entry.copy(alloc)?;
+            Ok(Answered {
+                told,
+                kept: PackedExchange::found_exactly(entry),
+            })
         }
+        None => missing(alloc, key, version, now, was_here),
     }
 }
 
@@ -87,13 +106,18 @@ pub(crate) fn get(
     slot: usize,
     now: u64,
     key: &Key,
-    wanted: &Wanted,
-) -> Result<Replies, AllocError>
-    requires { IsPlace place.now }
-    ensures told { IfOk result (λ replies. (solo : SoloNode) → StandsFor (rows_of slot store.now) solo.recs → AreMarks place.now counters.now.marks.items solo.recs → solo.moment ≡ now → replies.told ≡ reply_get key.now wanted.now solo) }
-    ensures kept { IfOk result (λ replies. replies.kept ≡ replies.told) }
+    wanted: Wanted,
+) -> Result<Answered, AllocError>
+    requires place { IsPlace place.now }
+    requires stored { (tracked : List Tracked) × StandsFor (rows_of slot store.now) tracked }
+    ensures told { IfOk result (λ answered. (solo : SoloNode) → StandsFor (rows_of slot store.now) solo.recs → AreMarks place.now counters.now.marks.items solo.recs → solo.moment ≡ now → answered.told ≡ reply_get key.now wanted solo) }
+    ensures kept { IfOk result (λ answered. answered.kept ≡ record { call = NodeCall.Get key.now wanted; reply = answered.told }) }
 {
-    let told = answer(alloc, place, counters, store, slot, now, key, wanted)?;
-    let kept = told.copy(alloc)?;
-    Ok(Replies { told, kept })
+    match wanted {
+        Wanted::Latest => latest(alloc, store, slot, key),
+        Wanted::Exactly(version) => {
+            let was_here = parts::was_committed(place, counters, version);
+            exactly(alloc, store, slot, key, version, now, was_here)
+        }
+    }
 }

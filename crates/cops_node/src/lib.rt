@@ -1,6 +1,7 @@
 //! A node: one shard of one data centre. This crate has the calls, the replies, and what a call does.
 #![tactic(auto)]
 
+mod answered;
 mod calls;
 mod cluster;
 mod commits;
@@ -14,7 +15,8 @@ mod nodes;
 mod parts;
 mod puts;
 mod queues;
-mod replies;
+mod rows;
+mod short_keys;
 #[cfg(test)]
 mod test_nodes;
 #[cfg(test)]
@@ -30,7 +32,7 @@ pub use limits::has_clocks;
 pub use node::Node;
 pub use nodes::Nodes;
 pub use parts::{Counters, Part};
-pub use replies::Replies;
+pub use rows::AuditRow;
 pub use trails::Trail;
 
 /// A node, by its data centre and its shard.

@@ -10,7 +10,7 @@ ghost use Rattle.cops_node.specs.Place.{is_home, is_other_dc, is_other_equivalen
 ghost use Rattle.cops_node.specs.Shape.{place_in};
 
 use crate::parts::{self, Part};
-use crate::{AuditEntry, NodeCall, NodeId, NodeReply, Place, calls};
+use crate::{AuditRow, NodeCall, NodeId, NodeReply, Place, calls};
 use cops_outbox::Outbox;
 use cops_store::Store;
 use cops_types::{Config, Fault, Key, Machine, Seeds};
@@ -125,7 +125,7 @@ impl Node {
     }
 
     /// The call at a place of the trail of a slot.
-    pub fn audit(&self, slot: u64, place: u64) -> Option<&AuditEntry>
+    pub fn audit(&self, slot: u64, place: u64) -> Option<&AuditRow>
         requires { slot < self.now.home.shape.slots }
         ensures call { option_copied result ≡ slice_get (trail_of slot self.now.audit) place }
         ensures solo { (own : Place) → slice_get self.now.home.places slot ≡ Some own → option_copied result ≡ slice_get (solo_of slot own self.now).trail place }
@@ -163,7 +163,7 @@ impl Node {
             return Err(AllocError);
         }
         let now = part.moment.max(moment);
-        let Ok(replies) = calls::act(
+        let Ok(answered) = calls::act(
             self.alloc,
             &part.place,
             &mut part.counters,
@@ -171,17 +171,14 @@ impl Node {
             &mut self.outbox,
             slot,
             now,
-            &call,
+            call,
         ) else {
             return Err(AllocError);
         };
         part.moment = now;
-        part.trail.push(AuditEntry {
-            moment,
-            call,
-            reply: replies.kept,
-        });
-        Ok(replies.told)
+        let row = AuditRow::new(moment, answered.kept);
+        part.trail.push(row);
+        Ok(answered.told)
     }
 
     /// Makes a call for the tenant of a slot. Where the audit is full or memory is refused, that is

@@ -14,9 +14,10 @@ ghost use Rattle.cops_node.specs.Place.{own_number as own_number_of, fits};
 ghost use Rattle.cops_node.specs.SoloNode.{SoloNode};
 ghost use Rattle.cops_node.specs.Step.{node_put_refusal, put as put_turn, unchanged, version_of_put};
 
+use crate::answered::Answered;
 use crate::parts::{self, Counters};
-use crate::replies::Replies;
-use crate::{Place, commits};
+use crate::rows::PackedExchange;
+use crate::{NodeCall, NodeReply, Place, commits};
 use cops_outbox::Outbox;
 use cops_store::Store;
 use cops_types::{Deps, Entry, EntryParts, Fault, Key, Near, Quota, Value, Version};
@@ -61,35 +62,6 @@ fn version_for(
     Ok(version)
 }
 
-// The entry of a put.
-fn entry_of(
-    alloc: Global,
-    version: Version,
-    prev: Version,
-    key: &Key,
-    value: &Value,
-    deps: &Deps,
-    near: &Near,
-) -> Result<Entry, AllocError>
-    ensures { IfOk result (λ entry. entry ≡ record { key = key.now; version = version; value = value.now; deps = deps.now; near = near.now; prev = prev }) }
-{
-    let value = value.copy(alloc)?;
-    let deps = deps.copy(alloc)?;
-    let near = near.copy(alloc)?;
-    let key = *key;
-    Entry::new(
-        alloc,
-        EntryParts {
-            key,
-            version,
-            value,
-            deps,
-            near,
-            prev,
-        },
-    )
-}
-
 // A call `Put`.
 pub(crate) fn put(
     alloc: Global,
@@ -99,30 +71,47 @@ pub(crate) fn put(
     outbox: &mut Outbox,
     slot: usize,
     now: u64,
-    key: &Key,
-    value: &Value,
-    deps: &Deps,
-    near: &Near,
-) -> Result<Replies, AllocError>
+    key: Key,
+    value: Value,
+    deps: Deps,
+    near: Near,
+) -> Result<Answered, AllocError>
     requires { HasSolo slot now place.now counters.old store.old outbox.old }
-    ensures done { IfOk result (λ replies. IsDone slot now place.now (NodeCall.Put key.now value.now deps.now near.now) replies.told counters.old store.old outbox.old counters.new store.new outbox.new) }
-    ensures kept { IfOk result (λ replies. replies.kept ≡ replies.told) }
+    ensures done { IfOk result (λ answered. IsDone slot now place.now (NodeCall.Put key value deps near) answered.told counters.old store.old outbox.old counters.new store.new outbox.new) }
+    ensures kept { IfOk result (λ answered. answered.kept ≡ record { call = NodeCall.Put key value deps near; reply = answered.told }) }
     ensures others { OthersStay slot store.old outbox.old store.new outbox.new }
     ensures err { OnErr result (IsUnchanged counters.old store.old outbox.old counters.new store.new outbox.new) }
 {
-    let version = match version_for(place, counters, store, outbox, slot, key, value, deps) {
+    let version = match version_for(place, counters, store, outbox, slot, &key, &value, &deps) {
         Ok(version) => version,
-        Err(fault) => return Ok(Replies::refused(fault)),
+        Err(fault) => {
+            let call = NodeCall::Put(key, value, deps, near);
+            let answered = Answered::refused(alloc, call, fault)?;
+            return Ok(answered);
+        }
     };
-    let replies = Replies::stored(&version);
     let prev = parts::own_mark(place, counters);
-    let entry = entry_of(alloc, version, prev, key, value, deps, near)?;
-    commits::reserve(store, slot, key)?;
+    let entry = Entry::new(
+        alloc,
+        EntryParts {
+            key,
+            version,
+            value,
+            deps,
+            near,
+            prev,
+        },
+    )?;
+    let shared = entry.copy(alloc)?;
+    commits::reserve(store, slot, &entry.key())?;
     match outbox.push(slot, &entry, place.quota.outbox) {
         Ok(()) => {}
         Err(Fault::OutOfMemory) => return Err(AllocError),
         Err(_) => unreachable!(),
     }
     commits::keep(place, counters, store, slot, now, entry);
-    Ok(replies)
+    Ok(Answered {
+        told: NodeReply::Stored(version),
+        kept: PackedExchange::stored(shared),
+    })
 }

@@ -1,13 +1,10 @@
-use crate::{AuditEntry, NodeCall, NodeReply, Trail};
+use crate::rows::PackedExchange;
+use crate::{AuditRow, Trail};
 use std::alloc::Global;
 use std::process::Abort;
 
-fn entry(moment: u64) -> AuditEntry {
-    AuditEntry {
-        moment,
-        call: NodeCall::Collect,
-        reply: NodeReply::Removed(moment),
-    }
+fn row(moment: u64) -> AuditRow {
+    AuditRow::new(moment, PackedExchange::removed(moment))
 }
 
 /// Notes a call of this moment. Where memory is refused, which leaves the trail as it was, it is asked for again.
@@ -18,11 +15,11 @@ fn note(rt: &impl Abort, trail: &mut Trail, moment: u64) {
         trail.reserve().expect(rt, "memory");
     }
     assert!(rt; before < u64::MAX);
-    trail.push(entry(moment));
+    trail.push(row(moment));
 }
 
 fn moment_at(rt: &impl Abort, trail: &Trail, place: u64) -> u64 {
-    trail.get(place).expect(rt, "a call").moment
+    trail.get(place).expect(rt, "a call").moment()
 }
 
 /// A trail with calls of these moments, from 0 on.

@@ -2,7 +2,7 @@
 ghost use Rattle.std.specs.Prelude.{◌≡◌, ◌+◌, ◌^◌, ◌<◌, [], ◌∷◌, ◌++◌, length, slice_get, OnOk, OnErr};
 ghost use Rattle.std.specs.Option.{option_copied};
 
-use crate::AuditEntry;
+use crate::AuditRow;
 use std::alloc::{AllocError, Global};
 use std::marker::Model;
 use std::mem;
@@ -15,8 +15,8 @@ const BLOCK: usize = 32;
 /// Contracts see the calls, and how many more can be noted without memory.
 #[derive(Debug, Drop)]
 pub struct Trail {
-    full: Vec<Vec<AuditEntry>>,
-    last: Vec<AuditEntry>,
+    full: Vec<Vec<AuditRow>>,
+    last: Vec<AuditRow>,
     count: u64,
 }
 
@@ -51,7 +51,7 @@ impl Trail {
     }
 
     /// The call at a place, which counts from 0.
-    pub fn get(&self, place: u64) -> Option<&AuditEntry>
+    pub fn get(&self, place: u64) -> Option<&AuditRow>
         ensures { option_copied result ≡ slice_get self.now.calls place }
     {
         let place = place as usize;
@@ -79,12 +79,12 @@ impl Trail {
     }
 
     /// Notes one more call, for which there is memory.
-    pub fn push(&mut self, entry: AuditEntry)
+    pub fn push(&mut self, row: AuditRow)
         requires room { 0 < self.old.spare }
         requires countable { length self.old.calls + 1 < 2 ^ 64 }
-        ensures { self.new.calls ≡ self.old.calls ++ entry ∷ [] }
+        ensures { self.new.calls ≡ self.old.calls ++ row ∷ [] }
     {
-        self.last.push(entry).unwrap();
+        self.last.push(row).unwrap();
         self.count += 1;
     }
 

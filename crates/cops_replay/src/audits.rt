@@ -16,7 +16,7 @@ ghost use Rattle.cops_replay.specs.RecordText.{record_line};
 use crate::heads::{push_begin, push_cluster, push_tenant};
 use crate::pages::{drain, drain_full};
 use crate::writing::push_told;
-use cops_node::{AuditEntry, Node, NodeId};
+use cops_node::{AuditEntry, AuditRow, Node, NodeId};
 use cops_types::{Config, Fault, Name, Sink, Tenant};
 use std::alloc::{AllocError, Global};
 use std::io::Write;
@@ -36,18 +36,19 @@ fn push_entry(
 }
 
 /// Puts the line of a call in the audit of a node.
-fn put_entry<W: Write>(
+fn put_row<W: Write>(
     out: &mut Vec<u8>,
     sink: &mut Sink<W>,
     name: &Name,
     id: NodeId,
-    entry: &AuditEntry,
+    row: &AuditRow,
 ) -> Result<(), Fault>
-    ensures { PutsText (ended (record_line name.now (record_of id entry.now)))
+    ensures { PutsText (ended (record_line name.now (record_of id row.now)))
         (page out.old.items (W.contents (sink_writer sink.old)) (sink_failures sink.old)) result
         (page out.new.items (W.contents (sink_writer sink.new)) (sink_failures sink.new)) }
 {
-    push_entry(out, name, id, entry)?;
+    let entry = row.entry(*out.allocator())?;
+    push_entry(out, name, id, &entry)?;
     drain_full(out, sink)
 }
 
@@ -69,10 +70,10 @@ fn put_node<W: Write>(
 {
     let name = tenant.name;
     for place in 0..node.audit_len(slot) {
-        let Some(entry) = node.audit(slot, place) else {
+        let Some(row) = node.audit(slot, place) else {
             unreachable!()
         };
-        if let Err(fault) = put_entry(out, sink, &name, id, entry) {
+        if let Err(fault) = put_row(out, sink, &name, id, row) {
             return Err(fault);
         }
     }

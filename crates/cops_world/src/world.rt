@@ -27,7 +27,7 @@ ghost use Rattle.cops_world.specs.declared.replies.Reply.TheVariants.{Refused};
 use crate::actor_table::{act_at, put_new, step_at, take_out};
 use crate::actors::{Actor, ActorId, Deed, Keys, Stepped};
 use crate::{Act, ByteSlice, ByteSlices, Event, Reply, Tenancy};
-use cops_node::{AuditEntry, Cluster0, Node, NodeCall, NodeId, NodeReply, Nodes};
+use cops_node::{AuditRow, Cluster0, Node, NodeCall, NodeId, NodeReply, Nodes};
 use cops_repl::Carrier;
 use cops_session::Session;
 use cops_types::{Config, Fault, Key, Name, Seeds, Value};
@@ -414,7 +414,7 @@ impl World {
     }
 
     /// The call at a place of the audit of a node, for the tenant of a slot.
-    pub fn audit(&self, id: NodeId, slot: u64, place: u64) -> Option<&AuditEntry>
+    pub fn audit(&self, id: NodeId, slot: u64, place: u64) -> Option<&AuditRow>
         requires dc { id.dc < (setup_of self.now).data_centres }
         requires shard { id.shard < (setup_of self.now).shards }
         requires slot { slot < length (setup_of self.now).tenants }

@@ -1,9 +1,7 @@
 use Rattle.std.proofs.Common.{◌∙◌, ap, sym, subst}
-use Rattle.cops_types.specs.declared.records.EntryParts.{EntryParts as Entry}
 use Rattle.cops_types.specs.Records.{mark}
 use Rattle.cops_types.specs.Version.{Timestamp, version_le, version_eq}
-use Rattle.cops_store.specs.Contents.{LacksVersion, rows_of, rows_in}
-use Rattle.cops_node.specs.declared.replies.Replies.{Replies}
+use Rattle.cops_store.specs.Contents.{LacksVersion, rows_in}
 use Rattle.cops_node.specs.declared.NodeReply.TheVariants.{OutOfOrder}
 use Rattle.cops_node.specs.Parts.{StandsAt}
 use Rattle.cops_node.specs.Place.{is_home, is_other_equivalent}
@@ -13,21 +11,21 @@ use Rattle.cops_node.proofs.commits.commit.Goals as goal
 
 pub returns-then-ne-clause-done : goal.returns-then-ne-clause-done
 returns-then-ne-clause-done c = λ outbox solo moment h.
-    let entry = c.args.entry.now in
+    let entry = c.args.entry in
     let above = ap (λ (v : Timestamp). version_le v (mark v.node solo.recs)) (sym c.version.ensures) ∙ sym (c.was_committed.ensures solo.recs h.marks) ∙ c.if-was_committed.false in
     let last = c.mark_for-mark.ensures solo.recs h.marks in
     let next = next_is c.parts-parts.result.now entry c.mark_for-mark.result c.version-2.result solo.recs c.parts-parts.ensures c.version-2.ensures last ∙ not_true (version_eq c.parts-parts.result.now.prev c.mark_for-mark.result) (sym c.ne.ensures ∙ c.if-ne.true) in
-    let turn = commit_out_of_order c.args.place.now solo entry c.out_of_order.result.told above next (ap (λ (r : Replies). r.told) c.out_of_order.ensures ∙ ap OutOfOrder (last ∙ ap (λ (v : Timestamp). mark v.node solo.recs) c.version-2.ensures)) in
+    let turn = commit_out_of_order c.args.place.now solo entry (OutOfOrder c.mark_for-mark.result) above next (ap OutOfOrder (last ∙ ap (λ (v : Timestamp). mark v.node solo.recs) c.version-2.ensures)) in
     (ap (λ (t : CallEffect). t.reply) turn, subst (λ (t : CallEffect). StandsAt c.args.slot c.args.place.now c.args.counters.now c.args.store.now outbox t.after) turn h)
 
 pub returns-in-Some-clause-done : goal.returns-in-Some-clause-done
 returns-in-Some-clause-done c = λ outbox solo moment h.
-    let entry = c.args.entry.now in
+    let entry = c.args.entry in
     let above = ap (λ (v : Timestamp). version_le v (mark v.node solo.recs)) (sym c.version.ensures) ∙ sym (c.was_committed.ensures solo.recs h.marks) ∙ c.if-was_committed.false in
     let last = c.mark_for-mark.ensures solo.recs h.marks in
     let next = next_is c.parts-parts.result.now entry c.mark_for-mark.result c.version-2.result solo.recs c.parts-parts.ensures c.version-2.ensures last ∙ not_false (version_eq c.parts-parts.result.now.prev c.mark_for-mark.result) (sym c.ne.ensures ∙ c.if-ne.false) in
     let turn = commit_refused c.args.place.now solo entry c.in-Some.fault above next (ap (commit_refusal c.args.place.now solo) (sym c.parts-parts.ensures) ∙ sym (c.in-Some.ensures.records solo.recs h.rows)) in
-    (ap (λ (r : Replies). r.told) c.refused-in-Some.ensures ∙ ap (λ (t : CallEffect). t.reply) turn, subst (λ (t : CallEffect). StandsAt c.args.slot c.args.place.now c.args.counters.now c.args.store.now outbox t.after) turn h)
+    (c.in_ok-answered.ensures.told ∙ ap (λ (t : CallEffect). t.reply) turn, subst (λ (t : CallEffect). StandsAt c.args.slot c.args.place.now c.args.counters.now c.args.store.now outbox t.after) turn h)
 
 pub keep-requires-clause-new_version : goal.keep-requires-clause-new_version
 keep-requires-clause-new_version c =
@@ -35,17 +33,16 @@ keep-requires-clause-new_version c =
     let solo = c.requires.stands.1.0 in
     let h = c.requires.stands.1.2 in
     let above = ap (λ (v : Timestamp). version_le v (mark v.node solo.recs)) (sym c.version.ensures) ∙ sym (c.was_committed.ensures solo.recs h.marks) ∙ c.if-was_committed.false in
-    subst (λ rs. LacksVersion c.in_ok-copy.copy.key c.in_ok-copy.copy.version (rows_in c.args.slot rs)) (sym c.reserve.ensures.rows)
-    (subst (λ (e : Entry). LacksVersion e.key e.version (rows_of c.args.slot c.args.store.now)) (sym c.in_ok-copy.ensures)
-    (commit_is_new c.args.slot c.args.place.now c.args.counters.now c.args.store.now outbox solo c.args.entry.now h above))
+    subst (λ rs. LacksVersion c.args.entry.key c.args.entry.version (rows_in c.args.slot rs)) (sym c.reserve.ensures.rows)
+    (commit_is_new c.args.slot c.args.place.now c.args.counters.now c.args.store.now outbox solo c.args.entry h above)
 
 pub returns-clause-done : goal.returns-clause-done
 returns-clause-done c = λ outbox solo moment h.
-    let entry = c.args.entry.now in
+    let entry = c.args.entry in
     let above = ap (λ (v : Timestamp). version_le v (mark v.node solo.recs)) (sym c.version.ensures) ∙ sym (c.was_committed.ensures solo.recs h.marks) ∙ c.if-was_committed.false in
     let last = c.mark_for-mark.ensures solo.recs h.marks in
     let next = next_is c.parts-parts.result.now entry c.mark_for-mark.result c.version-2.result solo.recs c.parts-parts.ensures c.version-2.ensures last ∙ not_false (version_eq c.parts-parts.result.now.prev c.mark_for-mark.result) (sym c.ne.ensures ∙ c.if-ne.false) in
-    commit_done c.args.slot c.args.now c.args.place.now c.args.counters.now c.keep.new.counters c.args.store.now c.reserve.new.store c.keep.new.store outbox solo entry c.in_ok-copy.copy moment h above next
+    commit_done c.args.slot c.args.now c.args.place.now c.args.counters.now c.keep.new.counters c.args.store.now c.reserve.new.store c.keep.new.store outbox solo entry c.args.entry moment h above next
     (ap (commit_refusal c.args.place.now solo) (sym c.parts-parts.ensures) ∙ sym (c.in_default.ensures.records solo.recs h.rows))
     (equivalent_of (is_home c.args.place.now entry.key) (is_other_equivalent c.args.place.now entry.version.node) c.requires.fits)
-    c.in_ok-copy.ensures c.reserve.ensures.rows c.reserve.ensures.tenants c.keep.ensures.stands_for c.keep.ensures.tenants c.keep.ensures.fits c.keep.ensures.clock c.keep.ensures.marks
+    (λ _. c.args.entry) c.reserve.ensures.rows c.reserve.ensures.tenants c.keep.ensures.stands_for c.keep.ensures.tenants c.keep.ensures.fits c.keep.ensures.clock c.keep.ensures.marks

@@ -19,12 +19,12 @@ returns-in-Err g c =
     let id = c.args.id in
     let place = place_of (tenant_config c.args.config.now c.args.tenant.now) id in
     let trail = (solo_of c.args.slot place c.args.node.now).trail in
-    let entry = c.in-Some.entry.now in
+    let entry = c.in-Some.row.now in
     let found : slice_get trail c.loop-place.place ≡ Some entry =
     sym (c.in-Some.ensures.solo place c.requires.place) in
     Puts-ends (records_text name (map (record_of id) (take c.loop-place.place trail))) (ended (record_line name (record_of id entry)))
     (records_text name (map (record_of id) (drop (suc c.loop-place.place) trail))) (records_text name (map (record_of id) trail))
-    (page c.args.out.now.items (g.W.Write.contents (sink_writer c.args.sink.now)) (sink_failures c.args.sink.now)) (page c.loop-place.out.items (g.W.Write.contents (sink_writer c.loop-place.sink)) (sink_failures c.loop-place.sink)) tt c.in-Err.fault (page c.put_entry.new.out.items (g.W.Write.contents (sink_writer c.put_entry.new.sink)) (sink_failures c.put_entry.new.sink))
+    (page c.args.out.now.items (g.W.Write.contents (sink_writer c.args.sink.now)) (sink_failures c.args.sink.now)) (page c.loop-place.out.items (g.W.Write.contents (sink_writer c.loop-place.sink)) (sink_failures c.loop-place.sink)) tt c.in-Err.fault (page c.put_row.new.out.items (g.W.Write.contents (sink_writer c.put_row.new.sink)) (sink_failures c.put_row.new.sink))
     (node_text_cut name id trail c.loop-place.place entry found) c.loop-place.invariant c.in-Err.ensures
 
 pub loop-place-preserved : goal.loop-place-preserved
@@ -33,14 +33,14 @@ loop-place-preserved g c =
     let id = c.args.id in
     let place = place_of (tenant_config c.args.config.now c.args.tenant.now) id in
     let trail = (solo_of c.args.slot place c.args.node.now).trail in
-    let entry = c.in-Some.entry.now in
+    let entry = c.in-Some.row.now in
     let found : slice_get trail c.loop-place.place ≡ Some entry =
     sym (c.in-Some.ensures.solo place c.requires.place) in
     let old = page c.args.out.now.items (g.W.Write.contents (sink_writer c.args.sink.now)) (sink_failures c.args.sink.now) in
-    let new = page c.put_entry.new.out.items (g.W.Write.contents (sink_writer c.put_entry.new.sink)) (sink_failures c.put_entry.new.sink) in
+    let new = page c.put_row.new.out.items (g.W.Write.contents (sink_writer c.put_row.new.sink)) (sink_failures c.put_row.new.sink) in
     subst (λ l. PutsText {T = Unit {0}} l old (Ok tt) new) (sym (node_text_one_more name id trail c.loop-place.place entry found))
     (Puts-then (records_text name (map (record_of id) (take c.loop-place.place trail))) (ended (record_line name (record_of id entry)))
-    old (page c.loop-place.out.items (g.W.Write.contents (sink_writer c.loop-place.sink)) (sink_failures c.loop-place.sink)) tt (Ok tt) new c.loop-place.invariant c.in_default-put_entry.ensures)
+    old (page c.loop-place.out.items (g.W.Write.contents (sink_writer c.loop-place.sink)) (sink_failures c.loop-place.sink)) tt (Ok tt) new c.loop-place.invariant c.in_default-put_row.ensures)
 
 pub returns : goal.returns
 returns g c =

@@ -1,6 +1,6 @@
-use Rattle.std.proofs.Common.{◌≡◌, inr, ◌<◌, ◌∙◌, ap, sym, refl, subst, length, List, get_or, ◌++◌, ◌∷◌, [], not, nat_lt, IsTrue}
-use Rattle.cops_node.specs.declared.AuditEntry.{AuditEntry}
+use Rattle.std.proofs.Common.{◌≡◌, inr, ◌<◌, ◌∙◌, ap, sym, refl, subst, length, get_or, ◌++◌, ◌∷◌, [], not, nat_lt, IsTrue}
 use Rattle.cops_node.specs.declared.parts.Part.{Part}
+use Rattle.cops_node.specs.declared.rows.Exchange.{Exchange}
 use Rattle.cops_node.specs.Parts.{Shared, trail_of}
 use Rattle.cops_node.proofs.Slots.{place_read, same_part, full_done, open_room, raised_solo, IsNode-kept, turn_done, turn_noted, turn_others, turn_node, home_set, view_set}
 use Rattle.cops_node.specs.Place.{fits}
@@ -77,8 +77,12 @@ returns-in_default-clause-room c = λ place is.
 abbrev next : goal.After-self-2-1 → Part
 next c = record c.index_mut-part.result.now { moment = c.max-now.result; counters = c.act.new.counters; trail = c.push.new.self }
 
-pushed : (c : goal.After-self-2-1) → c.push.new.self.calls ≡ c.index_mut-part.result.now.trail.calls ++ record { moment = c.args.moment; call = c.args.call; reply = c.in-Ok.replies.kept } ∷ []
-pushed c = c.push.ensures ∙ ap (λ (ts : List AuditEntry). ts ++ record { moment = c.args.moment; call = c.args.call; reply = c.in-Ok.replies.kept } ∷ []) c.reserve.ensures.calls
+-- the row has the moment, the call and what was told
+row_is : (c : goal.After-self-2-1) → c.new-row.result ≡ record { moment = c.args.moment; call = c.args.call; reply = c.in-Ok.answered.told }
+row_is c = c.new-row.ensures ∙ ap (λ (e : Exchange). record { moment = c.args.moment; call = e.call; reply = e.reply }) c.in-Ok.ensures.kept
+
+pushed : (c : goal.After-self-2-1) → c.push.new.self.calls ≡ c.index_mut-part.result.now.trail.calls ++ record { moment = c.args.moment; call = c.args.call; reply = c.in-Ok.answered.told } ∷ []
+pushed c = c.push.ensures ∙ (λ i. c.reserve.ensures.calls i ++ row_is c i ∷ [])
 
 room : (c : goal.After-self-2-1) → c.is_audit_full.result ≡ not (nat_lt (length c.index_mut-part.result.now.trail.calls) c.index_mut-part.result.now.place.quota.audit)
 room c =
@@ -89,8 +93,8 @@ pub invariant_of-self-2 : goal.invariant_of-self-2
 invariant_of-self-2 c =
     let within : c.args.slot < length c.self.inside.parts.items = subst (λ (v : Shared). c.args.slot < v.home.shape.slots) (sym c.self.view_is) c.requires.slot_exists in
     turn_node c.args.slot c.args.moment c.max-now.result c.args.call c.self.inside.id c.self.inside.data_centres c.self.inside.shards c.self.inside.parts.items c.index_mut-part.result.now (next c)
-    c.self.inside.store c.act.new.store c.self.inside.outbox c.act.new.outbox c.in-Ok.replies.told c.in-Ok.replies.kept c.is_audit_full.result
-    c.self.invariant within c.index_mut-part.ensures.value (room c) c.if-is_audit_full.false c.max-now.ensures refl refl (pushed c) c.in-Ok.ensures.done c.in-Ok.ensures.kept c.in-Ok.ensures.others
+    c.self.inside.store c.act.new.store c.self.inside.outbox c.act.new.outbox c.in-Ok.answered.told c.in-Ok.answered.told c.is_audit_full.result
+    c.self.invariant within c.index_mut-part.ensures.value (room c) c.if-is_audit_full.false c.max-now.ensures refl refl (pushed c) c.in-Ok.ensures.done refl c.in-Ok.ensures.others
     (subst (λ (v : Shared). IsTrue (fits (place_in v.home.shape v.home.id) c.args.call)) (sym c.self.view_is) c.requires.call_fits)
 
 pub returns-clause-turn : goal.returns-clause-turn
@@ -98,8 +102,8 @@ returns-clause-turn c = λ place is.
     let within : c.args.slot < length c.self.inside.parts.items = subst (λ (v : Shared). c.args.slot < v.home.shape.slots) (sym c.self.view_is) c.requires.slot_exists in
     let place_is = place_read c.self.inside.parts.items c.args.slot place c.index_mut-part.result.now within (subst (λ (v : Shared). place ≡ get_or v.home.places c.args.slot place) (sym c.self.view_is) is) c.index_mut-part.ensures.value in
     let done = turn_done c.args.slot c.args.moment c.max-now.result c.args.call c.self.inside.id c.self.inside.data_centres c.self.inside.shards c.self.inside.parts.items c.index_mut-part.result.now (next c)
-    c.self.inside.store c.act.new.store c.self.inside.outbox c.act.new.outbox c.in-Ok.replies.told c.in-Ok.replies.kept c.is_audit_full.result
-    c.self.invariant within c.index_mut-part.ensures.value (room c) c.if-is_audit_full.false c.max-now.ensures refl refl (pushed c) c.in-Ok.ensures.done c.in-Ok.ensures.kept c.in-Ok.ensures.others
+    c.self.inside.store c.act.new.store c.self.inside.outbox c.act.new.outbox c.in-Ok.answered.told c.in-Ok.answered.told c.is_audit_full.result
+    c.self.invariant within c.index_mut-part.ensures.value (room c) c.if-is_audit_full.false c.max-now.ensures refl refl (pushed c) c.in-Ok.ensures.done refl c.in-Ok.ensures.others
     place c.args.self.now.audit place_is (ap (λ (v : Shared). v.audit) c.self.view_is) in
     (done.0, done.1)
 
@@ -107,16 +111,16 @@ pub returns-clause-noted : goal.returns-clause-noted
 returns-clause-noted c =
     let within : c.args.slot < length c.self.inside.parts.items = subst (λ (v : Shared). c.args.slot < v.home.shape.slots) (sym c.self.view_is) c.requires.slot_exists in
     inr (turn_noted c.args.slot c.args.moment c.max-now.result c.args.call c.self.inside.id c.self.inside.data_centres c.self.inside.shards c.self.inside.parts.items c.index_mut-part.result.now (next c)
-    c.self.inside.store c.act.new.store c.self.inside.outbox c.act.new.outbox c.in-Ok.replies.told c.in-Ok.replies.kept c.is_audit_full.result
-    c.self.invariant within c.index_mut-part.ensures.value (room c) c.if-is_audit_full.false c.max-now.ensures refl refl (pushed c) c.in-Ok.ensures.done c.in-Ok.ensures.kept c.in-Ok.ensures.others
+    c.self.inside.store c.act.new.store c.self.inside.outbox c.act.new.outbox c.in-Ok.answered.told c.in-Ok.answered.told c.is_audit_full.result
+    c.self.invariant within c.index_mut-part.ensures.value (room c) c.if-is_audit_full.false c.max-now.ensures refl refl (pushed c) c.in-Ok.ensures.done refl c.in-Ok.ensures.others
     c.args.self.now.audit (ap (λ (v : Shared). v.audit) c.self.view_is))
 
 pub returns-clause-others : goal.returns-clause-others
 returns-clause-others c =
     let within : c.args.slot < length c.self.inside.parts.items = subst (λ (v : Shared). c.args.slot < v.home.shape.slots) (sym c.self.view_is) c.requires.slot_exists in
     turn_others c.args.slot c.args.moment c.max-now.result c.args.call c.self.inside.id c.self.inside.data_centres c.self.inside.shards c.self.inside.parts.items c.index_mut-part.result.now (next c)
-    c.self.inside.store c.act.new.store c.self.inside.outbox c.act.new.outbox c.in-Ok.replies.told c.in-Ok.replies.kept c.is_audit_full.result
-    c.self.invariant within c.index_mut-part.ensures.value (room c) c.if-is_audit_full.false c.max-now.ensures refl refl (pushed c) c.in-Ok.ensures.done c.in-Ok.ensures.kept c.in-Ok.ensures.others
+    c.self.inside.store c.act.new.store c.self.inside.outbox c.act.new.outbox c.in-Ok.answered.told c.in-Ok.answered.told c.is_audit_full.result
+    c.self.invariant within c.index_mut-part.ensures.value (room c) c.if-is_audit_full.false c.max-now.ensures refl refl (pushed c) c.in-Ok.ensures.done refl c.in-Ok.ensures.others
     c.args.self.now.audit (ap (λ (v : Shared). v.audit) c.self.view_is)
 
 pub returns-clause-home : goal.returns-clause-home

@@ -1,0 +1,347 @@
+//! The rows of an audit: calls and replies in little memory.
+ghost use Rattle.std.specs.Prelude.{◌≡◌, IfOk};
+
+use crate::short_keys::ShortKey;
+use crate::{AuditEntry, NodeCall, NodeReply, Wanted};
+use cops_types::{Entry, Key, Version};
+use std::alloc::{AllocError, Global};
+use std::boxed::Box;
+use std::marker::Model;
+
+/// A call and its reply.
+#[derive(Debug, Drop)]
+pub(crate) struct Exchange {
+    pub(crate) call: NodeCall,
+    pub(crate) reply: NodeReply,
+}
+
+/// How a call and its reply are packed. What is rare, or has a long key, stands apart.
+#[derive(Debug, Drop)]
+enum Packing {
+    PutStored(Entry),
+    LatestFound(Entry),
+    ExactFound(Entry),
+    LatestAbsent(ShortKey),
+    NotCome(ShortKey, Version),
+    WasCommitted(ShortKey, Version),
+    WasNotCommitted(ShortKey, Version),
+    EntryPulled(u64, Entry),
+    NothingPulled(u64),
+    EntryCommitted(Entry),
+    CommittedBefore(Entry),
+    EntryOutOfOrder(Entry, Version),
+    FrontAcked(u64, Version),
+    FrontNotAcked(u64, Version),
+    Collected(u64),
+    InFull(Box<Exchange>),
+}
+
+/// A call and its reply in 32 bytes. An entry that the call or the reply has is shared with those who
+/// have it too. Contracts see the call and the reply.
+#[derive(Debug, Drop)]
+pub(crate) struct PackedExchange {
+    packing: Packing,
+}
+
+impl Model for PackedExchange {
+    ghost use Rattle.cops_node.specs.declared.rows.Exchange.{Exchange};
+
+    ghost Value = { Exchange };
+
+    ghost use Rattle.cops_node.specs.Rows.{exchange_of};
+
+    ghost view = { λ p. exchange_of p.packing };
+}
+
+/// One call in an audit, in 40 bytes. Contracts see the moment, the call and the reply.
+#[derive(Debug, Drop)]
+pub struct AuditRow {
+    moment: u64,
+    exchange: PackedExchange,
+}
+
+impl Model for AuditRow {
+    ghost use Rattle.cops_node.specs.declared.AuditEntry.{AuditEntry};
+
+    ghost Value = { AuditEntry };
+
+    ghost view = { λ r. record { moment = r.moment; call = r.exchange.call; reply = r.exchange.reply } };
+}
+
+const _: () = prove!(size_of::<AuditRow>() == 40);
+
+// The put of which this is the entry.
+fn put_of(alloc: Global, entry: &Entry) -> Result<NodeCall, AllocError>
+    ensures { IfOk result (λ call. call ≡ NodeCall.Put entry.now.key entry.now.value entry.now.deps entry.now.near) }
+{
+    let parts = entry.parts();
+    Ok(NodeCall::Put(
+        parts.key,
+        parts.value.copy(alloc)?,
+        parts.deps.copy(alloc)?,
+        parts.near.copy(alloc)?,
+    ))
+}
+
+// The reply that the entry is found.
+fn found_of(alloc: Global, entry: &Entry) -> Result<NodeReply, AllocError>
+    ensures { IfOk result (λ reply. reply ≡ NodeReply.Found entry.now.version entry.now.value entry.now.deps) }
+{
+    let parts = entry.parts();
+    Ok(NodeReply::Found(
+        parts.version,
+        parts.value.copy(alloc)?,
+        parts.deps.copy(alloc)?,
+    ))
+}
+
+impl PackedExchange {
+    // The put of an entry, which got the entry's version.
+    pub(crate) fn stored(entry: Entry) -> Self
+        ensures { result ≡ record { call = NodeCall.Put entry.key entry.value entry.deps entry.near; reply = NodeReply.Stored entry.version } }
+    {
+        PackedExchange {
+            packing: Packing::PutStored(entry),
+        }
+    }
+
+    // A get of the greatest version of a key, which found the entry.
+    pub(crate) fn found_latest(entry: Entry) -> Self
+        ensures { result ≡ record { call = NodeCall.Get entry.key Wanted.Latest; reply = NodeReply.Found entry.version entry.value entry.deps } }
+    {
+        PackedExchange {
+            packing: Packing::LatestFound(entry),
+        }
+    }
+
+    // A get of the entry's version, which found the entry.
+    pub(crate) fn found_exactly(entry: Entry) -> Self
+        ensures { result ≡ record { call = NodeCall.Get entry.key (Wanted.Exactly entry.version); reply = NodeReply.Found entry.version entry.value entry.deps } }
+    {
+        PackedExchange {
+            packing: Packing::ExactFound(entry),
+        }
+    }
+
+    // A get of a key with no value.
+    pub(crate) fn absent(alloc: Global, key: &Key) -> Result<Self, AllocError>
+        ensures { IfOk result (λ packed. packed ≡ record { call = NodeCall.Get key.now Wanted.Latest; reply = NodeReply.Absent }) }
+    {
+        match ShortKey::of(key) {
+            Some(short) => Ok(PackedExchange {
+                packing: Packing::LatestAbsent(short),
+            }),
+            None => PackedExchange::in_full(
+                alloc,
+                NodeCall::Get(*key, Wanted::Latest),
+                NodeReply::Absent,
+            ),
+        }
+    }
+
+    // A get of a version that has not come.
+    pub(crate) fn not_yet(alloc: Global, key: &Key, version: Version) -> Result<Self, AllocError>
+        ensures { IfOk result (λ packed. packed ≡ record { call = NodeCall.Get key.now (Wanted.Exactly version); reply = NodeReply.NotYet }) }
+    {
+        match ShortKey::of(key) {
+            Some(short) => Ok(PackedExchange {
+                packing: Packing::NotCome(short, version),
+            }),
+            None => PackedExchange::in_full(
+                alloc,
+                NodeCall::Get(*key, Wanted::Exactly(version)),
+                NodeReply::NotYet,
+            ),
+        }
+    }
+
+    // A check whether the version was committed.
+    pub(crate) fn checked(
+        alloc: Global,
+        key: &Key,
+        version: Version,
+        committed: bool,
+    ) -> Result<Self, AllocError>
+        ensures { IfOk result (λ packed. packed ≡ record { call = NodeCall.DepCheck key.now version; reply = NodeReply.Checked committed }) }
+    {
+        match ShortKey::of(key) {
+            Some(short) => Ok(PackedExchange {
+                packing: if committed {
+                    Packing::WasCommitted(short, version)
+                } else {
+                    Packing::WasNotCommitted(short, version)
+                },
+            }),
+            None => PackedExchange::in_full(
+                alloc,
+                NodeCall::DepCheck(*key, version),
+                NodeReply::Checked(committed),
+            ),
+        }
+    }
+
+    // A pull for a data centre, for which the entry is the next.
+    pub(crate) fn pulled(dc: u64, entry: Entry) -> Self
+        ensures { result ≡ record { call = NodeCall.Pull dc; reply = NodeReply.Pulled entry } }
+    {
+        PackedExchange {
+            packing: Packing::EntryPulled(dc, entry),
+        }
+    }
+
+    // A pull for a data centre, for which there is none.
+    pub(crate) fn nothing(dc: u64) -> Self
+        ensures { result ≡ record { call = NodeCall.Pull dc; reply = NodeReply.Nothing } }
+    {
+        PackedExchange {
+            packing: Packing::NothingPulled(dc),
+        }
+    }
+
+    // A commit that was done.
+    pub(crate) fn committed(entry: Entry) -> Self
+        ensures { result ≡ record { call = NodeCall.Commit entry; reply = NodeReply.Committed } }
+    {
+        PackedExchange {
+            packing: Packing::EntryCommitted(entry),
+        }
+    }
+
+    // A commit that was done before.
+    pub(crate) fn already(entry: Entry) -> Self
+        ensures { result ≡ record { call = NodeCall.Commit entry; reply = NodeReply.Already } }
+    {
+        PackedExchange {
+            packing: Packing::CommittedBefore(entry),
+        }
+    }
+
+    // A commit before that of the entry before it.
+    pub(crate) fn out_of_order(entry: Entry, mark: Version) -> Self
+        ensures { result ≡ record { call = NodeCall.Commit entry; reply = NodeReply.OutOfOrder mark } }
+    {
+        PackedExchange {
+            packing: Packing::EntryOutOfOrder(entry, mark),
+        }
+    }
+
+    // An acknowledgement of the front.
+    pub(crate) fn acked(dc: u64, version: Version) -> Self
+        ensures { result ≡ record { call = NodeCall.Ack dc version; reply = NodeReply.Acked } }
+    {
+        PackedExchange {
+            packing: Packing::FrontAcked(dc, version),
+        }
+    }
+
+    // An acknowledgement of what is not the front.
+    pub(crate) fn not_front(dc: u64, version: Version) -> Self
+        ensures { result ≡ record { call = NodeCall.Ack dc version; reply = NodeReply.NotFront } }
+    {
+        PackedExchange {
+            packing: Packing::FrontNotAcked(dc, version),
+        }
+    }
+
+    // A collection that removed so many records.
+    pub(crate) fn removed(count: u64) -> Self
+        ensures { result ≡ record { call = NodeCall.Collect; reply = NodeReply.Removed count } }
+    {
+        PackedExchange {
+            packing: Packing::Collected(count),
+        }
+    }
+
+    // Any call and reply, which take memory of their own.
+    pub(crate) fn in_full(
+        alloc: Global,
+        call: NodeCall,
+        reply: NodeReply,
+    ) -> Result<Self, AllocError>
+        ensures { IfOk result (λ packed. packed ≡ record { call = call; reply = reply }) }
+    {
+        Ok(PackedExchange {
+            packing: Packing::InFull(Box::new(alloc, Exchange { call, reply })?),
+        })
+    }
+
+    // The call.
+    fn call(&self, alloc: Global) -> Result<NodeCall, AllocError>
+        ensures { IfOk result (λ call. call ≡ self.now.call) }
+    {
+        match &self.packing {
+            Packing::PutStored(entry) => put_of(alloc, entry),
+            Packing::LatestFound(entry) => Ok(NodeCall::Get(entry.key(), Wanted::Latest)),
+            Packing::ExactFound(entry) => Ok(NodeCall::Get(
+                entry.key(),
+                Wanted::Exactly(entry.version()),
+            )),
+            Packing::LatestAbsent(key) => Ok(NodeCall::Get(key.key(), Wanted::Latest)),
+            Packing::NotCome(key, version) => {
+                Ok(NodeCall::Get(key.key(), Wanted::Exactly(*version)))
+            }
+            Packing::WasCommitted(key, version) => Ok(NodeCall::DepCheck(key.key(), *version)),
+            Packing::WasNotCommitted(key, version) => Ok(NodeCall::DepCheck(key.key(), *version)),
+            Packing::EntryPulled(dc, _) => Ok(NodeCall::Pull(*dc)),
+            Packing::NothingPulled(dc) => Ok(NodeCall::Pull(*dc)),
+            Packing::EntryCommitted(entry) => Ok(NodeCall::Commit(entry.copy(alloc)?)),
+            Packing::CommittedBefore(entry) => Ok(NodeCall::Commit(entry.copy(alloc)?)),
+            Packing::EntryOutOfOrder(entry, _) => Ok(NodeCall::Commit(entry.copy(alloc)?)),
+            Packing::FrontAcked(dc, version) => Ok(NodeCall::Ack(*dc, *version)),
+            Packing::FrontNotAcked(dc, version) => Ok(NodeCall::Ack(*dc, *version)),
+            Packing::Collected(_) => Ok(NodeCall::Collect),
+            Packing::InFull(exchange) => exchange.call.copy(alloc),
+        }
+    }
+
+    // The reply.
+    fn reply(&self, alloc: Global) -> Result<NodeReply, AllocError>
+        ensures { IfOk result (λ reply. reply ≡ self.now.reply) }
+    {
+        match &self.packing {
+            Packing::PutStored(entry) => Ok(NodeReply::Stored(entry.version())),
+            Packing::LatestFound(entry) => found_of(alloc, entry),
+            Packing::ExactFound(entry) => found_of(alloc, entry),
+            Packing::LatestAbsent(_) => Ok(NodeReply::Absent),
+            Packing::NotCome(_, _) => Ok(NodeReply::NotYet),
+            Packing::WasCommitted(_, _) => Ok(NodeReply::Checked(true)),
+            Packing::WasNotCommitted(_, _) => Ok(NodeReply::Checked(false)),
+            Packing::EntryPulled(_, entry) => Ok(NodeReply::Pulled(entry.copy(alloc)?)),
+            Packing::NothingPulled(_) => Ok(NodeReply::Nothing),
+            Packing::EntryCommitted(_) => Ok(NodeReply::Committed),
+            Packing::CommittedBefore(_) => Ok(NodeReply::Already),
+            Packing::EntryOutOfOrder(_, mark) => Ok(NodeReply::OutOfOrder(*mark)),
+            Packing::FrontAcked(_, _) => Ok(NodeReply::Acked),
+            Packing::FrontNotAcked(_, _) => Ok(NodeReply::NotFront),
+            Packing::Collected(count) => Ok(NodeReply::Removed(*count)),
+            Packing::InFull(exchange) => exchange.reply.copy(alloc),
+        }
+    }
+}
+
+impl AuditRow {
+    // The row of a call that came at a moment.
+    pub(crate) fn new(moment: u64, exchange: PackedExchange) -> Self
+        ensures { result ≡ record { moment = moment; call = exchange.call; reply = exchange.reply } }
+    {
+        AuditRow { moment, exchange }
+    }
+
+    /// The moment as it was handed in.
+    pub fn moment(&self) -> u64
+        ensures { result ≡ self.now.moment }
+    {
+        self.moment
+    }
+
+    /// The moment, the call and the reply as they were. Values, lists and entries share their memory.
+    pub fn entry(&self, alloc: Global) -> Result<AuditEntry, AllocError>
+        ensures { IfOk result (λ entry. entry ≡ self.now) }
+    {
+        Ok(AuditEntry {
+            moment: self.moment,
+            call: self.exchange.call(alloc)?,
+            reply: self.exchange.reply(alloc)?,
+        })
+    }
+}
