@@ -132,6 +132,33 @@ fn commits_under_want_of_memory(rt: HostRuntime) {
     );
 }
 
+/// The reply at a place of the audit. Where memory was refused for it, it is asked for again.
+fn audited(rt: &impl Abort, alloc: Global, node: &Node, place: u64) -> Short {
+    assert!(rt; 0 < node.slots());
+    let row = node.audit(0, place).expect(rt, "a call");
+    match row.entry(alloc) {
+        Ok(entry) => in_short(&entry.reply),
+        Err(_) => in_short(&row.entry(alloc).expect(rt, "memory").reply),
+    }
+}
+
+/// A row with a long key, and one of a refusal, ask for memory of their own, which may be refused.
+#[test]
+fn rows_in_full_under_want_of_memory(rt: HostRuntime) {
+    let alloc = rt.alloc();
+    let quota = Quota { outbox: 1, ..QUOTA };
+    let mut node = one_of_two(&rt, alloc, 0, 0, quota);
+    let long = b"a_key_of_more_than_15_bytes";
+    let first = put(&rt, alloc, long);
+    insists(&rt, alloc, &mut node, 1, first, ("stored", 65536));
+    let full = refused(Fault::OutboxFull);
+    insists(&rt, alloc, &mut node, 1, put(&rt, alloc, long), full);
+    insists(&rt, alloc, &mut node, 1, get(&rt, long, 9, 0), ("not yet", 0));
+    assert_eq!(rt; audited(&rt, alloc, &node, 0), ("stored", 65536));
+    assert_eq!(rt; audited(&rt, alloc, &node, 1), full);
+    assert_eq!(rt; audited(&rt, alloc, &node, 2), ("not yet", 0));
+}
+
 /// No request for memory comes before the test on the audit.
 #[test]
 fn a_full_audit_under_want_of_memory(rt: HostRuntime) {
