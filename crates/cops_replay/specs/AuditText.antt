@@ -1,5 +1,5 @@
--- The text of an audit: the head, and then each tenant's records.
-use Rattle.std.specs.Prelude.{◌≡◌, ℕ, ◌+◌, List, [], ◌∷◌, ◌++◌, flat_map, slice_get, Some}
+-- The text of an audit: the line of its layout, the head, and then each tenant's records.
+use Rattle.std.specs.Prelude.{◌≡◌, ℕ, ◌+◌, List, [], ◌∷◌, ◌++◌, codes, flat_map, slice_get, Some}
 use Rattle.uuid.specs.Text.{hyphenated_text, lower}
 use Rattle.cops_types.specs.declared.configs.Config.{Config}
 use Rattle.cops_types.specs.declared.configs.Tenant.{Tenant}
@@ -19,11 +19,19 @@ ended line = line ++ newline ∷ []
 
 -- ---- the head, in its one form: the tokens in lower case, with hyphens
 
+-- the first line of a file of today's layout; a file of layout 1 has none for its layout
+abbrev pub layout_line : List ℕ
+layout_line = codes "layout 2"
+
 abbrev pub tenant_text : Tenant → List ℕ
 tenant_text tenant = ended (tenant_line (hyphenated_text lower tenant.token) tenant)
 
+-- as a script has it
+abbrev pub config_text : Config → List ℕ
+config_text config = ended (cluster_line config) ++ flat_map tenant_text config.tenants ++ ended begin_line
+
 abbrev pub head_text : Config → List ℕ
-head_text config = ended (cluster_line config) ++ flat_map tenant_text config.tenants ++ ended begin_line
+head_text config = ended layout_line ++ config_text config
 
 -- ---- the records: by tenant, then by node, then by place in the audit
 

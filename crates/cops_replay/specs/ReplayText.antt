@@ -1,20 +1,32 @@
 -- What a replay of a file's records writes.
-use Rattle.std.specs.Prelude.{◌≡◌, ℕ, ◌+◌, ◌-◌, ◌^◌, ◌⊎◌, min, nat_le, if◌then◌else◌, List, [], ◌∷◌, ◌++◌, length, codes, decimal, slice_get, IsTrue, Option, Some, None}
-use Rattle.std.specs.Option.{option_map}
+use Rattle.std.specs.Prelude.{◌≡◌, ℕ, ◌+◌, ◌-◌, ◌^◌, ◌⊎◌, Bool, false, ◌&&◌, ◌||◌, min, nat_le, nat_lt, if◌then◌else◌, List, [], ◌∷◌, ◌++◌, length, codes, decimal, slice_get, IsFalse, IsTrue, Option, Some, None}
+use Rattle.std.specs.List.{list_any}
+use Rattle.std.specs.Option.{is_none, option_map}
+use Rattle.std.specs.Str.{bytes_eq}
 use Rattle.std.specs.Io.KnownBytes.{Keeps}
 use Rattle.cops_types.specs.declared.configs.Config.{Config}
 use Rattle.cops_types.specs.declared.configs.Tenant.{Tenant}
-use Rattle.cops_types.specs.Head.{Whole, head_of}
+use Rattle.cops_types.specs.declared.faults.Fault.{Fault}
+use Rattle.cops_types.specs.declared.faults.Fault.TheVariants as fault
+use Rattle.cops_types.specs.Head.{HeadReading, Whole, BadAt, AtStart, reading_from}
 use Rattle.cops_types.specs.Lines.{lines_of}
+use Rattle.cops_types.specs.OldHead.{old_head_of}
+use Rattle.cops_types.specs.Refusal.{refused_if}
 use Rattle.cops_types.specs.Sink.{AppendsFront}
 use Rattle.cops_types.specs.TenantConfig.{TenantConfig, tenant_config}
 use Rattle.cops_types.specs.Words.{newline}
 use Rattle.cops_node.specs.SoloNode.{SoloNode}
 use Rattle.cops_world.specs.Script.{alone_lines, slot_of_name}
+use Rattle.cops_replay.specs.declared.layouts.Layout.{Layout}
+use Rattle.cops_replay.specs.declared.layouts.Layout.TheVariants.{Today, Early, Old}
 use Rattle.cops_replay.specs.declared.Record.{Record}
 use Rattle.cops_replay.specs.declared.Replayed.{Replayed}
 use Rattle.cops_replay.specs.declared.Replayed.TheVariants.{Same, FirstDifference}
-use Rattle.cops_replay.specs.RecordLines.{record_in}
+use Rattle.cops_replay.specs.declared.refusals.ReplayRefusal.{ReplayRefusal}
+use Rattle.cops_replay.specs.declared.refusals.ReplayRefusal.TheVariants.{BadConfig, UnknownTenant, ClockTooGreat}
+use Rattle.cops_replay.specs.AuditText.{layout_line}
+use Rattle.cops_replay.specs.OldRecords.{is_old_record, last_early_clock, old_record_in, versions_in}
+use Rattle.cops_replay.specs.RecordLines.{record_by}
 use Rattle.cops_replay.specs.RecordText.{is_record, record_line}
 use Rattle.cops_replay.specs.Replaying.{Agrees, fresh_nodes, nodes_after}
 
@@ -22,9 +34,39 @@ use Rattle.cops_replay.specs.Replaying.{Agrees, fresh_nodes, nodes_after}
 abbrev pub longest_record : ℕ
 longest_record = 200000
 
--- the record of a line that is one
+-- the record of a line that is one, with its versions read so
+abbrev pub told_of : Layout → List ℕ → Option Record
+told_of layout line = if nat_le (length line) longest_record then option_map (λ (read : List ℕ × Record). read.1) (record_by (versions_in layout) line) else None
+
+-- in today's layout
 abbrev pub told_in : List ℕ → Option Record
-told_in line = if nat_le (length line) longest_record then option_map (λ (read : List ℕ × Record). read.1) (record_in line) else None
+told_in line = told_of Today line
+
+-- ---- clocks of layout 1 that today's layout lacks, or that have no next one in it
+
+-- in the record of the line
+abbrev pub has_great_clock : List ℕ → Bool
+has_great_clock line = nat_le (length line) longest_record && is_none (old_record_in line) && is_old_record line
+
+abbrev pub is_great_in : Layout → List ℕ → Bool
+is_great_in Today line = false
+is_great_in Early line = has_great_clock line
+is_great_in Old line = false
+
+abbrev pub great_clock_of : Layout → List ℕ → Option Fault
+great_clock_of layout line = refused_if (is_great_in layout line) fault.ClockTooGreat
+
+-- in the tenant's line of the head
+abbrev pub starts_great_in : Layout → Tenant → Bool
+starts_great_in Today tenant = false
+starts_great_in Early tenant = nat_lt last_early_clock tenant.first_clock
+starts_great_in Old tenant = false
+
+-- in either, where these are the lines of the tenant's records
+abbrev pub is_too_great_in : Layout → Tenant → List (List ℕ) → Bool
+is_too_great_in layout tenant lines = starts_great_in layout tenant || list_any (is_great_in layout) lines
+
+-- ---- what is found
 
 -- the record has a line that is not too long
 pub record HasLine (tenant : List ℕ) (told : Record) : Type 0 where
@@ -32,11 +74,15 @@ pub record HasLine (tenant : List ℕ) (told : Record) : Type 0 where
   pub short : IsTrue (nat_le (length (record_line tenant told)) longest_record)
 
 -- what a replay finds that has come to these nodes after so many lines: the first place whose line is no record or one that doesn't agree, or how many lines there are
+abbrev pub FindsBy : Layout → TenantConfig → ℕ → List SoloNode → List (List ℕ) → Replayed → Type 0
+FindsBy layout config passed nodes [] found = found ≡ Same passed
+FindsBy layout config passed nodes (line ∷ lines) found =
+    ((told : Record) × (told_of layout line ≡ Some told) × Agrees config told nodes × FindsBy layout config (passed + 1) (nodes_after config told nodes) lines found)
+    ⊎ (((told : Record) → told_of layout line ≡ Some told → Agrees config told nodes → ⊥) × (found ≡ FirstDifference (passed + 1)))
+
+-- in today's layout
 abbrev pub FindsIn : TenantConfig → ℕ → List SoloNode → List (List ℕ) → Replayed → Type 0
-FindsIn config passed nodes [] found = found ≡ Same passed
-FindsIn config passed nodes (line ∷ lines) found =
-    ((told : Record) × (told_in line ≡ Some told) × Agrees config told nodes × FindsIn config (passed + 1) (nodes_after config told nodes) lines found)
-    ⊎ (((told : Record) → told_in line ≡ Some told → Agrees config told nodes → ⊥) × (found ≡ FirstDifference (passed + 1)))
+FindsIn config passed nodes lines found = FindsBy Today config passed nodes lines found
 
 -- a number past the last of 64 bits is told as that
 abbrev pub told_number : ℕ → ℕ
@@ -46,18 +92,57 @@ abbrev pub replayed_text : Replayed → List ℕ
 replayed_text (Same count) = codes "same " ++ decimal (told_number count) ++ newline ∷ []
 replayed_text (FirstDifference place) = codes "differs " ++ decimal (told_number place) ++ newline ∷ []
 
--- the bytes are an audit whose head has a tenant of this name, and the text tells what a replay of his lines finds
-pub record IsReplayOf (name bytes text : List ℕ) : Type 0 where
+-- ---- whole files
+
+-- the layout that the first line tells: without such a line it is layout 1, of which the clocks are read that today's has too
+abbrev pub layout_of : List (List ℕ) → Layout
+layout_of [] = Early
+layout_of (line ∷ lines) = if bytes_eq line layout_line then Today else Early
+
+-- the head of a file in this layout
+abbrev pub head_by : Layout → List (List ℕ) → HeadReading
+head_by Today [] = BadAt 1
+head_by Today (line ∷ lines) = reading_from lines 2 AtStart
+head_by Early lines = old_head_of lines
+head_by Old lines = old_head_of lines
+
+-- the lines are an audit in this layout whose head has a tenant of this name, no clock of his is too great, and the text tells what a replay of his lines finds
+pub record IsReplayBy (layout : Layout) (name : List ℕ) (lines : List (List ℕ)) (text : List ℕ) : Type 0 where
   pub config : Config
-  pub lines : List (List ℕ)
+  pub records : List (List ℕ)
   pub slot : ℕ
   pub tenant : Tenant
-  pub head : head_of (lines_of bytes) ≡ Whole config lines
+  pub head : head_by layout lines ≡ Whole config records
   pub there : slot_of_name config.tenants name ≡ Some slot
   pub tenant_is : slice_get config.tenants slot ≡ Some tenant
+  pub fits : IsFalse (is_too_great_in layout tenant (alone_lines name records))
   pub found : Replayed
-  pub finds : FindsIn (tenant_config config tenant) 0 (fresh_nodes (tenant_config config tenant)) (alone_lines name lines) found
+  pub finds : FindsBy layout (tenant_config config tenant) 0 (fresh_nodes (tenant_config config tenant)) (alone_lines name records) found
   pub text_is : text ≡ replayed_text found
+
+-- the lines are an audit in this layout whose head has a tenant of this name, and a clock of his is too great
+pub record IsTooGreatBy (layout : Layout) (name : List ℕ) (lines : List (List ℕ)) : Type 0 where
+  pub config : Config
+  pub records : List (List ℕ)
+  pub slot : ℕ
+  pub tenant : Tenant
+  pub head : head_by layout lines ≡ Whole config records
+  pub there : slot_of_name config.tenants name ≡ Some slot
+  pub tenant_is : slice_get config.tenants slot ≡ Some tenant
+  pub great : IsTrue (is_too_great_in layout tenant (alone_lines name records))
+
+-- the head is bad first at this line, or it is whole and has no tenant of the name, or a clock of his is too great
+abbrev pub IsRefusedBy : Layout → List ℕ → List (List ℕ) → ReplayRefusal → Type 0
+IsRefusedBy layout name lines (BadConfig bad) = head_by layout lines ≡ BadAt bad.line
+IsRefusedBy layout name lines UnknownTenant = (config : Config) × (records : List (List ℕ)) × (head_by layout lines ≡ Whole config records) × (slot_of_name config.tenants name ≡ None)
+IsRefusedBy layout name lines ClockTooGreat = IsTooGreatBy layout name lines
+
+-- the same of a file, in the layout that its first line tells
+abbrev pub IsReplayOf : List ℕ → List ℕ → List ℕ → Type 0
+IsReplayOf name bytes text = IsReplayBy (layout_of (lines_of bytes)) name (lines_of bytes) text
+
+abbrev pub RefusesReplayOf : List ℕ → List ℕ → ReplayRefusal → Type 0
+RefusesReplayOf name bytes refusal = IsRefusedBy (layout_of (lines_of bytes)) name (lines_of bytes) refusal
 
 -- nothing is written, or a front of what a replay finds
 abbrev pub ReplaysFront : List ℕ → List ℕ → Option (List ℕ) → Option (List ℕ) → Type 0

@@ -4,15 +4,17 @@ use Rattle.cops_types.specs.declared.configs.Config.{Config}
 use Rattle.cops_types.specs.Counts.{counted}
 use Rattle.cops_types.specs.TenantConfig.{TenantConfig}
 use Rattle.cops_node.specs.Clusters.{Cluster, nodes_of}
+use Rattle.cops_replay.specs.declared.layouts.Layout.{Layout}
 use Rattle.cops_replay.specs.declared.Record.{Record}
 use Rattle.cops_replay.specs.declared.Replayed.{Replayed}
 use Rattle.cops_replay.specs.declared.Replayed.TheVariants.{Same, FirstDifference}
 use Rattle.cops_replay.specs.Replaying.{Agrees, fresh_nodes, nodes_after}
 use Rattle.cops_replay.specs.Replays.{IsAlone}
-use Rattle.cops_replay.specs.ReplayText.{told_in}
+use Rattle.cops_replay.specs.ReplayText.{told_of}
 
--- the nodes, how many records agreed, and where the first that does not stands
+-- the layout of the records, the nodes, how many records agreed, and where the first that does not stands
 pub record Standing : Type 0 where
+  pub layout : Layout
   pub nodes : Cluster
   pub passed : ℕ
   pub found : Option ℕ
@@ -33,7 +35,7 @@ pub record IsBeforeRecords (config : TenantConfig) (replay : Standing) : Type 0 
 -- the line's record agreed, and the nodes took its turn
 pub record Passes (config : TenantConfig) (line : List ℕ) (old new : Standing) : Type 0 where
   pub told : Record
-  pub told_is : told_in line ≡ Some told
+  pub told_is : told_of old.layout line ≡ Some told
   pub agrees : Agrees config told (nodes_of config 0 old.nodes)
   pub after : nodes_of config 0 new.nodes ≡ nodes_after config told (nodes_of config 0 old.nodes)
   pub alone : IsAlone config new.nodes
@@ -42,18 +44,19 @@ pub record Passes (config : TenantConfig) (line : List ℕ) (old new : Standing)
 
 -- the line is no record that agrees, and this is its place
 pub record Differs (config : TenantConfig) (line : List ℕ) (old new : Standing) : Type 0 where
-  pub differs : (told : Record) → told_in line ≡ Some told → Agrees config told (nodes_of config 0 old.nodes) → ⊥
+  pub differs : (told : Record) → told_of old.layout line ≡ Some told → Agrees config told (nodes_of config 0 old.nodes) → ⊥
   pub found_is : new.found ≡ Some (counted old.passed)
 
 -- one line was replayed; after a difference none is
 pub record IsReplayedLine (line : List ℕ) (old new : Standing) : Type 0 where
+  pub layout : new.layout ≡ old.layout
   pub over : (place : ℕ) → old.found ≡ Some place → new ≡ old
   pub goes : old.found ≡ None → (config : TenantConfig) → IsAlone config old.nodes → Passes config line old new ⊎ Differs config line old new
 
 -- the next record's place is noted: one more has passed, or it is the first that differs
 abbrev pub IsRecordCounted : Bool → Standing → Standing → Type 0
-IsRecordCounted true old new = (new.nodes ≡ old.nodes) × (new.passed ≡ counted old.passed) × (new.found ≡ old.found)
-IsRecordCounted false old new = new.found ≡ Some (counted old.passed)
+IsRecordCounted true old new = (new.layout ≡ old.layout) × (new.nodes ≡ old.nodes) × (new.passed ≡ counted old.passed) × (new.found ≡ old.found)
+IsRecordCounted false old new = (new.layout ≡ old.layout) × (new.found ≡ Some (counted old.passed))
 
 -- what has been found so far
 abbrev pub found_so_far : ℕ → Option ℕ → Replayed

@@ -9,11 +9,11 @@ ghost use Rattle.cops_types.specs.TenantConfig.{tenant_config};
 ghost use Rattle.cops_node.specs.Parts.{solo_of};
 ghost use Rattle.cops_node.specs.Place.{place_of};
 ghost use Rattle.cops_replay.specs.Audits.{record_of, records_of};
-ghost use Rattle.cops_replay.specs.AuditText.{AreNodesOf, audit_of, ended, head_text, his_nodes, records_text, tenants_text, tenant_text};
+ghost use Rattle.cops_replay.specs.AuditText.{AreNodesOf, audit_of, config_text, ended, head_text, his_nodes, records_text, tenants_text, tenant_text};
 ghost use Rattle.cops_replay.specs.Pages.{PutsText, page};
 ghost use Rattle.cops_replay.specs.RecordText.{record_line};
 
-use crate::heads::{push_begin, push_cluster, push_tenant};
+use crate::heads::{push_begin, push_cluster, push_layout, push_tenant};
 use crate::pages::{drain, drain_full};
 use crate::writing::push_told;
 use cops_node::{AuditEntry, AuditRow, Node, NodeId};
@@ -166,9 +166,9 @@ fn put_tenant_lines<W: Write>(
     Ok(())
 }
 
-/// Puts the head.
-fn put_head<W: Write>(out: &mut Vec<u8>, sink: &mut Sink<W>, config: &Config) -> Result<(), Fault>
-    ensures { PutsText (head_text config.now)
+/// Puts the head as a script has it.
+fn put_config<W: Write>(out: &mut Vec<u8>, sink: &mut Sink<W>, config: &Config) -> Result<(), Fault>
+    ensures { PutsText (config_text config.now)
         (page out.old.items (W.contents (sink_writer sink.old)) (sink_failures sink.old)) result
         (page out.new.items (W.contents (sink_writer sink.new)) (sink_failures sink.new)) }
 {
@@ -180,8 +180,18 @@ fn put_head<W: Write>(out: &mut Vec<u8>, sink: &mut Sink<W>, config: &Config) ->
     Ok(())
 }
 
-/// Writes the audit of a configuration's nodes, which come by number: the head in its one form, and
-/// then a line for each call, by tenant, then by node, then by place in the audit.
+/// Puts the line of the layout, and then the head.
+fn put_head<W: Write>(out: &mut Vec<u8>, sink: &mut Sink<W>, config: &Config) -> Result<(), Fault>
+    ensures { PutsText (head_text config.now)
+        (page out.old.items (W.contents (sink_writer sink.old)) (sink_failures sink.old)) result
+        (page out.new.items (W.contents (sink_writer sink.new)) (sink_failures sink.new)) }
+{
+    push_layout(out)?;
+    put_config(out, sink, config)
+}
+
+/// Writes the audit of a configuration's nodes, which come by number: the line of the layout, the
+/// head in its one form, and then a line for each call, by tenant, then by node, then by place in the audit.
 ///
 /// A few kilobytes of it wait at most, beside one line. At an `Err` a front of it is written. The
 /// writer is not flushed.

@@ -1,7 +1,7 @@
-//! The lines of a head, in their one form: tokens in lower case, with hyphens.
+//! The lines of an audit before its records, in their one form: tokens in lower case, with hyphens.
 ghost use Rattle.std.specs.Prelude.{◌≡◌, ◌∷◌, ◌++◌, OnOk, decimal, flat_map};
 ghost use Rattle.cops_types.specs.HeadLines.{begin_line, cluster_line};
-ghost use Rattle.cops_replay.specs.AuditText.{ended, tenant_text};
+ghost use Rattle.cops_replay.specs.AuditText.{ended, layout_line, tenant_text};
 
 use cops_types::texts::push_number;
 use cops_types::{Config, Tenant};
@@ -16,6 +16,14 @@ fn push_numbers(out: &mut Vec<u8>, numbers: &[u64]) -> Result<(), AllocError>
         out.push(b' ')?;
         push_number(out, *number)?;
     }
+    Ok(())
+}
+
+/// Puts the line that tells today's layout at the end, with its newline.
+pub(crate) fn push_layout(out: &mut Vec<u8>) -> Result<(), AllocError>
+    ensures { OnOk result (out.new.items ≡ out.old.items ++ ended layout_line) }
+{
+    out.extend_from_slice(b"layout 2\n")?;
     Ok(())
 }
 

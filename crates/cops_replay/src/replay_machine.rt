@@ -1,82 +1,158 @@
 //! The machine that replays one tenant's records of an audit, line by line.
-ghost use Rattle.std.specs.Prelude.{◌≡◌, [], ◌∷◌, ◌++◌, decimal, None, Some, IfErr, IfNone, IfOk, IfSome, IsTrue, OnOk};
+ghost use Rattle.std.specs.Prelude.{◌≡◌, [], ◌∷◌, ◌++◌, ℕ, decimal, None, Some, IfErr, IfNone, IfOk, IfSome, IsFalse, IsTrue, OnErr, OnOk, slice_get};
 ghost use Rattle.std.specs.Str.{bytes_eq};
 ghost use Rattle.cops_types.specs.declared.configs.Config.{Config as Setup};
+ghost use Rattle.cops_types.specs.declared.configs.Tenant.{Tenant as TenantLine};
 ghost use Rattle.cops_types.specs.Head.{AtStart, Begun};
+ghost use Rattle.cops_types.specs.HeadLines.{are_sizes};
 ghost use Rattle.cops_types.specs.HeadReader.{front_with};
 ghost use Rattle.cops_types.specs.LineAnswers.{IfRefused};
+ghost use Rattle.cops_types.specs.OldHead.{old_front_with};
 ghost use Rattle.cops_types.specs.Words.{first_word, newline};
-ghost use Rattle.cops_world.specs.GoodHeads.{is_good, HeadContinues};
-ghost use Rattle.cops_world.specs.HeadRules.{IsHeadAt};
-ghost use Rattle.cops_world.specs.Script.{slot_of_name};
-ghost use Rattle.cops_world.specs.SoloRules.{RefusesFor};
-ghost use Rattle.cops_world.specs.declared.solo_machine.SoloRefusal.TheVariants.{UnknownTenant};
-ghost use Rattle.cops_replay.specs.ReplayRules.{ReplaysOwn, StartsFor};
-ghost use Rattle.cops_replay.specs.ReplayText.{replayed_text};
+ghost use Rattle.cops_node.specs.Parts.{are_clocks};
+ghost use Rattle.cops_world.specs.GoodHeads.{HeadContinues};
+ghost use Rattle.cops_world.specs.MainTheorem.{with_tenant_alone};
+ghost use Rattle.cops_replay.specs.declared.layouts.Layout.TheVariants.{Early, Today};
+ghost use Rattle.cops_replay.specs.OldHeads.{OldHeadContinues};
+ghost use Rattle.cops_replay.specs.ReplayRules.{HeadRefusesBy, IsHeadBy, IsNotBegun, RefusesOwn, ReplaysOwn, StartsFor, tells_today};
+ghost use Rattle.cops_replay.specs.ReplayText.{replayed_text, starts_great_in};
 
 use crate::Replayed;
+use crate::layouts::{LAST_EARLY_CLOCK, Layout};
+use crate::old_heads::{OldHeadSoFar, read_old_head};
+use crate::refusals::ReplayRefusal;
 use crate::replayings::Replay;
 use cops_types::texts::push_number;
 use cops_types::words::split_word;
-use cops_types::{Bytes, Config, ConfigReader, LineMachine, Stop};
-use cops_world::{BadConfig, HeadSoFar, Script, SoloRefusal, read_head};
+use cops_types::{Bytes, Config, ConfigReader, Fault, LineMachine, Stop, Tenant};
+use cops_world::{BadConfig, HeadSoFar, read_head};
 use std::alloc::{AllocError, Global};
+
+/// How far an audit has come.
+#[derive(Drop)]
+pub enum ReplayStage {
+    /// To no line, or into a head of layout 1.
+    OldHead(OldHeadSoFar),
+    /// Past the line that tells today's layout, and into the head after it.
+    Head(HeadSoFar),
+    /// To its records.
+    Running(Replay),
+}
 
 /// An audit of which the records of the tenant with this name are replayed.
 #[derive(Drop)]
 pub struct ReplayScript {
     pub name: Bytes,
-    pub script: Script<Replay>,
+    pub stage: ReplayStage,
 }
 
 /// An audit that has come to no line, for the tenant with this name.
 pub(crate) fn new_replay_script(alloc: Global, name: &[u8]) -> Result<ReplayScript, AllocError>
     ensures name { IfOk result (λ replay. replay.name ≡ name.now) }
-    ensures head { IfOk result (λ replay. IsHeadAt AtStart 0 replay.script) }
+    ensures head { IfOk result (λ replay. IsHeadBy Early AtStart 0 replay.stage) }
 {
     let name = Bytes::new(alloc, name)?;
     Ok(ReplayScript {
         name,
-        script: Script::Head(HeadSoFar {
-            reader: ConfigReader::new(),
+        stage: ReplayStage::OldHead(OldHeadSoFar {
+            reader: ConfigReader::layout_1(),
             lines: 0,
         }),
     })
 }
 
+/// An audit after the line that tells today's layout.
+fn new_head() -> ReplayStage
+    ensures { IsHeadBy Today AtStart 1 result }
+{
+    ReplayStage::Head(HeadSoFar {
+        reader: ConfigReader::new(),
+        lines: 1,
+    })
+}
+
+/// Whether a line is the first one, and tells today's layout.
+fn tells_today(head: &OldHeadSoFar, line: &[u8]) -> bool
+    ensures { result ≡ tells_today head.now line.now }
+{
+    head.lines == 0 && line == b"layout 2".as_slice()
+}
+
+/// Whether a tenant's first clock in a file of this layout is too great for today's.
+fn starts_great(layout: Layout, tenant: &Tenant) -> bool
+    ensures { result ≡ starts_great_in layout tenant.now }
+{
+    match layout {
+        Layout::Early => tenant.first_clock > LAST_EARLY_CLOCK,
+        Layout::Today | Layout::Old => false,
+    }
+}
+
 /// A replay for the tenant of this name.
-fn begin_replay(alloc: Global, config: &Config, name: &[u8]) -> Result<Replay, Stop<SoloRefusal>>
-    requires { IsTrue (is_good config.now) }
-    ensures ok { IfOk result (StartsFor name.now config.now) }
-    ensures err { IfErr result (λ stop. IfRefused stop (λ refusal. (refusal ≡ UnknownTenant) × (slot_of_name config.now.tenants name.now ≡ None))) }
+fn begin_replay(
+    alloc: Global,
+    layout: Layout,
+    config: &Config,
+    name: &[u8],
+) -> Result<Replay, Stop<ReplayRefusal>>
+    requires sizes { IsTrue (are_sizes config.now) }
+    requires clocks { (slot : ℕ) (tenant : TenantLine) → slice_get config.now.tenants slot ≡ Some tenant → IsFalse (starts_great_in layout tenant) →
+        IsTrue (are_clocks (with_tenant_alone config.now tenant)) }
+    ensures ok { IfOk result (StartsFor layout name.now config.now) }
+    ensures err { IfErr result (λ stop. IfRefused stop (IsNotBegun layout name.now config.now)) }
 {
     let Some(slot) = config.tenants.slot_of_name(name) else {
-        return Err(Stop::Refused(SoloRefusal::UnknownTenant));
+        return Err(Stop::Refused(ReplayRefusal::UnknownTenant));
     };
-    match Replay::begin(alloc, config, slot) {
+    if starts_great(layout, config.tenants.tenant(slot)) {
+        return Err(Stop::Refused(ReplayRefusal::ClockTooGreat));
+    }
+    match Replay::begin(alloc, layout, config, slot) {
         Ok(replay) => Ok(replay),
         Err(_) => Err(Stop::OutOfMemory),
     }
 }
 
-/// Reads one more line of the head, and begins the replay where the line ends it.
+/// Reads one more line of a head of today's layout, and begins the replay where the line ends it.
 fn read_head_line(
     alloc: Global,
     name: &[u8],
     head: &mut HeadSoFar,
     line: &[u8],
-) -> Result<Option<Replay>, Stop<SoloRefusal>>
+) -> Result<Option<Replay>, Stop<ReplayRefusal>>
     ensures more { IfOk result (λ begun. IfNone begun (HeadContinues head.old.reader head.old.lines line.now head.new.reader head.new.lines)) }
-    ensures begun { IfOk result (λ begun. IfSome begun (λ replay. (config : Setup) × (front_with head.old.reader line.now ≡ Some (Begun config)) × StartsFor name.now config replay)) }
-    ensures err { IfErr result (λ stop. IfRefused stop (RefusesFor name.now head.old line.now)) }
+    ensures begun { IfOk result (λ begun. IfSome begun (λ replay. (config : Setup) × (front_with head.old.reader line.now ≡ Some (Begun config)) × StartsFor Today name.now config replay)) }
+    ensures err { IfErr result (λ stop. IfRefused stop (HeadRefusesBy Today name.now head.old.reader head.old.lines line.now)) }
 {
     match read_head(alloc, head, line) {
         Ok(None) => Ok(None),
-        Ok(Some(config)) => match begin_replay(alloc, &config, name) {
+        Ok(Some(config)) => match begin_replay(alloc, Layout::Today, &config, name) {
             Ok(replay) => Ok(Some(replay)),
             Err(stop) => Err(stop),
         },
-        Err(Stop::Refused(bad)) => Err(Stop::Refused(SoloRefusal::BadConfig(bad))),
+        Err(Stop::Refused(bad)) => Err(Stop::Refused(ReplayRefusal::BadConfig(bad))),
+        Err(Stop::OutOfMemory) => Err(Stop::OutOfMemory),
+    }
+}
+
+/// Reads one more line of a head of layout 1, and begins the replay where the line ends it.
+fn read_old_head_line(
+    alloc: Global,
+    name: &[u8],
+    head: &mut OldHeadSoFar,
+    line: &[u8],
+) -> Result<Option<Replay>, Stop<ReplayRefusal>>
+    ensures more { IfOk result (λ begun. IfNone begun (OldHeadContinues head.old.reader head.old.lines line.now head.new.reader head.new.lines)) }
+    ensures begun { IfOk result (λ begun. IfSome begun (λ replay. (config : Setup) × (old_front_with head.old.reader line.now ≡ Some (Begun config)) × StartsFor Early name.now config replay)) }
+    ensures err { IfErr result (λ stop. IfRefused stop (HeadRefusesBy Early name.now head.old.reader head.old.lines line.now)) }
+{
+    match read_old_head(alloc, head, line) {
+        Ok(None) => Ok(None),
+        Ok(Some(config)) => match begin_replay(alloc, Layout::Early, &config, name) {
+            Ok(replay) => Ok(Some(replay)),
+            Err(stop) => Err(stop),
+        },
+        Err(Stop::Refused(bad)) => Err(Stop::Refused(ReplayRefusal::BadConfig(bad))),
         Err(Stop::OutOfMemory) => Err(Stop::OutOfMemory),
     }
 }
@@ -87,14 +163,19 @@ fn replay_own(
     name: &[u8],
     replay: &mut Replay,
     line: &[u8],
-) -> Result<(), AllocError>
-    ensures { OnOk result (ReplaysOwn (bytes_eq (first_word line.now) name.now) replay.old line.now replay.new) }
+) -> Result<(), Stop<ReplayRefusal>>
+    ensures ok { OnOk result (ReplaysOwn (bytes_eq (first_word line.now) name.now) replay.old line.now replay.new) }
+    ensures err { IfErr result (λ stop. IfRefused stop (RefusesOwn name.now replay.old line.now)) }
 {
     let (word, _rest) = split_word(line);
     if word != name {
         return Ok(());
     }
-    replay.line(alloc, line)
+    match replay.line(alloc, line) {
+        Ok(()) => Ok(()),
+        Err(Fault::ClockTooGreat) => Err(Stop::Refused(ReplayRefusal::ClockTooGreat)),
+        Err(_) => Err(Stop::OutOfMemory),
+    }
 }
 
 /// Puts a word, a number and a newline at the end.
@@ -120,7 +201,7 @@ fn push_replayed(out: &mut Vec<u8>, found: Replayed) -> Result<(), AllocError>
 impl LineMachine for ReplayScript {
     ghost use Rattle.cops_replay.specs.ReplayRules.{replay_rules};
 
-    type Refusal = SoloRefusal;
+    type Refusal = ReplayRefusal;
 
     ghost rules = { replay_rules };
 
@@ -129,35 +210,43 @@ impl LineMachine for ReplayScript {
         alloc: Global,
         line: &[u8],
         _out: &mut Vec<u8>,
-    ) -> Result<(), Stop<SoloRefusal>> {
+    ) -> Result<(), Stop<ReplayRefusal>> {
         let name = self.name.as_slice();
-        match &mut self.script {
-            Script::Head(head) => {
+        match &mut self.stage {
+            ReplayStage::OldHead(head) => {
+                if tells_today(head, line) {
+                    self.stage = new_head();
+                    return Ok(());
+                }
+                let Some(replay) = read_old_head_line(alloc, name, head, line)? else {
+                    return Ok(());
+                };
+                self.stage = ReplayStage::Running(replay);
+            }
+            ReplayStage::Head(head) => {
                 let Some(replay) = read_head_line(alloc, name, head, line)? else {
                     return Ok(());
                 };
-                self.script = Script::Running(replay);
+                self.stage = ReplayStage::Running(replay);
             }
-            Script::Running(replay) => {
-                if replay_own(alloc, name, replay, line).is_err() {
-                    return Err(Stop::OutOfMemory);
-                }
-            }
+            ReplayStage::Running(replay) => replay_own(alloc, name, replay, line)?,
         }
         Ok(())
     }
 
-    fn end(&mut self, _alloc: Global, out: &mut Vec<u8>) -> Result<(), Stop<SoloRefusal>> {
-        match &self.script {
-            Script::Head(head) => Err(Stop::Refused(SoloRefusal::BadConfig(BadConfig {
-                line: head.lines.saturating_add(1),
-            }))),
-            Script::Running(replay) => {
+    fn end(&mut self, _alloc: Global, out: &mut Vec<u8>) -> Result<(), Stop<ReplayRefusal>> {
+        let lines = match &self.stage {
+            ReplayStage::OldHead(head) => head.lines,
+            ReplayStage::Head(head) => head.lines,
+            ReplayStage::Running(replay) => {
                 if push_replayed(out, replay.found()).is_err() {
                     return Err(Stop::OutOfMemory);
                 }
-                Ok(())
+                return Ok(());
             }
-        }
+        };
+        Err(Stop::Refused(ReplayRefusal::BadConfig(BadConfig {
+            line: lines.saturating_add(1),
+        })))
     }
 }

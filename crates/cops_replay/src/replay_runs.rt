@@ -5,13 +5,12 @@ ghost use Rattle.cops_types.specs.Counts.{HasRisen, HasRisenBy};
 ghost use Rattle.cops_types.specs.LineRuns.{IfRunRefused};
 ghost use Rattle.cops_types.specs.Sink.{sink_failures, sink_writer};
 ghost use Rattle.cops_types.specs.Source.{source_failures, source_reader, source_reads};
-ghost use Rattle.cops_world.specs.SoloRuns.{IsRefusedFor};
-ghost use Rattle.cops_replay.specs.ReplayText.{IsReplayOf, ReplaysFront};
+ghost use Rattle.cops_replay.specs.ReplayText.{IsReplayOf, RefusesReplayOf, ReplaysFront};
 
+use crate::refusals::ReplayRefusal;
 use crate::replay_machine::{ReplayScript, new_replay_script};
 use crate::replayings::LONGEST_RECORD;
 use cops_types::{RunFault, Sink, Source, run_lines};
-use cops_world::SoloRefusal;
 use std::alloc::Global;
 use std::io::{Read, Write};
 use std::mem;
@@ -21,7 +20,8 @@ const TURNS: u64 = 4_294_967_296;
 
 /// Replays the records of one tenant of an audit, on new nodes that he has to himself: reads the
 /// whole of it, and writes `same N` where each of his N lines is a record whose reply is computed
-/// again, else `differs PLACE`, the place among his lines, from 1, of the first that is not one.
+/// again, else `differs PLACE`, the place among his lines, from 1, of the first that is not one. A file
+/// whose first line isn't `layout 2` is read as one of layout 1.
 ///
 /// Lines of other tenants, and what follows a difference, are read and passed over. It reads as
 /// `run_script` does, and keeps the nodes and one line of at most 200,001 bytes.
@@ -32,7 +32,7 @@ pub fn replay_text<R: Read, O: Write>(
     source: &mut Source<R>,
     sink: &mut Sink<O>,
     tenant: &[u8],
-) -> Result<(), RunFault<SoloRefusal>>
+) -> Result<(), RunFault<ReplayRefusal>>
     // All is read, and what is found is written, or a front of that.
     ensures end { OnOk result (IsAtEnd (R.remaining (source_reader source.new))) }
     ensures ok { OnOk result (IfSome (R.remaining (source_reader source.old)) (λ bytes.
@@ -40,9 +40,10 @@ pub fn replay_text<R: Read, O: Write>(
     ensures err { OnErr result (IfSome (R.remaining (source_reader source.old)) (λ bytes.
         ReplaysFront tenant.now bytes (O.contents (sink_writer sink.old)) (O.contents (sink_writer sink.new)))) }
 
-    // The head is refused where it is bad, and the tenant where it has none of the name; nothing is written then.
+    // The head is refused where it is bad, the tenant where it has none of the name, and a file of layout 1
+    // where a clock of the tenant is too great; nothing is written then.
     ensures refused { IfErr result (λ fault. IfRunRefused fault (λ refusal.
-        IfSome (R.remaining (source_reader source.old)) (λ bytes. IsRefusedFor tenant.now bytes refusal))) }
+        IfSome (R.remaining (source_reader source.old)) (λ bytes. RefusesReplayOf tenant.now bytes refusal))) }
     ensures unwritten { IfErr result (λ fault. IfRunRefused fault (λ refusal.
         Keeps (O.contents (sink_writer sink.old)) (O.contents (sink_writer sink.new)))) }
 

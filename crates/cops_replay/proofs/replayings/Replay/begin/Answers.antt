@@ -1,13 +1,10 @@
 use Rattle.std.proofs.Common.{◌≡◌, ◌∙◌, length, sym, subst, ap}
 use Rattle.std.specs.Prelude.{IsTrue}
-use Rattle.std.specs.List.{list_all}
 use Rattle.cops_types.specs.declared.configs.Config.{Config}
-use Rattle.cops_types.specs.HeadLines.{are_sizes, is_tenant}
-use Rattle.cops_types.proofs.WordLemmas.{both}
+use Rattle.cops_types.specs.HeadLines.{are_sizes}
 use Rattle.cops_node.specs.Clusters.{Cluster}
 use Rattle.cops_node.specs.Parts.{are_clocks}
-use Rattle.cops_world.proofs.WorldKeeps.{clocks_of_good}
-use Rattle.cops_replay.proofs.ReplayLemmas.{clocks_alone, tenant_at}
+use Rattle.cops_replay.proofs.ReplayLemmas.{tenant_at}
 use Rattle.cops_replay.proofs.ReplayingLemmas.{fresh_replay}
 use Rattle.cops_replay.proofs.replayings.Replay.begin.Goals as goal
 
@@ -15,13 +12,13 @@ pub new-requires-clause-sizes : goal.new-requires-clause-sizes
 new-requires-clause-sizes c =
     let config = c.args.config.now in
     let at = tenant_at config.tenants c.args.slot c.requires.slot in
-    subst (λ (k : Config). IsTrue (are_sizes k)) (sym (c.in_ok-alone.ensures at.0 at.1)) (both (are_sizes config) (list_all is_tenant config.tenants) c.requires.good).0
+    subst (λ (k : Config). IsTrue (are_sizes k)) (sym (c.in_ok-alone.ensures at.0 at.1)) c.requires.sizes
 
 pub new-requires-clause-clocks : goal.new-requires-clause-clocks
 new-requires-clause-clocks c =
     let config = c.args.config.now in
     let at = tenant_at config.tenants c.args.slot c.requires.slot in
-    subst (λ (k : Config). IsTrue (are_clocks k)) (sym (c.in_ok-alone.ensures at.0 at.1)) (clocks_alone config c.args.slot at.0 (clocks_of_good config c.requires.good) at.1)
+    subst (λ (k : Config). IsTrue (are_clocks k)) (sym (c.in_ok-alone.ensures at.0 at.1)) (c.requires.clocks at.0 at.1)
 
 pub invariant_of-result : goal.invariant_of-result
 invariant_of-result c =
@@ -33,5 +30,5 @@ invariant_of-result c =
       slots = ap (λ (k : Cluster). k.shape.slots) new ∙ ap (λ (k : Config). length k.tenants) (c.in_ok-alone.ensures at.0 at.1);
     })
 
-pub returns : goal.returns
-returns c = λ tenant e. fresh_replay c.args.config.now c.in_ok-alone.alone tenant c.in_ok-nodes.nodes (c.in_ok-alone.ensures tenant e) c.in_ok-nodes.ensures.nodes c.in_ok-nodes.ensures.tenants c.in_ok-nodes.ensures.fresh
+pub returns-clause-fresh : goal.returns-clause-fresh
+returns-clause-fresh c = λ tenant e. fresh_replay c.args.layout c.args.config.now c.in_ok-alone.alone tenant c.in_ok-nodes.nodes (c.in_ok-alone.ensures tenant e) c.in_ok-nodes.ensures.nodes c.in_ok-nodes.ensures.tenants c.in_ok-nodes.ensures.fresh

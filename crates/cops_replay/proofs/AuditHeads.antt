@@ -1,0 +1,274 @@
+-- What a replay comes to in the head of a file of either layout, over lines as they are cut.
+use Rattle.std.proofs.Common.{◌≡◌, ℕ, zero, suc, ◌+◌, ◌<◌, ◌≤◌, ◌^◌, ◌-◌, Bool, true, false, ◌&&◌, nat_eq, min, List, [], ◌∷◌, ◌++◌, length, map, take, inl, inr, refl, sym, subst, ap, ◌∙◌, length-append, length-take, true≢false, arith}
+use Rattle.std.specs.Prelude.{Option, Some, None, nat_lt, IsTrue}
+use Rattle.std.specs.List.{AllByRecursion}
+use Rattle.std.specs.Str.{bytes_eq}
+use Rattle.std.proofs.Math.Nat.{min-eq_left}
+use Rattle.std.proofs.lemmas.Bool.Decides.{nat_tests}
+use Rattle.cops_types.specs.declared.configs.Config.{Config}
+use Rattle.cops_types.specs.declared.configs.Tenant.{Tenant}
+use Rattle.cops_types.specs.Counts.{counted}
+use Rattle.cops_types.specs.Head.{Front, AtStart, Within, Begun, Follows, HeadReading, Whole, BadAt, front_after, is_begun, may_join, reading_from, with_tenant}
+use Rattle.cops_types.specs.HeadLines.{is_distinct, is_name}
+use Rattle.cops_types.specs.LineRules.{Run}
+use Rattle.cops_types.specs.Lines.{cut_line}
+use Rattle.cops_types.specs.OldHead.{last_old_clock, old_front_after, old_reading_from}
+use Rattle.cops_types.specs.Version.{last_clock}
+use Rattle.cops_types.proofs.FrontLemmas.{front_after-is}
+use Rattle.cops_types.proofs.HeadLemmas.{tenant_fits}
+use Rattle.cops_types.proofs.HeadLengths.{front_after-short}
+use Rattle.cops_types.proofs.WordLemmas.{both}
+use Rattle.cops_world.specs.Script.{AreNamed}
+use Rattle.cops_world.proofs.HeadRuns as today
+use Rattle.cops_replay.specs.declared.layouts.Layout.{Layout}
+use Rattle.cops_replay.specs.declared.layouts.Layout.TheVariants.{Today, Early, Old}
+use Rattle.cops_replay.specs.declared.replay_machine.ReplayScript.{ReplayScript}
+use Rattle.cops_replay.specs.declared.replay_machine.ReplayStage.{ReplayStage}
+use Rattle.cops_replay.specs.declared.replay_machine.ReplayStage.TheVariants.{OldHead, Head, Running}
+use Rattle.cops_replay.specs.AuditText.{layout_line}
+use Rattle.cops_replay.specs.Replayings.{Standing}
+use Rattle.cops_replay.specs.ReplayRules.{GoesOnBy, HeadAnswersBy, IsHeadBy, OldHeadAnswers, StartsFor, front_by, replay_answers, replay_answers_in, replay_rules, tells_today}
+use Rattle.cops_replay.specs.ReplayText.{longest_record}
+use Rattle.cops_replay.proofs.OldFronts.{OldFollows, old_front_after-is, old_front_after-short}
+
+by_test : {C : Type 0} (b : Bool) → (b ≡ true → C) → (b ≡ false → C) → C
+by_test {C} true holds fails = holds refl
+by_test {C} false holds fails = fails refl
+
+pub take_all : (n : ℕ) (xs : List ℕ) → length xs ≤ n → take n xs ≡ xs
+take_all zero [] h = refl
+take_all zero (x ∷ xs) h = absurd (omega arith)
+take_all (suc n) [] h = refl
+take_all (suc n) (x ∷ xs) h = ap (λ l. x ∷ l) (take_all n xs (omega arith))
+
+-- ---- both layouts
+
+-- how many lines stand before the head
+abbrev pub lines_before : Layout → ℕ
+lines_before Today = 1
+lines_before Early = 0
+lines_before Old = 0
+
+abbrev pub reading_by : Layout → List (List ℕ) → ℕ → Front → HeadReading
+reading_by Today lines number front = reading_from lines number front
+reading_by Early lines number front = old_reading_from lines number front
+reading_by Old lines number front = old_reading_from lines number front
+
+short_by : (layout : Layout) (front : Front) (line : List ℕ) (next : Front) → front_by layout front line ≡ Some next → length line ≤ 16384
+short_by Today front line next e = (let short = front_after-short front line next e in omega (arith, short))
+short_by Early front line next e = old_front_after-short front line next e
+short_by Old front line next e = old_front_after-short front line next e
+
+-- a long line is no line of a head, cut or not
+pub cut_in_head : (layout : Layout) (front : Front) (line : List ℕ) → front_by layout front (cut_line longest_record line) ≡ front_by layout front line
+cut_in_head layout front line = by_test (nat_lt (longest_record + 1) (length line))
+    (λ is.
+    let long : longest_record + 1 < length line = grind (arith, nat_tests) in
+    let size : length (take (longest_record + 1) line) ≡ longest_record + 1 = length-take (longest_record + 1) line ∙ omega arith in
+    none_of (take (longest_record + 1) line) (λ short. omega (arith, size, short)) ∙ sym (none_of line (λ short. omega (arith, short))))
+    (λ is. let short : length line ≤ longest_record + 1 = grind (arith, nat_tests) in ap (front_by layout front) (take_all (longest_record + 1) line short))
+  where
+    none_of : (l : List ℕ) → (length l ≤ 16384 → ⊥) → front_by layout front l ≡ None
+    none_of l long = by_found (front_by layout front l) refl
+      where
+        by_found : (found : Option Front) → front_by layout front l ≡ found → found ≡ None
+        by_found None e = refl
+        by_found (Some next) e = absurd (long (short_by layout front l next e))
+
+old_read_once : (front : Front) (number : ℕ) (line : List ℕ) (lines : List (List ℕ)) (next : Front) → is_begun front ≡ false → old_front_after front line ≡ Some next → old_reading_from (line ∷ lines) number front ≡ old_reading_from lines (number + 1) next
+old_read_once AtStart number line lines next still e = ap (λ f. elim f [ None ↦ BadAt number | Some next ↦ old_reading_from lines (number + 1) next ]) e
+old_read_once (Within config) number line lines next still e = ap (λ f. elim f [ None ↦ BadAt number | Some next ↦ old_reading_from lines (number + 1) next ]) e
+old_read_once (Begun config) number line lines next still e = absurd (true≢false still)
+
+old_bad_first : (front : Front) (number : ℕ) (line : List ℕ) (lines : List (List ℕ)) → is_begun front ≡ false → old_front_after front line ≡ None → old_reading_from (line ∷ lines) number front ≡ BadAt number
+old_bad_first AtStart number line lines still e = ap (λ f. elim f [ None ↦ BadAt number | Some next ↦ old_reading_from lines (number + 1) next ]) e
+old_bad_first (Within config) number line lines still e = ap (λ f. elim f [ None ↦ BadAt number | Some next ↦ old_reading_from lines (number + 1) next ]) e
+old_bad_first (Begun config) number line lines still e = absurd (true≢false still)
+
+old_bad_end : (front : Front) (number : ℕ) → is_begun front ≡ false → old_reading_from [] number front ≡ BadAt number
+old_bad_end AtStart number still = refl
+old_bad_end (Within config) number still = refl
+old_bad_end (Begun config) number still = absurd (true≢false still)
+
+pub read_once : (layout : Layout) (front : Front) (number : ℕ) (line : List ℕ) (lines : List (List ℕ)) (next : Front) → is_begun front ≡ false → front_by layout front line ≡ Some next → reading_by layout (line ∷ lines) number front ≡ reading_by layout lines (number + 1) next
+read_once Today front number line lines next still e = today.read_once front number line lines next still e
+read_once Early front number line lines next still e = old_read_once front number line lines next still e
+read_once Old front number line lines next still e = old_read_once front number line lines next still e
+
+pub bad_first : (layout : Layout) (front : Front) (number : ℕ) (line : List ℕ) (lines : List (List ℕ)) → is_begun front ≡ false → front_by layout front line ≡ None → reading_by layout (line ∷ lines) number front ≡ BadAt number
+bad_first Today front number line lines still e = today.bad_first front number line lines still e
+bad_first Early front number line lines still e = old_bad_first front number line lines still e
+bad_first Old front number line lines still e = old_bad_first front number line lines still e
+
+pub bad_end : (layout : Layout) (front : Front) (number : ℕ) → is_begun front ≡ false → reading_by layout [] number front ≡ BadAt number
+bad_end Today front number still = today.bad_end front number still
+bad_end Early front number still = old_bad_end front number still
+bad_end Old front number still = old_bad_end front number still
+
+pub read_whole : (layout : Layout) (lines : List (List ℕ)) (number : ℕ) (config : Config) → reading_by layout lines number (Begun config) ≡ Whole config lines
+read_whole Today lines number config = refl
+read_whole Early lines number config = refl
+read_whole Old lines number config = refl
+
+-- ---- one more line, and the tenants
+
+-- the second front has no tenant, one more than the first, or the same
+abbrev Grows : Front → Front → Type 0
+Grows AtStart (Within config) = config.tenants ≡ []
+Grows (Within old) (Within config) = (tenant : Tenant) × (config.tenants ≡ old.tenants ++ tenant ∷ []) × IsTrue (is_name tenant.name) × IsTrue (may_join old tenant)
+Grows (Within old) (Begun config) = config.tenants ≡ old.tenants
+Grows front next = ⊥
+
+grows : (front : Front) (line : List ℕ) (next : Front) → Follows front line next → Grows front next
+grows AtStart line next f = subst (Grows AtStart) (sym f.2) f.1.bare
+grows (Within old) line next (inl joins) = subst (Grows (Within old)) (sym joins.after) (joins.tenant, refl, (tenant_fits last_clock (omega arith) joins.tenant joins.said.within).name, joins.may)
+grows (Within old) line next (inr ends) = subst (Grows (Within old)) (sym ends.after) refl
+grows (Begun old) line next f = absurd f
+
+old_grows : (front : Front) (line : List ℕ) (next : Front) → OldFollows front line next → Grows front next
+old_grows AtStart line next f = subst (Grows AtStart) (sym f.2) f.1.bare
+old_grows (Within old) line next (inl joins) = subst (Grows (Within old)) (sym joins.after) (joins.tenant, refl, (tenant_fits last_old_clock (omega arith) joins.tenant joins.said.within).name, joins.may)
+old_grows (Within old) line next (inr ends) = subst (Grows (Within old)) (sym ends.after) refl
+old_grows (Begun old) line next f = absurd f
+
+grows_by : (layout : Layout) (front : Front) (line : List ℕ) (next : Front) → front_by layout front line ≡ Some next → Grows front next
+grows_by Today front line next e = grows front line next (front_after-is front line next e)
+grows_by Early front line next e = old_grows front line next (old_front_after-is front line next e)
+grows_by Old front line next e = old_grows front line next (old_front_after-is front line next e)
+
+-- the front has taken so many lines, and its tenants have names
+pub record IsCounted (layout : Layout) (front : Front) (count : ℕ) : Type 0 where
+  pub counts : count ≡ lines_before layout + today.taken front
+  pub small : today.IsSmall front
+  pub named : AreNamed (today.tenants_in front)
+
+before_few : (layout : Layout) → lines_before layout ≤ 1
+before_few Today = omega arith
+before_few Early = omega arith
+before_few Old = omega arith
+
+min_is : (n : ℕ) → n ≤ 2 ^ 64 - 1 → min n (2 ^ 64 - 1) ≡ n
+min_is n small = min-eq_left small
+
+pub counted-small : (layout : Layout) (front : Front) (count : ℕ) → IsCounted layout front count → counted count ≡ count + 1
+counted-small layout AtStart count c = min_is (count + 1) (let n = c.counts in let few = before_few layout in omega arith)
+counted-small layout (Within config) count c = min_is (count + 1) (let n = c.counts in let small = c.small in let few = before_few layout in omega arith)
+counted-small layout (Begun config) count c = min_is (count + 1) (let n = c.counts in let small = c.small in let few = before_few layout in omega arith)
+
+named_push : (tenants : List Tenant) (tenant : Tenant) → AreNamed tenants → IsTrue (is_name tenant.name) → AreNamed (tenants ++ tenant ∷ [])
+named_push [] tenant all one = (one, tt)
+named_push (first ∷ tenants) tenant all one = (all.0, named_push tenants tenant all.1 one)
+
+counted_next : (layout : Layout) (front : Front) (count : ℕ) (config : Config) → IsCounted layout front count → Grows front (Within config) → IsCounted layout (Within config) (counted count)
+counted_next layout AtStart count config c none = record {
+  counts = counted-small layout AtStart count c ∙ (let n = c.counts in let zeroth = ap length none in omega arith);
+  small = (let zeroth = ap length none in omega arith);
+  named = subst AreNamed (sym none) tt;
+}
+counted_next layout (Within old) count config c (tenant, more, name, may) =
+    let size = ap length more ∙ length-append old.tenants (tenant ∷ []) in
+    let room : length old.tenants < 64 = grind (arith, nat_tests, (both (nat_lt (length old.tenants) 64) (is_distinct old.tenants tenant) may).0) in
+    record {
+      counts = counted-small layout (Within old) count c ∙ (let n = c.counts in omega arith);
+      small = omega arith;
+      named = subst AreNamed (sym more) (named_push old.tenants tenant c.named name);
+    }
+counted_next layout (Begun old) count config c g = absurd g
+
+named_begun : (layout : Layout) (front : Front) (count : ℕ) (config : Config) → IsCounted layout front count → Grows front (Begun config) → AreNamed config.tenants
+named_begun layout AtStart count config c g = absurd g
+named_begun layout (Within old) count config c same = subst AreNamed (sym same) c.named
+named_begun layout (Begun old) count config c g = absurd g
+
+pub start : (layout : Layout) → IsCounted layout AtStart (lines_before layout)
+start layout = record { counts = omega arith; small = tt; named = tt }
+
+-- ---- the first line
+
+-- after so many lines of a file the line would be the first, and tell today's layout
+abbrev pub tells : Layout → ℕ → List ℕ → Bool
+tells Today count line = false
+tells Early count line = nat_eq count 0 && bytes_eq line layout_line
+tells Old count line = false
+
+-- none of these, that come next, does
+abbrev pub TellsNot : Layout → ℕ → List (List ℕ) → Type 0
+TellsNot layout count [] = Unit {0}
+TellsNot layout count (line ∷ lines) = tells layout count (cut_line longest_record line) ≡ false
+
+not_first : (n : ℕ) (b : Bool) → 0 < n → nat_eq n 0 && b ≡ false
+not_first n b h = let isnt : nat_eq n 0 ≡ false = grind (arith, nat_tests) in ap (λ x. x && b) isnt
+
+pub tells_not : (layout : Layout) (count : ℕ) (lines : List (List ℕ)) → 0 < count → TellsNot layout count lines
+tells_not layout count [] h = tt
+tells_not Today count (line ∷ lines) h = refl
+tells_not Early count (line ∷ lines) h = not_first count (bytes_eq (cut_line longest_record line) layout_line) h
+tells_not Old count (line ∷ lines) h = refl
+
+-- ---- runs
+
+module _ (name : List ℕ) where
+  -- what a line is answered with in a head
+  in_stage : (layout : Layout) (stage : ReplayStage) (front : Front) (count : ℕ) (n line text : List ℕ) (new : ReplayStage) → IsHeadBy layout front count stage → tells layout count line ≡ false →
+      replay_answers_in n stage line text new → HeadAnswersBy layout n (Some front) count line text new
+  in_stage Today (Head head) front count n line text new here apart h =
+      subst (λ (r : Option Front). HeadAnswersBy Today n r count line text new) here.0 (subst (λ (k : ℕ). HeadAnswersBy Today n head.reader k line text new) here.1 h)
+  in_stage Early (OldHead head) front count n line text new here apart h =
+      let no : tells_today head line ≡ false = ap (λ (k : ℕ). nat_eq k 0 && bytes_eq line layout_line) here.1 ∙ apart in
+      subst (λ (r : Option Front). HeadAnswersBy Early n r count line text new) here.0 (subst (λ (k : ℕ). HeadAnswersBy Early n head.reader k line text new) here.1
+      (subst (λ (b : Bool). OldHeadAnswers b n head line text new) no h))
+  in_stage Today (OldHead head) front count n line text new here apart h = absurd here
+  in_stage Today (Running replay) front count n line text new here apart h = absurd here
+  in_stage Early (Head head) front count n line text new here apart h = absurd here
+  in_stage Early (Running replay) front count n line text new here apart h = absurd here
+  in_stage Old (OldHead head) front count n line text new here apart h = absurd here
+  in_stage Old (Head head) front count n line text new here apart h = absurd here
+  in_stage Old (Running replay) front count n line text new here apart h = absurd here
+
+  module _ (layout : Layout) where
+    -- a run that begins in the head ends in it, or past it
+    pub data HeadRun (front : Front) (count : ℕ) (lines : List (List ℕ)) (text : List ℕ) (state : ReplayScript) : Type 0 where
+      InHead : (next : Front) (later : ℕ) → IsCounted layout next later → is_begun next ≡ false → IsHeadBy layout next later state.stage → state.name ≡ name → text ≡ []
+          → ((others : List (List ℕ)) → reading_by layout (lines ++ others) (count + 1) front ≡ reading_by layout others (later + 1) next) → HeadRun front count lines text state
+      PastHead : (config : Config) (rest : List (List ℕ)) (s : ReplayScript) (replay : Standing) → AreNamed config.tenants → s.stage ≡ Running replay → s.name ≡ name → StartsFor layout name config replay
+          → Run replay_rules s (map (cut_line longest_record) rest) text state
+          → ((others : List (List ℕ)) → reading_by layout (lines ++ others) (count + 1) front ≡ Whole config (rest ++ others)) → HeadRun front count lines text state
+
+    -- one line of the head, and what the run does from there
+    head_line : (line : List ℕ) (lines : List (List ℕ)) (front : Front) (count : ℕ) (text : List ℕ) (state : ReplayScript) (first later : List ℕ) (mid : ReplayScript) (next : Front) →
+        IsCounted layout front count → is_begun front ≡ false → front_by layout front line ≡ Some next → first ≡ [] → mid.name ≡ name → GoesOnBy layout name count next mid.stage →
+        Run replay_rules mid (map (cut_line longest_record) lines) later state → text ≡ first ++ later →
+        ((on : Front) (n : ℕ) (m : ReplayScript) → IsCounted layout on n → is_begun on ≡ false → m.name ≡ name → IsHeadBy layout on n m.stage → 0 < n → Run replay_rules m (map (cut_line longest_record) lines) text state → HeadRun on n lines text state) →
+        HeadRun front count (line ∷ lines) text state
+    head_line line lines front count text state first later mid AtStart c still e silent same goes run whole on_from = absurd goes
+    head_line line lines front count text state first later mid (Within config) c still e silent same goes run whole on_from =
+        let n = counted_next layout front count config c (grows_by layout front line (Within config) e) in
+        let text_is : later ≡ text = sym (whole ∙ ap (λ t. t ++ later) silent) in
+        let run_on = subst (λ t. Run replay_rules mid (map (cut_line longest_record) lines) t state) text_is run in
+        let some : 0 < counted count = (let one = counted-small layout front count c in omega arith) in
+        one_more (on_from (Within config) (counted count) mid n refl same goes some run_on)
+      where
+        number : counted count + 1 ≡ count + 1 + 1
+        number = ap (λ k. k + 1) (counted-small layout front count c)
+
+        read_here : (others : List (List ℕ)) → reading_by layout (line ∷ lines ++ others) (count + 1) front ≡ reading_by layout (lines ++ others) (counted count + 1) (Within config)
+        read_here others = read_once layout front (count + 1) line (lines ++ others) (Within config) still e ∙ ap (λ k. reading_by layout (lines ++ others) k (Within config)) (sym number)
+
+        one_more : HeadRun (Within config) (counted count) lines text state → HeadRun front count (line ∷ lines) text state
+        one_more (InHead next after n still is same silent reads) = InHead next after n still is same silent (λ others. read_here others ∙ reads others)
+        one_more (PastHead found rest s replay named is same fresh run reads) = PastHead found rest s replay named is same fresh run (λ others. read_here others ∙ reads others)
+    head_line line lines front count text state first later mid (Begun config) c still e silent same (replay, fresh, is) run whole on_from =
+        let text_is : later ≡ text = sym (whole ∙ ap (λ t. t ++ later) silent) in
+        PastHead config lines mid replay (named_begun layout front count config c (grows_by layout front line (Begun config) e)) is same fresh
+        (subst (λ t. Run replay_rules mid (map (cut_line longest_record) lines) t state) text_is run)
+        (λ others. read_once layout front (count + 1) line (lines ++ others) (Begun config) still e ∙ read_whole layout (lines ++ others) (count + 1 + 1) config)
+
+    pub heads : (lines : List (List ℕ)) (front : Front) (count : ℕ) (m : ReplayScript) (text : List ℕ) (state : ReplayScript) → IsCounted layout front count → is_begun front ≡ false → m.name ≡ name → IsHeadBy layout front count m.stage →
+        TellsNot layout count lines → Run replay_rules m (map (cut_line longest_record) lines) text state → HeadRun front count lines text state
+    heads [] front count m text state c still same here apart h =
+        InHead front count c still (subst (λ (s : ReplayScript). IsHeadBy layout front count s.stage) (sym h.1) here) (ap (λ (s : ReplayScript). s.name) h.1 ∙ same) h.0 (λ others. refl)
+    heads (line ∷ lines) front count m text state c still same here apart (first, mid, later, (kept, answered), run, whole) =
+        let step = in_stage layout m.stage front count name (cut_line longest_record line) first mid.stage here apart (subst (λ n. replay_answers_in n m.stage (cut_line longest_record line) first mid.stage) same answered) in
+        let found : front_by layout front line ≡ Some step.0 = sym (cut_in_head layout front line) ∙ step.1 in
+        head_line line lines front count text state first later mid step.0 c still found step.2 (kept ∙ same) step.3 run whole
+        (λ on n s k still same at some r. heads lines on n s text state k still same at (tells_not layout n lines some) r)

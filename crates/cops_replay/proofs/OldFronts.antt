@@ -1,0 +1,195 @@
+-- Heads of layout 1: to which front a line leads, and how long it is.
+use Rattle.std.proofs.Common.{◌≡◌, ℕ, ◌+◌, ◌<◌, ◌≤◌, ◌^◌, ◌⊎◌, inl, inr, Bool, true, false, cond, List, [], ◌∷◌, ◌++◌, length, refl, sym, subst, ap, ◌∙◌, length-append, arith}
+use Rattle.std.specs.Prelude.{IsTrue, codes, decimal, nat_lt, nat_le, Option, Some, None}
+use Rattle.std.specs.Option.{option_map, option_and_then}
+use Rattle.std.specs.Str.{bytes_eq}
+use Rattle.std.proofs.lemmas.Bool.Decides.{nat_tests}
+use Rattle.std.proofs.lemmas.Fmt.{length-decimal-le}
+use Rattle.cops_types.specs.declared.configs.Config.{Config}
+use Rattle.cops_types.specs.declared.configs.Tenant.{Tenant}
+use Rattle.cops_types.specs.declared.heads.HeadLine.{HeadLine}
+use Rattle.cops_types.specs.declared.heads.HeadLine.TheVariants.{More, Begin, BadLine}
+use Rattle.cops_types.specs.Counts.{counted}
+use Rattle.cops_types.specs.Head.{Front, AtStart, Within, Begun, Ends, Joins, front_after, joined, may_join, with_tenant}
+use Rattle.cops_types.specs.HeadLines.{IsClusterLine, IsTenantLineTo, are_sizes, begin_line, cluster_in, is_tenant, is_tenant_to, tenant_line}
+use Rattle.cops_types.specs.HeadReader.{said_at, still_open}
+use Rattle.cops_types.specs.Key.{is_name}
+use Rattle.cops_types.specs.OldHead.{last_old_clock, most_old_shards, old_cluster_in, old_front_after, old_front_with, old_tenant_in, with_few_shards}
+use Rattle.cops_types.specs.Version.{last_clock}
+use Rattle.cops_types.specs.Words.{spaced}
+use Rattle.cops_types.proofs.FrontLemmas.{front_after-finds}
+use Rattle.cops_types.proofs.HeadLemmas.{cluster_in-is, tenant_fits, tenant_in_to-is}
+use Rattle.cops_types.proofs.HeadLengths.{front_after-short}
+use Rattle.cops_types.proofs.HeadReading.{clock_within, is_tenant-made, quota_of_tenant}
+use Rattle.cops_types.proofs.WordLemmas.{bytes_from_test, same_value}
+use Rattle.cops_replay.specs.OldHeads.{OldHeadContinues, has_sizes}
+
+-- ---- one line
+
+-- the line gives one more tenant
+pub record OldJoins (config : Config) (line : List ℕ) (next : Front) : Type 0 where
+  pub tenant : Tenant
+  pub said : IsTenantLineTo last_old_clock line tenant
+  pub may : IsTrue (may_join config tenant)
+  pub after : next ≡ Within (with_tenant config tenant)
+
+abbrev pub OldFollows : Front → List ℕ → Front → Type 0
+OldFollows AtStart line next = (config : Config) × IsClusterLine line config × (next ≡ Within config)
+OldFollows (Within config) line next = OldJoins config line next ⊎ Ends config line next
+OldFollows (Begun config) line next = ⊥
+
+joined-is : (config : Config) (line : List ℕ) (next : Front) (found : Option Tenant) → old_tenant_in line ≡ found → option_and_then (joined config) found ≡ Some next → OldJoins config line next
+joined-is config line next None was e = absurd cc
+joined-is config line next (Some tenant) was e = by_place (may_join config tenant) refl e
+  where
+    by_place : (t : Bool) → may_join config tenant ≡ t → cond t (Some (Within (with_tenant config tenant))) None ≡ Some next → OldJoins config line next
+    by_place false may e = absurd cc
+    by_place true may e = record { tenant = tenant; said = tenant_in_to-is last_old_clock line tenant was; may = may; after = sym (same_value (Within (with_tenant config tenant)) next e) }
+
+within-is : (config : Config) (line : List ℕ) (next : Front) (t : Bool) → bytes_eq line begin_line ≡ t →
+    cond t (cond (nat_lt 0 (length config.tenants)) (Some (Begun config)) None) (option_and_then (joined config) (old_tenant_in line)) ≡ Some next → OldJoins config line next ⊎ Ends config line next
+within-is config line next false begins e = inl (joined-is config line next (old_tenant_in line) refl e)
+within-is config line next true begins e = inr (by_count (nat_lt 0 (length config.tenants)) refl e)
+  where
+    by_count : (t : Bool) → nat_lt 0 (length config.tenants) ≡ t → cond t (Some (Begun config)) None ≡ Some next → Ends config line next
+    by_count false some e = absurd cc
+    by_count true some e = record { said = bytes_from_test line begin_line begins; some = grind (arith, nat_tests); after = sym (same_value (Begun config) next e) }
+
+start-is : (line : List ℕ) (next : Front) (found : Option Config) → cluster_in line ≡ found → option_map Within (option_and_then with_few_shards found) ≡ Some next → OldFollows AtStart line next
+start-is line next None was e = absurd cc
+start-is line next (Some config) was e = by_few (nat_le config.shards most_old_shards) e
+  where
+    by_few : (t : Bool) → option_map Within (cond t (Some config) None) ≡ Some next → OldFollows AtStart line next
+    by_few false e = absurd cc
+    by_few true e = (config, cluster_in-is line config was, sym (same_value (Within config) next e))
+
+pub old_front_after-is : (front : Front) (line : List ℕ) (next : Front) → old_front_after front line ≡ Some next → OldFollows front line next
+old_front_after-is AtStart line next e = start-is line next (cluster_in line) refl e
+old_front_after-is (Within config) line next e = within-is config line next (bytes_eq line begin_line) refl e
+old_front_after-is (Begun config) line next e = absurd cc
+
+-- ---- how long a line is
+
+-- with a number in it that has at most 20 digits more
+longer : (word more less : List ℕ) → length more ≤ length less + 20 → length (word ++ 32 ∷ more) ≤ length (word ++ 32 ∷ less) + 20
+longer word more less h = let one = length-append word (32 ∷ more) in let other = length-append word (32 ∷ less) in omega (arith, one, other, h)
+
+first_longer : (word other more : List ℕ) → length word ≤ 20 → length (word ++ 32 ∷ more) ≤ length (other ++ 32 ∷ more) + 20
+first_longer word other more h = let one = length-append word (32 ∷ more) in let two = length-append other (32 ∷ more) in omega (arith, one, two, h)
+
+abbrev from_start : Tenant → Tenant
+from_start tenant = record tenant { first_clock = 0 }
+
+abbrev lone : Config
+lone = record { data_centres = 0; shards = 0; trans_time = 0; restarts = 0; tenants = [] }
+
+tenant-short : (line : List ℕ) (tenant : Tenant) → IsTenantLineTo last_old_clock line tenant → length line ≤ 16384
+tenant-short line tenant is =
+    let fits = tenant_fits last_old_clock (omega arith) tenant is.within in
+    let other : Tenant = from_start tenant in
+    let good : IsTrue (is_tenant other) = is_tenant-made last_clock tenant.name tenant.token 0 tenant.quota fits.name (omega arith) (quota_of_tenant last_old_clock tenant is.within) in
+    let joins : Joins lone (tenant_line is.token other) (Within (with_tenant lone other)) = record {
+      tenant = other;
+      said = record { token = is.token; spelled = refl; one_word = is.one_word; parses = is.parses; within = good };
+      may = refl;
+      after = refl;
+    } in
+    let short = front_after-short (Within lone) (tenant_line is.token other) (Within (with_tenant lone other)) (front_after-finds (Within lone) (tenant_line is.token other) (Within (with_tenant lone other)) (inl joins)) in
+    let low : tenant.first_clock < 2 ^ 64 = (let most = clock_within last_old_clock tenant is.within in omega (arith, most)) in
+    let digits = length-decimal-le 20 tenant.first_clock (omega arith) (omega arith) low in
+    let q = tenant.quota in
+    let rest : List ℕ = spaced (decimal q.versions ∷ decimal q.bytes ∷ decimal q.outbox ∷ decimal q.contexts ∷ decimal q.deps ∷ decimal q.actors ∷ decimal q.audit ∷ []) in
+    let from_clock : ℕ → List ℕ = λ clock. decimal clock ++ (32 ∷ rest) in
+    let from_token : ℕ → List ℕ = λ clock. is.token ++ (32 ∷ from_clock clock) in
+    let from_name : ℕ → List ℕ = λ clock. tenant.name ++ (32 ∷ from_token clock) in
+    let clocks = first_longer (decimal tenant.first_clock) (decimal 0) rest digits in
+    let tokens = longer is.token (from_clock tenant.first_clock) (from_clock 0) clocks in
+    let names = longer tenant.name (from_token tenant.first_clock) (from_token 0) tokens in
+    let more = longer (codes "tenant") (from_name tenant.first_clock) (from_name 0) names in
+    let here : length (tenant_line is.token tenant) ≤ length (tenant_line is.token other) + 20 = more in
+    subst (λ l. length l ≤ 16384) (sym is.spelled) (omega (arith, short, here))
+
+follows-short : (front : Front) (line : List ℕ) (next : Front) → OldFollows front line next → length line ≤ 16384
+follows-short AtStart line next (config, is, after) =
+    let short = front_after-short AtStart line (Within config) (front_after-finds AtStart line (Within config) (config, is, refl)) in omega (arith, short)
+follows-short (Within config) line next (inl joins) = tenant-short line joins.tenant joins.said
+follows-short (Within config) line next (inr ends) = subst (λ l. length l ≤ 16384) (sym ends.said) (omega arith)
+follows-short (Begun config) line next f = absurd f
+
+-- a line that may stand in a head is not too long
+pub old_front_after-short : (front : Front) (line : List ℕ) (next : Front) → old_front_after front line ≡ Some next → length line ≤ 16384
+old_front_after-short front line next e = follows-short front line next (old_front_after-is front line next e)
+
+-- ---- the sizes
+
+follows_sized : (front : Front) (line : List ℕ) (next : Front) → OldFollows front line next → IsTrue (has_sizes (Some front)) → IsTrue (has_sizes (Some next))
+follows_sized AtStart line next f good = subst (λ n. IsTrue (has_sizes (Some n))) (sym f.2) f.1.within
+follows_sized (Within config) line next (inl joins) good = subst (λ n. IsTrue (has_sizes (Some n))) (sym joins.after) good
+follows_sized (Within config) line next (inr ends) good = subst (λ n. IsTrue (has_sizes (Some n))) (sym ends.after) good
+follows_sized (Begun config) line next f good = absurd f
+
+front_with_sized : (front : Option Front) (line : List ℕ) → IsTrue (has_sizes front) → IsTrue (has_sizes (old_front_with front line))
+front_with_sized None line good = refl
+front_with_sized (Some front) line good = by_found (old_front_after front line) refl
+  where
+    by_found : (found : Option Front) → old_front_after front line ≡ found → IsTrue (has_sizes found)
+    by_found None e = refl
+    by_found (Some next) e = follows_sized front line next (old_front_after-is front line next e) good
+
+open_sized : (front : Option Front) → IsTrue (has_sizes front) → IsTrue (has_sizes (still_open front))
+open_sized None good = refl
+open_sized (Some AtStart) good = refl
+open_sized (Some (Within config)) good = good
+open_sized (Some (Begun config)) good = refl
+
+pub still_sized : (front : Option Front) (line : List ℕ) (new : Option Front) → IsTrue (has_sizes front) → new ≡ still_open (old_front_with front line) → IsTrue (has_sizes new)
+still_sized front line new good is = subst (λ n. IsTrue (has_sizes n)) (sym is) (open_sized (old_front_with front line) (front_with_sized front line good))
+
+pub begin_sized : (front : Option Front) (line : List ℕ) (config : Config) → IsTrue (has_sizes front) → old_front_with front line ≡ Some (Begun config) → IsTrue (are_sizes config)
+begin_sized front line config good is = subst (λ f. IsTrue (has_sizes f)) is (front_with_sized front line good)
+
+-- ---- what a reader said
+
+-- no line leads back to the start
+not_back : (front : Front) (line : List ℕ) → OldFollows front line AtStart → ⊥
+not_back AtStart line f = cc
+not_back (Within config) line (inl joins) = let after = joins.after in cc
+not_back (Within config) line (inr ends) = let after = ends.after in cc
+not_back (Begun config) line f = f
+
+never_at_start : (front : Option Front) (line : List ℕ) → old_front_with front line ≡ Some AtStart → ⊥
+never_at_start None line e = cc
+never_at_start (Some front) line e = not_back front line (old_front_after-is front line AtStart e)
+
+pub more_said : (front : Option Front) (count : ℕ) (line : List ℕ) (new : Option Front) (new_count : ℕ) → More ≡ said_at (old_front_with front line) → new ≡ still_open (old_front_with front line) → new_count ≡ counted count →
+    OldHeadContinues front count line new new_count
+more_said front count line new new_count said is counts = by_found (old_front_with front line) refl said is
+  where
+    by_found : (found : Option Front) → old_front_with front line ≡ found → More ≡ said_at found → new ≡ still_open found → OldHeadContinues front count line new new_count
+    by_found None e said is = cc
+    by_found (Some AtStart) e said is = absurd (never_at_start front line e)
+    by_found (Some (Within config)) e said is = record { config = config; found = e; kept = is; counts = counts }
+    by_found (Some (Begun config)) e said is = cc
+
+abbrev config_of : Config → HeadLine → Config
+config_of other More = other
+config_of other (Begin config) = config
+config_of other BadLine = other
+
+pub begin_said : (front : Option Front) (line : List ℕ) (config : Config) → Begin config ≡ said_at (old_front_with front line) → old_front_with front line ≡ Some (Begun config)
+begin_said front line config said = by_found (old_front_with front line) refl said
+  where
+    by_found : (found : Option Front) → old_front_with front line ≡ found → Begin config ≡ said_at found → old_front_with front line ≡ Some (Begun config)
+    by_found None e said = cc
+    by_found (Some AtStart) e said = cc
+    by_found (Some (Within other)) e said = cc
+    by_found (Some (Begun other)) e said = e ∙ ap (λ h. Some (Begun (config_of config h))) (sym said)
+
+pub bad_said : (front : Option Front) (line : List ℕ) → BadLine ≡ said_at (old_front_with front line) → old_front_with front line ≡ None
+bad_said front line said = by_found (old_front_with front line) refl said
+  where
+    by_found : (found : Option Front) → old_front_with front line ≡ found → BadLine ≡ said_at found → old_front_with front line ≡ None
+    by_found None e said = e
+    by_found (Some AtStart) e said = cc
+    by_found (Some (Within other)) e said = cc
+    by_found (Some (Begun other)) e said = cc

@@ -1,0 +1,186 @@
+-- What a replay finds over a tenant's lines, as they are cut.
+use Rattle.std.proofs.Common.{◌≡◌, ℕ, zero, suc, ◌+◌, ◌-◌, ◌^◌, ◌<◌, ◌≤◌, Bool, true, false, ◌&&◌, ◌||◌, cond, min, List, [], ◌∷◌, ◌++◌, length, map, take, inl, inr, ◌⊎◌, refl, sym, subst, ap, ◌∙◌, arith, length-take}
+use Rattle.std.specs.Prelude.{Option, Some, None, nat_le, codes, decimal}
+use Rattle.std.specs.List.{list_any}
+use Rattle.std.specs.Option.{is_none, option_map}
+use Rattle.std.specs.Str.{bytes_eq}
+use Rattle.std.proofs.lemmas.Bool.Decides.{nat_tests}
+use Rattle.cops_types.specs.Counts.{counted}
+use Rattle.cops_types.specs.LineRules.{Run}
+use Rattle.cops_types.specs.Lines.{cut_line}
+use Rattle.cops_types.specs.TenantConfig.{TenantConfig}
+use Rattle.cops_types.specs.Words.{first_word, newline}
+use Rattle.cops_node.specs.Clusters.{nodes_of}
+use Rattle.cops_world.specs.Script.{alone_lines}
+use Rattle.cops_world.proofs.CutLemmas.{same_first_at}
+use Rattle.cops_replay.specs.declared.layouts.Layout.{Layout}
+use Rattle.cops_replay.specs.declared.layouts.Layout.TheVariants.{Today, Early, Old}
+use Rattle.cops_replay.specs.declared.Record.{Record}
+use Rattle.cops_replay.specs.declared.Replayed.{Replayed}
+use Rattle.cops_replay.specs.declared.Replayed.TheVariants.{Same, FirstDifference}
+use Rattle.cops_replay.specs.declared.replay_machine.ReplayScript.{ReplayScript}
+use Rattle.cops_replay.specs.declared.replay_machine.ReplayStage.{ReplayStage}
+use Rattle.cops_replay.specs.declared.replay_machine.ReplayStage.TheVariants.{Running}
+use Rattle.cops_replay.specs.OldRecords.{is_old_record, old_record_in, versions_in}
+use Rattle.cops_replay.specs.RecordLines.{record_by}
+use Rattle.cops_replay.specs.Replaying.{Agrees}
+use Rattle.cops_replay.specs.Replayings.{Differs, IsReplayedLine, Passes, Standing, found_of, found_so_far}
+use Rattle.cops_replay.specs.ReplayRules.{ReplaysOwn, replay_answers_in, replay_rules}
+use Rattle.cops_replay.specs.ReplayText.{FindsBy, has_great_clock, is_great_in, longest_record, replayed_text, told_number, told_of}
+use Rattle.cops_replay.specs.Replays.{IsAlone}
+use Rattle.cops_replay.proofs.AuditHeads.{take_all}
+
+by_test : {C : Type 0} (b : Bool) → (b ≡ true → C) → (b ≡ false → C) → C
+by_test {C} true holds fails = holds refl
+by_test {C} false holds fails = fails refl
+
+-- ---- lines, as they are cut
+
+-- a line that is no longer is seen whole, and one that is longer is still too long
+module _ {A : Type 0} (seen : Bool → List ℕ → A) (none : A) (long : (line : List ℕ) → seen false line ≡ none) where
+  same_cut : (line : List ℕ) → seen (nat_le (length (cut_line longest_record line)) longest_record) (cut_line longest_record line) ≡ seen (nat_le (length line) longest_record) line
+  same_cut line = by_test (nat_le (length line) (longest_record + 1))
+      (λ is. let short : length line ≤ longest_record + 1 = grind (arith, nat_tests) in ap (λ l. seen (nat_le (length l) longest_record) l) (take_all (longest_record + 1) line short))
+      (λ is.
+      let far : longest_record + 1 < length line = grind (arith, nat_tests) in
+      let size : length (take (longest_record + 1) line) ≡ longest_record + 1 = length-take (longest_record + 1) line ∙ omega arith in
+      none_of (take (longest_record + 1) line) (omega (arith, size)) ∙ sym (none_of line (omega arith)))
+    where
+      none_of : (l : List ℕ) → longest_record < length l → seen (nat_le (length l) longest_record) l ≡ none
+      none_of l far = let t : nat_le (length l) longest_record ≡ false = grind (arith, nat_tests) in ap (λ b. seen b l) t ∙ long l
+
+-- a line that is too long is no record, cut or not
+pub told_cut : (layout : Layout) (line : List ℕ) → told_of layout (cut_line longest_record line) ≡ told_of layout line
+told_cut layout line = same_cut {A = Option Record} (λ b l. cond b (option_map (λ (read : List ℕ × Record). read.1) (record_by (versions_in layout) l)) None) None (λ l. refl) line
+
+pub great_cut : (layout : Layout) (line : List ℕ) → is_great_in layout (cut_line longest_record line) ≡ is_great_in layout line
+great_cut Today line = refl
+great_cut Early line = same_cut {A = Bool} (λ b l. b && is_none (old_record_in l) && is_old_record l) false (λ l. refl) line
+great_cut Old line = refl
+
+pub same_own : (name line : List ℕ) → length name ≤ 16 → bytes_eq (first_word (cut_line longest_record line)) name ≡ bytes_eq (first_word line) name
+same_own name line short = same_first_at longest_record (omega arith) name line short
+
+-- one line more
+capped_more : (n : ℕ) → counted (told_number n) ≡ told_number (n + 1)
+capped_more n = grind arith
+
+-- what was found, as it is told
+abbrev pub TellsAs : Replayed → Replayed → Type 0
+TellsAs told found = replayed_text told ≡ replayed_text found
+
+same_told : (n : ℕ) → told_number (told_number n) ≡ told_number n
+same_told n = grind arith
+
+-- ---- the tenant's lines
+
+-- from this standing the lines lead to that one
+pub record Tells (layout : Layout) (config : TenantConfig) (old : Standing) (lines : List (List ℕ)) (new : Standing) : Type 0 where
+  pub over : (place : ℕ) → old.found ≡ Some place → found_of new ≡ FirstDifference place
+  pub goes : (count : ℕ) → old.layout ≡ layout → old.passed ≡ told_number count → old.found ≡ None → IsAlone config old.nodes →
+      (found : Replayed) × FindsBy layout config count (nodes_of config 0 old.nodes) lines found × TellsAs (found_of new) found
+
+tells_none : (layout : Layout) (config : TenantConfig) (old : Standing) → Tells layout config old [] old
+tells_none layout config old = record {
+  over = λ place e. ap (found_so_far old.passed) e;
+  goes = λ count at passed none alone. (
+    Same count,
+    refl,
+    ap replayed_text (ap (found_so_far old.passed) none) ∙ ap (λ n. codes "same " ++ decimal n ++ newline ∷ []) (ap told_number passed ∙ same_told count),
+  );
+}
+
+tells_line : (layout : Layout) (config : TenantConfig) (line : List ℕ) (lines : List (List ℕ)) (old mid new : Standing) → IsReplayedLine (cut_line longest_record line) old mid → Tells layout config mid lines new → Tells layout config old (line ∷ lines) new
+tells_line layout config line lines old mid new h p = record {
+  over = λ place e. p.over place (ap (λ (s : Standing). s.found) (h.over place e) ∙ e);
+  goes = λ count at passed none alone. by_case count at passed (h.goes none config alone);
+}
+  where
+    same_record : old.layout ≡ layout → told_of old.layout (cut_line longest_record line) ≡ told_of layout line
+    same_record at = ap (λ (l : Layout). told_of l (cut_line longest_record line)) at ∙ told_cut layout line
+
+    by_case : (count : ℕ) → old.layout ≡ layout → old.passed ≡ told_number count → Passes config (cut_line longest_record line) old mid ⊎ Differs config (cut_line longest_record line) old mid →
+        (found : Replayed) × FindsBy layout config count (nodes_of config 0 old.nodes) (line ∷ lines) found × TellsAs (found_of new) found
+    by_case count at passed (inl q) =
+        let next : mid.passed ≡ told_number (count + 1) = q.passed_is ∙ ap counted passed ∙ capped_more count in
+        let rest = p.goes (count + 1) (h.layout ∙ at) next q.found_is q.alone in
+        (rest.0, inl (q.told, sym (same_record at) ∙ q.told_is, q.agrees, subst (λ ns. FindsBy layout config (count + 1) ns lines rest.0) q.after rest.1), rest.2)
+    by_case count at passed (inr q) =
+        let end = p.over (counted old.passed) q.found_is in (
+          FirstDifference (count + 1),
+          inr ((λ told is. q.differs told (same_record at ∙ is)), refl),
+          ap replayed_text end ∙ ap (λ n. codes "differs " ++ decimal n ++ newline ∷ []) (ap told_number (ap counted passed ∙ capped_more count) ∙ same_told (count + 1)),
+        )
+
+module _ (name : List ℕ) (layout : Layout) where
+  -- a line of the tenant's is one of his lines, and another is not
+  own_first : (line : List ℕ) (lines : List (List ℕ)) → bytes_eq (first_word line) name ≡ true → alone_lines name (line ∷ lines) ≡ line ∷ alone_lines name lines
+  own_first line lines e = ap (λ b. cond b (line ∷ alone_lines name lines) (alone_lines name lines)) e
+
+  others_first : (line : List ℕ) (lines : List (List ℕ)) → bytes_eq (first_word line) name ≡ false → alone_lines name (line ∷ lines) ≡ alone_lines name lines
+  others_first line lines e = ap (λ b. cond b (line ∷ alone_lines name lines) (alone_lines name lines)) e
+
+  -- a clock is too great in a line of his
+  pub any_great : (passed : List (List ℕ)) (line : List ℕ) (rest : List (List ℕ)) → bytes_eq (first_word line) name ≡ true → is_great_in layout line ≡ true → list_any (is_great_in layout) (alone_lines name (passed ++ line ∷ rest)) ≡ true
+  any_great [] line rest own great = ap (list_any (is_great_in layout)) (own_first line rest own) ∙ ap (λ b. b || list_any (is_great_in layout) (alone_lines name rest)) great
+  any_great (first ∷ passed) line rest own great = by_test (bytes_eq (first_word first) name)
+      (λ is. ap (list_any (is_great_in layout)) (own_first first (passed ++ line ∷ rest) is) ∙ or_true (is_great_in layout first) (list_any (is_great_in layout) (alone_lines name (passed ++ line ∷ rest))) (any_great passed line rest own great))
+      (λ isnt. ap (list_any (is_great_in layout)) (others_first first (passed ++ line ∷ rest) isnt) ∙ any_great passed line rest own great)
+    where
+      or_true : (a b : Bool) → b ≡ true → a || b ≡ true
+      or_true true b e = refl
+      or_true false b e = e
+
+  pub record Ran (config : TenantConfig) (old : Standing) (lines : List (List ℕ)) (text : List ℕ) (state : ReplayScript) : Type 0 where
+    pub new : Standing
+    pub is : state.stage ≡ Running new
+    pub same : state.name ≡ name
+    pub layout_is : new.layout ≡ layout
+    pub silent : text ≡ []
+    pub small : list_any (is_great_in layout) (alone_lines name lines) ≡ false
+    pub tells : Tells layout config old (alone_lines name lines) new
+
+  one_more : (config : TenantConfig) (line : List ℕ) (lines : List (List ℕ)) (old mid : Standing) (own : Bool) (text : List ℕ) (state : ReplayScript) → bytes_eq (first_word line) name ≡ own → old.layout ≡ layout → ReplaysOwn own old (cut_line longest_record line) mid →
+      (mid.layout ≡ layout → Ran config mid lines text state) → Ran config old (line ∷ lines) text state
+  one_more config line lines old mid true text state e at h later =
+      let rest = later (h.1.layout ∙ at) in
+      let fits : is_great_in layout line ≡ false = sym (great_cut layout line) ∙ ap (λ (l : Layout). is_great_in l (cut_line longest_record line)) (sym at) ∙ h.0 in
+      record {
+        new = rest.new;
+        is = rest.is;
+        same = rest.same;
+        layout_is = rest.layout_is;
+        silent = rest.silent;
+        small = ap (list_any (is_great_in layout)) (own_first line lines e) ∙ ap (λ b. b || list_any (is_great_in layout) (alone_lines name lines)) fits ∙ rest.small;
+        tells = subst (λ ls. Tells layout config old ls rest.new) (sym (own_first line lines e)) (tells_line layout config line (alone_lines name lines) old mid rest.new h.1 rest.tells);
+      }
+  one_more config line lines old mid false text state e at h later =
+      let rest = later (ap (λ (s : Standing). s.layout) h ∙ at) in
+      record {
+        new = rest.new;
+        is = rest.is;
+        same = rest.same;
+        layout_is = rest.layout_is;
+        silent = rest.silent;
+        small = ap (list_any (is_great_in layout)) (others_first line lines e) ∙ rest.small;
+        tells = subst (λ ls. Tells layout config old ls rest.new) (sym (others_first line lines e)) (subst (λ s. Tells layout config s (alone_lines name lines) rest.new) h rest.tells);
+      }
+
+  pub running : (config : TenantConfig) → length name ≤ 16 → (lines : List (List ℕ)) (old : Standing) (text : List ℕ) (s state : ReplayScript) → s.stage ≡ Running old → old.layout ≡ layout → s.name ≡ name →
+      Run replay_rules s (map (cut_line longest_record) lines) text state → Ran config old lines text state
+  running config short [] old text s state at is same h = record {
+    new = old;
+    is = ap (λ (x : ReplayScript). x.stage) h.1 ∙ at;
+    same = ap (λ (x : ReplayScript). x.name) h.1 ∙ same;
+    layout_is = is;
+    silent = h.0;
+    small = refl;
+    tells = tells_none layout config old;
+  }
+  running config short (line ∷ lines) old text s state at is same (first, mid, later, (kept, answered), run, whole) =
+      let here = subst (λ (st : ReplayStage). replay_answers_in s.name st (cut_line longest_record line) first mid.stage) at answered in
+      let own_is = ap (bytes_eq (first_word (cut_line longest_record line))) same ∙ same_own name line short in
+      let own = subst (λ b. ReplaysOwn b old (cut_line longest_record line) here.1) own_is here.2 in
+      let text_is : later ≡ text = sym (whole ∙ ap (λ t. t ++ later) here.0) in
+      let run_on = subst (λ t. Run replay_rules mid (map (cut_line longest_record) lines) t state) text_is run in
+      one_more config line lines old here.1 (bytes_eq (first_word line) name) text state refl is own (λ kind. running config short lines here.1 text mid state here.3 kind (kept ∙ same) run_on)
