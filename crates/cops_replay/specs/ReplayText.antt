@@ -56,6 +56,10 @@ is_great_in Old line = false
 abbrev pub great_clock_of : Layout → List ℕ → Option Fault
 great_clock_of layout line = refused_if (is_great_in layout line) fault.ClockTooGreat
 
+-- layout 1 has a record with this line that today's layout has too
+abbrev pub IsEarlyLine : List ℕ → Type 0
+IsEarlyLine line = (told : Record) × (told_of Early line ≡ Some told)
+
 -- in the tenant's line of the head
 abbrev pub starts_great_in : Layout → Tenant → Bool
 starts_great_in Today tenant = false
