@@ -222,6 +222,18 @@ impl PackedPairs {
         }
     }
 
+    /// How the key at a place stands to another.
+    #[inline(always)]
+    pub(crate) fn key_order(&self, place: usize, key: &Key) -> Ordering
+        requires { place < length self.now }
+        ensures { HoldsAt (λ p. key_cmp p.key key.now ≡ result) self.now place }
+    {
+        match &self.rows {
+            Rows::Short(pairs) => pairs.as_slice()[place].key_order(key),
+            Rows::Full(pairs) => pairs.as_slice()[place].key.cmp(key),
+        }
+    }
+
     /// The version of the pair at a place.
     pub(crate) fn version(&self, place: usize) -> Version
         requires { place < length self.now }

@@ -2,7 +2,7 @@ use Rattle.std.proofs.Common.{[], ◌∷◌, ◌∙◌, ap, arith}
 use Rattle.std.proofs.lemmas.List.{take_all}
 use Rattle.cops_types.specs.Pairs.{joined}
 use Rattle.cops_types.proofs.GreatestLists.{joined-more, joined-none}
-use Rattle.cops_types.proofs.pair_lists.has_all_as_new.Goals as goal
+use Rattle.cops_types.proofs.pair_lists.has_each_as_new.Goals as goal
 
 pub loop-place-init : goal.loop-place-init
 loop-place-init c = joined-none c.args.pairs.now c.requires

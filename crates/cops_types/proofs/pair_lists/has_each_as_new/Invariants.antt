@@ -1,6 +1,6 @@
 use Rattle.std.proofs.Common.{◌≡◌, take}
 use Rattle.cops_types.specs.Pairs.{joined}
-use Rattle.cops_types.proofs.pair_lists.has_all_as_new.Given as goal
+use Rattle.cops_types.proofs.pair_lists.has_each_as_new.Given as goal
 
 -- the pairs so far change nothing
 abbrev pub invariant-loop-place : goal.invariant-loop-place
