@@ -288,9 +288,12 @@ def judge(outcome, texts):
     if bad:
         return False, f"BAD EDIT: {bad}"
     shown, gone = evidence(told_in(outcome))
-    if gone and not shown:
+    if shown:
+        return True, f"refused: {shown[0][:300]}"
+    if gone:
         return False, f"ONLY A NAME IS GONE, so the contract was not tried: keep the names that proof files cite, and turn a value: {gone[0][:300]}"
-    return True, f"refused: {shown[0][:300] if shown else last}"
+    without_proof = re.search(r"^fn \S+: no.*", outcome.text, re.M)
+    return False, f"NO GOAL IS LEFT OPEN, so the contract was not tried: {without_proof[0][:300] if without_proof else last}"
 
 
 def unfit(outcome, texts):
