@@ -1,0 +1,200 @@
+//! The machine that migrates an audit of layout 1, line by line.
+ghost use Rattle.std.specs.Prelude.{◌≡◌, ◌++◌, flat_map, IfErr, IfNone, IfOk, IfSome, None, OnOk, Some};
+ghost use Rattle.cops_types.specs.Head.{AtStart};
+ghost use Rattle.cops_types.specs.LineAnswers.{Answers, IfRefused};
+ghost use Rattle.cops_types.specs.Refusal.{IsAnswer};
+ghost use Rattle.cops_replay.specs.AuditText.{ended, tenant_text};
+ghost use Rattle.cops_replay.specs.declared.migration_machine.OldPart.TheVariants.{Head};
+ghost use Rattle.cops_replay.specs.MigratedText.{migrated_head, record_fault};
+ghost use Rattle.cops_replay.specs.MigrationRules.{OldHeadEnds, OldHeadGoesOn, OldHeadRefuses, RecordRefuses, part_answers, part_refuses};
+
+use crate::heads::{push_begin, push_cluster, push_tenant};
+use crate::layouts::LAST_EARLY_CLOCK;
+use crate::migrations::{BadLine, MigrationRefusal};
+use crate::reading::read_record_1;
+use crate::replayings::LONGEST_RECORD;
+use cops_types::{
+    Config, ConfigReader, Fault, HeadLine, LineMachine, OldConfigReader, Stop, Tenant,
+};
+use cops_world::BadConfig;
+use std::alloc::{AllocError, Global};
+
+/// Where an audit of layout 1 stands: in its head, or after so many records.
+#[derive(Drop)]
+pub enum OldPart {
+    Head(OldConfigReader),
+    Records(u64),
+}
+
+/// An audit of layout 1 that is migrated, as far as it was read.
+#[derive(Drop)]
+pub struct OldAudit {
+    pub part: OldPart,
+    pub lines: u64,
+}
+
+/// An audit that has come to no line.
+pub(crate) fn new_old_audit() -> OldAudit
+    ensures part { result.part ≡ Head (Some AtStart) }
+    ensures lines { result.lines ≡ 0 }
+{
+    OldAudit {
+        part: OldPart::Head(ConfigReader::layout_1()),
+        lines: 0,
+    }
+}
+
+/// Puts the lines of tenants at the end.
+fn push_tenants(out: &mut Vec<u8>, tenants: &[Tenant]) -> Result<(), AllocError>
+    ensures { OnOk result (out.new.items ≡ out.old.items ++ flat_map tenant_text tenants.now) }
+{
+    for tenant in tenants {
+        push_tenant(out, tenant)?;
+    }
+    Ok(())
+}
+
+/// Puts the head of an audit of layout 2 at the end.
+fn push_head(out: &mut Vec<u8>, config: &Config) -> Result<(), AllocError>
+    ensures { OnOk result (out.new.items ≡ out.old.items ++ migrated_head config.now) }
+{
+    out.extend_from_slice(b"layout 2\n")?;
+    push_cluster(out, config)?;
+    push_tenants(out, config.tenants.as_slice())?;
+    push_begin(out)?;
+    Ok(())
+}
+
+/// Reads the line of this number in a head of layout 1, and gives the configuration where the line ends it.
+fn read_old_head(
+    alloc: Global,
+    reader: &mut OldConfigReader,
+    line: &[u8],
+    number: u64,
+) -> Result<Option<Config>, Stop<MigrationRefusal>>
+    ensures more { IfOk result (λ begun. IfNone begun (OldHeadGoesOn reader.old line.now reader.new)) }
+    ensures begun { IfOk result (λ begun. IfSome begun (OldHeadEnds reader.old line.now)) }
+    ensures err { IfErr result (λ stop. IfRefused stop (OldHeadRefuses reader.old line.now number)) }
+{
+    match reader.line(alloc, line) {
+        Ok(HeadLine::More) => {
+            if reader.has_clocks_to(LAST_EARLY_CLOCK) {
+                return Ok(None);
+            }
+            Err(Stop::Refused(MigrationRefusal::BadLine(BadLine {
+                line: number,
+                fault: Fault::ClockTooGreat,
+            })))
+        }
+        Ok(HeadLine::Begin(config)) => Ok(Some(config)),
+        Ok(HeadLine::BadLine) => Err(Stop::Refused(MigrationRefusal::BadConfig(BadConfig {
+            line: number,
+        }))),
+        Err(_) => Err(Stop::OutOfMemory),
+    }
+}
+
+/// Refuses a line that can't be migrated as a record's.
+fn check_record(alloc: Global, line: &[u8]) -> Result<(), Fault>
+    ensures { IsAnswer (record_fault line.now) result }
+{
+    if line.len() > LONGEST_RECORD {
+        return Err(Fault::Syntax);
+    }
+    match read_record_1(alloc, line) {
+        Ok(_read) => Ok(()),
+        Err(fault) => Err(fault),
+    }
+}
+
+/// Puts a line at the end, with its newline.
+fn push_line(out: &mut Vec<u8>, line: &[u8]) -> Result<(), AllocError>
+    ensures { OnOk result (out.new.items ≡ out.old.items ++ ended line.now) }
+{
+    out.extend_from_slice(line)?;
+    out.push(b'\n')?;
+    Ok(())
+}
+
+/// Puts the line of this number at the end, with its newline, where it is a record's.
+fn move_record(
+    alloc: Global,
+    line: &[u8],
+    number: u64,
+    out: &mut Vec<u8>,
+) -> Result<(), Stop<MigrationRefusal>>
+    ensures moved { OnOk result (record_fault line.now ≡ None) }
+    ensures text { OnOk result (out.new.items ≡ out.old.items ++ ended line.now) }
+    ensures err { IfErr result (λ stop. IfRefused stop (RecordRefuses line.now number)) }
+{
+    match check_record(alloc, line) {
+        Ok(()) => {
+            push_line(out, line)?;
+            Ok(())
+        }
+        Err(Fault::OutOfMemory) => Err(Stop::OutOfMemory),
+        Err(fault) => Err(Stop::Refused(MigrationRefusal::BadLine(BadLine {
+            line: number,
+            fault,
+        }))),
+    }
+}
+
+/// Answers the line of this number at the end of `out`.
+fn answer_line(
+    part: &mut OldPart,
+    alloc: Global,
+    line: &[u8],
+    number: u64,
+    out: &mut Vec<u8>,
+) -> Result<(), Stop<MigrationRefusal>>
+    ensures ok { OnOk result (Answers (part_answers part.old line.now) part.new out.old.items out.new.items) }
+    ensures err { IfErr result (λ stop. IfRefused stop (part_refuses part.old line.now number)) }
+{
+    match part {
+        OldPart::Head(reader) => match read_old_head(alloc, reader, line, number)? {
+            None => Ok(()),
+            Some(config) => {
+                push_head(out, &config)?;
+                *part = OldPart::Records(0);
+                Ok(())
+            }
+        },
+        OldPart::Records(count) => {
+            move_record(alloc, line, number, out)?;
+            *count = count.saturating_add(1);
+            Ok(())
+        }
+    }
+}
+
+impl LineMachine for OldAudit {
+    ghost use Rattle.cops_replay.specs.MigrationRules.{migration_rules};
+
+    type Refusal = MigrationRefusal;
+
+    ghost rules = { migration_rules };
+
+    fn line(
+        &mut self,
+        alloc: Global,
+        line: &[u8],
+        out: &mut Vec<u8>,
+    ) -> Result<(), Stop<MigrationRefusal>> {
+        let number = self.lines.saturating_add(1);
+        answer_line(&mut self.part, alloc, line, number, out)?;
+        self.lines = number;
+        Ok(())
+    }
+
+    fn end(&mut self, _alloc: Global, _out: &mut Vec<u8>) -> Result<(), Stop<MigrationRefusal>> {
+        match &self.part {
+            OldPart::Head(_reader) => {
+                Err(Stop::Refused(MigrationRefusal::BadConfig(BadConfig {
+                    line: self.lines.saturating_add(1),
+                })))
+            }
+            OldPart::Records(_count) => Ok(()),
+        }
+    }
+}

@@ -1,0 +1,121 @@
+//! The migration of an audit of layout 1 to layout 2, over any reader and any writer.
+ghost use Rattle.std.specs.Prelude.{◌≡◌, ◌⊎◌, Err, IfErr, IfOk, IfSome, IsErrOf, Ok, OnErr, OnOk, Some};
+ghost use Rattle.std.specs.Io.KnownBytes.{Appends, IsAtEnd};
+ghost use Rattle.cops_types.specs.Counts.{HasRisen, HasRisenBy};
+ghost use Rattle.cops_types.specs.Head.{AtStart};
+ghost use Rattle.cops_types.specs.LineRuns.{IfRunRefused};
+ghost use Rattle.cops_types.specs.Sink.{AppendsFront, sink_failures, sink_writer};
+ghost use Rattle.cops_types.specs.Source.{source_failures, source_reader, source_reads};
+ghost use Rattle.cops_replay.specs.declared.migration_machine.OldPart.TheVariants.{Head};
+ghost use Rattle.cops_replay.specs.MigratedText.{migration_of};
+ghost use Rattle.cops_replay.specs.MigrationRules.{records_in};
+
+use crate::migration_machine::{OldAudit, OldPart, new_old_audit};
+use crate::replayings::LONGEST_RECORD;
+use cops_types::{Fault, RunFault, Sink, Source, run_lines};
+use cops_world::BadConfig;
+use std::alloc::Global;
+use std::io::{Read, Write};
+
+/// How many turns a reader has.
+const TURNS: u64 = 4_294_967_296;
+
+/// A line of a tenant or a record that can't be migrated.
+#[derive(Clone, Copy, Debug, PartialEq, Eq)]
+pub struct BadLine {
+    /// Counted from 1.
+    pub line: u64,
+    /// `Syntax` or `ClockTooGreat`.
+    pub fault: Fault,
+}
+
+/// Why an audit isn't migrated: its first bad line.
+#[derive(Clone, Copy, Debug, PartialEq, Eq)]
+pub enum MigrationRefusal {
+    /// Layout 1 has no head with this line.
+    BadConfig(BadConfig),
+    BadLine(BadLine),
+}
+
+/// How many records were migrated.
+#[derive(Clone, Copy, Debug, PartialEq, Eq)]
+pub struct Migrated {
+    pub records: u64,
+}
+
+/// How many records there were.
+fn records_of(part: &OldPart) -> u64
+    ensures { result ≡ records_in part.now }
+{
+    match *part {
+        OldPart::Head(_) => 0,
+        OldPart::Records(count) => count,
+    }
+}
+
+/// Migrates an audit that has come to no line.
+fn migrate_lines<R: Read, O: Write>(
+    alloc: Global,
+    audit: &mut OldAudit,
+    source: &mut Source<R>,
+    sink: &mut Sink<O>,
+) -> Result<Migrated, RunFault<MigrationRefusal>>
+    requires part { audit.old.part ≡ Head (Some AtStart) }
+    requires lines { audit.old.lines ≡ 0 }
+    ensures end { OnOk result (IsAtEnd (R.remaining (source_reader source.new))) }
+    ensures ok { IfOk result (λ migrated. IfSome (R.remaining (source_reader source.old)) (λ bytes.
+        (migration_of bytes).outcome ≡ Ok migrated.records)) }
+    ensures text { OnOk result (IfSome (R.remaining (source_reader source.old)) (λ bytes.
+        Appends (O.contents (sink_writer sink.old)) (O.contents (sink_writer sink.new)) (migration_of bytes).text)) }
+    ensures front { OnErr result (IfSome (R.remaining (source_reader source.old)) (λ bytes.
+        AppendsFront (O.contents (sink_writer sink.old)) (O.contents (sink_writer sink.new)) (migration_of bytes).text)) }
+    ensures refused { IfErr result (λ fault. IfRunRefused fault (λ refusal.
+        IfSome (R.remaining (source_reader source.old)) (λ bytes. (migration_of bytes).outcome ≡ Err refusal))) }
+    ensures read_fault { IsErrOf result RunFault.ReadFault →
+        HasRisen (source_failures source.old) (source_failures source.new)
+        ⊎ HasRisenBy (source_reads source.old) (source_reads source.new) 4294967296 }
+    ensures write_fault { IsErrOf result RunFault.WriteFault → HasRisen (sink_failures sink.old) (sink_failures sink.new) }
+{
+    match run_lines(audit, alloc, TURNS, LONGEST_RECORD, source, sink) {
+        Ok(()) => Ok(Migrated {
+            records: records_of(&audit.part),
+        }),
+        Err(fault) => Err(fault),
+    }
+}
+
+/// Migrates an audit of layout 1: writes the line `layout 2`, the head in its one form, and the record
+/// lines as they are. A record's tenant need not be in the head.
+///
+/// It ends at the first line that layout 1 doesn't have there, which a line `layout 2` is too; or that is
+/// longer than 200,000 bytes; or whose first clock or clock of a version is above 281474976710654, which
+/// has no next one in layout 2.
+///
+/// It reads as `run_script` does, and keeps the head and one line of at most 200,001 bytes.
+pub fn migrate_text<R: Read, O: Write>(
+    alloc: Global,
+    source: &mut Source<R>,
+    sink: &mut Sink<O>,
+) -> Result<Migrated, RunFault<MigrationRefusal>>
+    // All is read and migrated.
+    ensures end { OnOk result (IsAtEnd (R.remaining (source_reader source.new))) }
+    ensures ok { IfOk result (λ migrated. IfSome (R.remaining (source_reader source.old)) (λ bytes.
+        (migration_of bytes).outcome ≡ Ok migrated.records)) }
+    ensures text { OnOk result (IfSome (R.remaining (source_reader source.old)) (λ bytes.
+        Appends (O.contents (sink_writer sink.old)) (O.contents (sink_writer sink.new)) (migration_of bytes).text)) }
+
+    // Or a front of what stands before the first bad line is written, and that line is told.
+    ensures front { OnErr result (IfSome (R.remaining (source_reader source.old)) (λ bytes.
+        AppendsFront (O.contents (sink_writer sink.old)) (O.contents (sink_writer sink.new)) (migration_of bytes).text)) }
+    ensures refused { IfErr result (λ fault. IfRunRefused fault (λ refusal.
+        IfSome (R.remaining (source_reader source.old)) (λ bytes. (migration_of bytes).outcome ≡ Err refusal))) }
+
+    // The reader or the writer failed in this call, or the bound on turns was met.
+    ensures read_fault { IsErrOf result RunFault.ReadFault →
+        HasRisen (source_failures source.old) (source_failures source.new)
+        ⊎ HasRisenBy (source_reads source.old) (source_reads source.new) 4294967296 }
+    ensures write_fault { IsErrOf result RunFault.WriteFault → HasRisen (sink_failures sink.old) (sink_failures sink.new) }
+{
+    let mut audit = new_old_audit();
+    migrate_lines(alloc, &mut audit, source, sink)
+}
