@@ -9,7 +9,7 @@
 # Environment (defaults):
 #   REPS=3            repetitions of each case
 #   SCALE=100         percentage of each preset's events (10: a short run)
-#   CASES="run solo audit replay serve growth crowd"
+#   CASES="run solo audit replay migrate serve growth crowd"
 #   PRESETS="puts gets mixed deep wide"    scripts of `run`
 #   LAYOUT=2          1: the greeting of the older layout of versions
 #   LIMIT=300         seconds for one run
@@ -28,7 +28,7 @@ if [ $# -ne 2 ]; then
 fi
 A=$1 B=$2
 REPS=${REPS:-3} SCALE=${SCALE:-100} LAYOUT=${LAYOUT:-2} LIMIT=${LIMIT:-300}
-CASES=${CASES:-run solo audit replay serve growth crowd}
+CASES=${CASES:-run solo audit replay migrate serve growth crowd}
 PRESETS=${PRESETS:-puts gets mixed deep wide}
 GROWTH=${GROWTH:-1000 10000 100000 1000000}
 CROWD=${CROWD:-1000 3000 10000 30000}
@@ -191,6 +191,14 @@ for case in $CASES; do
         # shellcheck disable=SC2086
         $B audit <"$WORK/audit.script" >"$WORK/audit.file"
         compare "replay t0 of B's audit" "$WORK/audit.file" replay t0
+        ;;
+    migrate)
+        head_of_table "migrate"
+        script_of audit
+        # (an audit of small versions is one of layout 1 too, but for the line that names its layout)
+        # shellcheck disable=SC2086
+        $B audit <"$WORK/audit.script" | sed '1{/^layout 2$/d;}' >"$WORK/old.file"
+        compare "migrate B's audit" "$WORK/old.file" migrate
         ;;
     growth | crowd)
         head_of_table "$case"

@@ -41,6 +41,14 @@ pub audit_is_named : (program : List ℕ) → subcommand_named (program ∷ code
 unfolding clap_on_literals
 audit_is_named program = refl
 
+pub takes_migrate : (program : List ℕ) → takes cops (program ∷ codes "migrate" ∷ []) ≡ true
+unfolding clap_on_literals
+takes_migrate program = refl
+
+pub migrate_is_named : (program : List ℕ) → subcommand_named (program ∷ codes "migrate" ∷ []) ≡ Some (codes "migrate")
+unfolding clap_on_literals
+migrate_is_named program = refl
+
 -- ---- lists and options
 
 pub differ : (m n : ℕ) → m < n → m ≡ n → ⊥
@@ -75,17 +83,18 @@ pub unwrap_or-now : (o : Option (Bor Text)) (d : Bor Text) → (unwrap_or o d).n
 unwrap_or-now None d = refl
 unwrap_or-now (Some s) d = refl
 
--- it is one of five, or none
-abbrev OneOf : {X : Type 0} → Option X → X → X → X → X → X → Type 0
-OneOf o x y z w v = (o ≡ None) ⊎ ((o ≡ Some x) ⊎ ((o ≡ Some y) ⊎ ((o ≡ Some z) ⊎ ((o ≡ Some w) ⊎ (o ≡ Some v)))))
+-- it is one of six, or none
+abbrev OneOf : {X : Type 0} → Option X → X → X → X → X → X → X → Type 0
+OneOf o x y z w v u = (o ≡ None) ⊎ ((o ≡ Some x) ⊎ ((o ≡ Some y) ⊎ ((o ≡ Some z) ⊎ ((o ≡ Some w) ⊎ ((o ≡ Some v) ⊎ (o ≡ Some u))))))
 
-either_of : {X : Type 0} (a b c d e : Bool) (x y z w v : X) → OneOf (cond a (Some x) (cond b (Some y) (cond c (Some z) (cond d (Some w) (cond e (Some v) None))))) x y z w v
-either_of true b c d e x y z w v = inr (inl refl)
-either_of false true c d e x y z w v = inr (inr (inl refl))
-either_of false false true d e x y z w v = inr (inr (inr (inl refl)))
-either_of false false false true e x y z w v = inr (inr (inr (inr (inl refl))))
-either_of false false false false true x y z w v = inr (inr (inr (inr (inr refl))))
-either_of false false false false false x y z w v = inl refl
+either_of : {X : Type 0} (a b c d e f : Bool) (x y z w v u : X) → OneOf (cond a (Some x) (cond b (Some y) (cond c (Some z) (cond d (Some w) (cond e (Some v) (cond f (Some u) None)))))) x y z w v u
+either_of true b c d e f x y z w v u = inr (inl refl)
+either_of false true c d e f x y z w v u = inr (inr (inl refl))
+either_of false false true d e f x y z w v u = inr (inr (inr (inl refl)))
+either_of false false false true e f x y z w v u = inr (inr (inr (inr (inl refl))))
+either_of false false false false true f x y z w v u = inr (inr (inr (inr (inr (inl refl)))))
+either_of false false false false false true x y z w v u = inr (inr (inr (inr (inr (inr refl)))))
+either_of false false false false false false x y z w v u = inl refl
 
 -- ---- what is named
 
@@ -119,8 +128,8 @@ serve_is_named (Some p) rows named with_rows =
     let its : p.1 ≡ rows = ap (λ o. unwrap_or o []) with_rows in
     ap₂ (λ (n : Text) (r : List Row). Some (n, r)) name its
 
-by_found : (words : List Text) (x y z w v : Shape) (o : Option Shape) → OneOf o x y z w v → OneOf (option_map (λ (p : Text × List Row). p.0) (option_map (λ (s : Shape). rows_at s words) o)) x.name y.name z.name w.name v.name
-by_found words x y z w v o found = elim found [
+by_found : (words : List Text) (x y z w v u : Shape) (o : Option Shape) → OneOf o x y z w v u → OneOf (option_map (λ (p : Text × List Row). p.0) (option_map (λ (s : Shape). rows_at s words) o)) x.name y.name z.name w.name v.name u.name
+by_found words x y z w v u o found = elim found [
   | inl e ↦ inl (ap name_of e)
   | inr first ↦ elim first [
     | inl e ↦ inr (inl (ap name_of e))
@@ -130,7 +139,10 @@ by_found words x y z w v o found = elim found [
         | inl e ↦ inr (inr (inr (inl (ap name_of e))))
         | inr fourth ↦ elim fourth [
           | inl e ↦ inr (inr (inr (inr (inl (ap name_of e)))))
-          | inr e ↦ inr (inr (inr (inr (inr (ap name_of e)))))
+          | inr fifth ↦ elim fifth [
+            | inl e ↦ inr (inr (inr (inr (inr (inl (ap name_of e))))))
+            | inr e ↦ inr (inr (inr (inr (inr (inr (ap name_of e))))))
+          ]
         ]
       ]
     ]
@@ -147,8 +159,8 @@ by_stop : (stop : Option (Text × List Text)) → let name = option_map (λ (p :
 by_stop None = inl refl
 by_stop (Some p) =
     let is_it = λ (s : Shape). answers_to p.0 (label_of s) in
-    by_found p.1 (sub_of 0) (sub_of 1) (sub_of 2) (sub_of 3) (sub_of 4) _
-    (either_of (is_it (sub_of 0)) (is_it (sub_of 1)) (is_it (sub_of 2)) (is_it (sub_of 3)) (is_it (sub_of 4)) (sub_of 0) (sub_of 1) (sub_of 2) (sub_of 3) (sub_of 4))
+    by_found p.1 (sub_of 0) (sub_of 1) (sub_of 2) (sub_of 3) (sub_of 4) (sub_of 5) _
+    (either_of (is_it (sub_of 0)) (is_it (sub_of 1)) (is_it (sub_of 2)) (is_it (sub_of 3)) (is_it (sub_of 4)) (is_it (sub_of 5)) (sub_of 0) (sub_of 1) (sub_of 2) (sub_of 3) (sub_of 4) (sub_of 5))
 
 -- the subcommands that can be found
 pub subcommands : (words : List Text) → (subcommand_named words ≡ None) ⊎ IsSubcommand (subcommand_named words)

@@ -3,12 +3,15 @@ use Rattle.std.proofs.Common.{◌≡◌, IfSome, ℕ, List, Option, Some, None, 
 use Rattle.std.specs.Io.KnownBytes.{Keeps}
 use Rattle.cops_world.specs.ScriptRuns.{WritesFront}
 use Rattle.cops_world.specs.SoloRuns.{WritesSoloFront}
+use Rattle.cops_types.specs.Sink.{AppendsFront}
+use Rattle.cops_replay.specs.MigratedText.{migration_of}
+use Rattle.cops_replay.proofs.PageLemmas.{front_of_none}
 use Rattle.cops_cli.specs.Faults.{IsOfWords, UnlessOfWords}
 use Rattle.cops_replay.proofs.AuditRunLemmas.{none_audited}
 use Rattle.cops_replay.proofs.ReplayRunLemmas.{nothing_replayed}
-use Rattle.cops_cli.specs.Runs.{Audits, Replays, Runs, RunsAlone, ServesOrFails}
+use Rattle.cops_cli.specs.Runs.{Audits, Migrates, Replays, Runs, RunsAlone, ServesOrFails}
 use Rattle.cops_cli.specs.declared.faults.CliFault.{CliFault}
-use Rattle.cops_cli.specs.declared.faults.CliFault.TheVariants.{CommandLine, NoText, BadHead, UnknownTenant, OutOfMemory, ReadFault, WriteFault, Torn}
+use Rattle.cops_cli.specs.declared.faults.CliFault.TheVariants.{CommandLine, NoText, BadHead, BadLine, UnknownTenant, OutOfMemory, ReadFault, WriteFault, Torn}
 
 stays_as_it_is : (known : Option (List ℕ)) → Keeps known known
 stays_as_it_is None = tt
@@ -22,6 +25,7 @@ pub ends_for_lack : {T : Type 0} → (remaining contents : Option (List ℕ)) (r
 ends_for_lack remaining contents result is =
     subst (Runs remaining remaining contents contents) (sym is) (record {
       of_run = tt;
+      of_lines = tt;
       written = nothing_written remaining contents;
       of_all = tt;
       bad = tt;
@@ -40,11 +44,13 @@ ends_with_words name remaining contents (Err (CommandLine error)) e = tt
 ends_with_words name remaining contents (Err NoText) e = tt
 ends_with_words name remaining contents (Err OutOfMemory) e = record {
   of_run = tt;
+  of_lines = tt;
   written = nothing_written_alone name remaining contents;
   refused = tt;
   unwritten = tt;
 }
 ends_with_words name remaining contents (Err (BadHead line)) e = absurd e
+ends_with_words name remaining contents (Err (BadLine why line)) e = absurd e
 ends_with_words name remaining contents (Err UnknownTenant) e = absurd e
 ends_with_words name remaining contents (Err ReadFault) e = absurd e
 ends_with_words name remaining contents (Err WriteFault) e = absurd e
@@ -55,6 +61,7 @@ pub audits_for_lack : {T : Type 0} → (remaining contents : Option (List ℕ)) 
 audits_for_lack remaining contents result is =
     subst (Audits remaining remaining contents contents) (sym is) (record {
       of_run = tt;
+      of_lines = tt;
       of_all = tt;
       written = none_audited remaining contents;
       bad = tt;
@@ -68,15 +75,31 @@ replays_nothing name remaining contents (Err (CommandLine error)) e = tt
 replays_nothing name remaining contents (Err NoText) e = tt
 replays_nothing name remaining contents (Err OutOfMemory) e = record {
   of_run = tt;
+  of_lines = tt;
   written = nothing_replayed name remaining contents;
   refused = tt;
   unwritten = tt;
 }
 replays_nothing name remaining contents (Err (BadHead line)) e = absurd e
+replays_nothing name remaining contents (Err (BadLine why line)) e = absurd e
 replays_nothing name remaining contents (Err UnknownTenant) e = absurd e
 replays_nothing name remaining contents (Err ReadFault) e = absurd e
 replays_nothing name remaining contents (Err WriteFault) e = absurd e
 replays_nothing name remaining contents (Err Torn) e = absurd e
+
+-- the same of a migration
+pub migrates_for_lack : {T : Type 0} → (remaining contents : Option (List ℕ)) (result : Result T CliFault) → result ≡ Err OutOfMemory → Migrates remaining remaining contents contents result
+migrates_for_lack remaining contents result is =
+    subst (Migrates remaining remaining contents contents) (sym is) (record {
+      of_run = tt;
+      of_all = tt;
+      written = none_migrated remaining;
+      refused = tt;
+    })
+  where
+    none_migrated : (known : Option (List ℕ)) → IfSome known (λ bytes. AppendsFront contents contents (migration_of bytes).text)
+    none_migrated None = tt
+    none_migrated (Some bytes) = front_of_none contents (migration_of bytes).text
 
 -- the same before anything is served
 pub ends_unserved : {T : Type 0} → (remaining contents : Option (List ℕ)) (result : Result T CliFault) → IsErrAnd result IsOfWords → UnlessOfWords result (ServesOrFails remaining contents contents result)
@@ -85,12 +108,14 @@ ends_unserved remaining contents (Err (CommandLine error)) e = tt
 ends_unserved remaining contents (Err NoText) e = tt
 ends_unserved remaining contents (Err OutOfMemory) e = record {
   of_run = tt;
+  of_lines = tt;
   of_all = tt;
   written = inl (stays_as_it_is contents);
   bad = tt;
   unwritten = tt;
 }
 ends_unserved remaining contents (Err (BadHead line)) e = absurd e
+ends_unserved remaining contents (Err (BadLine why line)) e = absurd e
 ends_unserved remaining contents (Err UnknownTenant) e = absurd e
 ends_unserved remaining contents (Err ReadFault) e = absurd e
 ends_unserved remaining contents (Err WriteFault) e = absurd e

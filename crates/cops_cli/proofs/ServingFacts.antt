@@ -18,7 +18,7 @@ use Rattle.cops_service.proofs.Told.{left_count, left_in_place}
 use Rattle.cops_cli.specs.Faults.{ended_serving_by}
 use Rattle.cops_cli.specs.Runs.{AreServed, EndsServing}
 use Rattle.cops_cli.specs.declared.faults.CliFault.{CliFault}
-use Rattle.cops_cli.specs.declared.faults.CliFault.TheVariants.{CommandLine, NoText, BadHead, UnknownTenant, OutOfMemory, ReadFault, WriteFault, Torn}
+use Rattle.cops_cli.specs.declared.faults.CliFault.TheVariants.{CommandLine, NoText, BadHead, BadLine, UnknownTenant, OutOfMemory, ReadFault, WriteFault, Torn}
 
 -- nodes that are left are the configuration's
 pub left_nodes : (config : Config) (nodes : List Shared) → IsTrue (are_sizes config) → AreLeft (new_nodes config).nodes nodes → AreNodesOf config nodes
@@ -31,6 +31,7 @@ abbrev IsStop : CliFault → Type 0
 IsStop (CommandLine error) = ⊥
 IsStop NoText = ⊥
 IsStop (BadHead line) = ⊥
+IsStop (BadLine why line) = ⊥
 IsStop UnknownTenant = ⊥
 IsStop OutOfMemory = Unit {0}
 IsStop ReadFault = Unit {0}
@@ -45,11 +46,12 @@ module _ (remaining old new : Option (List ℕ)) where
   stops (CommandLine error) is written = absurd is
   stops NoText is written = absurd is
   stops (BadHead line) is written = absurd is
+  stops (BadLine why line) is written = absurd is
   stops UnknownTenant is written = absurd is
-  stops OutOfMemory is written = record { of_run = tt; of_all = tt; written = written; bad = tt; unwritten = tt }
-  stops ReadFault is written = record { of_run = tt; of_all = tt; written = written; bad = tt; unwritten = tt }
-  stops WriteFault is written = record { of_run = tt; of_all = tt; written = written; bad = tt; unwritten = tt }
-  stops Torn is written = record { of_run = tt; of_all = tt; written = written; bad = tt; unwritten = tt }
+  stops OutOfMemory is written = record { of_run = tt; of_lines = tt; of_all = tt; written = written; bad = tt; unwritten = tt }
+  stops ReadFault is written = record { of_run = tt; of_lines = tt; of_all = tt; written = written; bad = tt; unwritten = tt }
+  stops WriteFault is written = record { of_run = tt; of_lines = tt; of_all = tt; written = written; bad = tt; unwritten = tt }
+  stops Torn is written = record { of_run = tt; of_lines = tt; of_all = tt; written = written; bad = tt; unwritten = tt }
 
   stops_by : (why : Fault) (ended : CliFault) → ended ≡ ended_serving_by why → IsStop (ended_serving_by why) → Written → EndsServing remaining old new ended
   stops_by why ended is stop written = subst (EndsServing remaining old new) (sym is) (stops (ended_serving_by why) stop written)

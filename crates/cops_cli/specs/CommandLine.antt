@@ -6,7 +6,7 @@ use Rattle.clap.specs.declared.builder.value_parser.ValueParser.TheVariants.{Uns
 use Rattle.clap.specs.Simple.{on_top}
 use Rattle.cops_cli.specs.declared.command_line.Service.{Service}
 use Rattle.cops_cli.specs.declared.command_line.Task.{Task}
-use Rattle.cops_cli.specs.declared.command_line.Task.TheVariants.{Run, Solo, Audit, Replay, Serve}
+use Rattle.cops_cli.specs.declared.command_line.Task.TheVariants.{Run, Solo, Audit, Replay, Migrate, Serve}
 
 abbrev pub run : App
 run = new_app (codes "run")
@@ -22,6 +22,9 @@ audit = new_app (codes "audit")
 
 abbrev pub replay : App
 replay = with_rule (new_app (codes "replay")) tenant
+
+abbrev pub migrate : App
+migrate = new_app (codes "migrate")
 
 abbrev pub address : Rule
 address = record (new_rule (codes "ADDRESS")) { required = true }
@@ -51,9 +54,12 @@ with_audit = with_subcommand with_solo audit.top
 abbrev pub with_replay : App
 with_replay = with_subcommand with_audit replay.top
 
+abbrev pub with_migrate : App
+with_migrate = with_subcommand with_replay migrate.top
+
 -- the program with its subcommands
 abbrev pub cops : App
-cops = with_subcommand with_replay serve.top
+cops = with_subcommand with_migrate serve.top
 
 -- the subcommand that words name
 abbrev pub subcommand_named : List Text → Option Text
@@ -98,10 +104,12 @@ IsAskedBy words Run = subcommand_named words ≡ Some (codes "run")
 IsAskedBy words (Solo name) = alone_named words ≡ Some (codes "solo", name.now)
 IsAskedBy words Audit = subcommand_named words ≡ Some (codes "audit")
 IsAskedBy words (Replay name) = alone_named words ≡ Some (codes "replay", name.now)
+IsAskedBy words Migrate = subcommand_named words ≡ Some (codes "migrate")
 IsAskedBy words (Serve service) = IsServedBy words service
 
 -- it is one of the subcommands
 abbrev pub IsSubcommand : Option Text → Type 0
 IsSubcommand found =
     (found ≡ Some (codes "run"))
-    ⊎ ((found ≡ Some (codes "solo")) ⊎ ((found ≡ Some (codes "audit")) ⊎ ((found ≡ Some (codes "replay")) ⊎ (found ≡ Some (codes "serve")))))
+    ⊎ ((found ≡ Some (codes "solo"))
+    ⊎ ((found ≡ Some (codes "audit")) ⊎ ((found ≡ Some (codes "replay")) ⊎ ((found ≡ Some (codes "migrate")) ⊎ (found ≡ Some (codes "serve"))))))

@@ -10,8 +10,10 @@ use Rattle.cops_types.specs.declared.line_runs.fault.RunFault.TheVariants as run
 use Rattle.cops_world.specs.declared.scripts.BadConfig.{BadConfig}
 use Rattle.cops_world.specs.declared.solo_machine.SoloRefusal.{SoloRefusal}
 use Rattle.cops_world.specs.declared.solo_machine.SoloRefusal.TheVariants as solo
+use Rattle.cops_replay.specs.declared.migrations.MigrationRefusal.{MigrationRefusal}
+use Rattle.cops_replay.specs.declared.migrations.MigrationRefusal.TheVariants as migration
 use Rattle.cops_cli.specs.declared.faults.CliFault.{CliFault}
-use Rattle.cops_cli.specs.declared.faults.CliFault.TheVariants.{CommandLine, NoText, BadHead, UnknownTenant, OutOfMemory, ReadFault, WriteFault, Torn}
+use Rattle.cops_cli.specs.declared.faults.CliFault.TheVariants.{CommandLine, NoText, BadHead, BadLine, UnknownTenant, OutOfMemory, ReadFault, WriteFault, Torn}
 
 -- the fault of a run
 abbrev pub ended_by : RunFault BadConfig → CliFault
@@ -27,6 +29,14 @@ ended_alone_by (run.Refused solo.UnknownTenant) = UnknownTenant
 ended_alone_by run.OutOfMemory = OutOfMemory
 ended_alone_by run.ReadFault = ReadFault
 ended_alone_by run.WriteFault = WriteFault
+
+-- the fault of a migration
+abbrev pub ended_migrating_by : RunFault MigrationRefusal → CliFault
+ended_migrating_by (run.Refused (migration.BadConfig bad)) = BadHead bad.line
+ended_migrating_by (run.Refused (migration.BadLine bad)) = BadLine bad.fault bad.line
+ended_migrating_by run.OutOfMemory = OutOfMemory
+ended_migrating_by run.ReadFault = ReadFault
+ended_migrating_by run.WriteFault = WriteFault
 
 -- the fault of a service, or of an audit
 abbrev pub ended_serving_by : Fault → CliFault
@@ -68,6 +78,17 @@ abbrev pub IfNotAnswered : CliFault → (SoloRefusal → Type 0) → Type 0
 IfNotAnswered (BadHead line) P = P (solo.BadConfig (record { line = line }))
 IfNotAnswered UnknownTenant P = P solo.UnknownTenant
 IfNotAnswered other P = ⊤
+
+-- where an audit is not migrated, by such a refusal
+abbrev pub IfNotMigrated : CliFault → (MigrationRefusal → Type 0) → Type 0
+IfNotMigrated (BadHead line) P = P (migration.BadConfig (record { line = line }))
+IfNotMigrated (BadLine why line) P = P (migration.BadLine (record { line = line; fault = why }))
+IfNotMigrated other P = ⊤
+
+-- where the fault is of a line that can't be migrated
+abbrev pub IfBadLine : CliFault → Type 0 → Type 0
+IfBadLine (BadLine why line) P = P
+IfBadLine other P = ⊤
 
 -- where the head has no such tenant
 abbrev pub IfUnknownTenant : CliFault → Type 0 → Type 0

@@ -4,7 +4,7 @@ ghost use Rattle.clap.specs.Matches.{found_of};
 ghost use Rattle.clap.specs.Walk.{rows_of};
 ghost use Rattle.clap.specs.Words.{app_of, new_app, one_of, rule_of};
 ghost use Rattle.clap.specs.declared.builder.command.Command.TheViews.{out-Command};
-ghost use Rattle.cops_cli.specs.CommandLine.{IsAskedBy, IsServiceIn, IsSpelledBy, address, audit, cops, number, replay, serve, solo, tenant_word, with_audit, with_replay, with_run, with_solo};
+ghost use Rattle.cops_cli.specs.CommandLine.{IsAskedBy, IsServiceIn, IsSpelledBy, address, audit, cops, migrate, number, replay, serve, solo, tenant_word, with_audit, with_migrate, with_replay, with_run, with_solo};
 ghost use Rattle.cops_cli.specs.Faults.{IsOfWords};
 
 use crate::faults::CliFault;
@@ -31,6 +31,8 @@ pub(crate) enum Task<'a> {
     Audit,
     /// Replays the records of the tenant of this name in an audit.
     Replay(&'a str),
+    /// Brings an audit of layout 1 to layout 2.
+    Migrate,
     /// Serves clients.
     Serve(Service<'a>),
 }
@@ -79,6 +81,15 @@ fn replay_command<'a>(alloc: Global) -> Result<Command<'a>, AllocError>
     Command::new(alloc, "replay")
         .about("Replays a tenant's records of the audit on standard input")
         .arg(name)
+}
+
+fn migrate_command<'a>(alloc: Global) -> Command<'a>
+    ensures app { app_of result ≡ migrate }
+    ensures no_globals { (out-Command result).has_globals ≡ false }
+{
+    Command::new(alloc, "migrate").about(
+        "Brings the audit on standard input from layout 1 to layout 2",
+    )
 }
 
 /// Where to listen.
@@ -172,11 +183,19 @@ fn replay_commands<'a>(alloc: Global) -> Result<Command<'a>, AllocError>
     audit_commands(alloc)?.subcommand(replay)
 }
 
+/// With five.
+fn migrate_commands<'a>(alloc: Global) -> Result<Command<'a>, AllocError>
+    ensures { IfOk result (λ command. app_of command ≡ with_migrate) }
+{
+    let migrate = migrate_command(alloc);
+    replay_commands(alloc)?.subcommand(migrate)
+}
+
 fn command_line<'a>(alloc: Global) -> Result<Command<'a>, AllocError>
     ensures { IfOk result (λ command. app_of command ≡ cops) }
 {
     let serve = serve_command(alloc)?;
-    replay_commands(alloc)?.subcommand(serve)
+    migrate_commands(alloc)?.subcommand(serve)
 }
 
 /// The tenant that the words after a subcommand name.
@@ -211,6 +230,8 @@ pub(crate) fn read_words<'a, S: AsStr>(alloc: Global, words: &'a [S]) -> Result<
         MatchResult result (λ task. task ≡ Task.Run) (λ fault. fault ≡ CliFault.OutOfMemory) }
     ensures audit { (program : List ℕ) → map S.text words.now ≡ program ∷ codes "audit" ∷ [] →
         MatchResult result (λ task. task ≡ Task.Audit) (λ fault. fault ≡ CliFault.OutOfMemory) }
+    ensures migrate { (program : List ℕ) → map S.text words.now ≡ program ∷ codes "migrate" ∷ [] →
+        MatchResult result (λ task. task ≡ Task.Migrate) (λ fault. fault ≡ CliFault.OutOfMemory) }
     ensures err { IfErr result IsOfWords }
 {
     let matches = command_line(alloc)?.try_get_matches_from(words)?;
@@ -224,6 +245,9 @@ pub(crate) fn read_words<'a, S: AsStr>(alloc: Global, words: &'a [S]) -> Result<
     }
     if let Some(serve) = matches.subcommand_matches("serve") {
         return Ok(Task::Serve(service_in(serve)));
+    }
+    if let Some(_migrate) = matches.subcommand_matches("migrate") {
+        return Ok(Task::Migrate);
     }
     match matches.subcommand_matches("audit") {
         Some(_audit) => Ok(Task::Audit),

@@ -1,10 +1,11 @@
 //! Why the program ends with another status than 0.
 ghost use Rattle.std.specs.Prelude.{◌≡◌};
-ghost use Rattle.cops_cli.specs.Faults.{RefusesWords, ended_alone_by, ended_by, ended_serving_by};
+ghost use Rattle.cops_cli.specs.Faults.{RefusesWords, ended_alone_by, ended_by, ended_migrating_by, ended_serving_by};
 ghost use Rattle.cops_cli.specs.Statuses.{fault_status};
 ghost use Rattle.cops_cli.specs.declared.faults.CliFault.TheVariants.{OutOfMemory};
 
 use clap::error::ErrorKind;
+use cops_replay::MigrationRefusal;
 use cops_types::{Fault, RunFault};
 use cops_world::{BadConfig, SoloRefusal};
 use std::alloc::AllocError;
@@ -21,6 +22,9 @@ pub(crate) enum CliFault {
     /// This line of the head is bad, counted from 1.
     #[error("cops: configuration line {0}\n")]
     BadHead(u64),
+    /// This line of an audit can't be migrated, counted from 1.
+    #[error("cops: {0} line {1}\n")]
+    BadLine(Fault, u64),
     #[error("cops: {}\n", Fault::UnknownTenant)]
     UnknownTenant,
     #[error("cops: {}\n", Fault::OutOfMemory)]
@@ -54,6 +58,7 @@ impl CliFault {
         match self {
             CliFault::CommandLine(_) | CliFault::NoText => 2,
             CliFault::BadHead(_) | CliFault::UnknownTenant => 2,
+            CliFault::BadLine(_, _) => 2,
             CliFault::OutOfMemory | CliFault::ReadFault | CliFault::WriteFault => 1,
             CliFault::Torn => 1,
         }
@@ -80,6 +85,22 @@ impl From<RunFault<SoloRefusal>> for CliFault {
         match fault {
             RunFault::Refused(SoloRefusal::BadConfig(bad)) => CliFault::BadHead(bad.line),
             RunFault::Refused(SoloRefusal::UnknownTenant) => CliFault::UnknownTenant,
+            RunFault::OutOfMemory => CliFault::OutOfMemory,
+            RunFault::ReadFault => CliFault::ReadFault,
+            RunFault::WriteFault => CliFault::WriteFault,
+        }
+    }
+}
+
+impl From<RunFault<MigrationRefusal>> for CliFault {
+    ghost from_gives = { λ fault ended. ended ≡ ended_migrating_by fault };
+
+    fn from(fault: RunFault<MigrationRefusal>) -> CliFault {
+        match fault {
+            RunFault::Refused(MigrationRefusal::BadConfig(bad)) => CliFault::BadHead(bad.line),
+            RunFault::Refused(MigrationRefusal::BadLine(bad)) => {
+                CliFault::BadLine(bad.fault, bad.line)
+            }
             RunFault::OutOfMemory => CliFault::OutOfMemory,
             RunFault::ReadFault => CliFault::ReadFault,
             RunFault::WriteFault => CliFault::WriteFault,

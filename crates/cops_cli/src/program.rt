@@ -6,12 +6,12 @@ ghost use Rattle.cops_types.specs.Sink.{sink_failures, sink_writer};
 ghost use Rattle.cops_types.specs.Source.{source_failures, source_reader, source_reads};
 ghost use Rattle.cops_cli.specs.CommandLine.{IsSubcommand, alone_named, subcommand_named};
 ghost use Rattle.cops_cli.specs.Faults.{IfOfWords, UnlessOfWords};
-ghost use Rattle.cops_cli.specs.Runs.{Audits, Replays, Runs, RunsAlone, ServesOrFails};
+ghost use Rattle.cops_cli.specs.Runs.{Audits, Migrates, Replays, Runs, RunsAlone, ServesOrFails};
 
 use crate::command_line::{Task, read_words};
 use crate::faults::CliFault;
 use crate::serve::serve;
-use cops_replay::{audit_text, replay_text};
+use cops_replay::{audit_text, migrate_text, replay_text};
 use cops_types::{Sink, Source};
 use cops_world::{run_script, solo_script};
 use std::alloc::Global;
@@ -92,6 +92,23 @@ fn replay<R: Read, O: Write>(
     Ok(())
 }
 
+/// Brings an audit of layout 1 to layout 2.
+fn migrate<R: Read, O: Write>(
+    alloc: Global,
+    source: &mut Source<R>,
+    sink: &mut Sink<O>,
+) -> Result<(), CliFault>
+    ensures migrates { Migrates (R.remaining (source_reader source.old)) (R.remaining (source_reader source.new))
+        (O.contents (sink_writer sink.old)) (O.contents (sink_writer sink.new)) result }
+    ensures read_fault { IsErrOf result CliFault.ReadFault →
+        HasRisen (source_failures source.old) (source_failures source.new)
+        ⊎ HasRisenBy (source_reads source.old) (source_reads source.new) (2 ^ 32) }
+    ensures write_fault { IsErrOf result CliFault.WriteFault → HasRisen (sink_failures sink.old) (sink_failures sink.new) }
+{
+    migrate_text(alloc, source, sink)?;
+    Ok(())
+}
+
 /// Does what the words ask for. The first is the program's name.
 pub(crate) fn answer<T, S: AsStr, R: Read, O: Write>(
     rt: &T,
@@ -114,6 +131,9 @@ where
     ensures replay { (tenant : List ℕ) → alone_named (map S.text words.now) ≡ Some (codes "replay", tenant) →
         UnlessOfWords result (Replays tenant (R.remaining (source_reader source.old)) (R.remaining (source_reader source.new))
         (O.contents (sink_writer sink.old)) (O.contents (sink_writer sink.new)) result) }
+    ensures migrate { (program : List ℕ) → map S.text words.now ≡ program ∷ codes "migrate" ∷ [] →
+        Migrates (R.remaining (source_reader source.old)) (R.remaining (source_reader source.new))
+        (O.contents (sink_writer sink.old)) (O.contents (sink_writer sink.new)) result }
     ensures serve { subcommand_named (map S.text words.now) ≡ Some (codes "serve") →
         UnlessOfWords result (ServesOrFails (R.remaining (source_reader source.old))
         (O.contents (sink_writer sink.old)) (O.contents (sink_writer sink.new)) result) }
@@ -132,6 +152,7 @@ where
         Task::Solo(tenant) => solo(alloc, source, sink, tenant),
         Task::Audit => audit(alloc, source, sink),
         Task::Replay(tenant) => replay(alloc, source, sink, tenant),
+        Task::Migrate => migrate(alloc, source, sink),
         Task::Serve(service) => serve(rt, alloc, &service, source, sink),
     }
 }

@@ -1,7 +1,7 @@
 //! What no contract says: the texts on standard error, and that calls succeed.
 use crate::faults::CliFault;
 use crate::program::answer;
-use cops_types::{Sink, Source};
+use cops_types::{Fault, Sink, Source};
 use std::alloc::Global;
 use std::net::{Net, TcpListener, TcpStream};
 use std::process::Abort;
@@ -14,6 +14,10 @@ use std::time::Clock;
 fn texts_of_faults(rt: HostRuntime) -> Result<(), Fail> {
     let texts = [
         (CliFault::BadHead(7), "cops: configuration line 7\n"),
+        (
+            CliFault::BadLine(Fault::ClockTooGreat, 4),
+            "cops: E29 line 4\n",
+        ),
         (CliFault::UnknownTenant, "cops: E02\n"),
         (CliFault::OutOfMemory, "cops: E23\n"),
         (CliFault::ReadFault, "cops: E26\n"),
@@ -34,11 +38,12 @@ const HELP: &str = "A causal store shared by isolated tenants
 Usage: cops <COMMAND>
 
 Commands:
-  run     Answers the script on standard input
-  solo    Answers it for one tenant alone
-  audit   Writes the audit of the script on standard input
-  replay  Replays a tenant's records of the audit on standard input
-  serve   Serves clients over TCP, and then writes the audit
+  run      Answers the script on standard input
+  solo     Answers it for one tenant alone
+  audit    Writes the audit of the script on standard input
+  replay   Replays a tenant's records of the audit on standard input
+  migrate  Brings the audit on standard input from layout 1 to layout 2
+  serve    Serves clients over TCP, and then writes the audit
 
 Options:
   -h, --help     Print help
@@ -174,6 +179,35 @@ fn an_audit_that_replays(rt: HostRuntime) -> Result<(), Fail> {
         AUDIT,
         b"same 2\n",
     )
+}
+
+#[test]
+fn an_audit_that_is_migrated(rt: HostRuntime) -> Result<(), Fail> {
+    let mut migrated = b"layout 2\n".to_vec(rt.alloc())?;
+    migrated.extend_from_slice(AUDIT)?;
+    assert_written(
+        &rt,
+        rt.alloc(),
+        &["cops", "migrate"],
+        AUDIT,
+        migrated.as_slice(),
+    )
+}
+
+/// An audit of layout 2 is none of layout 1.
+#[test]
+fn an_audit_that_was_migrated(rt: HostRuntime) -> Result<(), Fail> {
+    let mut source = Source::new(b"layout 2\ncluster 1 1 5000 1\n".as_slice());
+    let mut sink = Sink::new(Vec::new(rt.alloc()));
+    let words = ["cops", "migrate"];
+    let fault = answer(&rt, rt.alloc(), &words, &mut source, &mut sink).expect_err(&rt, "a fault");
+    assert_eq!(rt;
+        fault.to_string(rt.alloc())?.as_str(),
+        "cops: configuration line 1\n"
+    );
+    assert_eq!(rt; fault.status(), 2);
+    assert!(rt; sink.into_inner().is_empty());
+    Ok(())
 }
 
 #[test]
