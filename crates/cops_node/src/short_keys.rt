@@ -1,6 +1,6 @@
 //! Keys of few bytes, as audits keep them.
 ghost use Rattle.std.specs.Prelude.{◌≡◌, ◌≤◌, length, IfSome, IfNone};
-ghost use Rattle.cops_node.specs.ShortKeys.{SHORT};
+ghost use Rattle.cops_types.specs.Packed.{SHORT};
 
 use cops_types::Key;
 use std::marker::Model;

@@ -28,7 +28,7 @@ use Rattle.cops_replay.specs.declared.migrations.MigrationRefusal.{MigrationRefu
 use Rattle.cops_replay.specs.declared.migrations.MigrationRefusal.TheVariants.{BadConfig, BadLine}
 use Rattle.cops_replay.specs.AuditText.{ended}
 use Rattle.cops_replay.specs.MigratedText.{Migration, bad_config_at, bad_line_at, ends_by, migrated_from, migrated_front, migrated_records, migration_of, record_fault, with_text}
-use Rattle.cops_replay.specs.MigrationRules.{OldHeadRefuses, RecordRefuses, migration_answers, migration_end_refuses, migration_refuses, migration_rules, part_answers, part_ends, part_refuses, part_refuses_end, records_in}
+use Rattle.cops_replay.specs.MigrationRules.{OldHeadIsRefused, RecordRefuses, migration_answers, migration_end_refuses, migration_refuses, migration_rules, part_answers, part_ends, part_refuses, part_refuses_end, records_in}
 use Rattle.cops_replay.specs.OldRecords.{last_early_clock, old_refusal_of}
 use Rattle.cops_replay.specs.ReplayText.{longest_record, told_number}
 use Rattle.cops_replay.proofs.OldHeadLengths.{cut_in_old_head, take_all}
@@ -196,7 +196,7 @@ refused_line : (reached : Reached) (line : List ℕ) (later : List (List ℕ)) (
 refused_line (InHead front n) line later audit refusal (at, count, still, fine) refuses =
     by_refusal refusal (subst (λ (p : OldPart). part_refuses p (cut_line longest_record line) (counted audit.lines) refusal) at refuses)
   where
-    by_refusal : (refusal : MigrationRefusal) → OldHeadRefuses (Some front) (cut_line longest_record line) (counted audit.lines) refusal → migrated_from (line ∷ later) (n + 1) front ≡ ends_by (Err refusal)
+    by_refusal : (refusal : MigrationRefusal) → OldHeadIsRefused (Some front) (cut_line longest_record line) (counted audit.lines) refusal → migrated_from (line ∷ later) (n + 1) front ≡ ends_by (Err refusal)
     by_refusal (BadConfig bad) (none, number) =
         head_line (n + 1) front line later (Err (bad_config_at (n + 1))) still (front_stops (n + 1) front line (sym (cut_in_old_head front line) ∙ none))
         ∙ ap (λ k. ends_by (Err (BadConfig (record { line = k })))) (sym (number ∙ ap counted count ∙ counted_more n))

@@ -14,8 +14,8 @@ use Rattle.cops_types.specs.OldHead.{has_clocks_to, old_front_after, old_reading
 use Rattle.cops_types.specs.Refusal.{refused_if}
 use Rattle.cops_types.proofs.WordLemmas.{both}
 use Rattle.cops_replay.specs.declared.Record.{Record}
-use Rattle.cops_replay.specs.AuditText.{ended}
-use Rattle.cops_replay.specs.MigratedText.{migrated_from, migrated_head, migrated_records, migration_of, record_fault, with_text}
+use Rattle.cops_replay.specs.AuditText.{ended, head_text}
+use Rattle.cops_replay.specs.MigratedText.{migrated_from, migrated_records, migration_of, record_fault, with_text}
 use Rattle.cops_replay.specs.MigrationLaws.{IsAuditInBoth, IsInBoth, whole_migration}
 use Rattle.cops_replay.specs.OldRecords.{last_early_clock, old_fault_of, old_record_in, old_refusal_of}
 use Rattle.cops_replay.specs.ReplayText.{told_number}
@@ -75,7 +75,7 @@ read_on lines number found = elim found [ None ↦ BadAt number | Some next ↦ 
 -- from this line on the head is whole, and then come these lines
 record GoesWhole (lines : List (List ℕ)) (number : ℕ) (front : Front) (config : Config) (rest : List (List ℕ)) : Type 0 where
   later : ℕ
-  is : migrated_from lines number front ≡ with_text (migrated_head config) (migrated_records rest later 0)
+  is : migrated_from lines number front ≡ with_text (head_text config) (migrated_records rest later 0)
   clocks : IsTrue (has_clocks_to last_early_clock (Some front))
 
 same_whole : (one other : Config) (lines rest : List (List ℕ)) → Whole one lines ≡ Whole other rest → (one ≡ other) × (lines ≡ rest)
@@ -98,7 +98,7 @@ goes_whole lines number (Begun found) config rest fine e =
     let same = same_whole found config lines rest e in
     record {
       later = number;
-      is = λ i. with_text (migrated_head (same.0 i)) (migrated_records (same.1 i) number 0);
+      is = λ i. with_text (head_text (same.0 i)) (migrated_records (same.1 i) number 0);
       clocks = subst (λ (c : Config). IsTrue (has_clocks_to last_early_clock (Some (Begun c)))) (sym same.0) fine;
     }
 goes_whole [] number AtStart config rest fine e = absurd (let clash : ⊥ = cc in clash)
@@ -112,4 +112,4 @@ pub whole : (bytes : List ℕ) (config : Config) (lines : List (List ℕ)) → I
 whole bytes config lines is =
     let head = goes_whole (lines_of bytes) 1 AtStart config lines is.clocks is.head in
     let count : 0 + length lines ≡ length lines = omega arith in
-    head.is ∙ ap (with_text (migrated_head config)) (records_whole lines head.later 0 is.records) ∙ ap (λ n. with_text (migrated_head config) (record { text = flat_map ended lines; outcome = Ok (told_number n) })) count
+    head.is ∙ ap (with_text (head_text config)) (records_whole lines head.later 0 is.records) ∙ ap (λ n. with_text (head_text config) (record { text = flat_map ended lines; outcome = Ok (told_number n) })) count

@@ -12,14 +12,6 @@ use Rattle.cops_replay.specs.AuditText.{ended, head_text}
 use Rattle.cops_replay.specs.OldRecords.{last_early_clock, old_refusal_of}
 use Rattle.cops_replay.specs.ReplayText.{longest_record, told_number}
 
--- the first line of an audit of layout 2
-abbrev pub layout_line : List ℕ
-layout_line = codes "layout 2"
-
--- the head in its one form, as layout 2 has it
-abbrev pub migrated_head : Config → List ℕ
-migrated_head config = ended layout_line ++ head_text config
-
 -- ---- one line
 
 abbrev pub bad_config_at : ℕ → MigrationRefusal
@@ -61,7 +53,7 @@ migrated_records (line ∷ lines) number count = elim (record_fault line) [ Some
 
 -- the lines from this number on, where the head has come so far
 abbrev pub migrated_from : List (List ℕ) → ℕ → Front → Migration
-migrated_from lines number (Begun config) = with_text (migrated_head config) (migrated_records lines number 0)
+migrated_from lines number (Begun config) = with_text (head_text config) (migrated_records lines number 0)
 migrated_from [] number AtStart = ends_by (Err (bad_config_at number))
 migrated_from [] number (Within config) = ends_by (Err (bad_config_at number))
 migrated_from (line ∷ lines) number AtStart = elim (migrated_front number AtStart line) [ Err refusal ↦ ends_by (Err refusal) | Ok next ↦ migrated_from lines (number + 1) next ]

@@ -6,8 +6,8 @@ use Rattle.cops_types.specs.declared.configs.Config.{Config}
 use Rattle.cops_types.specs.Head.{Begun, Whole, head_of}
 use Rattle.cops_types.specs.Lines.{lines_of}
 use Rattle.cops_types.specs.OldHead.{has_clocks_to, old_head_of}
-use Rattle.cops_replay.specs.AuditText.{ended}
-use Rattle.cops_replay.specs.MigratedText.{Migration, migrated_head}
+use Rattle.cops_replay.specs.AuditText.{ended, head_text}
+use Rattle.cops_replay.specs.MigratedText.{Migration}
 use Rattle.cops_replay.specs.OldRecords.{last_early_clock, old_record_in}
 use Rattle.cops_replay.specs.RecordLines.{record_in}
 use Rattle.cops_replay.specs.ReplayText.{longest_record, told_number}
@@ -25,7 +25,7 @@ pub record IsAuditInBoth (bytes : List ℕ) (config : Config) (lines : List (Lis
 
 -- all of it is written: the head, and the record lines as they are
 abbrev pub whole_migration : Config → List (List ℕ) → Migration
-whole_migration config lines = record { text = migrated_head config ++ flat_map ended lines; outcome = Ok (told_number (length lines)) }
+whole_migration config lines = record { text = head_text config ++ flat_map ended lines; outcome = Ok (told_number (length lines)) }
 
 -- today's reading finds the same head and the same records
 pub record ReadsAlike (bytes : List ℕ) (config : Config) (lines : List (List ℕ)) : Type 0 where

@@ -11,8 +11,8 @@ use Rattle.cops_replay.specs.declared.migration_machine.OldPart.TheVariants.{Hea
 use Rattle.cops_replay.specs.declared.migrations.MigrationRefusal.{MigrationRefusal}
 use Rattle.cops_replay.specs.declared.migrations.MigrationRefusal.TheVariants.{BadConfig, BadLine}
 use Rattle.cops_types.specs.declared.configs.Config.{Config}
-use Rattle.cops_replay.specs.AuditText.{ended}
-use Rattle.cops_replay.specs.MigratedText.{migrated_head, record_fault}
+use Rattle.cops_replay.specs.AuditText.{ended, head_text}
+use Rattle.cops_replay.specs.MigratedText.{record_fault}
 use Rattle.cops_replay.specs.OldRecords.{last_early_clock}
 
 -- ---- the head
@@ -30,9 +30,9 @@ abbrev pub OldHeadEnds : Option Front → List ℕ → Config → Type 0
 OldHeadEnds old line config = old_front_with old line ≡ Some (Begun config)
 
 -- the line of this number may not stand in the head, or its clock is too great
-abbrev pub OldHeadRefuses : Option Front → List ℕ → ℕ → MigrationRefusal → Type 0
-OldHeadRefuses old line number (BadConfig bad) = (old_front_with old line ≡ None) × (bad.line ≡ number)
-OldHeadRefuses old line number (BadLine bad) =
+abbrev pub OldHeadIsRefused : Option Front → List ℕ → ℕ → MigrationRefusal → Type 0
+OldHeadIsRefused old line number (BadConfig bad) = (old_front_with old line ≡ None) × (bad.line ≡ number)
+OldHeadIsRefused old line number (BadLine bad) =
     (next : Front) × (old_front_with old line ≡ Some next) × IsFalse (has_clocks_to last_early_clock (Some next)) × (bad.line ≡ number) × (bad.fault ≡ ClockTooGreat)
 
 -- ---- the records
@@ -46,14 +46,14 @@ RecordRefuses line number (BadLine bad) = (record_fault line ≡ Some bad.fault)
 
 abbrev pub part_answers : OldPart → List ℕ → List ℕ → OldPart → Type 0
 part_answers (Head old) line text (Head new) = OldHeadGoesOn old line new × (text ≡ [])
-part_answers (Head old) line text (Records count) = (config : Config) × OldHeadEnds old line config × (text ≡ migrated_head config) × (count ≡ 0)
+part_answers (Head old) line text (Records count) = (config : Config) × OldHeadEnds old line config × (text ≡ head_text config) × (count ≡ 0)
 part_answers (Records count) line text new = (record_fault line ≡ None) × (text ≡ ended line) × (new ≡ Records (counted count))
 
 abbrev pub migration_answers : OldAudit → List ℕ → List ℕ → OldAudit → Type 0
 migration_answers old line text new = (new.lines ≡ counted old.lines) × part_answers old.part line text new.part
 
 abbrev pub part_refuses : OldPart → List ℕ → ℕ → MigrationRefusal → Type 0
-part_refuses (Head old) line number refusal = OldHeadRefuses old line number refusal
+part_refuses (Head old) line number refusal = OldHeadIsRefused old line number refusal
 part_refuses (Records count) line number refusal = RecordRefuses line number refusal
 
 abbrev pub migration_refuses : OldAudit → List ℕ → MigrationRefusal → Type 0

@@ -3,12 +3,12 @@ ghost use Rattle.std.specs.Prelude.{◌≡◌, ◌++◌, flat_map, IfErr, IfNone
 ghost use Rattle.cops_types.specs.Head.{AtStart};
 ghost use Rattle.cops_types.specs.LineAnswers.{Answers, IfRefused};
 ghost use Rattle.cops_types.specs.Refusal.{IsAnswer};
-ghost use Rattle.cops_replay.specs.AuditText.{ended, tenant_text};
+ghost use Rattle.cops_replay.specs.AuditText.{ended, head_text, tenant_text};
 ghost use Rattle.cops_replay.specs.declared.migration_machine.OldPart.TheVariants.{Head};
-ghost use Rattle.cops_replay.specs.MigratedText.{migrated_head, record_fault};
-ghost use Rattle.cops_replay.specs.MigrationRules.{OldHeadEnds, OldHeadGoesOn, OldHeadRefuses, RecordRefuses, part_answers, part_refuses};
+ghost use Rattle.cops_replay.specs.MigratedText.{record_fault};
+ghost use Rattle.cops_replay.specs.MigrationRules.{OldHeadEnds, OldHeadGoesOn, OldHeadIsRefused, RecordRefuses, part_answers, part_refuses};
 
-use crate::heads::{push_begin, push_cluster, push_tenant};
+use crate::heads::{push_begin, push_cluster, push_layout, push_tenant};
 use crate::layouts::LAST_EARLY_CLOCK;
 use crate::migrations::{BadLine, MigrationRefusal};
 use crate::reading::read_record_1;
@@ -56,9 +56,9 @@ fn push_tenants(out: &mut Vec<u8>, tenants: &[Tenant]) -> Result<(), AllocError>
 
 /// Puts the head of an audit of layout 2 at the end.
 fn push_head(out: &mut Vec<u8>, config: &Config) -> Result<(), AllocError>
-    ensures { OnOk result (out.new.items ≡ out.old.items ++ migrated_head config.now) }
+    ensures { OnOk result (out.new.items ≡ out.old.items ++ head_text config.now) }
 {
-    out.extend_from_slice(b"layout 2\n")?;
+    push_layout(out)?;
     push_cluster(out, config)?;
     push_tenants(out, config.tenants.as_slice())?;
     push_begin(out)?;
@@ -74,7 +74,7 @@ fn read_old_head(
 ) -> Result<Option<Config>, Stop<MigrationRefusal>>
     ensures more { IfOk result (λ begun. IfNone begun (OldHeadGoesOn reader.old line.now reader.new)) }
     ensures begun { IfOk result (λ begun. IfSome begun (OldHeadEnds reader.old line.now)) }
-    ensures err { IfErr result (λ stop. IfRefused stop (OldHeadRefuses reader.old line.now number)) }
+    ensures err { IfErr result (λ stop. IfRefused stop (OldHeadIsRefused reader.old line.now number)) }
 {
     match reader.line(alloc, line) {
         Ok(HeadLine::More) => {
