@@ -10,7 +10,7 @@ use Rattle.cops_types.specs.declared.configs.Tenant.{Tenant}
 use Rattle.cops_types.specs.declared.heads.HeadLine.{HeadLine}
 use Rattle.cops_types.specs.declared.heads.HeadLine.TheVariants.{More, Begin, BadLine}
 use Rattle.cops_types.specs.Counts.{counted}
-use Rattle.cops_types.specs.Head.{Front, AtStart, Within, Begun, Ends, Joins, front_after, joined, may_join, with_tenant}
+use Rattle.cops_types.specs.Head.{Front, AtStart, Within, Begun, Ends, Joins, front_after, head_with, may_join, with_tenant}
 use Rattle.cops_types.specs.HeadLines.{IsClusterLine, IsTenantLineTo, are_sizes, begin_line, cluster_in, is_tenant, is_tenant_to, tenant_line}
 use Rattle.cops_types.specs.HeadReader.{said_at, still_open}
 use Rattle.cops_types.specs.Key.{is_name}
@@ -38,7 +38,7 @@ OldFollows AtStart line next = (config : Config) × IsClusterLine line config ×
 OldFollows (Within config) line next = OldJoins config line next ⊎ Ends config line next
 OldFollows (Begun config) line next = ⊥
 
-joined-is : (config : Config) (line : List ℕ) (next : Front) (found : Option Tenant) → old_tenant_in line ≡ found → option_and_then (joined config) found ≡ Some next → OldJoins config line next
+joined-is : (config : Config) (line : List ℕ) (next : Front) (found : Option Tenant) → old_tenant_in line ≡ found → option_and_then (head_with config) found ≡ Some next → OldJoins config line next
 joined-is config line next None was e = absurd cc
 joined-is config line next (Some tenant) was e = by_place (may_join config tenant) refl e
   where
@@ -47,7 +47,7 @@ joined-is config line next (Some tenant) was e = by_place (may_join config tenan
     by_place true may e = record { tenant = tenant; said = tenant_in_to-is last_old_clock line tenant was; may = may; after = sym (same_value (Within (with_tenant config tenant)) next e) }
 
 within-is : (config : Config) (line : List ℕ) (next : Front) (t : Bool) → bytes_eq line begin_line ≡ t →
-    cond t (cond (nat_lt 0 (length config.tenants)) (Some (Begun config)) None) (option_and_then (joined config) (old_tenant_in line)) ≡ Some next → OldJoins config line next ⊎ Ends config line next
+    cond t (cond (nat_lt 0 (length config.tenants)) (Some (Begun config)) None) (option_and_then (head_with config) (old_tenant_in line)) ≡ Some next → OldJoins config line next ⊎ Ends config line next
 within-is config line next false begins e = inl (joined-is config line next (old_tenant_in line) refl e)
 within-is config line next true begins e = inr (by_count (nat_lt 0 (length config.tenants)) refl e)
   where
