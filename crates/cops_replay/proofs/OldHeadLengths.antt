@@ -7,7 +7,7 @@ use Rattle.std.proofs.lemmas.Bool.Decides.{nat_tests}
 use Rattle.std.proofs.lemmas.Fmt.{length-decimal-le}
 use Rattle.cops_types.specs.declared.configs.Config.{Config}
 use Rattle.cops_types.specs.declared.configs.Tenant.{Tenant}
-use Rattle.cops_types.specs.Head.{Front, AtStart, Within, Begun, joined, with_tenant}
+use Rattle.cops_types.specs.Head.{Front, AtStart, Within, Begun, head_with, with_tenant}
 use Rattle.cops_types.specs.HeadLines.{IsTenantLineTo, begin_line, cluster_in, is_name, is_quota, is_tenant, is_tenant_to, tenant_line}
 use Rattle.cops_types.specs.Lines.{cut_line}
 use Rattle.cops_types.specs.OldHead.{last_old_clock, old_front_after, old_tenant_in, with_few_shards}
@@ -82,11 +82,11 @@ old_front_after-short AtStart line next e = by_cluster (cluster_in line) refl e
     by_cluster (Some config) was e = let short = front_after-short AtStart line (Within config) (ap (option_map Within) was) in omega (arith, short)
 old_front_after-short (Within config) line next e = by_begin (bytes_eq line begin_line) refl e
   where
-    by_tenant : (found : Option Tenant) → old_tenant_in line ≡ found → option_and_then (joined config) found ≡ Some next → length line ≤ longest_old
+    by_tenant : (found : Option Tenant) → old_tenant_in line ≡ found → option_and_then (head_with config) found ≡ Some next → length line ≤ longest_old
     by_tenant None was e = absurd (let clash : ⊥ = cc in clash)
     by_tenant (Some tenant) was e = tenant_short line tenant (tenant_in_to-is last_old_clock line tenant was)
 
-    by_begin : (t : Bool) → bytes_eq line begin_line ≡ t → cond t (cond (nat_lt 0 (length config.tenants)) (Some (Begun config)) None) (option_and_then (joined config) (old_tenant_in line)) ≡ Some next → length line ≤ longest_old
+    by_begin : (t : Bool) → bytes_eq line begin_line ≡ t → cond t (cond (nat_lt 0 (length config.tenants)) (Some (Begun config)) None) (option_and_then (head_with config) (old_tenant_in line)) ≡ Some next → length line ≤ longest_old
     by_begin true begins e = subst (λ l. length l ≤ longest_old) (sym (bytes_from_test line begin_line begins)) (omega arith)
     by_begin false begins e = by_tenant (old_tenant_in line) refl e
 old_front_after-short (Begun config) line next e = absurd (let clash : ⊥ = cc in clash)

@@ -7,7 +7,7 @@ use Rattle.std.specs.Str.{bytes_eq}
 use Rattle.cops_types.specs.declared.configs.Config.{Config}
 use Rattle.cops_types.specs.declared.configs.Tenant.{Tenant}
 use Rattle.cops_types.specs.declared.faults.Fault.TheVariants.{Syntax}
-use Rattle.cops_types.specs.Head.{Front, AtStart, Within, Begun, HeadReading, Whole, BadAt, is_begun, joined, may_join, with_tenant}
+use Rattle.cops_types.specs.Head.{Front, AtStart, Within, Begun, HeadReading, Whole, BadAt, is_begun, head_with, may_join, with_tenant}
 use Rattle.cops_types.specs.HeadLines.{begin_line}
 use Rattle.cops_types.specs.Lines.{lines_of}
 use Rattle.cops_types.specs.OldHead.{has_clocks_to, old_front_after, old_reading_from, old_tenant_in}
@@ -56,7 +56,7 @@ clocks_before (Within config) line next e fine = by_begin (bytes_eq line begin_l
         all_front config.tenants tenant (subst (λ (f : Front). IsTrue (has_clocks_to last_early_clock (Some f))) (sym same) fine)
     by_place false tenant e = absurd (let clash : ⊥ = cc in clash)
 
-    by_tenant : (found : Option Tenant) → option_and_then (joined config) found ≡ Some next → IsTrue (has_clocks_to last_early_clock (Some (Within config)))
+    by_tenant : (found : Option Tenant) → option_and_then (head_with config) found ≡ Some next → IsTrue (has_clocks_to last_early_clock (Some (Within config)))
     by_tenant None e = absurd (let clash : ⊥ = cc in clash)
     by_tenant (Some tenant) e = by_place (may_join config tenant) tenant e
 
@@ -64,7 +64,7 @@ clocks_before (Within config) line next e fine = by_begin (bytes_eq line begin_l
     by_count true e = let same : Begun config ≡ next = cc in subst (λ (f : Front). IsTrue (has_clocks_to last_early_clock (Some f))) (sym same) fine
     by_count false e = absurd (let clash : ⊥ = cc in clash)
 
-    by_begin : (t : Bool) → cond t (cond (nat_lt 0 (length config.tenants)) (Some (Begun config)) None) (option_and_then (joined config) (old_tenant_in line)) ≡ Some next → IsTrue (has_clocks_to last_early_clock (Some (Within config)))
+    by_begin : (t : Bool) → cond t (cond (nat_lt 0 (length config.tenants)) (Some (Begun config)) None) (option_and_then (head_with config) (old_tenant_in line)) ≡ Some next → IsTrue (has_clocks_to last_early_clock (Some (Within config)))
     by_begin true e = by_count (nat_lt 0 (length config.tenants)) e
     by_begin false e = by_tenant (old_tenant_in line) e
 clocks_before (Begun config) line next e fine = absurd (let clash : ⊥ = cc in clash)
