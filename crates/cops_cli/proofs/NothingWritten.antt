@@ -11,7 +11,7 @@ use Rattle.cops_replay.proofs.AuditRunLemmas.{none_audited}
 use Rattle.cops_replay.proofs.ReplayRunLemmas.{nothing_replayed}
 use Rattle.cops_cli.specs.Runs.{Audits, Migrates, Replays, Runs, RunsAlone, ServesOrFails}
 use Rattle.cops_cli.specs.declared.faults.CliFault.{CliFault}
-use Rattle.cops_cli.specs.declared.faults.CliFault.TheVariants.{CommandLine, NoText, BadHead, BadLine, UnknownTenant, OutOfMemory, ReadFault, WriteFault, Torn}
+use Rattle.cops_cli.specs.declared.faults.CliFault.TheVariants.{CommandLine, NoText, BadHead, BadLine, UnknownTenant, ClockTooGreat, OutOfMemory, ReadFault, WriteFault, Torn}
 
 stays_as_it_is : (known : Option (List ℕ)) → Keeps known known
 stays_as_it_is None = tt
@@ -45,6 +45,7 @@ ends_with_words name remaining contents (Err NoText) e = tt
 ends_with_words name remaining contents (Err OutOfMemory) e = record {
   of_run = tt;
   of_lines = tt;
+  of_today = tt;
   written = nothing_written_alone name remaining contents;
   refused = tt;
   unwritten = tt;
@@ -52,6 +53,7 @@ ends_with_words name remaining contents (Err OutOfMemory) e = record {
 ends_with_words name remaining contents (Err (BadHead line)) e = absurd e
 ends_with_words name remaining contents (Err (BadLine why line)) e = absurd e
 ends_with_words name remaining contents (Err UnknownTenant) e = absurd e
+ends_with_words name remaining contents (Err ClockTooGreat) e = absurd e
 ends_with_words name remaining contents (Err ReadFault) e = absurd e
 ends_with_words name remaining contents (Err WriteFault) e = absurd e
 ends_with_words name remaining contents (Err Torn) e = absurd e
@@ -83,6 +85,7 @@ replays_nothing name remaining contents (Err OutOfMemory) e = record {
 replays_nothing name remaining contents (Err (BadHead line)) e = absurd e
 replays_nothing name remaining contents (Err (BadLine why line)) e = absurd e
 replays_nothing name remaining contents (Err UnknownTenant) e = absurd e
+replays_nothing name remaining contents (Err ClockTooGreat) e = absurd e
 replays_nothing name remaining contents (Err ReadFault) e = absurd e
 replays_nothing name remaining contents (Err WriteFault) e = absurd e
 replays_nothing name remaining contents (Err Torn) e = absurd e
@@ -117,6 +120,7 @@ ends_unserved remaining contents (Err OutOfMemory) e = record {
 ends_unserved remaining contents (Err (BadHead line)) e = absurd e
 ends_unserved remaining contents (Err (BadLine why line)) e = absurd e
 ends_unserved remaining contents (Err UnknownTenant) e = absurd e
+ends_unserved remaining contents (Err ClockTooGreat) e = absurd e
 ends_unserved remaining contents (Err ReadFault) e = absurd e
 ends_unserved remaining contents (Err WriteFault) e = absurd e
 ends_unserved remaining contents (Err Torn) e = absurd e

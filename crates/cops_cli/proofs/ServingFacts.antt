@@ -1,7 +1,7 @@
 -- What a service leaves, and how it ends.
 use Rattle.std.proofs.Common.{◌≡◌, ◌⊎◌, inl, inr, ℕ, ◌<◌, ◌∙◌, List, length, get_or, Option, Some, None, refl, sym, ap, subst}
 use Rattle.std.specs.Prelude.{IsTrue, IfSome, slice_get}
-use Rattle.std.specs.Io.KnownBytes.{Keeps}
+use Rattle.std.specs.Io.KnownBytes.{Appends, Keeps}
 use Rattle.std.proofs.lemmas.Option.{slice_get-get_or}
 use Rattle.cops_types.specs.declared.configs.Config.{Config}
 use Rattle.cops_types.specs.declared.faults.Fault.{Fault}
@@ -16,9 +16,9 @@ use Rattle.cops_replay.proofs.NodesOf.{nodes_with_homes}
 use Rattle.cops_service.specs.Left.{AreLeft}
 use Rattle.cops_service.proofs.Told.{left_count, left_in_place}
 use Rattle.cops_cli.specs.Faults.{ended_serving_by}
-use Rattle.cops_cli.specs.Runs.{AreServed, EndsServing}
+use Rattle.cops_cli.specs.Runs.{AreServed, EndsServing, ServesClients}
 use Rattle.cops_cli.specs.declared.faults.CliFault.{CliFault}
-use Rattle.cops_cli.specs.declared.faults.CliFault.TheVariants.{CommandLine, NoText, BadHead, BadLine, UnknownTenant, OutOfMemory, ReadFault, WriteFault, Torn}
+use Rattle.cops_cli.specs.declared.faults.CliFault.TheVariants.{CommandLine, NoText, BadHead, BadLine, UnknownTenant, ClockTooGreat, OutOfMemory, ReadFault, WriteFault, Torn}
 
 -- nodes that are left are the configuration's
 pub left_nodes : (config : Config) (nodes : List Shared) → IsTrue (are_sizes config) → AreLeft (new_nodes config).nodes nodes → AreNodesOf config nodes
@@ -33,6 +33,7 @@ IsStop NoText = ⊥
 IsStop (BadHead line) = ⊥
 IsStop (BadLine why line) = ⊥
 IsStop UnknownTenant = ⊥
+IsStop ClockTooGreat = ⊥
 IsStop OutOfMemory = Unit {0}
 IsStop ReadFault = Unit {0}
 IsStop WriteFault = Unit {0}
@@ -48,6 +49,7 @@ module _ (remaining old new : Option (List ℕ)) where
   stops (BadHead line) is written = absurd is
   stops (BadLine why line) is written = absurd is
   stops UnknownTenant is written = absurd is
+  stops ClockTooGreat is written = absurd is
   stops OutOfMemory is written = record { of_run = tt; of_lines = tt; of_all = tt; written = written; bad = tt; unwritten = tt }
   stops ReadFault is written = record { of_run = tt; of_lines = tt; of_all = tt; written = written; bad = tt; unwritten = tt }
   stops WriteFault is written = record { of_run = tt; of_lines = tt; of_all = tt; written = written; bad = tt; unwritten = tt }
@@ -65,6 +67,10 @@ module _ (remaining old new : Option (List ℕ)) where
         | inr failed ↦ subst (λ w. IsStop (ended_serving_by w)) (sym failed) tt
       ] in
       stops_by why ended is stop (inr (config, nodes, served, subst (λ ns. AppendsFront old new (audit_of config ns)) same front))
+
+-- the whole audit
+pub serves_all : (remaining old new : Option (List ℕ)) (config : Config) (nodes written : List Shared) → written ≡ nodes → AreServed remaining config nodes → Appends old new (audit_of config written) → ServesClients remaining old new
+serves_all remaining old new config nodes written same served all = (config, nodes, served, subst (λ ns. Appends old new (audit_of config ns)) same all)
 
 keeps : (known : Option (List ℕ)) → Keeps known known
 keeps None = tt

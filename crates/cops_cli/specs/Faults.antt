@@ -12,8 +12,10 @@ use Rattle.cops_world.specs.declared.solo_machine.SoloRefusal.{SoloRefusal}
 use Rattle.cops_world.specs.declared.solo_machine.SoloRefusal.TheVariants as solo
 use Rattle.cops_replay.specs.declared.migrations.MigrationRefusal.{MigrationRefusal}
 use Rattle.cops_replay.specs.declared.migrations.MigrationRefusal.TheVariants as migration
+use Rattle.cops_replay.specs.declared.refusals.ReplayRefusal.{ReplayRefusal}
+use Rattle.cops_replay.specs.declared.refusals.ReplayRefusal.TheVariants as replay
 use Rattle.cops_cli.specs.declared.faults.CliFault.{CliFault}
-use Rattle.cops_cli.specs.declared.faults.CliFault.TheVariants.{CommandLine, NoText, BadHead, BadLine, UnknownTenant, OutOfMemory, ReadFault, WriteFault, Torn}
+use Rattle.cops_cli.specs.declared.faults.CliFault.TheVariants.{CommandLine, NoText, BadHead, BadLine, UnknownTenant, ClockTooGreat, OutOfMemory, ReadFault, WriteFault, Torn}
 
 -- the fault of a run
 abbrev pub ended_by : RunFault BadConfig → CliFault
@@ -29,6 +31,15 @@ ended_alone_by (run.Refused solo.UnknownTenant) = UnknownTenant
 ended_alone_by run.OutOfMemory = OutOfMemory
 ended_alone_by run.ReadFault = ReadFault
 ended_alone_by run.WriteFault = WriteFault
+
+-- the fault of a replay
+abbrev pub ended_replay_by : RunFault ReplayRefusal → CliFault
+ended_replay_by (run.Refused (replay.BadConfig bad)) = BadHead bad.line
+ended_replay_by (run.Refused replay.UnknownTenant) = UnknownTenant
+ended_replay_by (run.Refused replay.ClockTooGreat) = ClockTooGreat
+ended_replay_by run.OutOfMemory = OutOfMemory
+ended_replay_by run.ReadFault = ReadFault
+ended_replay_by run.WriteFault = WriteFault
 
 -- the fault of a migration
 abbrev pub ended_migrating_by : RunFault MigrationRefusal → CliFault
@@ -90,7 +101,20 @@ abbrev pub IfBadLine : CliFault → Type 0 → Type 0
 IfBadLine (BadLine why line) P = P
 IfBadLine other P = ⊤
 
--- where the head has no such tenant
-abbrev pub IfUnknownTenant : CliFault → Type 0 → Type 0
-IfUnknownTenant UnknownTenant P = P
-IfUnknownTenant other P = ⊤
+-- where a tenant's records are not replayed, by such a refusal
+abbrev pub IfNotReplayed : CliFault → (ReplayRefusal → Type 0) → Type 0
+IfNotReplayed (BadHead line) P = P (replay.BadConfig (record { line = line }))
+IfNotReplayed UnknownTenant P = P replay.UnknownTenant
+IfNotReplayed ClockTooGreat P = P replay.ClockTooGreat
+IfNotReplayed other P = ⊤
+
+-- where a clock is too great
+abbrev pub IfClockTooGreat : CliFault → Type 0 → Type 0
+IfClockTooGreat ClockTooGreat P = P
+IfClockTooGreat other P = ⊤
+
+-- where the fault is of one tenant: the head has none such, or his clock is too great
+abbrev pub IfOfTenant : CliFault → Type 0 → Type 0
+IfOfTenant UnknownTenant P = P
+IfOfTenant ClockTooGreat P = P
+IfOfTenant other P = ⊤

@@ -8,13 +8,13 @@ use Rattle.cops_types.specs.Sink.{AppendsFront}
 use Rattle.cops_replay.specs.AuditRuns.{WritesAudit, WritesAuditFront}
 use Rattle.cops_replay.specs.AuditText.{audit_of}
 use Rattle.cops_replay.specs.MigratedText.{migration_of}
-use Rattle.cops_replay.specs.ReplayText.{IsReplayOf, ReplaysFront}
+use Rattle.cops_replay.specs.ReplayText.{IsReplayOf, RefusesReplayOf, ReplaysFront}
 use Rattle.cops_node.specs.Clusters.{new_nodes}
 use Rattle.cops_node.specs.Parts.{Shared}
 use Rattle.cops_service.specs.Left.{AreLeft}
 use Rattle.cops_world.specs.ScriptRuns.{WritesFront, WritesScript}
 use Rattle.cops_world.specs.SoloRuns.{IsRefusedFor, WritesSolo, WritesSoloFront}
-use Rattle.cops_cli.specs.Faults.{IfBadHead, IfBadLine, IfNotAnswered, IfNotMigrated, IfOfWords, IfUnknownTenant}
+use Rattle.cops_cli.specs.Faults.{IfBadHead, IfBadLine, IfClockTooGreat, IfNotAnswered, IfNotMigrated, IfNotReplayed, IfOfTenant, IfOfWords}
 use Rattle.cops_cli.specs.declared.faults.CliFault.{CliFault}
 
 -- the script was read to its end and its replies are written
@@ -26,7 +26,7 @@ pub record AnswersScript (old_remaining new_remaining old_contents new_contents 
 pub record EndsEarly (old_remaining old_contents new_contents : Option (List ℕ)) (fault : CliFault) : Type 0 where
   pub of_run : IfOfWords fault ⊥
   pub of_lines : IfBadLine fault ⊥
-  pub of_all : IfUnknownTenant fault ⊥
+  pub of_all : IfOfTenant fault ⊥
   pub written : IfSome old_remaining (λ bytes. WritesFront bytes old_contents new_contents)
   pub bad : IfBadHead fault (λ line. IfSome old_remaining (λ bytes. head_of (lines_of bytes) ≡ BadAt line))
   pub unwritten : IfBadHead fault (λ line. Keeps old_contents new_contents)
@@ -44,6 +44,7 @@ pub record AnswersTenant (name : List ℕ) (old_remaining new_remaining old_cont
 pub record EndsEarlyAlone (name : List ℕ) (old_remaining old_contents new_contents : Option (List ℕ)) (fault : CliFault) : Type 0 where
   pub of_run : IfOfWords fault ⊥
   pub of_lines : IfBadLine fault ⊥
+  pub of_today : IfClockTooGreat fault ⊥
   pub written : IfSome old_remaining (λ bytes. WritesSoloFront name bytes old_contents new_contents)
   pub refused : IfNotAnswered fault (λ refusal. IfSome old_remaining (λ bytes. IsRefusedFor name bytes refusal))
   pub unwritten : IfNotAnswered fault (λ refusal. Keeps old_contents new_contents)
@@ -61,7 +62,7 @@ pub record WritesItsAudit (old_remaining new_remaining old_contents new_contents
 pub record EndsItsAudit (old_remaining old_contents new_contents : Option (List ℕ)) (fault : CliFault) : Type 0 where
   pub of_run : IfOfWords fault ⊥
   pub of_lines : IfBadLine fault ⊥
-  pub of_all : IfUnknownTenant fault ⊥
+  pub of_all : IfOfTenant fault ⊥
   pub written : IfSome old_remaining (λ bytes. WritesAuditFront bytes old_contents new_contents)
   pub bad : IfBadHead fault (λ line. IfSome old_remaining (λ bytes. head_of (lines_of bytes) ≡ BadAt line))
   pub unwritten : IfBadHead fault (λ line. Keeps old_contents new_contents)
@@ -75,13 +76,13 @@ pub record WritesReplay (name : List ℕ) (old_remaining new_remaining old_conte
   pub end : IsAtEnd new_remaining
   pub written : IfSome old_remaining (λ bytes. (text : List ℕ) × IsReplayOf name bytes text × Appends old_contents new_contents text)
 
--- a front of that is written; with a bad head, or without such a tenant, nothing
+-- a front of that is written; with a bad head, without such a tenant, or with a clock of his that is too great, nothing
 pub record EndsReplay (name : List ℕ) (old_remaining old_contents new_contents : Option (List ℕ)) (fault : CliFault) : Type 0 where
   pub of_run : IfOfWords fault ⊥
   pub of_lines : IfBadLine fault ⊥
   pub written : IfSome old_remaining (λ bytes. ReplaysFront name bytes old_contents new_contents)
-  pub refused : IfNotAnswered fault (λ refusal. IfSome old_remaining (λ bytes. IsRefusedFor name bytes refusal))
-  pub unwritten : IfNotAnswered fault (λ refusal. Keeps old_contents new_contents)
+  pub refused : IfNotReplayed fault (λ refusal. IfSome old_remaining (λ bytes. RefusesReplayOf name bytes refusal))
+  pub unwritten : IfNotReplayed fault (λ refusal. Keeps old_contents new_contents)
 
 abbrev pub Replays : {T : Type 0} → (name : List ℕ) (old_remaining new_remaining old_contents new_contents : Option (List ℕ)) → Result T CliFault → Type 0
 Replays name old_remaining new_remaining old_contents new_contents (Ok done) = WritesReplay name old_remaining new_remaining old_contents new_contents
@@ -96,7 +97,7 @@ pub record MigratesAudit (old_remaining new_remaining old_contents new_contents 
 -- a front of what stands before the first bad line is written, and that line is told
 pub record EndsMigration (old_remaining old_contents new_contents : Option (List ℕ)) (fault : CliFault) : Type 0 where
   pub of_run : IfOfWords fault ⊥
-  pub of_all : IfUnknownTenant fault ⊥
+  pub of_all : IfOfTenant fault ⊥
   pub written : IfSome old_remaining (λ bytes. AppendsFront old_contents new_contents (migration_of bytes).text)
   pub refused : IfNotMigrated fault (λ refusal. IfSome old_remaining (λ bytes. (migration_of bytes).outcome ≡ Err refusal))
 
@@ -118,7 +119,7 @@ ServesClients old_remaining old_contents new_contents =
 pub record EndsServing (old_remaining old_contents new_contents : Option (List ℕ)) (fault : CliFault) : Type 0 where
   pub of_run : IfOfWords fault ⊥
   pub of_lines : IfBadLine fault ⊥
-  pub of_all : IfUnknownTenant fault ⊥
+  pub of_all : IfOfTenant fault ⊥
   pub written : Keeps old_contents new_contents
       ⊎ ((config : Config) × (nodes : List Shared) × AreServed old_remaining config nodes × AppendsFront old_contents new_contents (audit_of config nodes))
   pub bad : IfBadHead fault (λ line. IfSome old_remaining (λ bytes. head_of (lines_of bytes) ≡ BadAt line))

@@ -1,7 +1,7 @@
 -- The statuses that the program ends with.
 use Rattle.std.specs.Prelude.{ℕ, Result, Ok, Err}
 use Rattle.cops_cli.specs.declared.faults.CliFault.{CliFault}
-use Rattle.cops_cli.specs.declared.faults.CliFault.TheVariants.{CommandLine, NoText, BadHead, BadLine, UnknownTenant, OutOfMemory, ReadFault, WriteFault, Torn}
+use Rattle.cops_cli.specs.declared.faults.CliFault.TheVariants.{CommandLine, NoText, BadHead, BadLine, UnknownTenant, ClockTooGreat, OutOfMemory, ReadFault, WriteFault, Torn}
 
 -- 2 for what was asked and how it is set up, 1 for what failed on the way
 abbrev pub fault_status : CliFault → ℕ
@@ -10,6 +10,7 @@ fault_status NoText = 2
 fault_status (BadHead line) = 2
 fault_status (BadLine why line) = 2
 fault_status UnknownTenant = 2
+fault_status ClockTooGreat = 2
 fault_status OutOfMemory = 1
 fault_status ReadFault = 1
 fault_status WriteFault = 1

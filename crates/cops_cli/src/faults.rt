@@ -1,11 +1,11 @@
 //! Why the program ends with another status than 0.
 ghost use Rattle.std.specs.Prelude.{◌≡◌};
-ghost use Rattle.cops_cli.specs.Faults.{RefusesWords, ended_alone_by, ended_by, ended_migrating_by, ended_serving_by};
+ghost use Rattle.cops_cli.specs.Faults.{RefusesWords, ended_alone_by, ended_by, ended_migrating_by, ended_replay_by, ended_serving_by};
 ghost use Rattle.cops_cli.specs.Statuses.{fault_status};
 ghost use Rattle.cops_cli.specs.declared.faults.CliFault.TheVariants.{OutOfMemory};
 
 use clap::error::ErrorKind;
-use cops_replay::MigrationRefusal;
+use cops_replay::{MigrationRefusal, ReplayRefusal};
 use cops_types::{Fault, RunFault};
 use cops_world::{BadConfig, SoloRefusal};
 use std::alloc::AllocError;
@@ -27,6 +27,9 @@ pub(crate) enum CliFault {
     BadLine(Fault, u64),
     #[error("cops: {}\n", Fault::UnknownTenant)]
     UnknownTenant,
+    /// An audit of layout 1 has a clock of the tenant that is none of today's.
+    #[error("cops: {}\n", Fault::ClockTooGreat)]
+    ClockTooGreat,
     #[error("cops: {}\n", Fault::OutOfMemory)]
     OutOfMemory,
     #[error("cops: {}\n", Fault::ReadFault)]
@@ -59,6 +62,7 @@ impl CliFault {
             CliFault::CommandLine(_) | CliFault::NoText => 2,
             CliFault::BadHead(_) | CliFault::UnknownTenant => 2,
             CliFault::BadLine(_, _) => 2,
+            CliFault::ClockTooGreat => 2,
             CliFault::OutOfMemory | CliFault::ReadFault | CliFault::WriteFault => 1,
             CliFault::Torn => 1,
         }
@@ -85,6 +89,21 @@ impl From<RunFault<SoloRefusal>> for CliFault {
         match fault {
             RunFault::Refused(SoloRefusal::BadConfig(bad)) => CliFault::BadHead(bad.line),
             RunFault::Refused(SoloRefusal::UnknownTenant) => CliFault::UnknownTenant,
+            RunFault::OutOfMemory => CliFault::OutOfMemory,
+            RunFault::ReadFault => CliFault::ReadFault,
+            RunFault::WriteFault => CliFault::WriteFault,
+        }
+    }
+}
+
+impl From<RunFault<ReplayRefusal>> for CliFault {
+    ghost from_gives = { λ fault ended. ended ≡ ended_replay_by fault };
+
+    fn from(fault: RunFault<ReplayRefusal>) -> CliFault {
+        match fault {
+            RunFault::Refused(ReplayRefusal::BadConfig(bad)) => CliFault::BadHead(bad.line),
+            RunFault::Refused(ReplayRefusal::UnknownTenant) => CliFault::UnknownTenant,
+            RunFault::Refused(ReplayRefusal::ClockTooGreat) => CliFault::ClockTooGreat,
             RunFault::OutOfMemory => CliFault::OutOfMemory,
             RunFault::ReadFault => CliFault::ReadFault,
             RunFault::WriteFault => CliFault::WriteFault,

@@ -144,7 +144,8 @@ acme get a 1 x
 acme step a 1
 ";
 
-const AUDIT: &[u8] = b"cluster 1 1 5000 1
+const AUDIT: &[u8] = b"layout 2
+cluster 1 1 5000 1
 tenant acme 00000000-0000-0000-0000-000000000001 0 100 10000 10 4 20 8 1000
 begin
 acme 0.0 0 put x 3130 - - = stored 1.0
@@ -178,20 +179,39 @@ fn an_audit_that_replays(rt: HostRuntime) -> Result<(), Fail> {
         &["cops", "replay", "acme"],
         AUDIT,
         b"same 2\n",
+    )?;
+    // The same file as one of layout 1.
+    let (_first, old) = AUDIT.split_at(9);
+    assert_written(
+        &rt,
+        rt.alloc(),
+        &["cops", "replay", "acme"],
+        old,
+        b"same 2\n",
     )
 }
 
 #[test]
+fn an_audit_with_a_clock_that_is_too_great(rt: HostRuntime) -> Result<(), Fail> {
+    let input = b"cluster 1 1 5000 1
+tenant acme 00000000-0000-0000-0000-000000000001 281474976710655 100 10000 10 4 20 8 1000
+begin
+";
+    let mut source = Source::new(input.as_slice());
+    let mut sink = Sink::new(Vec::new(rt.alloc()));
+    let words = ["cops", "replay", "acme"];
+    let fault = answer(&rt, rt.alloc(), &words, &mut source, &mut sink).expect_err(&rt, "a fault");
+    assert_eq!(rt; fault.to_string(rt.alloc())?.as_str(), "cops: E29\n");
+    assert_eq!(rt; fault.status(), 2);
+    assert!(rt; sink.into_inner().is_empty());
+    Ok(())
+}
+
+#[test]
 fn an_audit_that_is_migrated(rt: HostRuntime) -> Result<(), Fail> {
-    let mut migrated = b"layout 2\n".to_vec(rt.alloc())?;
-    migrated.extend_from_slice(AUDIT)?;
-    assert_written(
-        &rt,
-        rt.alloc(),
-        &["cops", "migrate"],
-        AUDIT,
-        migrated.as_slice(),
-    )
+    // The same file as one of layout 1.
+    let (_first, old) = AUDIT.split_at(9);
+    assert_written(&rt, rt.alloc(), &["cops", "migrate"], old, AUDIT)
 }
 
 /// An audit of layout 2 is none of layout 1.
