@@ -27,7 +27,7 @@ if [ -z "$program" ]; then
     program=$here/../crates/cops_cli/out/cops_cli
 fi
 (cd "$here/plain" && cargo build --quiet --release --offline --target-dir "$room/target")
-plain=("$room/target/release/plain" --fixed-tenants --one-layout)
+plain=("$room/target/release/plain" --fixed-tenants)
 workload=$room/target/release/workload
 
 # Runs a program over the script and adds a line with its seconds and kilobytes to a file.

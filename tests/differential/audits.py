@@ -9,7 +9,9 @@ from scripts import GREATEST_CLOCK, MOST, wrong_bytes, wrong_head
 
 GREATEST_NODE = (1 << NODE_BITS) - 1
 VERSIONS = ["0.0", "1.0", "1.1", "2.0", "1", "01.0", "1.0.0", f"1.{GREATEST_NODE}", f"1.{GREATEST_NODE + 1}"]
-VERSIONS += [f"{GREATEST_CLOCK}.0", f"{GREATEST_CLOCK + 1}.0"]
+VERSIONS += [f"{GREATEST_CLOCK - 1}.0", f"{GREATEST_CLOCK}.0", f"{GREATEST_CLOCK + 1}.0"]
+#: The limits of layout 1.
+VERSIONS += ["1.255", "1.256", f"{(1 << 56) - 1}.255", f"{1 << 56}.0"]
 WORDS = ["-", "x", "X", "latest", "newest", "10", "1", "yes", "no", "=", "", "E12", "E17", "absent", "gone"]
 WORDS += ["x:1.0", "x:1.0,x:1.0", "x:1.0,y:2.0", "y:2.0,x:1.0", "x:1.0,x:2.0"]
 REPLIES = ["absent", "nothing", "notyet", "gone 0", "committed", "already", "acked", "notfront", "E12", "E16", "stored 1.0"]

@@ -80,8 +80,8 @@ def working_folder() -> tempfile.TemporaryDirectory[str]:
     return tempfile.TemporaryDirectory(prefix="cops_random_", dir=memory_folder())
 
 
-#: The program under test has the tenants of the head and no others, and its audits are of one layout.
-PLAIN_WORDS = ["--fixed-tenants", "--one-layout"]
+#: The program under test has the tenants of the head and no others.
+PLAIN_WORDS = ["--fixed-tenants"]
 
 
 def build_plain(root: pathlib.Path) -> list[str]:

@@ -4,7 +4,7 @@ import unittest
 
 from pair import both, plain
 from programs import Outcome
-from texts import BACK, FRONT, HEAD, SCRIPT, TENANTS, changes, event_lines, head_lines, record_lines
+from texts import AUDIT_HEAD, BACK, FRONT, HEAD, SCRIPT, TENANTS, changes, event_lines, head_lines, record_lines
 
 NEWLINE = b"\n"
 
@@ -73,9 +73,26 @@ class Lines(unittest.TestCase):
     def test_each_line_put_into_the_head_by_each_command(self):
         for line in head_lines():
             text = text_of([*HEAD[:2], line, *HEAD[2:], *FRONT])
-            for words in [["run"], ["audit"], ["solo", "acme"], ["replay", "acme"]]:
+            for words in [["run"], ["audit"], ["solo", "acme"]]:
                 with self.subTest(line=line[:80], words=words):
                     self.assertEqual(both(words, text), Outcome(2, b"", b"cops: configuration line 3\n"))
+            with self.subTest(line=line[:80], words="replay"):
+                # The line of the layout counts. Layout 1 takes some of these lines.
+                audit = text_of([*AUDIT_HEAD[:3], line, *AUDIT_HEAD[3:]])
+                self.assertEqual(both(["replay", "acme"], audit), Outcome(2, b"", b"cops: configuration line 4\n"))
+                both(["replay", "acme"], text)
+
+    def test_each_line_before_an_audit(self):
+        """Only the line of the layout may stand there, and once."""
+        for line in [*head_lines(), b"layout 1", b"layout 2 ", b" layout 2", b"layout 02", b"layout 3", b"Layout 2", b"layout"]:
+            for front in ([line], [line, AUDIT_HEAD[0]]):
+                with self.subTest(line=line[:80], front=front):
+                    bad = Outcome(2, b"", b"cops: configuration line 1\n")
+                    self.assertEqual(both(["replay", "acme"], text_of([*front, *HEAD])), bad)
+        twice = text_of([AUDIT_HEAD[0], *AUDIT_HEAD])
+        self.assertEqual(both(["replay", "acme"], twice), Outcome(2, b"", b"cops: configuration line 2\n"))
+        for words in commands():
+            self.assertEqual(both(words, text_of([*AUDIT_HEAD, *FRONT])), bad)
 
     def test_heads_cut_at_every_byte(self):
         head = text_of(HEAD)
@@ -85,6 +102,11 @@ class Lines(unittest.TestCase):
                     outcome = both(words, head[:cut])
                     if cut + 1 < len(head):
                         self.assertEqual((outcome.status, outcome.output), (2, b""))
+        head = text_of(AUDIT_HEAD)
+        for cut in range(len(head) - 1):
+            with self.subTest(cut=cut, words="replay"):
+                outcome = both(["replay", "acme"], head[:cut])
+                self.assertEqual((outcome.status, outcome.output), (2, b""))
 
     def test_scripts_cut_at_every_byte(self):
         """The replies to whole lines are a front of all replies. The line that was cut is answered by itself."""
@@ -106,29 +128,32 @@ class Lines(unittest.TestCase):
 
     def test_each_record_alone(self):
         """It is the first difference wherever it stands, and none of beta's."""
-        records = self.audit.splitlines()[len(HEAD) :]
+        records = self.audit.splitlines()[len(AUDIT_HEAD) :]
         own = [record for record in records if record.startswith(b"acme ")]
         for line in record_lines():
             for place in (0, 1, len(own)):
                 with self.subTest(line=line[:80], place=place):
-                    text = text_of([*HEAD, *records[:place], line, *records[place:]])
+                    text = text_of([*AUDIT_HEAD, *records[:place], line, *records[place:]])
                     self.check(both(["replay", "acme"], text), [b"differs %d" % (place + 1)])
+                    # In layout 1 too it is none, or a clock in it is too great.
+                    outcome = both(["replay", "acme"], text_of(text.splitlines()[1:]))
+                    self.assertIn(outcome.faults, (b"", b"cops: E29\n"))
             with self.subTest(line=line[:80]):
-                self.check(both(["replay", "acme"], text_of([*HEAD, *records]) + line), [b"differs %d" % (len(own) + 1)])
+                self.check(both(["replay", "acme"], text_of([*AUDIT_HEAD, *records]) + line), [b"differs %d" % (len(own) + 1)])
                 self.check(both(["replay", "beta"], text), [b"same %d" % (len(records) - len(own))])
 
     def test_lines_of_nobody_in_an_audit(self):
         """Lines whose first word is another's are none of acme's records."""
-        records = self.audit.splitlines()[len(HEAD) :]
+        records = self.audit.splitlines()[len(AUDIT_HEAD) :]
         own = [record for record in records if record.startswith(b"acme ")]
         for reply, line in event_lines():
             if reply == b"- E02":
                 with self.subTest(line=line[:80]):
-                    text = text_of([*HEAD, line, *records, line])
+                    text = text_of([*AUDIT_HEAD, line, *records, line])
                     self.check(both(["replay", "acme"], text), [b"same %d" % len(own)])
 
     def test_audits_cut_at_every_byte(self):
-        begin = len(text_of(HEAD))
+        begin = len(text_of(AUDIT_HEAD))
         records = self.audit[begin:].splitlines(True)
         for cut in range(begin, len(self.audit)):
             for tenant in TENANTS:

@@ -13,6 +13,8 @@ HEAD = [
     b"tenant beta 00000000-0000-0000-0000-000000000002 0 100 10000 10 4 20 8 1000",
     b"begin",
 ]
+#: An audit's.
+AUDIT_HEAD = [b"layout 2", *HEAD]
 #: What the hostile lines find: acme's session a with context 1, which has seen x, and beta with the same.
 FRONT = [
     b"acme open a 0",

@@ -49,4 +49,4 @@ class Conversations(unittest.TestCase):
                         wanted = bytes.fromhex(text)
                         self.assertEqual(read_some(stream, len(wanted)).hex(), wanted.hex())
                 self.assertEqual(read_to_end(stream), b"")
-            self.assertTrue(service.audit().startswith("cluster 1 1 5000 1\ntenant acme "))
+            self.assertTrue(service.audit().startswith("layout 2\ncluster 1 1 5000 1\ntenant acme "))

@@ -14,7 +14,6 @@ const USAGE: &str = "usage: plain run | solo TENANT | audit | replay TENANT | mi
        plain serve ADDRESS [--workers N] [--connections N]
 options: --layout 1        the older layout of versions, with fixed tenants
          --fixed-tenants   no tenants but the head's
-         --one-layout      audits of this layout alone, with no line that says so
          --count-audit     keep only the length of audits (run, solo, replay)";
 
 enum Command {
@@ -31,7 +30,6 @@ fn parse(words: impl Iterator<Item = OsString>) -> Option<(Command, Options)> {
     let mut options = Options {
         layout: Layout::Two,
         has_fixed_tenants: false,
-        has_layout_line: true,
         keep_audit: true,
     };
     let mut limits = Limits {
@@ -70,7 +68,6 @@ fn parse(words: impl Iterator<Item = OsString>) -> Option<(Command, Options)> {
                 of_serve = true;
             }
             b"--fixed-tenants" if joined.is_none() => options.has_fixed_tenants = true,
-            b"--one-layout" if joined.is_none() => options.has_layout_line = false,
             b"--count-audit" if joined.is_none() => options.keep_audit = false,
             _ if word.starts_with(b"-") => return None,
             _ => plain.push(word),
