@@ -272,6 +272,12 @@ def module_of(path):
     return inside[1].replace("/", "::") if inside and inside[1] not in ("lib", "main") else ""
 
 
+def only_modules(texts):
+    """The words that keep a check to the functions of the edited modules, or none where a crate's root is edited."""
+    modules = [module_of(it) for it in texts]
+    return [it for module in modules for it in ("--only", module)] if all(modules) else []
+
+
 # The last line of a check of some functions alone.
 COUNTS = re.compile(r"only=(\d+) proved=(\d+)$")
 # What the prover says where a proof file names a step, a goal or a field that the edit took away, and of what cites that proof.
@@ -339,8 +345,7 @@ def try_edit(edit, folder):
         return False, f"{name_of(edit)}: BAD EDIT: {error}", 0.0
     with written(texts, folder):
         # The functions of the edited modules first: where one of them is refused, so is the crate. Only then all.
-        modules = [module_of(it) for it in texts]
-        only = [it for module in modules for it in ("--only", module)] if all(modules) else []
+        only = only_modules(texts)
         outcome = rt(folder, "check", "--jobs", "1", *only)
         seconds = outcome.seconds
         is_refused, why = judge(outcome, texts)
@@ -503,7 +508,7 @@ def try_batch(batch, folder, spent=0.0):
         return
     texts = together(batch, folder)
     with written(texts, folder):
-        outcome = rt(folder, "check", "--jobs", "1")
+        outcome = rt(folder, "check", "--jobs", "1", *only_modules(texts))
     shown, spent = shown_in(outcome, texts, batch), spent + outcome.seconds
     for edit, line in shown.items():
         yield edit, True, f"{name_of(edit)}: refused: {line[:300]} ({spent / len(shown):.0f} s, in a batch)", spent / len(shown)
