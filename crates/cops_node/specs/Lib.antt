@@ -4,7 +4,6 @@ pub mod Rows
 pub mod Run
 pub mod Same
 pub mod Shape
-pub mod ShortKeys
 pub mod SoloNode
 pub mod Step
 pub use Rattle.cops_types.specs.Context

@@ -84,14 +84,14 @@ pub(crate) fn commit(
         });
     }
     let mark = parts::mark_for(place, counters, entry.version());
-    let parts = entry.parts();
-    if parts.prev != mark {
+    let prev = entry.prev();
+    if prev != mark {
         return Ok(Answered {
             told: NodeReply::OutOfOrder(mark),
             kept: PackedExchange::out_of_order(entry, mark),
         });
     }
-    if let Some(fault) = store.refused(slot, &parts.key, &parts.value, &place.quota) {
+    if let Some(fault) = store.refused(slot, &entry.key(), entry.value(), &place.quota) {
         let answered = Answered::refused(alloc, NodeCall::Commit(entry), fault)?;
         return Ok(answered);
     }

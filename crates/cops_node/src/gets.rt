@@ -18,10 +18,9 @@ use std::alloc::{AllocError, Global};
 fn found(alloc: Global, stored: &Record) -> Result<NodeReply, AllocError>
     ensures { IfOk result (λ reply. reply ≡ found_reply stored.now) }
 {
-    let parts = stored.entry.parts();
-    let value = parts.value.copy(alloc)?;
-    let deps = parts.deps.copy(alloc)?;
-    Ok(NodeReply::Found(parts.version, value, deps))
+    let value = stored.entry.value().copy(alloc)?;
+    let deps = stored.entry.deps().copy(alloc)?;
+    Ok(NodeReply::Found(stored.version(), value, deps))
 }
 
 // What a slot answers for the greatest version of a key.

@@ -16,7 +16,6 @@ mod parts;
 mod puts;
 mod queues;
 mod rows;
-mod short_keys;
 #[cfg(test)]
 mod test_nodes;
 #[cfg(test)]

@@ -1,9 +1,8 @@
 //! The rows of an audit: calls and replies in little memory.
 ghost use Rattle.std.specs.Prelude.{◌≡◌, IfOk};
 
-use crate::short_keys::ShortKey;
 use crate::{AuditEntry, NodeCall, NodeReply, Wanted};
-use cops_types::{Entry, Key, Version};
+use cops_types::{Entry, Key, ShortKey, Version};
 use std::alloc::{AllocError, Global};
 use std::boxed::Box;
 use std::marker::Model;
@@ -74,12 +73,11 @@ const _: () = prove!(size_of::<AuditRow>() == 40);
 fn put_of(alloc: Global, entry: &Entry) -> Result<NodeCall, AllocError>
     ensures { IfOk result (λ call. call ≡ NodeCall.Put entry.now.key entry.now.value entry.now.deps entry.now.near) }
 {
-    let parts = entry.parts();
     Ok(NodeCall::Put(
-        parts.key,
-        parts.value.copy(alloc)?,
-        parts.deps.copy(alloc)?,
-        parts.near.copy(alloc)?,
+        entry.key(),
+        entry.value().copy(alloc)?,
+        entry.deps().copy(alloc)?,
+        entry.near().copy(alloc)?,
     ))
 }
 
@@ -87,11 +85,10 @@ fn put_of(alloc: Global, entry: &Entry) -> Result<NodeCall, AllocError>
 fn found_of(alloc: Global, entry: &Entry) -> Result<NodeReply, AllocError>
     ensures { IfOk result (λ reply. reply ≡ NodeReply.Found entry.now.version entry.now.value entry.now.deps) }
 {
-    let parts = entry.parts();
     Ok(NodeReply::Found(
-        parts.version,
-        parts.value.copy(alloc)?,
-        parts.deps.copy(alloc)?,
+        entry.version(),
+        entry.value().copy(alloc)?,
+        entry.deps().copy(alloc)?,
     ))
 }
 

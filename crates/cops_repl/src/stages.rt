@@ -59,7 +59,7 @@ impl Route {
         match stage {
             Stage::Pulling => self.pull(nodes, slot, moment),
             Stage::Carrying { entry, checked } => {
-                if checked < entry.parts().near.len() {
+                if checked < entry.near().len() {
                     self.check(nodes, slot, moment, entry, checked)
                 } else {
                     self.commit(nodes, slot, moment, entry)
@@ -141,7 +141,7 @@ impl Route {
         ensures sound { IsSoundAfter self.now.shards (stream_of self.now) result }
         ensures shape { N.shape nodes.new ≡ N.shape nodes.old }
     {
-        let pair = entry.parts().near.pair(checked);
+        let pair = entry.near().pair(checked);
         let id = NodeId {
             dc: self.to_dc,
             shard: pair.key.shard(self.shards),

@@ -25,8 +25,8 @@ impl InUse {
 pub(crate) fn size(entry: &Entry) -> u64
     ensures { result ≡ size_of entry.now }
 {
-    let parts = entry.parts();
-    let key = parts.key.bytes();
-    let value = parts.value.bytes();
-    key.len() as u64 + value.len() as u64
+    let key = entry.key();
+    let name = key.bytes();
+    let value = entry.value().bytes();
+    name.len() as u64 + value.len() as u64
 }

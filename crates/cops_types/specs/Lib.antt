@@ -8,7 +8,9 @@ pub mod HeadLines
 pub mod HeadProgress
 pub mod HeadReader
 pub mod HeadWords
+pub mod KeptEntry
 pub mod Key
+pub mod KeyForms
 pub mod KeyHashes
 pub mod Layout
 pub mod LineAnswers

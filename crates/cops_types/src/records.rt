@@ -4,6 +4,7 @@ ghost use Rattle.std.specs.Cmp.{partial_equiv_from_equiv};
 use crate::deps::Deps;
 use crate::keys::Key;
 use crate::near::Near;
+use crate::short_keys::KeptKey;
 use crate::values::Value;
 use crate::versions::Version;
 use std::alloc::{AllocError, Global};
@@ -22,10 +23,21 @@ pub struct EntryParts {
     pub prev: Version,
 }
 
+/// The parts of an entry as they are kept, with the key in little memory.
+#[derive(Debug, Drop)]
+struct KeptParts {
+    key: KeptKey,
+    version: Version,
+    value: Value,
+    deps: Deps,
+    near: Near,
+    prev: Version,
+}
+
 /// What one data centre sends to another of a put. Contracts see its parts; a copy shares them.
 #[derive(Debug, Drop)]
 pub struct Entry {
-    parts: Arc<EntryParts>,
+    parts: Arc<KeptParts>,
 }
 
 impl Model for Entry {
@@ -34,7 +46,9 @@ impl Model for Entry {
 
     ghost Value = { EntryParts };
 
-    ghost view = { λ e. arc_value e.parts };
+    ghost use Rattle.cops_types.specs.KeptEntry.{parts_of};
+
+    ghost view = { λ e. parts_of (arc_value e.parts) };
 }
 
 /// An entry that a node committed, with the node's `now` at that time.
@@ -44,42 +58,64 @@ pub struct Record {
     pub at: u64,
 }
 
-impl EntryParts {
-    /// The same parts. The value and both lists share their memory.
-    pub fn copy(&self, alloc: Global) -> Result<Self, AllocError>
-        ensures { IfOk result (λ parts. parts ≡ self.now) }
-    {
-        Ok(EntryParts {
-            key: self.key,
-            version: self.version,
-            value: self.value.copy(alloc)?,
-            deps: self.deps.copy(alloc)?,
-            near: self.near.copy(alloc)?,
-            prev: self.prev,
-        })
-    }
-}
-
 impl Entry {
     /// The entry of these parts.
     pub fn new(alloc: Global, parts: EntryParts) -> Result<Self, AllocError>
         ensures { IfOk result (λ entry. entry ≡ parts) }
     {
+        let kept = KeptParts {
+            key: KeptKey::of(alloc, parts.key)?,
+            version: parts.version,
+            value: parts.value,
+            deps: parts.deps,
+            near: parts.near,
+            prev: parts.prev,
+        };
         Ok(Entry {
-            parts: Arc::new(alloc, parts)?,
+            parts: Arc::new(alloc, kept)?,
         })
     }
 
+    /// The key.
     pub fn key(&self) -> Key
         ensures { result ≡ self.now.key }
     {
-        self.parts.key
+        self.parts.key.key()
     }
 
+    /// The version.
     pub fn version(&self) -> Version
         ensures { result ≡ self.now.version }
     {
         self.parts.version
+    }
+
+    /// The value.
+    pub fn value(&self) -> &Value
+        ensures { result.now ≡ self.now.value }
+    {
+        &self.parts.value
+    }
+
+    /// The dependencies.
+    pub fn deps(&self) -> &Deps
+        ensures { result.now ≡ self.now.deps }
+    {
+        &self.parts.deps
+    }
+
+    /// The nearest dependencies.
+    pub fn near(&self) -> &Near
+        ensures { result.now ≡ self.now.near }
+    {
+        &self.parts.near
+    }
+
+    /// The version that the origin sent before.
+    pub fn prev(&self) -> Version
+        ensures { result ≡ self.now.prev }
+    {
+        self.parts.prev
     }
 
     /// The record of this entry, committed at a moment.
@@ -89,11 +125,18 @@ impl Entry {
         Record { entry: self, at }
     }
 
-    /// The parts.
-    pub fn parts(&self) -> &EntryParts
-        ensures { result.now ≡ self.now }
+    /// The parts. The value and both lists share their memory.
+    fn to_parts(&self, alloc: Global) -> Result<EntryParts, AllocError>
+        ensures { IfOk result (λ parts. parts ≡ self.now) }
     {
-        &*self.parts
+        Ok(EntryParts {
+            key: self.key(),
+            version: self.version(),
+            value: self.value().copy(alloc)?,
+            deps: self.deps().copy(alloc)?,
+            near: self.near().copy(alloc)?,
+            prev: self.prev(),
+        })
     }
 
     /// The same entry, over the same memory.
@@ -102,7 +145,7 @@ impl Entry {
     {
         match self.parts.clone() {
             Ok(parts) => Ok(Entry { parts }),
-            Err(_) => Entry::new(alloc, self.parts().copy(alloc)?),
+            Err(_) => Entry::new(alloc, self.to_parts(alloc)?),
         }
     }
 }
@@ -118,14 +161,12 @@ impl PartialEq for Entry {
         ensures value { result ≡ entry_eq self.now other.now }
         ensures exact { IsTrue result ↔ (self.now ≡ other.now) }
     {
-        let parts = self.parts();
-        let others = other.parts();
-        parts.version == others.version
-            && parts.key == others.key
-            && parts.prev == others.prev
-            && parts.value == others.value
-            && parts.near == others.near
-            && parts.deps == others.deps
+        self.version() == other.version()
+            && self.key() == other.key()
+            && self.prev() == other.prev()
+            && *self.value() == *other.value()
+            && *self.near() == *other.near()
+            && *self.deps() == *other.deps()
     }
 }
 

@@ -162,7 +162,7 @@ fn entry_of(alloc: Global) -> Result<Entry, Fault> {
 }
 
 fn size_of_entry(entry: &Entry) -> usize {
-    entry.parts().value.bytes().len()
+    entry.value().len()
 }
 
 /// One thread reads a copy and drops it, while this one reads the entry.

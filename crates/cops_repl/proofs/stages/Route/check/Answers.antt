@@ -1,7 +1,7 @@
-use Rattle.std.proofs.Common.{◌≡◌, ◌∙◌, Some, ap, get_or, length, refl, sym}
+use Rattle.std.proofs.Common.{◌≡◌, ◌∙◌, List, Some, ap, get_or, length, refl, sym}
 use Rattle.std.specs.Prelude.{slice_get}
 use Rattle.std.proofs.lemmas.Option.{slice_get_read}
-use Rattle.cops_types.specs.declared.records.EntryParts.{EntryParts as Entry}
+use Rattle.cops_types.specs.declared.pairs.Pair.{Pair}
 use Rattle.cops_repl.specs.Carrier.{check}
 use Rattle.cops_repl.specs.Stands.{stream_of}
 use Rattle.cops_repl.proofs.NextSteps.{asks_check, ends_check, goes_check}
@@ -15,7 +15,7 @@ returns-in-Some-clause-called g c =
     let entry = c.args.entry in
     let pair = c.pair-pair.result in
     let place : slice_get entry.near c.args.checked ≡ Some pair =
-    slice_get_read entry.near (length entry.near) c.args.checked pair refl c.requires.left (c.pair-pair.ensures ∙ ap (λ (e : Entry). get_or e.near c.args.checked pair) c.parts.ensures) in
+    slice_get_read entry.near (length entry.near) c.args.checked pair refl c.requires.left (c.pair-pair.ensures ∙ ap (λ (n : List Pair). get_or n c.args.checked pair) c.near.ensures) in
     let ends = c.end_of_check.ensures shards stream in (
       check shards stream pair,
       c.step-reply.result,
@@ -31,7 +31,7 @@ returns-in-None-clause-called g c =
     let entry = c.args.entry in
     let pair = c.pair-pair.result in
     let place : slice_get entry.near c.args.checked ≡ Some pair =
-    slice_get_read entry.near (length entry.near) c.args.checked pair refl c.requires.left (c.pair-pair.ensures ∙ ap (λ (e : Entry). get_or e.near c.args.checked pair) c.parts.ensures) in
+    slice_get_read entry.near (length entry.near) c.args.checked pair refl c.requires.left (c.pair-pair.ensures ∙ ap (λ (n : List Pair). get_or n c.args.checked pair) c.near.ensures) in
     let ends = c.end_of_check.ensures shards stream in (
       check shards stream pair,
       c.step-reply.result,

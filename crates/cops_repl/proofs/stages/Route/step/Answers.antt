@@ -1,5 +1,5 @@
-use Rattle.std.proofs.Common.{◌≡◌, ◌∙◌, ap, arith, length, subst, sym}
-use Rattle.cops_types.specs.declared.records.EntryParts.{EntryParts as Entry}
+use Rattle.std.proofs.Common.{◌≡◌, ◌∙◌, List, ap, arith, length, subst, sym}
+use Rattle.cops_types.specs.declared.pairs.Pair.{Pair}
 use Rattle.cops_repl.specs.declared.stages.Stage.{Stage}
 use Rattle.cops_repl.specs.declared.stages.Stage.TheVariants.{Carrying}
 use Rattle.cops_repl.specs.Stands.{IsSound, IsStepFrom, stream_of}
@@ -23,7 +23,7 @@ returns-else-checked-len-clause-called g c =
     let made = c.commit.ensures.called in
     let entry = c.in-Carrying.entry in
     let sound = subst (λ (s : Stage). IsSound route.shards (stream_of route) s) c.in-Carrying.is c.requires.sound in
-    let count = c.len.ensures ∙ ap (λ (e : Entry). length e.near) c.parts.ensures in
+    let count = c.len.ensures ∙ ap (λ (n : List Pair). length n) c.near.ensures in
     let all : c.in-Carrying.checked ≡ length entry.near = omega (arith, sound.1, count) in
     let stage : c.args.stage ≡ Carrying entry (length entry.near) = c.in-Carrying.is ∙ ap (λ n. Carrying entry n) all in
     (made.0, made.1, made.2, subst (λ (s : Stage). IsStepFrom route.shards (stream_of route) s made.0 made.1 c.commit.result) (sym stage) made.3)
