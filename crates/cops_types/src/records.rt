@@ -46,9 +46,9 @@ impl Model for Entry {
 
     ghost Value = { EntryParts };
 
-    ghost use Rattle.cops_types.specs.KeptEntry.{parts_of};
+    ghost use Rattle.cops_types.specs.KeptEntry.{unpacked_parts};
 
-    ghost view = { λ e. parts_of (arc_value e.parts) };
+    ghost view = { λ e. unpacked_parts (arc_value e.parts) };
 }
 
 /// An entry that a node committed, with the node's `now` at that time.
