@@ -1,6 +1,6 @@
 -- What a call at one node does to a cluster.
-use Rattle.std.proofs.Common.{◌≡◌, ◌≢◌, ℕ, zero, suc, ◌+◌, ◌*◌, ◌/◌, ◌%◌, ◌<◌, ◌≤◌, List, [], ◌∷◌, length, map, refl, sym, ap, ◌∙◌, subst, arith, get_or, set, inl, inr, ◌⊎◌, nat_lt, false}
-use Rattle.std.specs.Prelude.{slice_get, replicate, Some, IsTrue}
+use Rattle.std.proofs.Common.{◌≡◌, ◌≢◌, ℕ, zero, suc, ◌+◌, ◌*◌, ◌/◌, ◌%◌, ◌<◌, ◌≤◌, List, [], ◌∷◌, length, map, refl, sym, ap, ◌∙◌, subst, arith, get_or, set, inl, inr, ◌⊎◌, nat_lt, false, true≢false}
+use Rattle.std.specs.Prelude.{slice_get, replicate, Option, None, Some, is_some, IsSome, IsTrue}
 use Rattle.std.specs.Option.{option_map}
 use Rattle.std.specs.List.{AllByRecursion, range_with_len}
 use Rattle.std.proofs.lemmas.List.{map-set, get_or-map, set-get_or}
@@ -20,12 +20,12 @@ use Rattle.cops_node.specs.declared.NodeReply.{NodeReply}
 use Rattle.cops_node.specs.declared.NodeReply.TheVariants.{Refused}
 use Rattle.cops_node.specs.declared.Place.{Place}
 use Rattle.cops_node.specs.Clusters.{Cluster, nodes_of, HasTenant, solo_at, turn_at, IsTurnOf, IsCall, IsCluster, id_of, new_shared, new_nodes, shape_of, HoldsNodes}
-use Rattle.cops_node.specs.Parts.{Home, Shared, trail_of, solo_of, left_by, has_audit_room, IsTurn, AllFit, AuditFits, IsAudited}
+use Rattle.cops_node.specs.Parts.{Home, Shared, home_of, place_at, trail_of, solo_of, left_by, has_audit_room, IsTurn, AllFit, AuditFits, IsAudited}
 use Rattle.cops_node.specs.Place.{fits, node_number, place_of}
 use Rattle.cops_node.specs.Shape.{Shape, place_in}
 use Rattle.cops_node.specs.SoloNode.{SoloNode, new_node}
 use Rattle.cops_node.specs.Step.{CallEffect, node_step}
-use Rattle.cops_node.proofs.Slots.{AuditFits-noted}
+use Rattle.cops_node.proofs.Slots.{AuditFits-noted, some_same}
 use Rattle.cops_node.proofs.Fresh.{no_calls_fit, replicate_read}
 
 pub all_set : {A : Type 0} (P : A → Type 0) (xs : List A) (i : ℕ) (x y : A) → AllByRecursion P xs → (P x → P y) → x ≡ get_or xs i x → AllByRecursion P (set xs i y)
@@ -44,19 +44,27 @@ read_again (x ∷ xs) zero d = refl
 read_again (x ∷ xs) (suc i) d = read_again xs i d
 
 -- a call that fits, in the audit of its node
-pub fits_next : (slot moment : ℕ) (call : NodeCall) (reply : NodeReply) (node next : Shared) → IsTrue (fits (place_in node.home.shape node.home.id) call) → next.home ≡ node.home → IsAudited slot moment call reply node next → AuditFits node → AuditFits next
-fits_next slot moment call reply node next fit home (inl same) before = subst AuditFits (sym same.1) before
-fits_next slot moment call reply node next fit home (inr more) before =
+fits_more : (slot moment : ℕ) (call : NodeCall) (reply : NodeReply) (node next : Shared) → IsTrue (fits (place_in node.home.shape node.home.id) call) → next.home ≡ node.home → IsAudited slot moment call reply node next → AuditFits node → AuditFits next
+fits_more slot moment call reply node next fit home (inl same) before = subst AuditFits (sym same.1) before
+fits_more slot moment call reply node next fit home (inr more) before =
     let place : Place = place_in node.home.shape node.home.id in
     subst (λ (h : Home). AllByRecursion (AllFit (place_in h.shape h.id)) next.audit) (sym home)
     (subst (AllByRecursion (AllFit place)) (sym more) (AuditFits-noted place slot node.audit (record { moment = moment; call = call; reply = reply }) before fit))
+
+pub fits_next : (slot moment : ℕ) (call : NodeCall) (reply : NodeReply) (node next : Shared) → IsTrue (fits (place_in node.home.shape node.home.id) call) → next.home ≡ node.home
+    → (place_at slot node ≡ None → next ≡ node) → (IsSome (place_at slot node) → IsAudited slot moment call reply node next) → AuditFits node → AuditFits next
+fits_next slot moment call reply node next fit home same audited before = by (place_at slot node) refl
+  where
+    by : (o : Option Place) → place_at slot node ≡ o → AuditFits next
+    by None at = subst AuditFits (sym (same at)) before
+    by (Some place) at = fits_more slot moment call reply node next fit home (audited (ap is_some at)) before
 
 -- ---- a call
 
 module _ (shape : Shape) (nodes : List Shared) (id : NodeId) (slot moment : ℕ) (call : NodeCall) (reply : NodeReply) (node next : Shared)
     (within : node_number shape.shards id < length nodes) (read : node ≡ get_or nodes (node_number shape.shards id) node) (here : node.home.id ≡ id)
-    (turn : (place : Place) → place ≡ get_or node.home.places slot place → IsTurn slot moment call reply place node next)
-    (full : (place : Place) → place ≡ get_or node.home.places slot place → has_audit_room slot place node ≡ false → reply ≡ Refused AuditFull)
+    (turn : (place : Place) → place_at slot node ≡ Some place → IsTurn slot moment call reply place node next)
+    (full : (place : Place) → place_at slot node ≡ Some place → has_audit_room slot place node ≡ false → reply ≡ Refused AuditFull)
     (stay : (other : ℕ) → other ≢ slot → trail_of other next.audit ≡ trail_of other node.audit)
     (home : next.home ≡ node.home) where
   abbrev number : ℕ
@@ -78,57 +86,60 @@ module _ (shape : Shape) (nodes : List Shared) (id : NodeId) (slot moment : ℕ)
   others config other differ = map-set_same (λ (n : Shared). solo_of other (place_of config n.home.id) n) nodes number next node (same_solo config other differ ∙ ap (λ (n : Shared). solo_of other (place_of config n.home.id) n) read)
 
   tenants : (config : TenantConfig) (other : ℕ) → HasTenant config other old → HasTenant config other new
-  tenants config other h = all_set (λ (n : Shared). slice_get n.home.places other ≡ Some (place_of config n.home.id)) nodes number node next h
-      (λ k. ap (λ (h : Home). slice_get h.places other) home ∙ k ∙ ap (λ (h : Home). Some (place_of config h.id)) (sym home)) read
-
-  -- the slot's place at the node
-  abbrev place : Place
-  place = get_or node.home.places slot (place_in shape id)
+  tenants config other h = all_set (λ (n : Shared). place_at other n ≡ Some (place_of config n.home.id)) nodes number node next h
+      (λ k. ap (λ (h : Home). get_or h.places other None) home ∙ k ∙ ap (λ (h : Home). Some (place_of config h.id)) (sym home)) read
 
   same_number : (config : TenantConfig) → config.shards ≡ shape.shards → number ≡ node_number config.shards id
   same_number config same_shards = ap (λ n. id.dc * n + id.shard) (sym same_shards)
 
-  found : (config : TenantConfig) → HasTenant config slot old → slice_get node.home.places slot ≡ Some (place_of config node.home.id)
-  found config has = all_at (λ (n : Shared). slice_get n.home.places slot ≡ Some (place_of config n.home.id)) nodes number node has within read
+  found : (config : TenantConfig) → HasTenant config slot old → place_at slot node ≡ Some (place_of config node.home.id)
+  found config has = all_at (λ (n : Shared). place_at slot n ≡ Some (place_of config n.home.id)) nodes number node has within read
 
-  place_is : (config : TenantConfig) → HasTenant config slot old → place ≡ place_of config id
-  place_is config has = get_or_from_slice_get node.home.places slot (place_of config node.home.id) (place_in shape id) (found config has) ∙ ap (place_of config) here
+  -- the slot's place at the node
+  module _ (place : Place) (at : place_at slot node ≡ Some place) where
+    place_is : (config : TenantConfig) → HasTenant config slot old → place ≡ place_of config id
+    place_is config has = some_same place (place_of config node.home.id) (sym at ∙ found config has) ∙ ap (place_of config) here
 
-  solo_is : (config : TenantConfig) → config.shards ≡ shape.shards → HasTenant config slot old → solo_of slot place node ≡ solo_at config id slot old
-  solo_is config same_shards has =
-      ap (λ p. solo_of slot p node) (place_is config has ∙ ap (place_of config) (sym here))
-      ∙ ap (λ (n : Shared). solo_of slot (place_of config n.home.id) n) read
-      ∙ sym (get_or-map (λ (n : Shared). solo_of slot (place_of config n.home.id) n) nodes number node (new_node config.data_centres) within)
-      ∙ ap (λ n. get_or (nodes_of config slot old) n (new_node config.data_centres)) (same_number config same_shards)
+    solo_is : (config : TenantConfig) → config.shards ≡ shape.shards → HasTenant config slot old → solo_of slot place node ≡ solo_at config id slot old
+    solo_is config same_shards has =
+        ap (λ p. solo_of slot p node) (place_is config has ∙ ap (place_of config) (sym here))
+        ∙ ap (λ (n : Shared). solo_of slot (place_of config n.home.id) n) read
+        ∙ sym (get_or-map (λ (n : Shared). solo_of slot (place_of config n.home.id) n) nodes number node (new_node config.data_centres) within)
+        ∙ ap (λ n. get_or (nodes_of config slot old) n (new_node config.data_centres)) (same_number config same_shards)
 
-  by_tenant : (reply ≡ (node_step place moment call (solo_of slot place node)).reply) × (solo_of slot place next ≡ (node_step place moment call (solo_of slot place node)).after)
-      → (config : TenantConfig) → config.shards ≡ shape.shards → HasTenant config slot old → IsTurnOf config id slot moment call reply old new
-  by_tenant t config same_shards has = record {
-    reply_is = t.0 ∙ ap (λ (u : CallEffect). u.reply) turn_is;
-    after = map-set solos nodes number next ∙ (λ i. set (map solos nodes) (same_number config same_shards i) (next_is i));
-  }
-    where
-      solos : Shared → SoloNode
-      solos n = solo_of slot (place_of config n.home.id) n
+    by_tenant : (reply ≡ (node_step place moment call (solo_of slot place node)).reply) × (solo_of slot place next ≡ (node_step place moment call (solo_of slot place node)).after)
+        → (config : TenantConfig) → config.shards ≡ shape.shards → HasTenant config slot old → IsTurnOf config id slot moment call reply old new
+    by_tenant t config same_shards has = record {
+      reply_is = t.0 ∙ ap (λ (u : CallEffect). u.reply) turn_is;
+      after = map-set solos nodes number next ∙ (λ i. set (map solos nodes) (same_number config same_shards i) (next_is i));
+    }
+      where
+        solos : Shared → SoloNode
+        solos n = solo_of slot (place_of config n.home.id) n
 
-      turn_is : node_step place moment call (solo_of slot place node) ≡ turn_at config id slot moment call old
-      turn_is = (λ i. node_step (place_is config has i) moment call (solo_is config same_shards has i))
+        turn_is : node_step place moment call (solo_of slot place node) ≡ turn_at config id slot moment call old
+        turn_is = (λ i. node_step (place_is config has i) moment call (solo_is config same_shards has i))
 
-      next_is : solo_of slot (place_of config next.home.id) next ≡ (turn_at config id slot moment call old).after
-      next_is = ap (λ p. solo_of slot p next) (ap (place_of config) (ap (λ (h : Home). h.id) home ∙ here) ∙ sym (place_is config has)) ∙ t.1 ∙ ap (λ (u : CallEffect). u.after) turn_is
+        next_is : solo_of slot (place_of config next.home.id) next ≡ (turn_at config id slot moment call old).after
+        next_is = ap (λ p. solo_of slot p next) (ap (place_of config) (ap (λ (h : Home). h.id) home ∙ here) ∙ sym (place_is config has)) ∙ t.1 ∙ ap (λ (u : CallEffect). u.after) turn_is
 
-  refused_full : (config : TenantConfig) → config.shards ≡ shape.shards → HasTenant config slot old → nat_lt (length (solo_at config id slot old).trail) config.quota.audit ≡ false → reply ≡ Refused AuditFull
-  refused_full config same_shards has closed =
-      full place (read_again node.home.places slot (place_in shape id)) ((λ i. nat_lt (length (solo_is config same_shards has i).trail) (place_is config has i).quota.audit) ∙ closed)
+    refused_full : (config : TenantConfig) → config.shards ≡ shape.shards → HasTenant config slot old → nat_lt (length (solo_at config id slot old).trail) config.quota.audit ≡ false → reply ≡ Refused AuditFull
+    refused_full config same_shards has closed =
+        full place at ((λ i. nat_lt (length (solo_is config same_shards has i).trail) (place_is config has i).quota.audit) ∙ closed)
 
-  which : IsTurn slot moment call reply place node next → ((reply ≡ Refused OutOfMemory) × (new ≡ old)) ⊎ ((config : TenantConfig) → config.shards ≡ shape.shards → HasTenant config slot old → IsTurnOf config id slot moment call reply old new)
-  which (inl e) = inl (e.0, ap (λ ns. record { shape = shape; nodes = ns }) (ap (set nodes number) (e.1 ∙ read) ∙ set-get_or nodes number node))
-  which (inr t) = inr (by_tenant t)
+    which : IsTurn slot moment call reply place node next → ((reply ≡ Refused OutOfMemory) × (new ≡ old)) ⊎ ((config : TenantConfig) → config.shards ≡ shape.shards → HasTenant config slot old → IsTurnOf config id slot moment call reply old new)
+    which (inl e) = inl (e.0, ap (λ ns. record { shape = shape; nodes = ns }) (ap (set nodes number) (e.1 ∙ read) ∙ set-get_or nodes number node))
+    which (inr t) = inr (by_tenant t)
+
+  -- the turn of a slot, which may have no tenant
+  turn_of : (o : Option Place) → place_at slot node ≡ o → ((reply ≡ Refused OutOfMemory) × (new ≡ old)) ⊎ ((config : TenantConfig) → config.shards ≡ shape.shards → HasTenant config slot old → IsTurnOf config id slot moment call reply old new)
+  turn_of None at = inr (λ config same_shards has. absurd (true≢false (sym (ap is_some (sym at ∙ found config has)))))
+  turn_of (Some place) at = which place at (turn place at)
 
   pub call_is : IsCall old id slot moment call reply new
   call_is = record {
-    turn = which (turn place (read_again node.home.places slot (place_in shape id)));
-    full = refused_full;
+    turn = turn_of (place_at slot node) refl;
+    full = λ config same_shards has. refused_full (place_of config node.home.id) (found config has) config same_shards has;
     others = others;
     tenants = tenants;
     homes = homes;
@@ -191,14 +202,19 @@ HoldsNodes-new config nodes numbers is = record {
     none [] = tt
     none (n ∷ numbers) = (no_calls_fit (place_in (shape_of config) (id_of config.shards n)) (length config.tenants), none numbers)
 
+-- the place of a tenant of the configuration, at a new node
+pub place_new : (config : Config) (slot : ℕ) (tenant : Tenant) (id : NodeId) → slice_get config.tenants slot ≡ Some tenant → get_or (home_of config id).places slot None ≡ Some (place_of (tenant_config config tenant) id)
+place_new config slot tenant id found =
+    get_or_from_slice_get (home_of config id).places slot (Some (place_of (tenant_config config tenant) id)) None
+    (slice_get-map (λ (t : Tenant). Some (place_of (tenant_config config t) id)) config.tenants slot ∙ ap (option_map (λ (t : Tenant). Some (place_of (tenant_config config t) id))) found)
+
 -- each tenant of the configuration has his slot
 pub tenant_new : (config : Config) (slot : ℕ) (tenant : Tenant) → slice_get config.tenants slot ≡ Some tenant → HasTenant (tenant_config config tenant) slot (new_nodes config)
 tenant_new config slot tenant found = each (range_with_len 0 (config.data_centres * config.shards))
   where
-    each : (numbers : List ℕ) → AllByRecursion (λ (n : Shared). slice_get n.home.places slot ≡ Some (place_of (tenant_config config tenant) n.home.id)) (map (new_shared config) numbers)
+    each : (numbers : List ℕ) → AllByRecursion (λ (n : Shared). place_at slot n ≡ Some (place_of (tenant_config config tenant) n.home.id)) (map (new_shared config) numbers)
     each [] = tt
-    each (number ∷ numbers) =
-        (slice_get-map (λ (t : Tenant). place_of (tenant_config config t) (id_of config.shards number)) config.tenants slot ∙ ap (option_map (λ (t : Tenant). place_of (tenant_config config t) (id_of config.shards number))) found, each numbers)
+    each (number ∷ numbers) = (place_new config slot tenant (id_of config.shards number) found, each numbers)
 
 -- and his solo nodes are new
 pub solos_new : (config : Config) (slot : ℕ) (tenant : Tenant) → nodes_of (tenant_config config tenant) slot (new_nodes config) ≡ replicate (config.data_centres * config.shards) (new_node config.data_centres)

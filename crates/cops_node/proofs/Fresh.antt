@@ -1,12 +1,15 @@
 -- What a new node keeps.
 use Rattle.std.proofs.Common.{◌≡◌, ℕ, zero, suc, ◌*◌, ◌/◌, ◌%◌, ◌<◌, ◌≤◌, Bool, true, false, true≢false, List, [], ◌∷◌, length, map, refl, sym, ap, ◌∙◌, subst, arith, get_or, ◌⊎◌, inl, inr, IsTrue}
-use Rattle.std.specs.Prelude.{replicate, drop, nat_le, ◌&&◌, ◌==◌, if◌then◌else◌}
+use Rattle.std.specs.Prelude.{Option, Some, None, IfSome, is_some, replicate, drop, nat_le, ◌&&◌, ◌==◌, if◌then◌else◌}
 use Rattle.std.specs.List.{AllClonesOf, AllByRecursion, list_all}
 use Rattle.std.proofs.lemmas.Bool.Decides.{nat_tests}
+use Rattle.std.specs.Option.{option_map}
 use Rattle.std.proofs.lemmas.List.{length-map}
+use Rattle.std.proofs.lemmas.List.Sorted.{length_permutation}
 use Rattle.std.proofs.Math.Nat.{mul-le-mul_left, mul-le-mul_right}
 use Rattle.cops_types.specs.declared.configs.Config.{Config}
 use Rattle.cops_types.specs.declared.configs.Tenant.{Tenant}
+use Rattle.cops_types.specs.declared.records.Dated.{Dated}
 use Rattle.cops_types.specs.declared.records.EntryParts.{EntryParts as Entry}
 use Rattle.cops_types.specs.HeadLines.{are_sizes}
 use Rattle.cops_types.specs.Layout.{NODES}
@@ -18,10 +21,10 @@ use Rattle.cops_outbox.specs.Queues.{Queues, queue_of}
 use Rattle.cops_node.specs.declared.NodeId.{NodeId}
 use Rattle.cops_node.specs.declared.Place.{Place}
 use Rattle.cops_node.specs.declared.parts.Part.{Part}
-use Rattle.cops_node.specs.Parts.{AllFit, IsFresh, IsPart, IsNode, StandsAt, home_of, left_by, mark_in, no_calls, trails_of}
+use Rattle.cops_node.specs.Parts.{AllFit, IsFresh, IsNode, IsPart, IsPlace, StandsAt, home_of, left_by, mark_in, no_calls, places_of, trails_of}
 use Rattle.cops_node.specs.Place.{place_of}
 use Rattle.cops_node.specs.Shape.{place_in}
-use Rattle.cops_node.proofs.Slots.{view_of}
+use Rattle.cops_node.proofs.Slots.{place_in_part, place_shown, some_same, some_there, view_of}
 
 -- a list of copies
 pub copies_are : (clones : Timestamp → Timestamp → Type 0) (x : Timestamp) (ys : List Timestamp) → ((y : Timestamp) → clones x y → y ≡ x) → AllClonesOf clones x ys → ys ≡ replicate (length ys) x
@@ -35,21 +38,22 @@ copies_are clones x (y ∷ ys) f h = let here : y ≡ x = one h.0 in let rest = 
 -- ---- a new node
 
 -- no slot has made a call
-fresh_trails : (parts : List Part) → AllByRecursion IsFresh parts → trails_of parts ≡ no_calls (length parts)
+fresh_trails : (parts : List (Option Part)) → AllByRecursion (λ p. IfSome p IsFresh) parts → trails_of parts ≡ no_calls (length parts)
 fresh_trails [] fresh = refl
-fresh_trails (p ∷ parts) fresh = let first = fresh.0.trail in let rest = fresh_trails parts fresh.1 in (λ i. first i ∷ rest i)
+fresh_trails (None ∷ parts) fresh = ap (λ ts. [] ∷ ts) (fresh_trails parts fresh.1)
+fresh_trails (Some p ∷ parts) fresh = let first = fresh.0.trail in let rest = fresh_trails parts fresh.1 in (λ i. first i ∷ rest i)
 
 pub no_calls_fit : (place : Place) (slots : ℕ) → AllByRecursion (AllFit place) (no_calls slots)
 no_calls_fit place zero = tt
 no_calls_fit place (suc slots) = (tt, no_calls_fit place slots)
 
 -- what contracts see of a new node
-pub new_view : (config : Config) (id : NodeId) (parts : List Part) → AllByRecursion IsFresh parts → map (λ (p : Part). p.place) parts ≡ map (λ (t : Tenant). place_of (tenant_config config t) id) config.tenants
-    → view_of id config.data_centres config.shards parts ≡ record { home = home_of config id; audit = no_calls (length config.tenants) }
+pub new_view : (config : Config) (id : NodeId) (parts : List (Option Part)) → AllByRecursion (λ p. IfSome p IsFresh) parts → places_of parts ≡ map (λ (t : Tenant). Some (place_of (tenant_config config t) id)) config.tenants
+    → view_of id config.data_centres config.shards config.trans_time parts ≡ record { home = home_of config id; audit = no_calls (length config.tenants) }
 new_view config id parts fresh places =
-    let long : length parts ≡ length config.tenants = sym (length-map parts (λ (p : Part). p.place)) ∙ ap length places ∙ length-map config.tenants (λ (t : Tenant). place_of (tenant_config config t) id) in
+    let long : length parts ≡ length config.tenants = sym (length-map parts (option_map place_in_part)) ∙ ap length places ∙ length-map config.tenants (λ (t : Tenant). Some (place_of (tenant_config config t) id)) in
     let trails = fresh_trails parts fresh ∙ ap no_calls long in
-    λ i. record { home = record { id = id; shape = record { data_centres = config.data_centres; shards = config.shards; slots = long i }; places = places i }; audit = trails i }
+    λ i. record { home = record { id = id; shape = record { data_centres = config.data_centres; shards = config.shards; slots = long i }; trans_time = config.trans_time; places = places i }; audit = trails i }
 
 pub replicate_read : {A : Type 0} (n i : ℕ) (x : A) → get_or (replicate n x) i x ≡ x
 replicate_read zero i x = refl
@@ -72,82 +76,110 @@ drop_nothing : (n : ℕ) → (let none : List Entry = [] in drop n none ≡ none
 drop_nothing zero = refl
 drop_nothing (suc n) = refl
 
-fresh_at : (parts : List Part) (slot : ℕ) (part : Part) → AllByRecursion IsFresh parts → slot < length parts → part ≡ get_or parts slot part → IsFresh part
-fresh_at [] slot part h lt is = absurd (omega arith)
-fresh_at (p ∷ parts) zero part h lt is = subst IsFresh (sym is) h.0
-fresh_at (p ∷ parts) (suc slot) part h lt is = fresh_at parts slot part h.1 (omega arith) is
+fresh_at : (parts : List (Option Part)) (slot : ℕ) (part : Part) → AllByRecursion (λ p. IfSome p IsFresh) parts → get_or parts slot None ≡ Some part → IsFresh part
+fresh_at [] slot part h is = absurd (true≢false (sym (ap is_some is)))
+fresh_at (p ∷ parts) zero part h is = subst (λ q. IfSome q IsFresh) is h.0
+fresh_at (p ∷ parts) (suc slot) part h is = fresh_at parts slot part h.1 is
 
--- the part's place is that of some tenant
-abbrev PlaceOfSome : Config → NodeId → Part → Type 0
-PlaceOfSome config id part = (tenant : Tenant) × (part.place ≡ place_of (tenant_config config tenant) id) × (tenant.first_clock ≤ last_clock)
+-- a place of the configuration is that of some tenant
+abbrev PlaceOfSome : Config → NodeId → Place → Type 0
+PlaceOfSome config id place = (tenant : Tenant) × (place ≡ place_of (tenant_config config tenant) id) × (tenant.first_clock ≤ last_clock)
 
-place_at : (config : Config) (id : NodeId) (parts : List Part) (tenants : List Tenant) (slot : ℕ) (part : Part) → map (λ (p : Part). p.place) parts ≡ map (λ (t : Tenant). place_of (tenant_config config t) id) tenants
-    → AllByRecursion (λ (t : Tenant). t.first_clock ≤ last_clock) tenants → slot < length parts → part ≡ get_or parts slot part → PlaceOfSome config id part
-place_at config id [] tenants slot part same clocks lt is = absurd (omega arith)
-place_at config id (p ∷ parts) [] slot part same clocks lt is = absurd (differ same)
-  where
-    differ : (let none : List Place = [] in p.place ∷ map (λ (p : Part). p.place) parts ≡ none) → ⊥
-    differ e = cc
-place_at config id (p ∷ parts) (t ∷ tenants) zero part same clocks lt is =
-    let first : p.place ≡ place_of (tenant_config config t) id = cc in
-    (t, ap (λ (x : Part). x.place) is ∙ first, clocks.0)
-place_at config id (p ∷ parts) (t ∷ tenants) (suc slot) part same clocks lt is =
-    let rest : map (λ (p : Part). p.place) parts ≡ map (λ (t : Tenant). place_of (tenant_config config t) id) tenants = cc in
-    place_at config id parts tenants slot part rest clocks.1 (omega arith) is
+tenant_at : (config : Config) (id : NodeId) (tenants : List Tenant) (slot : ℕ) (place : Place) → AllByRecursion (λ (t : Tenant). t.first_clock ≤ last_clock) tenants
+    → get_or (map (λ (t : Tenant). Some (place_of (tenant_config config t) id)) tenants) slot None ≡ Some place → PlaceOfSome config id place
+tenant_at config id [] slot place clocks is = absurd (true≢false (sym (ap is_some is)))
+tenant_at config id (t ∷ tenants) zero place clocks is = (t, some_same place (place_of (tenant_config config t) id) (sym is), clocks.0)
+tenant_at config id (t ∷ tenants) (suc slot) place clocks is = tenant_at config id tenants slot place clocks.1 is
 
 nothing_waits : (data_centres slots dc slot : ℕ) → let none : List (List (List Entry)) = replicate data_centres (replicate slots []) in get_or (get_or none dc []) slot [] ≡ []
 nothing_waits zero slots dc slot = refl
 nothing_waits (suc data_centres) slots zero slot = replicate_read slots slot []
 nothing_waits (suc data_centres) slots (suc dc) slot = nothing_waits data_centres slots dc slot
 
-pub IsNode-new : (config : Config) (id : NodeId) (parts : List Part) (store : Contents) (outbox : Queues) → id.dc < config.data_centres → id.shard < config.shards → config.data_centres * config.shards ≤ NODES
-    → AllByRecursion (λ (t : Tenant). t.first_clock ≤ last_clock) config.tenants → AllByRecursion IsFresh parts → map (λ (p : Part). p.place) parts ≡ map (λ (t : Tenant). place_of (tenant_config config t) id) config.tenants
+none_of : {A : Type 0} (xs : List A) → length xs ≡ 0 → xs ≡ []
+none_of [] h = refl
+none_of (x ∷ xs) h = absurd (omega arith)
+
+-- what stands for no records has no rows
+pub no_rows : (rows : List Dated) → StandsFor rows [] → rows ≡ []
+no_rows rows h = none_of rows (sym (length_permutation rows [] h.records))
+
+-- the part of a tenant before any call, where nothing is kept of the slot
+pub fresh_part : (id : NodeId) (dcs shards slot : ℕ) (part : Part) (store : Contents) (outbox : Queues) → IsFresh part → IsPlace part.place → part.place.id ≡ id → part.place.data_centres ≡ dcs → part.place.shards ≡ shards
+    → slot < store.tenants → slot < outbox.tenants → outbox.own ≡ id.dc → length outbox.queues ≡ dcs → StandsFor (rows_of slot store) [] → ((dc : ℕ) → queue_of slot dc outbox ≡ [])
+    → IsPart id dcs shards slot part store outbox
+fresh_part id dcs shards slot part store outbox h place ids sizes shards_are stored queued own all empty waits =
+    let none : [] ≡ part.trail.calls = sym h.trail in
+    let stands : StandsAt slot part.place part.counters store outbox (left_by part.place []) = record {
+      place_is = place;
+      stored = stored;
+      queued = queued;
+      own_is = own ∙ ap (λ (i : NodeId). i.dc) (sym ids);
+      all_queues = all ∙ sym sizes;
+      rows = empty;
+      queues = λ dc other. waits dc ∙ sym (drop_nothing (get_or (replicate part.place.data_centres 0) dc 0));
+      all_acked = length_replicate part.place.data_centres 0;
+      acked = λ dc. subst (λ n. n ≤ 0) (sym (replicate_read part.place.data_centres dc 0)) (omega arith);
+      clock_is = h.clock_is;
+      clock_fits = subst (λ n. n ≤ last_clock) (sym h.clock_is) place.clock_fits;
+      marks = record {
+        all = ap length h.marks ∙ length_replicate part.place.data_centres no_version;
+        each = λ node. ap (λ (ms : List Timestamp). mark_in part.place ms node) h.marks ∙ no_mark part.place part.place.data_centres node;
+      };
+      late = tt;
+    } in
+    record {
+      id_is = ids;
+      data_centres_are = sizes;
+      shards_are = shards_are;
+      kept = record {
+        stands = subst (λ t. StandsAt slot part.place part.counters store outbox (left_by part.place t)) none stands;
+        moment = subst (λ t. (left_by part.place t).moment ≡ part.moment) none (sym h.moment);
+        trail_is = subst (λ t. (left_by part.place t).trail ≡ t) none refl;
+      };
+    }
+
+pub IsNode-new : (config : Config) (id : NodeId) (parts : List (Option Part)) (store : Contents) (outbox : Queues) → id.dc < config.data_centres → id.shard < config.shards → config.data_centres * config.shards ≤ NODES
+    → AllByRecursion (λ (t : Tenant). t.first_clock ≤ last_clock) config.tenants → AllByRecursion (λ p. IfSome p IsFresh) parts → places_of parts ≡ map (λ (t : Tenant). Some (place_of (tenant_config config t) id)) config.tenants
     → store.tenants ≡ length parts → outbox ≡ record { own = id.dc; tenants = length parts; queues = replicate config.data_centres (replicate (length parts) []) }
     → ((slot : ℕ) → StandsFor (rows_of slot store) []) → IsNode id config.data_centres config.shards parts store outbox
 IsNode-new config id parts store outbox dc shard numbers clocks fresh places stored outbox_is empty = record {
-  shard_exists = shard;
-  each = λ slot part lt is. by slot part lt (fresh_at parts slot part fresh lt is) (place_at config id parts config.tenants slot part places clocks lt is);
+  slots = record {
+    dc_exists = dc;
+    shard_exists = shard;
+    numbers_fit = numbers;
+    stored = omega arith;
+    queued = (let long = ap (λ (o : Queues). o.tenants) outbox_is in omega arith);
+    own_is = own;
+    all_queues = all;
+  };
+  each = λ slot part read.
+      let some : PlaceOfSome config id part.place = tenant_at config id config.tenants slot part.place clocks (sym (ap (λ (ps : List (Option Place)). get_or ps slot None) places) ∙ place_shown parts slot part read) in
+      let is = some.1 in
+      let back = sym is in
+      let lt = some_there parts slot part read in
+      fresh_part id config.data_centres config.shards slot part store outbox (fresh_at parts slot part fresh read) (record {
+        dc_exists = subst (λ (q : Place). q.id.dc < q.data_centres) back dc;
+        shard_exists = subst (λ (q : Place). q.id.shard < q.shards) back shard;
+        numbers_fit = subst (λ (q : Place). q.data_centres * q.shards ≤ NODES) back numbers;
+        clock_fits = subst (λ (q : Place). q.first_clock ≤ last_clock) back some.2;
+      }) (ap (λ (q : Place). q.id) is) (ap (λ (q : Place). q.data_centres) is) (ap (λ (q : Place). q.shards) is)
+      (omega arith) (let long = ap (λ (o : Queues). o.tenants) outbox_is in omega arith) own all (empty slot) (waits slot);
+  vacant = λ slot read. record {
+    rows = no_rows (rows_of slot store) (empty slot);
+    queues = waits slot;
+  };
   fitting = subst (AllByRecursion (AllFit (place_in (record { data_centres = config.data_centres; shards = config.shards; slots = length parts }) id))) (sym (fresh_trails parts fresh)) (no_calls_fit (place_in (record { data_centres = config.data_centres; shards = config.shards; slots = length parts }) id) (length parts));
 }
   where
-    by : (slot : ℕ) (part : Part) → slot < length parts → IsFresh part → PlaceOfSome config id part → IsPart id config.data_centres config.shards slot part store outbox
-    by slot part lt h some =
-        let is : part.place ≡ place_of (tenant_config config some.0) id = some.1 in
-        let back = sym is in
-        let clock : part.place.first_clock ≤ last_clock = subst (λ (q : Place). q.first_clock ≤ last_clock) back some.2 in
-        let sizes : part.place.data_centres ≡ config.data_centres = ap (λ (q : Place). q.data_centres) is in
-        let none : [] ≡ part.trail.calls = sym h.trail in
-        let stands : StandsAt slot part.place part.counters store outbox (left_by part.place []) = record {
-          place_is = record {
-            dc_exists = subst (λ (q : Place). q.id.dc < q.data_centres) back dc;
-            shard_exists = subst (λ (q : Place). q.id.shard < q.shards) back shard;
-            numbers_fit = subst (λ (q : Place). q.data_centres * q.shards ≤ NODES) back numbers;
-            clock_fits = clock;
-          };
-          stored = subst (λ n. slot < n) (sym stored) lt;
-          queued = subst (λ (o : Queues). slot < o.tenants) (sym outbox_is) lt;
-          own_is = ap (λ (o : Queues). o.own) outbox_is ∙ subst (λ (q : Place). id.dc ≡ q.id.dc) back refl;
-          all_queues = ap (λ (o : Queues). length o.queues) outbox_is ∙ length_replicate config.data_centres (replicate (length parts) []) ∙ sym sizes;
-          rows = empty slot;
-          queues = λ dc other. ap (queue_of slot dc) outbox_is ∙ nothing_waits config.data_centres (length parts) dc slot ∙ sym (drop_nothing (get_or (replicate part.place.data_centres 0) dc 0));
-          all_acked = length_replicate part.place.data_centres 0;
-          acked = λ dc. subst (λ n. n ≤ 0) (sym (replicate_read part.place.data_centres dc 0)) (omega arith);
-          clock_is = h.clock_is;
-          clock_fits = subst (λ n. n ≤ last_clock) (sym h.clock_is) clock;
-          marks = record {
-            all = ap length h.marks ∙ length_replicate part.place.data_centres no_version;
-            each = λ node. ap (λ (ms : List Timestamp). mark_in part.place ms node) h.marks ∙ no_mark part.place part.place.data_centres node;
-          };
-          late = tt;
-        } in
-        record {
-          id_is = ap (λ (q : Place). q.id) is;
-          data_centres_are = sizes;
-          shards_are = ap (λ (q : Place). q.shards) is;
-          stands = subst (λ t. StandsAt slot part.place part.counters store outbox (left_by part.place t)) none stands;
-          moment = subst (λ t. (left_by part.place t).moment ≡ part.moment) none (sym h.moment);
-          trail_is = subst (λ t. (left_by part.place t).trail ≡ t) none refl;
-        }
+    own : outbox.own ≡ id.dc
+    own = ap (λ (o : Queues). o.own) outbox_is
+
+    all : length outbox.queues ≡ config.data_centres
+    all = ap (λ (o : Queues). length o.queues) outbox_is ∙ length_replicate config.data_centres (replicate (length parts) [])
+
+    waits : (slot dc : ℕ) → queue_of slot dc outbox ≡ []
+    waits slot dc = ap (queue_of slot dc) outbox_is ∙ nothing_waits config.data_centres (length parts) dc slot
 
 -- what the test on first clocks says
 pub clocks_of : (tenants : List Tenant) → list_all (λ (tenant : Tenant). nat_le tenant.first_clock last_clock) tenants ≡ true → AllByRecursion (λ (tenant : Tenant). tenant.first_clock ≤ last_clock) tenants

@@ -13,3 +13,5 @@ pub mod MarkLaws
 pub mod Turns
 pub mod Chains
 pub mod NodeTurns
+pub mod PartTurns
+pub mod Admissions

@@ -1,10 +1,11 @@
 -- What one call of a slot does to what a node keeps of all slots.
 use Rattle.std.proofs.Common.{◌≡◌, ◌≢◌, ℕ, zero, suc, ◌<◌, Bool, true, false, cond, not, List, [], ◌∷◌, ◌++◌, length, map, refl, sym, ap, ◌∙◌, subst, arith, true≢false, nat_eq, nat_lt, max, get_or, set}
-use Rattle.std.specs.Prelude.{if◌then◌else◌, ◌==◌, ◌&&◌, ◌/◌, ◌%◌, IsTrue, slice_get, Option, Some, None}
+use Rattle.std.specs.Prelude.{if◌then◌else◌, ◌==◌, ◌&&◌, ◌/◌, ◌%◌, IsTrue, is_some, Option, Some, None, OnErr, Result, Ok, Err}
+use Rattle.std.specs.Option.{option_map}
+use Rattle.std.proofs.Common.{inl, inr}
 use Rattle.std.proofs.lemmas.Bool.Decides.{Decides-eqb}
 use Rattle.std.specs.List.{AllByRecursion}
-use Rattle.std.proofs.lemmas.List.{get_or-map, get_or-set_same, get_or-set_other, get_or_default, map-append, map-set}
-use Rattle.std.proofs.lemmas.Option.{get_or_from_slice_get}
+use Rattle.std.proofs.lemmas.List.{get_or-set_same, get_or-set_other, map-append, map-set}
 use Rattle.std.proofs.Math.ListN.{length-set}
 use Rattle.std.proofs.Math.Seq.{map-set_same}
 use Rattle.cops_types.specs.declared.faults.Fault.{Fault}
@@ -25,7 +26,7 @@ use Rattle.cops_node.specs.declared.NodeReply.TheVariants.{Refused, Stored, Comm
 use Rattle.cops_node.specs.declared.Place.{Place}
 use Rattle.cops_node.specs.declared.parts.Counters.{Counters}
 use Rattle.cops_node.specs.declared.parts.Part.{Part}
-use Rattle.cops_node.specs.Parts.{AllFit, trail_of, trails_of, noted, left_by, StandsAt, HasSolo, OthersStay, IsDone, IsPart, IsNode, Shared}
+use Rattle.cops_node.specs.Parts.{AllFit, HasPartRoom, HasSolo, HasSlots, IsDone, IsNode, IsPart, IsPartTurn, IsSoloTurn, IsUnused, JoinsCalls, JoinsTrail, OthersStay, Shared, StandsAt, StandsForTrail, has_audit_room, left_by, noted, places_of, trail_in, trail_of, trails_of}
 use Rattle.cops_node.specs.Place.{fits}
 use Rattle.cops_node.specs.Run.{calls_in_trail, node_after}
 use Rattle.cops_node.specs.Shape.{place_in}
@@ -54,7 +55,7 @@ AuditFits-noted place zero (trail ∷ audit) e all fit = (AllFit-push place trai
 AuditFits-noted place (suc slot) (trail ∷ audit) e all fit = (all.0, AuditFits-noted place slot audit e all.1 fit)
 
 -- one more call in the audit is one more turn
-left_by-push : (place : Place) (trail : List AuditEntry) (e : AuditEntry) → left_by place (trail ++ e ∷ []) ≡ (node_step place e.moment e.call (left_by place trail)).after
+pub left_by-push : (place : Place) (trail : List AuditEntry) (e : AuditEntry) → left_by place (trail ++ e ∷ []) ≡ (node_step place e.moment e.call (left_by place trail)).after
 left_by-push place trail e =
     ap (λ cs. node_after place cs (new_node place.data_centres)) (map-append (λ (e : AuditEntry). record { moment = e.moment; call = e.call }) trail (e ∷ []))
     ∙ node_after-push place (calls_in_trail trail) (record { moment = e.moment; call = e.call }) (new_node place.data_centres)
@@ -64,7 +65,7 @@ left_by-push place trail e =
 pub step_full : (place : Place) (moment : ℕ) (call : NodeCall) (solo : SoloNode) → nat_lt (length solo.trail) place.quota.audit ≡ false → node_step place moment call solo ≡ unchanged (Refused AuditFull) solo
 step_full place moment call solo e = ap (λ b. if b then audited moment call (effect place call (record solo { moment = max solo.moment moment })) else unchanged (Refused AuditFull) solo) e
 
-step_open : (place : Place) (moment : ℕ) (call : NodeCall) (solo : SoloNode) → nat_lt (length solo.trail) place.quota.audit ≡ true
+pub step_open : (place : Place) (moment : ℕ) (call : NodeCall) (solo : SoloNode) → nat_lt (length solo.trail) place.quota.audit ≡ true
     → node_step place moment call solo ≡ audited moment call (effect place call (record solo { moment = max solo.moment moment }))
 step_open place moment call solo e = ap (λ b. if b then audited moment call (effect place call (record solo { moment = max solo.moment moment })) else unchanged (Refused AuditFull) solo) e
 
@@ -85,7 +86,7 @@ moment_of_ack : (dc : ℕ) (version : Timestamp) (solo : SoloNode) (first : Opti
 moment_of_ack dc version solo None = refl
 moment_of_ack dc version solo (Some entry) = branch (version_eq entry.version version) _ _ solo.moment refl refl
 
-moment_of_effect : (place : Place) (call : NodeCall) (solo : SoloNode) → (effect place call solo).after.moment ≡ solo.moment
+pub moment_of_effect : (place : Place) (call : NodeCall) (solo : SoloNode) → (effect place call solo).after.moment ≡ solo.moment
 moment_of_effect place (Get key wanted) solo = refl
 moment_of_effect place (Put key value deps near) solo = moment_of_put place solo key value deps near (version_of_put place solo deps)
 moment_of_effect place (DepCheck key version) solo = refl
@@ -97,7 +98,7 @@ moment_of_effect place (Ack dc version) solo = moment_of_ack dc version solo (fr
 moment_of_effect place Collect solo = refl
 
 -- the audit of the solo node is beside what is kept
-StandsAt-audited : (slot : ℕ) (place : Place) (counters : Counters) (store : Contents) (outbox : Queues) (solo : SoloNode) (trail : List AuditEntry) → StandsAt slot place counters store outbox solo → StandsAt slot place counters store outbox (record solo { trail = trail })
+pub StandsAt-audited : (slot : ℕ) (place : Place) (counters : Counters) (store : Contents) (outbox : Queues) (solo : SoloNode) (trail : List AuditEntry) → StandsAt slot place counters store outbox solo → StandsAt slot place counters store outbox (record solo { trail = trail })
 StandsAt-audited slot place counters store outbox solo trail h = record {
   place_is = h.place_is;
   stored = h.stored;
@@ -134,238 +135,127 @@ StandsAt-other slot other place counters store store' outbox outbox' solo differ
 
 -- ---- the parts
 
-pub place_read : (parts : List Part) (slot : ℕ) (place : Place) (part : Part) → slot < length parts → place ≡ get_or (map (λ p. p.place) parts) slot place → part ≡ get_or parts slot part → place ≡ part.place
-place_read [] slot place part lt is read = absurd (omega arith)
-place_read (p ∷ parts) zero place part lt is read = is ∙ ap (λ (x : Part). x.place) (sym read)
-place_read (p ∷ parts) (suc slot) place part lt is read = place_read parts slot place part (omega arith) is read
+pub map_read : {A B : Type 0} (f : A → B) (xs : List A) (i : ℕ) (d : A) → get_or (map f xs) i (f d) ≡ f (get_or xs i d)
+map_read f [] i d = refl
+map_read f (x ∷ xs) zero d = refl
+map_read f (x ∷ xs) (suc i) d = map_read f xs i d
 
-pub places_set : (parts : List Part) (slot : ℕ) (old new : Part) → old ≡ get_or parts slot old → new.place ≡ old.place → map (λ (p : Part). p.place) (set parts slot new) ≡ map (λ (p : Part). p.place) parts
-places_set [] slot old new read same = refl
-places_set (p ∷ parts) zero old new read same = ap (λ q. q ∷ map (λ (p : Part). p.place) parts) (same ∙ ap (λ (x : Part). x.place) read)
-places_set (p ∷ parts) (suc slot) old new read same = ap (λ qs. p.place ∷ qs) (places_set parts slot old new read same)
+pub some_there : {A : Type 0} (xs : List (Option A)) (i : ℕ) (x : A) → get_or xs i None ≡ Some x → i < length xs
+some_there [] i x is = absurd (true≢false (sym (ap is_some is)))
+some_there (y ∷ xs) zero x is = omega arith
+some_there (y ∷ xs) (suc i) x is = let rest = some_there xs i x is in omega arith
+
+abbrev held : {A : Type 0} → A → Option A → A
+held d None = d
+held d (Some x) = x
+
+pub some_same : {A : Type 0} (a b : A) → Some a ≡ Some b → a ≡ b
+some_same a b is = ap (held a) is
+
+abbrev pub place_in_part : Part → Place
+place_in_part part = part.place
+
+pub place_shown : (parts : List (Option Part)) (slot : ℕ) (part : Part) → get_or parts slot None ≡ Some part → get_or (places_of parts) slot None ≡ Some part.place
+place_shown parts slot part read = map_read (option_map place_in_part) parts slot None ∙ ap (option_map place_in_part) read
+
+pub none_shown : (parts : List (Option Part)) (slot : ℕ) → get_or parts slot None ≡ None → get_or (places_of parts) slot None ≡ None
+none_shown parts slot read = map_read (option_map place_in_part) parts slot None ∙ ap (option_map place_in_part) read
+
+pub place_read : (parts : List (Option Part)) (slot : ℕ) (place : Place) (part : Part) → get_or (places_of parts) slot None ≡ Some place → get_or parts slot None ≡ Some part → place ≡ part.place
+place_read parts slot place part is read = some_same place part.place (sym is ∙ place_shown parts slot part read)
+
+-- a slot has a part where it shows a place
+pub is_some_shown : (parts : List (Option Part)) (slot : ℕ) → is_some (get_or (places_of parts) slot None) ≡ is_some (get_or parts slot None)
+is_some_shown parts slot = ap is_some (map_read (option_map place_in_part) parts slot None) ∙ by (get_or parts slot None)
+  where
+    by : (p : Option Part) → is_some (option_map place_in_part p) ≡ is_some p
+    by None = refl
+    by (Some p) = refl
+
+pub places_set : (parts : List (Option Part)) (slot : ℕ) (old new : Part) → get_or parts slot None ≡ Some old → new.place ≡ old.place → places_of (set parts slot (Some new)) ≡ places_of parts
+places_set parts slot old new read same = map-set_same (option_map place_in_part) parts slot (Some new) None (ap Some same ∙ ap (option_map place_in_part) (sym read))
 
 -- the trails of the parts
-pub trail_read : (parts : List Part) (slot : ℕ) (part : Part) → slot < length parts → part ≡ get_or parts slot part → trail_of slot (trails_of parts) ≡ part.trail.calls
-trail_read parts slot part lt read = get_or-map (λ (p : Part). p.trail.calls) parts slot part [] lt ∙ ap (λ (p : Part). p.trail.calls) (sym read)
+pub trail_read : (parts : List (Option Part)) (slot : ℕ) (part : Part) → get_or parts slot None ≡ Some part → trail_of slot (trails_of parts) ≡ part.trail.calls
+trail_read parts slot part read = map_read trail_in parts slot None ∙ ap trail_in read
 
-trails_kept : (parts : List Part) (slot : ℕ) (old new : Part) → old ≡ get_or parts slot old → new.trail.calls ≡ old.trail.calls → trails_of (set parts slot new) ≡ trails_of parts
-trails_kept parts slot old new read same = map-set_same (λ (p : Part). p.trail.calls) parts slot new old (same ∙ ap (λ (p : Part). p.trail.calls) read)
+pub no_trail : (parts : List (Option Part)) (slot : ℕ) → get_or parts slot None ≡ None → trail_of slot (trails_of parts) ≡ []
+no_trail parts slot read = map_read trail_in parts slot None ∙ ap trail_in read
 
-pub trails_noted : (parts : List Part) (slot : ℕ) (old new : Part) (entry : AuditEntry) → slot < length parts → old ≡ get_or parts slot old → new.trail.calls ≡ old.trail.calls ++ entry ∷ [] → trails_of (set parts slot new) ≡ noted slot entry (trails_of parts)
-trails_noted parts slot old new entry lt read more =
-    map-set (λ (p : Part). p.trail.calls) parts slot new
-    ∙ ap (set (trails_of parts) slot) (more ∙ ap (λ t. t ++ entry ∷ []) (sym (trail_read parts slot old lt read)))
+pub trails_kept : (parts : List (Option Part)) (slot : ℕ) (old new : Part) → get_or parts slot None ≡ Some old → new.trail.calls ≡ old.trail.calls → trails_of (set parts slot (Some new)) ≡ trails_of parts
+trails_kept parts slot old new read same = map-set_same trail_in parts slot (Some new) None (same ∙ ap trail_in (sym read))
 
--- one part is another, and the other slots stay
-IsNode-set : (id : NodeId) (dcs shards : ℕ) (parts : List Part) (slot : ℕ) (new : Part) (store store' : Contents) (outbox outbox' : Queues) → IsNode id dcs shards parts store outbox → slot < length parts
-    → IsPart id dcs shards slot new store' outbox' → OthersStay slot store outbox store' outbox'
-    → AllByRecursion (AllFit (place_in (record { data_centres = dcs; shards = shards; slots = length parts }) id)) (trails_of (set parts slot new))
-    → IsNode id dcs shards (set parts slot new) store' outbox'
-IsNode-set id dcs shards parts slot new store store' outbox outbox' h within own stay fitting = record {
-  shard_exists = h.shard_exists;
-  each = λ s part lt read. by s part (subst (λ m. s < m) (length-set parts slot new) lt) read (nat_eq s slot) refl;
+pub trails_noted : (parts : List (Option Part)) (slot : ℕ) (old new : Part) (entry : AuditEntry) → get_or parts slot None ≡ Some old → new.trail.calls ≡ old.trail.calls ++ entry ∷ [] → trails_of (set parts slot (Some new)) ≡ noted slot entry (trails_of parts)
+trails_noted parts slot old new entry read more =
+    map-set trail_in parts slot (Some new)
+    ∙ ap (set (trails_of parts) slot) (more ∙ ap (λ t. t ++ entry ∷ []) (sym (trail_read parts slot old read)))
+
+pub trail_elsewhere : (parts : List (Option Part)) (slot other : ℕ) (p : Option Part) → other ≢ slot → trail_of other (trails_of (set parts slot p)) ≡ trail_of other (trails_of parts)
+trail_elsewhere parts slot other p differ = ap (trail_of other) (map-set trail_in parts slot p) ∙ get_or-set_other (trails_of parts) slot other (trail_in p) [] differ
+
+pub place_elsewhere : (parts : List (Option Part)) (slot other : ℕ) (p : Option Part) → other ≢ slot → get_or (places_of (set parts slot p)) other None ≡ get_or (places_of parts) other None
+place_elsewhere parts slot other p differ = ap (λ ps. get_or ps other None) (map-set (option_map place_in_part) parts slot p) ∙ get_or-set_other (places_of parts) slot other (option_map place_in_part p) None differ
+
+abbrev pub HomePlace : NodeId → ℕ → ℕ → ℕ → Place
+HomePlace id dcs shards slots = place_in (record { data_centres = dcs; shards = shards; slots = slots }) id
+
+-- one slot is another, and the others stay
+pub IsNode-set : (id : NodeId) (dcs shards : ℕ) (parts : List (Option Part)) (slot : ℕ) (p : Option Part) (store store' : Contents) (outbox outbox' : Queues) → IsNode id dcs shards parts store outbox → slot < length parts
+    → ((part : Part) → p ≡ Some part → IsPart id dcs shards slot part store' outbox') → (p ≡ None → IsUnused slot store' outbox') → OthersStay slot store outbox store' outbox'
+    → AllByRecursion (AllFit (HomePlace id dcs shards (length parts))) (trails_of (set parts slot p))
+    → IsNode id dcs shards (set parts slot p) store' outbox'
+IsNode-set id dcs shards parts slot p store store' outbox outbox' h within own unused stay fitting = record {
+  slots =
+      let n = h.slots in
+      let long = length-set parts slot p in
+      let tenants = stay.tenants in
+      let queued = stay.queued in
+      record {
+        dc_exists = n.dc_exists;
+        shard_exists = n.shard_exists;
+        numbers_fit = n.numbers_fit;
+        stored = (let le = n.stored in omega arith);
+        queued = (let le = n.queued in omega arith);
+        own_is = stay.own ∙ n.own_is;
+        all_queues = stay.data_centres ∙ n.all_queues;
+      };
+  each = λ s part read. each s part read (nat_eq s slot) refl;
+  vacant = λ s read. vacant s read (nat_eq s slot) refl;
   fitting = fitting;
 }
   where
-    by : (s : ℕ) (part : Part) → s < length parts → part ≡ get_or (set parts slot new) s part → (b : Bool) → nat_eq s slot ≡ b → IsPart id dcs shards s part store' outbox'
-    by s part lt read true is =
+    here : (s : ℕ) → s ≡ slot → get_or (set parts slot p) s None ≡ p
+    here s same = ap (λ m. get_or (set parts slot p) m None) same ∙ get_or-set_same parts slot p None within
+
+    each : (s : ℕ) (part : Part) → get_or (set parts slot p) s None ≡ Some part → (b : Bool) → nat_eq s slot ≡ b → IsPart id dcs shards s part store' outbox'
+    each s part read true is =
         let same : s ≡ slot = (Decides-eqb s slot).0 is in
-        let part_is : part ≡ new = read ∙ ap (λ m. get_or (set parts slot new) m part) same ∙ get_or-set_same parts slot new part within in
-        subst (λ m. IsPart id dcs shards m part store' outbox') (sym same) (subst (λ (p : Part). IsPart id dcs shards slot p store' outbox') (sym part_is) own)
-    by s part lt read false is =
+        subst (λ m. IsPart id dcs shards m part store' outbox') (sym same) (own part (sym (here s same) ∙ read))
+    each s part read false is =
         let differ : s ≢ slot = λ same. true≢false (sym ((Decides-eqb s slot).1 same) ∙ is) in
-        let old = h.each s part lt (read ∙ get_or-set_other parts slot s new part differ) in
+        let old = h.each s part (sym (get_or-set_other parts slot s p None differ) ∙ read) in
         record {
           id_is = old.id_is;
           data_centres_are = old.data_centres_are;
           shards_are = old.shards_are;
-          stands = StandsAt-other slot s part.place part.counters store store' outbox outbox' (left_by part.place part.trail.calls) differ stay old.stands;
-          moment = old.moment;
-          trail_is = old.trail_is;
+          kept = record {
+            stands = StandsAt-other slot s part.place part.counters store store' outbox outbox' (left_by part.place part.trail.calls) differ stay old.kept.stands;
+            moment = old.kept.moment;
+            trail_is = old.kept.trail_is;
+          };
         }
 
--- memory was refused: room may have been made, and all stays
-module _ (slot : ℕ) (id : NodeId) (dcs shards : ℕ) (parts : List Part) (p new : Part) (store store' : Contents) (outbox outbox' : Queues)
-    (node : IsNode id dcs shards parts store outbox) (within : slot < length parts) (read : p ≡ get_or parts slot p)
-    (place_is : new.place ≡ p.place) (moment_is : new.moment ≡ p.moment) (counters_are : new.counters ≡ p.counters) (calls_are : new.trail.calls ≡ p.trail.calls)
-    (rows : store'.rows ≡ store.rows) (tenants : store'.tenants ≡ store.tenants) (outbox_is : outbox' ≡ outbox) where
-  stay : OthersStay slot store outbox store' outbox'
-  stay = record {
-    rows = λ other differ. ap (λ rs. rows_of other (record store { rows = rs })) rows;
-    queues = λ other dc differ. ap (queue_of other dc) outbox_is;
-    tenants = tenants;
-    own = ap (λ (o : Queues). o.own) outbox_is;
-    queued = ap (λ (o : Queues). o.tenants) outbox_is;
-    data_centres = ap (λ (o : Queues). length o.queues) outbox_is;
-  }
-
-  kept_part : IsPart id dcs shards slot new store' outbox'
-  kept_part =
-      let old = node.each slot p within read in
-      let place = sym place_is in
-      let calls = sym calls_are in
-      let h = old.stands in
-      let stands : StandsAt slot p.place p.counters store' outbox' (left_by p.place p.trail.calls) = record {
-        place_is = h.place_is;
-        stored = subst (λ n. slot < n) (sym tenants) h.stored;
-        queued = subst (λ (o : Queues). slot < o.tenants) (sym outbox_is) h.queued;
-        own_is = ap (λ (o : Queues). o.own) outbox_is ∙ h.own_is;
-        all_queues = ap (λ (o : Queues). length o.queues) outbox_is ∙ h.all_queues;
-        rows = subst (λ rs. StandsFor rs (left_by p.place p.trail.calls).recs) (sym (ap (λ rs. rows_of slot (record store { rows = rs })) rows)) h.rows;
-        queues = λ dc is_other. ap (queue_of slot dc) outbox_is ∙ h.queues dc is_other;
-        all_acked = h.all_acked;
-        acked = h.acked;
-        clock_is = h.clock_is;
-        clock_fits = h.clock_fits;
-        marks = h.marks;
-        late = h.late;
-      } in
-      record {
-        id_is = ap (λ (q : Place). q.id) place_is ∙ old.id_is;
-        data_centres_are = ap (λ (q : Place). q.data_centres) place_is ∙ old.data_centres_are;
-        shards_are = ap (λ (q : Place). q.shards) place_is ∙ old.shards_are;
-        stands = subst (λ t. StandsAt slot new.place new.counters store' outbox' (left_by new.place t)) calls
-            (subst (λ (q : Place). StandsAt slot q new.counters store' outbox' (left_by q p.trail.calls)) place (subst (λ (k : Counters). StandsAt slot p.place k store' outbox' (left_by p.place p.trail.calls)) (sym counters_are) stands));
-        moment = subst (λ t. (left_by new.place t).moment ≡ new.moment) calls (subst (λ (q : Place). (left_by q p.trail.calls).moment ≡ new.moment) place (old.moment ∙ sym moment_is));
-        trail_is = subst (λ t. (left_by new.place t).trail ≡ t) calls (subst (λ (q : Place). (left_by q p.trail.calls).trail ≡ p.trail.calls) place old.trail_is);
-      }
-
-  pub IsNode-kept : IsNode id dcs shards (set parts slot new) store' outbox'
-  IsNode-kept = IsNode-set id dcs shards parts slot new store store' outbox outbox' node within kept_part stay
-      (subst (AllByRecursion (AllFit (place_in (record { data_centres = dcs; shards = shards; slots = length parts }) id))) (sym (trails_kept parts slot p new read calls_are)) node.fitting)
-
--- whether the audit is full, as the part counts it
-audit_room : (id : NodeId) (dcs shards slot : ℕ) (p : Part) (store : Contents) (outbox : Queues) → IsPart id dcs shards slot p store outbox
-    → nat_lt (length (left_by p.place p.trail.calls).trail) p.place.quota.audit ≡ nat_lt (length p.trail.calls) p.place.quota.audit
-audit_room id dcs shards slot p store outbox h = ap (λ t. nat_lt (length t) p.place.quota.audit) h.trail_is
-
-not_not : (b : Bool) → not b ≡ false → b ≡ true
-not_not true h = refl
-not_not false h = absurd (true≢false h)
-
-not_yes : (b : Bool) → not b ≡ true → b ≡ false
-not_yes true h = absurd (true≢false (sym h))
-not_yes false h = refl
-
-full_turn : (id : NodeId) (dcs shards slot moment : ℕ) (call : NodeCall) (parts : List Part) (p : Part) (store : Contents) (outbox : Queues) (full : Bool) → IsNode id dcs shards parts store outbox → slot < length parts → p ≡ get_or parts slot p
-    → full ≡ not (nat_lt (length p.trail.calls) p.place.quota.audit) → full ≡ true → node_step p.place moment call (left_by p.place p.trail.calls) ≡ unchanged (Refused AuditFull) (left_by p.place p.trail.calls)
-full_turn id dcs shards slot moment call parts p store outbox full node within read test closed =
-    step_full p.place moment call (left_by p.place p.trail.calls) (audit_room id dcs shards slot p store outbox (node.each slot p within read) ∙ not_yes _ (sym test ∙ closed))
-
-pub full_done : (id : NodeId) (dcs shards slot moment : ℕ) (call : NodeCall) (parts : List Part) (p : Part) (store : Contents) (outbox : Queues) (full : Bool) → IsNode id dcs shards parts store outbox → slot < length parts → p ≡ get_or parts slot p
-    → full ≡ not (nat_lt (length p.trail.calls) p.place.quota.audit) → full ≡ true → (place : Place) (before : List (List AuditEntry)) → place ≡ p.place → trails_of parts ≡ before
-    → (Refused AuditFull ≡ (node_step place moment call (left_by place (trail_of slot before))).reply) × (left_by place (trail_of slot before) ≡ (node_step place moment call (left_by place (trail_of slot before))).after)
-full_done id dcs shards slot moment call parts p store outbox full node within read test closed place before place_is shown =
-    let back : p.place ≡ place = sym place_is in
-    let calls : p.trail.calls ≡ trail_of slot before = sym (trail_read parts slot p within read) ∙ ap (trail_of slot) shown in
-    let hidden : trail_of slot before ≡ p.trail.calls = sym calls in
-    let turn : node_step place moment call (left_by place (trail_of slot before)) ≡ unchanged (Refused AuditFull) (left_by place (trail_of slot before)) =
-    (λ i. node_step (place_is i) moment call (left_by (place_is i) (hidden i))) ∙ full_turn id dcs shards slot moment call parts p store outbox full node within read test closed
-    ∙ (λ i. unchanged (Refused AuditFull) (left_by (back i) (calls i))) in
-    (sym (ap (λ (t : CallEffect). t.reply) turn), sym (ap (λ (t : CallEffect). t.after) turn))
-
--- a call that is not refused for a full audit came to one that has room
-pub open_room : (id : NodeId) (dcs shards slot : ℕ) (parts : List Part) (p : Part) (store : Contents) (outbox : Queues) (full : Bool) → IsNode id dcs shards parts store outbox → slot < length parts → p ≡ get_or parts slot p
-    → full ≡ not (nat_lt (length p.trail.calls) p.place.quota.audit) → full ≡ false → (place : Place) (before : List (List AuditEntry)) → place ≡ p.place → trails_of parts ≡ before
-    → nat_lt (length (left_by place (trail_of slot before)).trail) place.quota.audit ≡ true
-open_room id dcs shards slot parts p store outbox full node within read test open_is place before place_is shown =
-    let hidden : trail_of slot before ≡ p.trail.calls = sym (ap (trail_of slot) shown) ∙ trail_read parts slot p within read in
-    (λ i. nat_lt (length (left_by (place_is i) (hidden i)).trail) (place_is i).quota.audit)
-    ∙ audit_room id dcs shards slot p store outbox (node.each slot p within read) ∙ not_not _ (sym test ∙ open_is)
-
--- some solo node is what the slot stands for, at the raised moment
-pub raised_solo : (id : NodeId) (dcs shards slot now moment : ℕ) (parts : List Part) (p : Part) (store : Contents) (outbox : Queues) → IsNode id dcs shards parts store outbox → slot < length parts → p ≡ get_or parts slot p → now ≡ max p.moment moment
-    → HasSolo slot now p.place p.counters store outbox
-raised_solo id dcs shards slot now moment parts p store outbox node within read now_is =
-    let old = node.each slot p within read in
-    let solo : SoloNode = left_by p.place p.trail.calls in
-    let low = old.moment in
-    (record solo { moment = now }, refl, StandsAt-raised slot p.place p.counters store outbox solo now old.stands (omega arith))
-
--- a call that has its effect
-module _ (slot moment now : ℕ) (call : NodeCall) (id : NodeId) (dcs shards : ℕ) (parts : List Part) (p new : Part) (store store' : Contents) (outbox outbox' : Queues) (told kept : NodeReply) (full : Bool)
-    (node : IsNode id dcs shards parts store outbox) (within : slot < length parts) (read : p ≡ get_or parts slot p)
-    (test : full ≡ not (nat_lt (length p.trail.calls) p.place.quota.audit)) (open_is : full ≡ false) (now_is : now ≡ max p.moment moment)
-    (place_is : new.place ≡ p.place) (moment_is : new.moment ≡ now) (calls_are : new.trail.calls ≡ p.trail.calls ++ record { moment = moment; call = call; reply = kept } ∷ [])
-    (done : IsDone slot now p.place call told p.counters store outbox new.counters store' outbox') (same : kept ≡ told)
-    (others : OthersStay slot store outbox store' outbox') where
-  abbrev entry : AuditEntry
-  entry = record { moment = moment; call = call; reply = kept }
-
-  abbrev solo : SoloNode
-  solo = left_by p.place p.trail.calls
-
-  abbrev raised : SoloNode
-  raised = record (left_by p.place p.trail.calls) { moment = max (left_by p.place p.trail.calls).moment moment }
-
-  part : IsPart id dcs shards slot p store outbox
-  part = node.each slot p within read
-
-  now_raised : raised.moment ≡ now
-  now_raised = ap (λ n. max n moment) part.moment ∙ sym now_is
-
-  stands_raised : StandsAt slot p.place p.counters store outbox raised
-  stands_raised = StandsAt-raised slot p.place p.counters store outbox solo raised.moment part.stands (omega arith)
-
-  effect_is : (told ≡ (effect p.place call raised).reply) × StandsAt slot p.place new.counters store' outbox' (effect p.place call raised).after
-  effect_is = done raised now_raised stands_raised
-
-  turn_is : node_step p.place moment call solo ≡ audited moment call (effect p.place call raised)
-  turn_is = step_open p.place moment call solo (audit_room id dcs shards slot p store outbox part ∙ not_not _ (sym test ∙ open_is))
-
-  turn_reply : told ≡ (node_step p.place moment call solo).reply
-  turn_reply = effect_is.0 ∙ sym (ap (λ (t : CallEffect). t.reply) turn_is)
-
-  turn_after : left_by p.place new.trail.calls ≡ (node_step p.place moment call solo).after
-  turn_after = ap (left_by p.place) calls_are ∙ left_by-push p.place p.trail.calls entry
-
-  after_is : left_by p.place new.trail.calls ≡ (audited moment call (effect p.place call raised)).after
-  after_is = turn_after ∙ ap (λ (t : CallEffect). t.after) turn_is
-
-  next_part : IsPart id dcs shards slot new store' outbox'
-  next_part =
-      let place = sym place_is in
-      record {
-        id_is = ap (λ (q : Place). q.id) place_is ∙ part.id_is;
-        data_centres_are = ap (λ (q : Place). q.data_centres) place_is ∙ part.data_centres_are;
-        shards_are = ap (λ (q : Place). q.shards) place_is ∙ part.shards_are;
-        stands = subst (λ (q : Place). StandsAt slot q new.counters store' outbox' (left_by q new.trail.calls)) place
-            (subst (λ (s : SoloNode). StandsAt slot p.place new.counters store' outbox' s) (sym after_is) (StandsAt-audited slot p.place new.counters store' outbox' (effect p.place call raised).after _ effect_is.1));
-        moment = subst (λ (q : Place). (left_by q new.trail.calls).moment ≡ new.moment) place (ap (λ (s : SoloNode). s.moment) after_is ∙ moment_of_effect p.place call raised ∙ now_raised ∙ sym moment_is);
-        trail_is = subst (λ (q : Place). (left_by q new.trail.calls).trail ≡ new.trail.calls) place
-            (ap (λ (s : SoloNode). s.trail) after_is
-            ∙ ap (λ t. t ++ record { moment = moment; call = call; reply = (effect p.place call raised).reply } ∷ []) (trail_of_effect p.place call raised ∙ part.trail_is)
-            ∙ ap (λ r. p.trail.calls ++ record { moment = moment; call = call; reply = r } ∷ []) (sym (same ∙ effect_is.0))
-            ∙ sym calls_are);
-      }
-
-  pub turn_done : (place : Place) (before : List (List AuditEntry)) → place ≡ p.place → trails_of parts ≡ before
-      → (told ≡ (node_step place moment call (left_by place (trail_of slot before))).reply) × (left_by place (trail_of slot (trails_of (set parts slot new))) ≡ (node_step place moment call (left_by place (trail_of slot before))).after)
-  turn_done place before place_is shown =
-      let back : p.place ≡ place = sym place_is in
-      let calls : p.trail.calls ≡ trail_of slot before = sym (trail_read parts slot p within read) ∙ ap (trail_of slot) shown in
-      let after : trail_of slot (trails_of (set parts slot new)) ≡ new.trail.calls =
-      trail_read (set parts slot new) slot new (subst (λ n. slot < n) (sym (length-set parts slot new)) within) (sym (get_or-set_same parts slot new new within)) in (
-        turn_reply ∙ (λ i. (node_step (back i) moment call (left_by (back i) (calls i))).reply),
-        (λ i. left_by (place_is i) (after i)) ∙ turn_after ∙ (λ i. (node_step (back i) moment call (left_by (back i) (calls i))).after),
-      )
-
-  -- the trails with this call
-  pub turn_noted : (before : List (List AuditEntry)) → trails_of parts ≡ before → trails_of (set parts slot new) ≡ noted slot (record { moment = moment; call = call; reply = told }) before
-  turn_noted before shown =
-      trails_noted parts slot p new entry within read calls_are
-      ∙ (λ i. noted slot (record { moment = moment; call = call; reply = same i }) (shown i))
-
-  -- those of the other slots stay
-  pub turn_others : (before : List (List AuditEntry)) → trails_of parts ≡ before → (other : ℕ) → other ≢ slot → trail_of other (trails_of (set parts slot new)) ≡ trail_of other before
-  turn_others before shown other differ =
-      ap (trail_of other) (trails_noted parts slot p new entry within read calls_are) ∙ trail_other slot other (trails_of parts) entry differ ∙ ap (trail_of other) shown
-
-  pub turn_node : IsTrue (fits (place_in (record { data_centres = dcs; shards = shards; slots = length parts }) id) call) → IsNode id dcs shards (set parts slot new) store' outbox'
-  turn_node fit =
-      let home : Place = place_in (record { data_centres = dcs; shards = shards; slots = length parts }) id in
-      IsNode-set id dcs shards parts slot new store store' outbox outbox' node within next_part others
-      (subst (AllByRecursion (AllFit home)) (sym (trails_noted parts slot p new entry within read calls_are)) (AuditFits-noted home slot (trails_of parts) entry node.fitting fit))
+    vacant : (s : ℕ) → get_or (set parts slot p) s None ≡ None → (b : Bool) → nat_eq s slot ≡ b → IsUnused s store' outbox'
+    vacant s read true is =
+        let same : s ≡ slot = (Decides-eqb s slot).0 is in
+        subst (λ m. IsUnused m store' outbox') (sym same) (unused (sym (here s same) ∙ read))
+    vacant s read false is =
+        let differ : s ≢ slot = λ same. true≢false (sym ((Decides-eqb s slot).1 same) ∙ is) in
+        let old = h.vacant s (sym (get_or-set_other parts slot s p None differ) ∙ read) in
+        record {
+          rows = stay.rows s differ ∙ old.rows;
+          queues = λ dc. stay.queues s dc differ ∙ old.queues dc;
+        }
 
 -- ---- which calls fit
 
@@ -378,33 +268,92 @@ fits_same (Commit entry) a b ids dcs shards = λ i. (shard_of entry.key (shards 
 fits_same (Ack dc version) a b ids dcs shards = λ i. nat_lt dc (dcs i) && not (dc == (ids i).dc)
 fits_same Collect a b ids dcs shards = refl
 
+pub OnErr-any : {A E : Type 0} (r : Result A E) (P : Type 0) → P → OnErr r P
+OnErr-any (Ok x) P p = tt
+OnErr-any (Err e) P p = p
+
 -- ---- what contracts see
 
-abbrev pub view_of : NodeId → ℕ → ℕ → List Part → Shared
-view_of id dcs shards parts = record { home = record { id = id; shape = record { data_centres = dcs; shards = shards; slots = length parts }; places = map (λ (p : Part). p.place) parts }; audit = trails_of parts }
+abbrev pub view_of : NodeId → ℕ → ℕ → ℕ → List (Option Part) → Shared
+view_of id dcs shards trans_time parts =
+    record { home = record { id = id; shape = record { data_centres = dcs; shards = shards; slots = length parts }; trans_time = trans_time; places = places_of parts }; audit = trails_of parts }
 
 -- a part that keeps its place keeps the home
-pub home_set : (id : NodeId) (dcs shards slot : ℕ) (parts : List Part) (p new : Part) → p ≡ get_or parts slot p → new.place ≡ p.place → (view_of id dcs shards (set parts slot new)).home ≡ (view_of id dcs shards parts).home
-home_set id dcs shards slot parts p new read same =
-    let long = length-set parts slot new in
+pub home_set : (id : NodeId) (dcs shards trans_time slot : ℕ) (parts : List (Option Part)) (p new : Part) → get_or parts slot None ≡ Some p → new.place ≡ p.place
+    → (view_of id dcs shards trans_time (set parts slot (Some new))).home ≡ (view_of id dcs shards trans_time parts).home
+home_set id dcs shards trans_time slot parts p new read same =
+    let long = length-set parts slot (Some new) in
     let places = places_set parts slot p new read same in
-    λ i. record { id = id; shape = record { data_centres = dcs; shards = shards; slots = long i }; places = places i }
+    λ i. record { id = id; shape = record { data_centres = dcs; shards = shards; slots = long i }; trans_time = trans_time; places = places i }
 
 -- a part that keeps its place and its calls does not show
-pub view_set : (id : NodeId) (dcs shards slot : ℕ) (parts : List Part) (p new : Part) → p ≡ get_or parts slot p → new.place ≡ p.place → new.trail.calls ≡ p.trail.calls → view_of id dcs shards (set parts slot new) ≡ view_of id dcs shards parts
-view_set id dcs shards slot parts p new read same calls =
-    let home = home_set id dcs shards slot parts p new read same in
+pub view_set : (id : NodeId) (dcs shards trans_time slot : ℕ) (parts : List (Option Part)) (p new : Part) → get_or parts slot None ≡ Some p → new.place ≡ p.place → new.trail.calls ≡ p.trail.calls
+    → view_of id dcs shards trans_time (set parts slot (Some new)) ≡ view_of id dcs shards trans_time parts
+view_set id dcs shards trans_time slot parts p new read same calls =
+    let home = home_set id dcs shards trans_time slot parts p new read same in
     let trails = trails_kept parts slot p new read calls in
     λ i. record { home = home i; audit = trails i }
 
-pub same_part : (parts : List Part) (slot : ℕ) (p q : Part) → slot < length parts → p ≡ get_or parts slot p → q ≡ get_or parts slot q → p ≡ q
-same_part parts slot p q within read again = read ∙ get_or_default parts slot p q within ∙ sym again
-
 -- the solo node's audit is the slot's trail
-pub solo_trail : (id : NodeId) (dcs shards slot : ℕ) (parts : List Part) (store : Contents) (outbox : Queues) (before : List (List AuditEntry)) (places : List Place) (place : Place) (part : Part) → IsNode id dcs shards parts store outbox → slot < length parts → part ≡ get_or parts slot part
-    → map (λ (p : Part). p.place) parts ≡ places → trails_of parts ≡ before → slice_get places slot ≡ Some place → trail_of slot before ≡ (left_by place (trail_of slot before)).trail
-solo_trail id dcs shards slot parts store outbox before places place part node within read shown same found =
-    let is : place ≡ part.place = place_read parts slot place part within (sym (ap (λ (ps : List Place). get_or ps slot place) shown ∙ get_or_from_slice_get places slot place place found)) read in
-    let calls : part.trail.calls ≡ trail_of slot before = sym (trail_read parts slot part within read) ∙ ap (trail_of slot) same in
-    subst (λ t. t ≡ (left_by place t).trail) calls
-    (subst (λ (p : Place). part.trail.calls ≡ (left_by p part.trail.calls).trail) (sym is) (sym (node.each slot part within read).trail_is))
+pub solo_trail : (id : NodeId) (dcs shards slot : ℕ) (parts : List (Option Part)) (store : Contents) (outbox : Queues) (place : Place) (part : Part) → IsNode id dcs shards parts store outbox → get_or parts slot None ≡ Some part
+    → get_or (places_of parts) slot None ≡ Some place → part.trail.calls ≡ (left_by place (trail_of slot (trails_of parts))).trail
+solo_trail id dcs shards slot parts store outbox place part node read found =
+    let is : place ≡ part.place = place_read parts slot place part found read in
+    let calls : part.trail.calls ≡ trail_of slot (trails_of parts) = sym (trail_read parts slot part read) in
+    subst (λ t. part.trail.calls ≡ (left_by place t).trail) calls
+    (subst (λ (p : Place). part.trail.calls ≡ (left_by p part.trail.calls).trail) (sym is) (sym (node.each slot part read).kept.trail_is))
+
+-- ---- a call of a slot, from what it does to the slot's part
+
+module _ (id : NodeId) (dcs shards trans_time slot moment : ℕ) (call : NodeCall) (parts : List (Option Part)) (p new : Part) (store store' : Contents) (outbox outbox' : Queues)
+    (node : IsNode id dcs shards parts store outbox) (read : get_or parts slot None ≡ Some p) (place_is : new.place ≡ p.place)
+    (stands : StandsForTrail slot new store' outbox') (others : OthersStay slot store outbox store' outbox') where
+  abbrev home : Place
+  home = HomePlace id dcs shards (length parts)
+
+  within : slot < length parts
+  within = some_there parts slot p read
+
+  own : (part : Part) → Some new ≡ Some part → IsPart id dcs shards slot part store' outbox'
+  own part is =
+      let old = node.each slot p read in
+      subst (λ (q : Part). IsPart id dcs shards slot q store' outbox') (some_same new part is) (record {
+        id_is = ap (λ (q : Place). q.id) place_is ∙ old.id_is;
+        data_centres_are = ap (λ (q : Place). q.data_centres) place_is ∙ old.data_centres_are;
+        shards_are = ap (λ (q : Place). q.shards) place_is ∙ old.shards_are;
+        kept = stands;
+      })
+
+  whole : AllByRecursion (AllFit home) (trails_of (set parts slot (Some new))) → IsNode id dcs shards (set parts slot (Some new)) store' outbox'
+  whole fitting = IsNode-set id dcs shards parts slot (Some new) store store' outbox outbox' node within own (λ is. absurd (true≢false (ap is_some is))) others fitting
+
+  pub node_same : new.trail.calls ≡ p.trail.calls → IsNode id dcs shards (set parts slot (Some new)) store' outbox'
+  node_same same = whole (subst (AllByRecursion (AllFit home)) (sym (trails_kept parts slot p new read same)) node.fitting)
+
+  pub node_joined : (reply : NodeReply) → IsTrue (fits home call) → JoinsCalls moment call reply p new → IsNode id dcs shards (set parts slot (Some new)) store' outbox'
+  node_joined reply fit (inl same) = node_same same.1
+  node_joined reply fit (inr more) =
+      whole (subst (AllByRecursion (AllFit home)) (sym (trails_noted parts slot p new (record { moment = moment; call = call; reply = reply }) read more))
+      (AuditFits-noted home slot (trails_of parts) (record { moment = moment; call = call; reply = reply }) node.fitting fit))
+
+  pub trail_joined : (reply : NodeReply) → JoinsCalls moment call reply p new
+      → JoinsTrail slot moment call reply (view_of id dcs shards trans_time parts) (view_of id dcs shards trans_time (set parts slot (Some new)))
+  trail_joined reply (inl same) = inl (same.0, view_set id dcs shards trans_time slot parts p new read place_is same.1)
+  trail_joined reply (inr more) = inr (trails_noted parts slot p new (record { moment = moment; call = call; reply = reply }) read more)
+
+  pub solo_turned : (reply : NodeReply) → IsPartTurn moment call reply p new → (place : Place) → get_or (places_of parts) slot None ≡ Some place
+      → IsSoloTurn slot moment call reply place (view_of id dcs shards trans_time parts) (view_of id dcs shards trans_time (set parts slot (Some new)))
+  solo_turned reply turn place found =
+      let is : place ≡ p.place = place_read parts slot place p found read in
+      let back : p.place ≡ place = sym is in
+      let calls : p.trail.calls ≡ trail_of slot (trails_of parts) = sym (trail_read parts slot p read) in
+      let after : trail_of slot (trails_of (set parts slot (Some new))) ≡ new.trail.calls = trail_read (set parts slot (Some new)) slot new (get_or-set_same parts slot (Some new) None within) in (
+        turn.0 ∙ (λ i. (node_step (back i) moment call (left_by (back i) (calls i))).reply),
+        (λ i. left_by (is i) (after i)) ∙ turn.1 ∙ (λ i. (node_step (back i) moment call (left_by (back i) (calls i))).after),
+      )
+
+  pub room_seen : HasPartRoom p → (place : Place) → get_or (places_of parts) slot None ≡ Some place → IsTrue (has_audit_room slot place (view_of id dcs shards trans_time parts))
+  room_seen room place found =
+      let is : place ≡ p.place = place_read parts slot place p found read in
+      let calls : trail_of slot (trails_of parts) ≡ p.trail.calls = trail_read parts slot p read in
+      (λ i. nat_lt (length (left_by (is i) (calls i)).trail) (is i).quota.audit) ∙ room

@@ -1,5 +1,5 @@
 -- A cluster of nodes as contracts see it, and what a call at one of them does for each tenant.
-use Rattle.std.specs.Prelude.{◌≡◌, ◌≢◌, ℕ, ◌*◌, ◌/◌, ◌%◌, ◌<◌, ◌≤◌, ◌⊎◌, false, nat_lt, List, map, length, slice_get, slice_index_or, slice_set, Some}
+use Rattle.std.specs.Prelude.{◌≡◌, ◌≢◌, ℕ, ◌*◌, ◌/◌, ◌%◌, ◌<◌, ◌≤◌, ◌⊎◌, false, nat_lt, List, map, length, slice_index_or, slice_set, Some}
 use Rattle.std.specs.List.{AllByRecursion, range_with_len}
 use Rattle.cops_types.specs.declared.configs.Config.{Config}
 use Rattle.cops_types.specs.declared.faults.Fault.TheVariants.{OutOfMemory, AuditFull}
@@ -9,7 +9,7 @@ use Rattle.cops_node.specs.declared.NodeCall.{NodeCall}
 use Rattle.cops_node.specs.declared.NodeId.{NodeId}
 use Rattle.cops_node.specs.declared.NodeReply.{NodeReply}
 use Rattle.cops_node.specs.declared.NodeReply.TheVariants.{Refused}
-use Rattle.cops_node.specs.Parts.{AuditFits, Shared, home_of, no_calls, solo_of}
+use Rattle.cops_node.specs.Parts.{AuditFits, Shared, home_of, no_calls, place_at, solo_of}
 use Rattle.cops_node.specs.Place.{node_number, place_of}
 use Rattle.cops_node.specs.Shape.{Shape}
 use Rattle.cops_node.specs.SoloNode.{SoloNode, new_node}
@@ -43,7 +43,7 @@ nodes_of config slot cluster = map (λ node. solo_of slot (place_of config node.
 
 -- the slot is that of a tenant with this configuration: at each node its place is the tenant's
 abbrev pub HasTenant : TenantConfig → ℕ → Cluster → Type 0
-HasTenant config slot cluster = AllByRecursion (λ node. slice_get node.home.places slot ≡ Some (place_of config node.home.id)) cluster.nodes
+HasTenant config slot cluster = AllByRecursion (λ node. place_at slot node ≡ Some (place_of config node.home.id)) cluster.nodes
 
 -- the tenant's solo node of an id
 abbrev pub solo_at : TenantConfig → NodeId → ℕ → Cluster → SoloNode

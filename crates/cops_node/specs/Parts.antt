@@ -1,11 +1,15 @@
 -- What a node holds of all tenants, and what it stands for.
-use Rattle.std.specs.Prelude.{◌≡◌, ◌≢◌, ℕ, ◌*◌, ◌/◌, ◌%◌, ◌<◌, ◌≤◌, ◌==◌, nat_le, nat_lt, Bool, IsTrue, List, [], ◌∷◌, ◌++◌, length, map, slice_index, slice_index_or, slice_set, ◌⊎◌, replicate, if◌then◌else◌}
+use Rattle.std.specs.Prelude.{◌≡◌, ◌≢◌, ℕ, ◌*◌, ◌/◌, ◌%◌, ◌<◌, ◌≤◌, ◌==◌, ◌||◌, ◌&&◌, nat_eq, nat_le, nat_lt, Bool, false, IsTrue, is_some, IsSome, Option, None, Some, List, [], ◌∷◌, ◌++◌, length, map, slice_index, slice_index_or, slice_set, ◌⊎◌, replicate, if◌then◌else◌}
 use Rattle.std.specs.List.{list_all, AllByRecursion}
+use Rattle.std.specs.Option.{option_map}
 use Rattle.cops_types.specs.declared.configs.Config.{Config}
 use Rattle.cops_types.specs.declared.configs.Tenant.{Tenant}
-use Rattle.cops_types.specs.declared.faults.Fault.TheVariants.{OutOfMemory, AuditFull}
+use Rattle.cops_types.specs.declared.faults.Fault.{Fault}
+use Rattle.cops_types.specs.declared.faults.Fault.TheVariants.{OutOfMemory, AuditFull, UnknownTenant, NoSlot}
+use Rattle.cops_types.specs.declared.quotas.Quota.{Quota}
 use Rattle.cops_types.specs.Layout.{NODES}
 use Rattle.cops_types.specs.Records.{Tracked, StandsFor, clock, mark}
+use Rattle.cops_types.specs.Refusal.{refused_if}
 use Rattle.cops_types.specs.TenantConfig.{tenant_config}
 use Rattle.cops_types.specs.Version.{Timestamp, no_version, last_clock}
 use Rattle.cops_store.specs.Contents.{Contents, rows_of, NoneLater}
@@ -26,16 +30,21 @@ use Rattle.cops_node.specs.Step.{node_step, effect}
 
 -- ---- a node as contracts see it
 
--- what never changes of a node: which node it is, the sizes of the cluster, and the place of each slot
+-- which node it is, the sizes of the cluster, how long a stale version stays, and the place of each slot that has a tenant; no call of a tenant changes it
 pub record Home : Type 0 where
   pub id : NodeId
   pub shape : Shape
-  pub places : List Place
+  pub trans_time : ℕ
+  pub places : List (Option Place)
 
 -- the home, and the trail of each slot: its calls, in order. Among slots there is no order.
 pub record Shared : Type 0 where
   pub home : Home
   pub audit : List (List AuditEntry)
+
+-- the place of the tenant of a slot, where it has one
+abbrev pub place_at : ℕ → Shared → Option Place
+place_at slot node = slice_index_or node.home.places slot None
 
 -- the trail of one slot
 abbrev pub trail_of : ℕ → List (List AuditEntry) → List AuditEntry
@@ -67,7 +76,8 @@ home_of config id =
     record {
       id = id;
       shape = record { data_centres = config.data_centres; shards = config.shards; slots = length config.tenants };
-      places = map (λ tenant. place_of (tenant_config config tenant) id) config.tenants;
+      trans_time = config.trans_time;
+      places = map (λ tenant. Some (place_of (tenant_config config tenant) id)) config.tenants;
     }
 
 -- each tenant's first clock is a number that a clock has
@@ -165,22 +175,50 @@ IsDone slot now place call reply counters store outbox counters' store' outbox' 
 
 -- ---- all slots
 
--- the trail of each slot
-abbrev pub trails_of : List Part → List (List AuditEntry)
-trails_of parts = map (λ part. part.trail.calls) parts
+-- the place of each slot
+abbrev pub places_of : List (Option Part) → List (Option Place)
+places_of parts = map (option_map (λ (part : Part). part.place)) parts
+
+-- the trail of each slot; one without a tenant has none
+abbrev pub trail_in : Option Part → List AuditEntry
+trail_in None = []
+trail_in (Some part) = part.trail.calls
+
+abbrev pub trails_of : List (Option Part) → List (List AuditEntry)
+trails_of parts = map trail_in parts
 
 -- what is kept of a slot stands for what its trail leaves
-pub record IsPart (id : NodeId) (data_centres shards slot : ℕ) (part : Part) (store : Contents) (outbox : Queues) : Type 0 where
-  pub id_is : part.place.id ≡ id
-  pub data_centres_are : part.place.data_centres ≡ data_centres
-  pub shards_are : part.place.shards ≡ shards
+pub record StandsForTrail (slot : ℕ) (part : Part) (store : Contents) (outbox : Queues) : Type 0 where
   pub stands : StandsAt slot part.place part.counters store outbox (left_by part.place part.trail.calls)
   pub moment : (left_by part.place part.trail.calls).moment ≡ part.moment
   pub trail_is : (left_by part.place part.trail.calls).trail ≡ part.trail.calls
 
-pub record IsNode (id : NodeId) (data_centres shards : ℕ) (parts : List Part) (store : Contents) (outbox : Queues) : Type 0 where
+-- and its place is at this node
+pub record IsPart (id : NodeId) (data_centres shards slot : ℕ) (part : Part) (store : Contents) (outbox : Queues) : Type 0 where
+  pub id_is : part.place.id ≡ id
+  pub data_centres_are : part.place.data_centres ≡ data_centres
+  pub shards_are : part.place.shards ≡ shards
+  pub kept : StandsForTrail slot part store outbox
+
+-- nothing is kept of a slot, and nothing of it waits
+pub record IsUnused (slot : ℕ) (store : Contents) (outbox : Queues) : Type 0 where
+  pub rows : rows_of slot store ≡ []
+  pub queues : (dc : ℕ) → queue_of slot dc outbox ≡ []
+
+-- the node is one of the cluster's, and there is room for its slots
+pub record HasSlots (id : NodeId) (data_centres shards slots : ℕ) (store : Contents) (outbox : Queues) : Type 0 where
+  pub dc_exists : id.dc < data_centres
   pub shard_exists : id.shard < shards
-  pub each : (slot : ℕ) (part : Part) → slot < length parts → part ≡ slice_index_or parts slot part → IsPart id data_centres shards slot part store outbox
+  pub numbers_fit : data_centres * shards ≤ NODES
+  pub stored : slots ≤ store.tenants
+  pub queued : slots ≤ outbox.tenants
+  pub own_is : outbox.own ≡ id.dc
+  pub all_queues : length outbox.queues ≡ data_centres
+
+pub record IsNode (id : NodeId) (data_centres shards : ℕ) (parts : List (Option Part)) (store : Contents) (outbox : Queues) : Type 0 where
+  pub slots : HasSlots id data_centres shards (length parts) store outbox
+  pub each : (slot : ℕ) (part : Part) → slice_index_or parts slot None ≡ Some part → IsPart id data_centres shards slot part store outbox
+  pub vacant : (slot : ℕ) → slice_index_or parts slot None ≡ None → IsUnused slot store outbox
   pub fitting : AllByRecursion (AllFit (place_in (record { data_centres = data_centres; shards = shards; slots = length parts }) id)) (trails_of parts)
 
 -- a part before any call
@@ -190,12 +228,76 @@ pub record IsFresh (part : Part) : Type 0 where
   pub marks : part.counters.marks.items ≡ replicate part.place.data_centres no_version
   pub trail : part.trail.calls ≡ []
 
+-- the turn of the solo node that a part stands for
+abbrev pub IsPartTurn : ℕ → NodeCall → NodeReply → Part → Part → Type 0
+IsPartTurn moment call reply old new =
+    (reply ≡ (node_step old.place moment call (left_by old.place old.trail.calls)).reply)
+    × (left_by old.place new.trail.calls ≡ (node_step old.place moment call (left_by old.place old.trail.calls)).after)
+
+-- the call and its reply come behind the calls, unless the audit was full
+abbrev pub JoinsCalls : ℕ → NodeCall → NodeReply → Part → Part → Type 0
+JoinsCalls moment call reply old new =
+    ((reply ≡ Refused AuditFull) × (new.trail.calls ≡ old.trail.calls))
+    ⊎ (new.trail.calls ≡ old.trail.calls ++ record { moment = moment; call = call; reply = reply } ∷ [])
+
+-- the audit of a part has room for one more call
+abbrev pub HasPartRoom : Part → Type 0
+HasPartRoom part = IsTrue (nat_lt (length (left_by part.place part.trail.calls).trail) part.place.quota.audit)
+
+-- ---- tenants that come and go
+
+-- the most slots of a node
+abbrev pub MOST_SLOTS : ℕ
+MOST_SLOTS = 64
+
+-- the slot has a tenant, or isn't one that a node has
+abbrev pub is_taken : ℕ → Shared → Bool
+is_taken slot node = nat_le MOST_SLOTS slot || is_some (place_at slot node)
+
+-- why the slot can't be given to a tenant
+abbrev pub admit_refusal : ℕ → Shared → Option Fault
+admit_refusal slot node = refused_if (is_taken slot node) NoSlot
+
+-- the place of a tenant with this first clock and quota at a node
+abbrev pub place_for : Home → ℕ → Quota → Place
+place_for home first_clock quota =
+    record {
+      id = home.id;
+      data_centres = home.shape.data_centres;
+      shards = home.shape.shards;
+      trans_time = home.trans_time;
+      first_clock = first_clock;
+      quota = quota;
+    }
+
+-- the same node of the same cluster, whatever tenants it has
+pub record IsSameNode (home home' : Home) : Type 0 where
+  pub id_is : home'.id ≡ home.id
+  pub data_centres_are : home'.shape.data_centres ≡ home.shape.data_centres
+  pub shards_are : home'.shape.shards ≡ home.shape.shards
+  pub trans_time_is : home'.trans_time ≡ home.trans_time
+
+-- another slot is as it was: its tenant and its calls, so what it stands for
+abbrev pub IsSlotKept : ℕ → Shared → Shared → Type 0
+IsSlotKept other old new = (place_at other new ≡ place_at other old) × (trail_of other new.audit ≡ trail_of other old.audit)
+
+abbrev pub quota_eq : Quota → Quota → Bool
+quota_eq a b =
+    nat_eq a.versions b.versions && nat_eq a.bytes b.bytes && nat_eq a.outbox b.outbox && nat_eq a.contexts b.contexts && nat_eq a.deps b.deps
+    && nat_eq a.actors b.actors && nat_eq a.audit b.audit
+
+-- the place has the tenant's first clock and quota
+abbrev pub is_opened_as : Tenant → Option Place → Bool
+is_opened_as tenant None = false
+is_opened_as tenant (Some place) = nat_eq place.first_clock tenant.first_clock && quota_eq place.quota tenant.quota
+
 -- ---- turns of a machine
 
--- the turn of a slot's solo node, which joins the slot's trail unless that is full, and changes no other slot
+-- the turn of a slot's solo node, which joins the slot's trail unless that is full, and changes no other slot; without a tenant there is none, and nothing changes
 pub record IsMachineTurn (old : Shared) (slot moment : ℕ) (call : NodeCall) (reply : NodeReply) (new : Shared) : Type 0 where
-  pub own : (place : Place) → place ≡ slice_index_or old.home.places slot place → IsSoloTurn slot moment call reply place old new
-  pub noted : JoinsTrail slot moment call reply old new
+  pub own : (place : Place) → place_at slot old ≡ Some place → IsSoloTurn slot moment call reply place old new
+  pub noted : IsSome (place_at slot old) → JoinsTrail slot moment call reply old new
+  pub vacant : place_at slot old ≡ None → (reply ≡ Refused UnknownTenant) × (new ≡ old)
   pub others : (other : ℕ) → other ≢ slot → trail_of other new.audit ≡ trail_of other old.audit
   pub home : new.home ≡ old.home
 

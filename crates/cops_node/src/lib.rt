@@ -12,10 +12,13 @@ mod laws;
 mod limits;
 mod node;
 mod nodes;
+mod part_turns;
 mod parts;
 mod puts;
 mod queues;
 mod rows;
+#[cfg(test)]
+mod tenant_tests;
 #[cfg(test)]
 mod test_nodes;
 #[cfg(test)]

@@ -1,42 +1,48 @@
 //! A node for many tenants: one store and one outbox for all, and a trail of the calls of each.
-ghost use Rattle.std.specs.Prelude.{◌≡◌, ◌≢◌, ℕ, ◌<◌, ◌≤◌, length, map, slice_get, slice_index_or, false, List, Some, IsTrue, IfOk, OnErr};
+ghost use Rattle.std.specs.Prelude.{◌≡◌, ◌≢◌, ℕ, ◌<◌, ◌≤◌, length, map, slice_get, slice_index_or, false, [], List, None, Some, Ok, Err, IsTrue, IsSome, IsOk, IfOk, OnOk, OnErr};
 ghost use Rattle.std.specs.List.{AllByRecursion};
 ghost use Rattle.std.specs.Option.{option_copied};
 ghost use Rattle.cops_types.specs.HeadLines.{are_sizes};
 ghost use Rattle.cops_types.specs.Version.{last_clock};
 ghost use Rattle.cops_node.specs.declared.Place.{Place};
-ghost use Rattle.cops_node.specs.Parts.{AuditFits, IsAudited, IsSoloTurn, IsTurn, JoinsTrail, are_clocks, has_audit_room, home_of, no_calls, solo_of, trail_of};
+ghost use Rattle.cops_types.specs.Refusal.{IsAnswer};
+ghost use Rattle.cops_node.specs.Parts.{AuditFits, IsAudited, IsSameNode, IsSlotKept, IsSoloTurn, IsTurn, JoinsTrail, admit_refusal, are_clocks, has_audit_room, home_of, is_opened_as, is_taken, no_calls, place_at, place_for, solo_of, trail_of};
 ghost use Rattle.cops_node.specs.Place.{is_home, is_other_dc, is_other_equivalent, fits};
 ghost use Rattle.cops_node.specs.Shape.{place_in};
 
 use crate::parts::{self, Part};
-use crate::{AuditRow, NodeCall, NodeId, NodeReply, Place, calls};
+use crate::{AuditRow, NodeCall, NodeId, NodeReply, Place, part_turns};
 use cops_outbox::Outbox;
 use cops_store::Store;
-use cops_types::{Config, Fault, Key, Machine, Seeds};
+use cops_types::{Config, Fault, Key, Machine, Quota, Seeds, Tenant};
 use std::alloc::{AllocError, Global};
 use std::marker::Model;
 
-/// A node. Contracts see its home, which never changes, and the audit: the trail of each slot. A slot
-/// stands for the solo node that its own trail leaves.
+/// The most slots of a node, so the most tenants that it has at once.
+const MOST_SLOTS: u64 = 64;
+
+/// A node. Contracts see its home, which no call of a tenant changes, and the audit: the trail of each
+/// slot. A slot with a tenant stands for the solo node that its own trail leaves.
 #[derive(Drop)]
 pub struct Node {
     alloc: Global,
     id: NodeId,
     data_centres: u64,
     shards: u64,
-    parts: Vec<Part>,
+    trans_time: u64,
+    /// What is kept of each slot that has a tenant.
+    parts: Vec<Option<Part>>,
     store: Store,
     outbox: Outbox,
 }
 
 impl Model for Node {
-    ghost use Rattle.std.specs.Prelude.{map, length};
-    ghost use Rattle.cops_node.specs.Parts.{Shared, IsNode, trails_of};
+    ghost use Rattle.std.specs.Prelude.{length};
+    ghost use Rattle.cops_node.specs.Parts.{Shared, IsNode, places_of, trails_of};
 
     ghost Value = { Shared };
 
-    ghost view = { λ n. record { home = record { id = n.id; shape = record { data_centres = n.data_centres; shards = n.shards; slots = length n.parts.items }; places = map (λ p. p.place) n.parts.items }; audit = trails_of n.parts.items } };
+    ghost view = { λ n. record { home = record { id = n.id; shape = record { data_centres = n.data_centres; shards = n.shards; slots = length n.parts.items }; trans_time = n.trans_time; places = places_of n.parts.items }; audit = trails_of n.parts.items } };
 
     ghost invariant = { λ n. IsNode n.id n.data_centres n.shards n.parts.items n.store n.outbox };
 }
@@ -63,13 +69,14 @@ impl Node {
             id,
             data_centres: config.data_centres,
             shards: config.shards,
+            trans_time: config.trans_time,
             parts,
             store,
             outbox,
         })
     }
 
-    /// How many tenants there are.
+    /// How many slots there are: those that had a tenant, and all before them.
     pub fn slots(&self) -> u64
         ensures { result ≡ self.now.home.shape.slots }
     {
@@ -118,20 +125,24 @@ impl Node {
     pub fn audit_len(&self, slot: u64) -> u64
         requires { slot < self.now.home.shape.slots }
         ensures calls { result ≡ length (trail_of slot self.now.audit) }
-        ensures solo { (place : Place) → slice_get self.now.home.places slot ≡ Some place → result ≡ length (solo_of slot place self.now).trail }
+        ensures solo { (place : Place) → place_at slot self.now ≡ Some place → result ≡ length (solo_of slot place self.now).trail }
     {
-        let part = &self.parts[slot as usize];
-        part.trail.len()
+        match parts::of(&self.parts, slot) {
+            Some(part) => part.trail.len(),
+            None => 0,
+        }
     }
 
     /// The call at a place of the trail of a slot.
     pub fn audit(&self, slot: u64, place: u64) -> Option<&AuditRow>
         requires { slot < self.now.home.shape.slots }
         ensures call { option_copied result ≡ slice_get (trail_of slot self.now.audit) place }
-        ensures solo { (own : Place) → slice_get self.now.home.places slot ≡ Some own → option_copied result ≡ slice_get (solo_of slot own self.now).trail place }
+        ensures solo { (own : Place) → place_at slot self.now ≡ Some own → option_copied result ≡ slice_get (solo_of slot own self.now).trail place }
     {
-        let part = &self.parts[slot as usize];
-        part.trail.get(place)
+        match parts::of(&self.parts, slot) {
+            Some(part) => part.trail.get(place),
+            None => None,
+        }
     }
 
     /// Each call in the audit could come to this node.
@@ -141,54 +152,120 @@ impl Node {
         let _parts = &self.parts;
     }
 
-    /// Makes a call for the tenant of a slot. Where the audit is full that is the reply, and nothing
-    /// changes. Nothing changes either where memory is refused.
+    /// Whether the slot has a tenant with this one's first clock and quota.
+    pub fn opened_as(&self, slot: u64, tenant: &Tenant) -> bool
+        ensures { result ≡ is_opened_as tenant.now (place_at slot self.now) }
+    {
+        match parts::of(&self.parts, slot) {
+            Some(part) => parts::is_of(part, tenant),
+            None => false,
+        }
+    }
+
+    // Whether the slot has a tenant, or isn't one that a node has.
+    fn is_taken(&self, slot: u64) -> bool
+        ensures { result ≡ is_taken slot self.now }
+    {
+        slot >= MOST_SLOTS || parts::of(&self.parts, slot).is_some()
+    }
+
+    /// Gives a slot without a tenant to one with this first clock, at most `Version::LAST_CLOCK`, and
+    /// quota. He begins with an empty node of his own. It is in nobody's audit.
+    pub fn admit(&mut self, slot: u64, first_clock: u64, quota: Quota) -> Result<(), Fault>
+        requires { first_clock ≤ last_clock }
+        ensures answer { IsAnswer (admit_refusal slot self.old) result }
+        ensures place { OnOk result (place_at slot self.new ≡ Some (place_for self.old.home first_clock quota)) }
+        ensures empty { OnOk result (trail_of slot self.new.audit ≡ []) }
+        ensures others { (other : ℕ) → other ≢ slot → IsSlotKept other self.old self.new }
+        ensures home { IsSameNode self.old.home self.new.home }
+        ensures err { OnErr result (self.new ≡ self.old) }
+    {
+        if self.is_taken(slot) {
+            return Err(Fault::NoSlot);
+        }
+        let place = Place {
+            id: self.id,
+            data_centres: self.data_centres,
+            shards: self.shards,
+            trans_time: self.trans_time,
+            first_clock,
+            quota,
+        };
+        let slot = slot as usize;
+        let part = parts::fresh(self.alloc, place)?;
+        self.store.admit(slot)?;
+        self.outbox.admit(slot)?;
+        let more = (slot + 1).saturating_sub(self.parts.len());
+        let mut added = parts::vacant(self.alloc, more)?;
+        self.parts.append(&mut added)?;
+        self.parts[slot] = Some(part);
+        Ok(())
+    }
+
+    /// Drops all of a slot's tenant: records, what waits, clock, marks and audit. It asks for no memory,
+    /// and is in nobody's audit.
+    pub fn close(&mut self, slot: u64) -> Result<(), Fault>
+        ensures vacant { place_at slot self.old ≡ None → result ≡ Err Fault.UnknownTenant }
+        ensures open { IsSome (place_at slot self.old) → IsOk result }
+        ensures place { place_at slot self.new ≡ None }
+        ensures empty { trail_of slot self.new.audit ≡ [] }
+        ensures others { (other : ℕ) → other ≢ slot → IsSlotKept other self.old self.new }
+        ensures home { IsSameNode self.old.home self.new.home }
+        ensures err { OnErr result (self.new ≡ self.old) }
+    {
+        if parts::of(&self.parts, slot).is_none() {
+            return Err(Fault::UnknownTenant);
+        }
+        let slot = slot as usize;
+        self.store.drop_slot(slot);
+        self.outbox.drop_slot(slot);
+        self.parts[slot] = None;
+        Ok(())
+    }
+
+    /// Makes a call for the tenant of a slot. Where the audit is full or there is no tenant that is the
+    /// reply, and nothing changes. Nothing changes either where memory is refused.
     fn try_step(&mut self, slot: u64, moment: u64, call: NodeCall) -> Result<NodeReply, AllocError>
-        requires slot_exists { slot < self.old.home.shape.slots }
-        requires call_fits { IsTrue (fits (place_in self.old.home.shape self.old.home.id) call) }
-        ensures turn { IfOk result (λ reply. (place : Place) → place ≡ slice_index_or self.old.home.places slot place → IsSoloTurn slot moment call reply place self.old self.new) }
-        ensures noted { IfOk result (λ reply. JoinsTrail slot moment call reply self.old self.new) }
+        requires { IsTrue (fits (place_in self.old.home.shape self.old.home.id) call) }
+        ensures turn { IfOk result (λ reply. (place : Place) → place_at slot self.old ≡ Some place → IsSoloTurn slot moment call reply place self.old self.new) }
+        ensures noted { IfOk result (λ reply. IsSome (place_at slot self.old) → JoinsTrail slot moment call reply self.old self.new) }
+        ensures vacant { place_at slot self.old ≡ None → result ≡ Ok (NodeReply.Refused Fault.UnknownTenant) }
+        ensures unchanged { place_at slot self.old ≡ None → self.new ≡ self.old }
         ensures others { (other : ℕ) → other ≢ slot → trail_of other self.new.audit ≡ trail_of other self.old.audit }
         ensures home { self.new.home ≡ self.old.home }
         ensures err { OnErr result (self.new ≡ self.old) }
-        ensures room { OnErr result ((place : Place) → place ≡ slice_index_or self.old.home.places slot place → IsTrue (has_audit_room slot place self.old)) }
+        ensures room { OnErr result ((place : Place) → place_at slot self.old ≡ Some place → IsTrue (has_audit_room slot place self.old)) }
     {
+        if slot >= self.parts.len() as u64 {
+            return Ok(NodeReply::Refused(Fault::UnknownTenant));
+        }
         let slot = slot as usize;
-        let part = &self.parts[slot];
-        if parts::is_audit_full(part) {
-            return Ok(NodeReply::Refused(Fault::AuditFull));
+        match &mut self.parts[slot] {
+            Some(part) => {
+                let reply = part_turns::turn(
+                    self.alloc,
+                    part,
+                    &mut self.store,
+                    &mut self.outbox,
+                    slot,
+                    moment,
+                    call,
+                )?;
+                Ok(reply)
+            }
+            None => Ok(NodeReply::Refused(Fault::UnknownTenant)),
         }
-        let part = &mut self.parts[slot];
-        if part.trail.reserve().is_err() {
-            return Err(AllocError);
-        }
-        let now = part.moment.max(moment);
-        let Ok(answered) = calls::act(
-            self.alloc,
-            &part.place,
-            &mut part.counters,
-            &mut self.store,
-            &mut self.outbox,
-            slot,
-            now,
-            call,
-        ) else {
-            return Err(AllocError);
-        };
-        part.moment = now;
-        let row = AuditRow::new(moment, answered.kept);
-        part.trail.push(row);
-        Ok(answered.told)
     }
 
-    /// Makes a call for the tenant of a slot. Where the audit is full or memory is refused, that is
-    /// the reply and nothing changes; a full audit comes first, whatever memory there is.
+    /// Makes a call for the tenant of a slot. Where it has none, the audit is full or memory is refused,
+    /// that is the reply and nothing changes; a full audit comes first, whatever memory there is.
     pub fn step(&mut self, slot: u64, moment: u64, call: NodeCall) -> NodeReply
-        requires slot_exists { slot < self.old.home.shape.slots }
-        requires call_fits { IsTrue (fits (place_in self.old.home.shape self.old.home.id) call) }
-        ensures turn { (place : Place) → place ≡ slice_index_or self.old.home.places slot place → IsTurn slot moment call result place self.old self.new }
-        ensures full { (place : Place) → place ≡ slice_index_or self.old.home.places slot place → has_audit_room slot place self.old ≡ false → result ≡ NodeReply.Refused Fault.AuditFull }
-        ensures audited { IsAudited slot moment call result self.old self.new }
+        requires { IsTrue (fits (place_in self.old.home.shape self.old.home.id) call) }
+        ensures turn { (place : Place) → place_at slot self.old ≡ Some place → IsTurn slot moment call result place self.old self.new }
+        ensures full { (place : Place) → place_at slot self.old ≡ Some place → has_audit_room slot place self.old ≡ false → result ≡ NodeReply.Refused Fault.AuditFull }
+        ensures vacant { place_at slot self.old ≡ None → result ≡ NodeReply.Refused Fault.UnknownTenant }
+        ensures unchanged { place_at slot self.old ≡ None → self.new ≡ self.old }
+        ensures audited { IsSome (place_at slot self.old) → IsAudited slot moment call result self.old self.new }
         ensures others { (other : ℕ) → other ≢ slot → trail_of other self.new.audit ≡ trail_of other self.old.audit }
         ensures home { self.new.home ≡ self.old.home }
     {

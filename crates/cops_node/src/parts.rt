@@ -1,10 +1,11 @@
 //! What a node keeps of one tenant beside the store and the outbox.
-ghost use Rattle.std.specs.Prelude.{◌≡◌, ◌+◌, ◌/◌, ◌^◌, ◌<◌, ◌≤◌, false, max, map, not, nat_lt, length, slice_set, List, IfOk};
+ghost use Rattle.std.specs.Prelude.{◌≡◌, ◌+◌, ◌/◌, ◌^◌, ◌<◌, ◌≤◌, false, max, map, not, nat_lt, length, slice_set, slice_index_or, replicate, List, None, Some, IfOk, IfSome};
+ghost use Rattle.std.specs.Option.{option_copied};
 ghost use Rattle.std.specs.List.{AllByRecursion};
 ghost use Rattle.cops_types.specs.Layout.{NODES};
 ghost use Rattle.cops_types.specs.Records.{Tracked, mark};
 ghost use Rattle.cops_types.specs.Version.{version_le, last_clock};
-ghost use Rattle.cops_node.specs.Parts.{AreMarks, IsFresh, IsPlace, mark_in};
+ghost use Rattle.cops_node.specs.Parts.{AreMarks, IsFresh, IsPlace, is_opened_as, mark_in, places_of};
 ghost use Rattle.cops_node.specs.Place.{place_of, own_number as own_number_of};
 ghost use Rattle.cops_types.specs.TenantConfig.{tenant_config};
 
@@ -31,7 +32,7 @@ pub struct Part {
 }
 
 // The part of a tenant before any call.
-fn fresh(alloc: Global, place: Place) -> Result<Part, AllocError>
+pub(crate) fn fresh(alloc: Global, place: Place) -> Result<Part, AllocError>
     ensures fresh { IfOk result IsFresh }
     ensures place { IfOk result (λ part. part.place ≡ place) }
 {
@@ -64,16 +65,54 @@ pub(crate) fn fresh_parts(
     alloc: Global,
     config: &Config,
     id: NodeId,
-) -> Result<Vec<Part>, AllocError>
-    ensures fresh { IfOk result (λ parts. AllByRecursion IsFresh parts.items) }
-    ensures places { IfOk result (λ parts. map (λ p. p.place) parts.items ≡ map (λ t. place_of (tenant_config config.now t) id) config.now.tenants) }
+) -> Result<Vec<Option<Part>>, AllocError>
+    ensures fresh { IfOk result (λ parts. AllByRecursion (λ p. IfSome p IsFresh) parts.items) }
+    ensures places { IfOk result (λ parts. places_of parts.items ≡ map (λ t. Some (place_of (tenant_config config.now t) id)) config.now.tenants) }
 {
     let mut parts = Vec::new(alloc);
     let tenants = config.tenants.as_slice();
     for tenant in tenants {
-        parts.push(fresh(alloc, place_at(config, tenant, id))?)?;
+        let part = fresh(alloc, place_at(config, tenant, id))?;
+        parts.push(Some(part))?;
     }
     Ok(parts)
+}
+
+// That many slots without a tenant.
+pub(crate) fn vacant(alloc: Global, slots: usize) -> Result<Vec<Option<Part>>, AllocError>
+    ensures { IfOk result (λ parts. parts.items ≡ replicate slots None) }
+{
+    let mut parts = Vec::new(alloc);
+    for _slot in 0..slots {
+        parts.push(None)?;
+    }
+    Ok(parts)
+}
+
+// The part of a slot, where it has a tenant.
+pub(crate) fn of(parts: &[Option<Part>], slot: u64) -> Option<&Part>
+    ensures { option_copied result ≡ slice_index_or parts.now slot None }
+{
+    match parts.get(slot as usize) {
+        Some(Some(part)) => Some(part),
+        _ => None,
+    }
+}
+
+// Whether the part is that of a tenant with this first clock and quota.
+pub(crate) fn is_of(part: &Part, tenant: &Tenant) -> bool
+    ensures { result ≡ is_opened_as tenant.now (Some part.now.place) }
+{
+    let own = part.place.quota;
+    let quota = tenant.quota;
+    part.place.first_clock == tenant.first_clock
+        && own.versions == quota.versions
+        && own.bytes == quota.bytes
+        && own.outbox == quota.outbox
+        && own.contexts == quota.contexts
+        && own.deps == quota.deps
+        && own.actors == quota.actors
+        && own.audit == quota.audit
 }
 
 // Whether the audit of the part is full.

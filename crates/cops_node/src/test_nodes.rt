@@ -17,7 +17,13 @@ pub(crate) const QUOTA: Quota = Quota {
     audit: 1000,
 };
 
-fn tenant(rt: &impl Abort, name: &[u8], last: u8, first_clock: u64, quota: Quota) -> Tenant {
+pub(crate) fn tenant(
+    rt: &impl Abort,
+    name: &[u8],
+    last: u8,
+    first_clock: u64,
+    quota: Quota,
+) -> Tenant {
     let mut token = [0; 16];
     token[15] = last;
     Tenant {
@@ -73,6 +79,29 @@ pub(crate) fn one_of_two(
     Node::new(alloc, &config, NodeId { dc, shard: 0 }).expect(rt, "memory")
 }
 
+/// The one node of a cluster that has acme alone.
+pub(crate) fn with_acme_alone(rt: &impl Abort, alloc: Global) -> Node {
+    let mut tenants = Tenants::new(alloc);
+    join(rt, &mut tenants, tenant(rt, b"acme", 1, 0, QUOTA));
+    let config = Config {
+        data_centres: 1,
+        shards: 1,
+        trans_time: 5000,
+        restarts: 1,
+        tenants,
+    };
+    assert!(rt; has_clocks(&config));
+    Node::new(alloc, &config, NodeId { dc: 0, shard: 0 }).expect(rt, "memory")
+}
+
+/// Admits a tenant, again where memory was refused.
+pub(crate) fn admit(rt: &impl Abort, node: &mut Node, slot: u64) -> Result<(), Fault> {
+    match node.admit(slot, 0, QUOTA) {
+        Err(Fault::OutOfMemory) => node.admit(slot, 0, QUOTA),
+        said => said,
+    }
+}
+
 pub(crate) fn ask(
     rt: &impl Abort,
     node: &mut Node,
@@ -80,7 +109,6 @@ pub(crate) fn ask(
     moment: u64,
     call: NodeCall,
 ) -> NodeReply {
-    assert!(rt; slot < node.slots());
     assert!(rt; node.fits(&call));
     node.step(slot, moment, call)
 }

@@ -7,16 +7,8 @@ use Rattle.cops_node.specs.Parts.{AuditFits}
 use Rattle.cops_node.proofs.Clusters.{all_set, call_is, cluster_stays, fits_next, number_within, id_is}
 use Rattle.cops_node.proofs.cluster.Cluster0Nodes.step.Goals as goal
 
-pub step-requires-clause-slot_exists : goal.step-requires-clause-slot_exists
-step-requires-clause-slot_exists c =
-    let shape : Shape = record { data_centres = c.self.inside.data_centres; shards = c.self.inside.shards; slots = c.self.inside.tenants } in
-    let fitting : Fits shape c.args.id c.args.slot c.args.call = subst (λ (v : Cluster). Fits v.shape c.args.id c.args.slot c.args.call) (sym c.self.view_is) c.requires in
-    let within : node_number shape.shards c.args.id < length c.self.inside.nodes.items = subst (λ n. node_number shape.shards c.args.id < n) (sym c.self.invariant.in_order.all) (number_within shape c.args.id fitting.dc_exists fitting.shard_exists) in
-    let at = c.self.invariant.in_order.each (node_number shape.shards c.args.id) c.index_mut-node.result.now within c.index_mut-node.ensures.value in
-    subst (λ (s : Shape). c.args.slot < s.slots) (sym at.1) fitting.slot_exists
-
-pub step-requires-clause-call_fits : goal.step-requires-clause-call_fits
-step-requires-clause-call_fits c =
+pub step-requires : goal.step-requires
+step-requires c =
     let shape : Shape = record { data_centres = c.self.inside.data_centres; shards = c.self.inside.shards; slots = c.self.inside.tenants } in
     let fitting : Fits shape c.args.id c.args.slot c.args.call = subst (λ (v : Cluster). Fits v.shape c.args.id c.args.slot c.args.call) (sym c.self.view_is) c.requires in
     let within : node_number shape.shards c.args.id < length c.self.inside.nodes.items = subst (λ n. node_number shape.shards c.args.id < n) (sym c.self.invariant.in_order.all) (number_within shape c.args.id fitting.dc_exists fitting.shard_exists) in
@@ -48,5 +40,5 @@ invariant_of-self c =
       in_order = cluster_stays shape c.self.inside.nodes.items c.args.id c.args.slot c.args.moment c.args.call c.step.result c.index_mut-node.result.now c.step.new.self within c.index_mut-node.ensures.value
           here c.step.ensures.turn c.step.ensures.full c.step.ensures.others c.step.ensures.home c.self.invariant.in_order;
       fitting = all_set AuditFits c.self.inside.nodes.items (node_number shape.shards c.args.id) c.index_mut-node.result.now c.step.new.self c.self.invariant.fitting
-          (fits_next c.args.slot c.args.moment c.args.call c.step.result c.index_mut-node.result.now c.step.new.self fit c.step.ensures.home c.step.ensures.audited) c.index_mut-node.ensures.value;
+          (fits_next c.args.slot c.args.moment c.args.call c.step.result c.index_mut-node.result.now c.step.new.self fit c.step.ensures.home c.step.ensures.unchanged c.step.ensures.audited) c.index_mut-node.ensures.value;
     }

@@ -1,17 +1,13 @@
-use Rattle.std.proofs.Common.{◌<◌, ◌∙◌, ap, sym, subst, length}
-use Rattle.cops_node.specs.Parts.{Shared, trail_of}
-use Rattle.cops_node.proofs.Slots.{solo_trail, trail_read}
+use Rattle.std.proofs.Common.{◌≡◌, ◌∙◌, ap, sym, length, get_or}
+use Rattle.std.specs.Prelude.{None, Some}
+use Rattle.std.specs.Option.{option_copied}
+use Rattle.cops_node.specs.Parts.{Shared, place_at, solo_of}
+use Rattle.cops_node.proofs.Slots.{solo_trail}
 use Rattle.cops_node.proofs.node.Node.audit_len.Goals as goal
 
-pub returns-clause-calls : goal.returns-clause-calls
-returns-clause-calls c =
-    let within : c.args.slot < length c.self.inside.parts.items = subst (λ (v : Shared). c.args.slot < v.home.shape.slots) (sym c.self.view_is) c.requires in
-    c.len.ensures ∙ ap length (sym (trail_read c.self.inside.parts.items c.args.slot c.index-part.result.now within c.index-part.ensures))
-    ∙ ap (λ (v : Shared). length (trail_of c.args.slot v.audit)) c.self.view_is
-
-pub returns-clause-solo : goal.returns-clause-solo
-returns-clause-solo c = λ place found.
-    let within : c.args.slot < length c.self.inside.parts.items = subst (λ (v : Shared). c.args.slot < v.home.shape.slots) (sym c.self.view_is) c.requires in
-    returns-clause-calls c
-    ∙ ap length (solo_trail c.self.inside.id c.self.inside.data_centres c.self.inside.shards c.args.slot c.self.inside.parts.items c.self.inside.store c.self.inside.outbox c.args.self.now.audit c.args.self.now.home.places place c.index-part.result.now
-    c.self.invariant within c.index-part.ensures (ap (λ (v : Shared). v.home.places) c.self.view_is) (ap (λ (v : Shared). v.audit) c.self.view_is) found)
+pub returns-in-Some-clause-solo : goal.returns-in-Some-clause-solo
+returns-in-Some-clause-solo c = λ place found.
+    let read : get_or c.self.inside.parts.items c.args.slot None ≡ Some c.in-Some.part.now = ap (λ ps. get_or ps c.args.slot None) (sym c.deref.ensures.value) ∙ sym c.of.ensures ∙ ap option_copied c.in-Some.is in
+    c.len.ensures
+    ∙ ap length (solo_trail c.self.inside.id c.self.inside.data_centres c.self.inside.shards c.args.slot c.self.inside.parts.items c.self.inside.store c.self.inside.outbox place c.in-Some.part.now c.self.invariant read (ap (place_at c.args.slot) c.self.view_is ∙ found))
+    ∙ ap (λ (v : Shared). length (solo_of c.args.slot place v).trail) c.self.view_is

@@ -1,0 +1,246 @@
+-- What is kept of all slots where a tenant comes or goes.
+use Rattle.std.proofs.Common.{◌≡◌, ◌≢◌, ℕ, zero, suc, ◌+◌, ◌-◌, ◌*◌, ◌<◌, ◌≤◌, max, Bor, Bool, true, false, ◌||◌, List, [], ◌∷◌, ◌++◌, length, map, refl, sym, ap, ◌∙◌, subst, arith, true≢false, get_or, set}
+use Rattle.std.specs.Prelude.{Option, None, Some, is_some, replicate}
+use Rattle.std.specs.List.{AllByRecursion}
+use Rattle.std.specs.Option.{option_copied, option_map}
+use Rattle.std.proofs.lemmas.List.{get_or-set_same, get_or-set_other, map-append, map-set, length-set}
+use Rattle.std.proofs.lemmas.List.Sorted.{IsPermutation-refl}
+use Rattle.cops_types.specs.declared.quotas.Quota.{Quota}
+use Rattle.cops_types.specs.Layout.{NODES}
+use Rattle.cops_types.specs.Records.{StandsFor}
+use Rattle.cops_types.specs.Version.{last_clock}
+use Rattle.cops_store.specs.Contents.{Contents, rows_of}
+use Rattle.cops_outbox.specs.Queues.{Queues, queue_of}
+use Rattle.cops_node.specs.declared.NodeId.{NodeId}
+use Rattle.cops_node.specs.declared.Place.{Place}
+use Rattle.cops_node.specs.declared.parts.Part.{Part}
+use Rattle.cops_node.specs.Parts.{AllFit, IsFresh, IsNode, IsPart, IsPlace, IsUnused, OthersStay, left_by, places_of, trail_in, trail_of, trails_of}
+use Rattle.cops_node.specs.declared.AuditEntry.{AuditEntry}
+use Rattle.cops_node.specs.Shape.{place_in}
+use Rattle.cops_node.proofs.Fresh.{fresh_part}
+use Rattle.cops_node.proofs.Slots.{HomePlace, IsNode-set, map_read, place_elsewhere, place_in_part, place_shown, trail_elsewhere, trail_read}
+
+pub none_from : {A : Type 0} (o : Option A) → is_some o ≡ false → o ≡ None
+none_from None h = refl
+none_from (Some x) h = absurd (true≢false h)
+
+pub or_left : (a b : Bool) → (a || b) ≡ false → a ≡ false
+or_left false b h = refl
+or_left true b h = absurd (true≢false h)
+
+pub or_right : (a b : Bool) → (a || b) ≡ false → b ≡ false
+or_right false b h = h
+or_right true b h = absurd (true≢false h)
+
+-- ---- what a slot shows is what its part shows
+
+pub same_place_shown : (parts next : List (Option Part)) (slot : ℕ) → get_or next slot None ≡ get_or parts slot None → get_or (places_of next) slot None ≡ get_or (places_of parts) slot None
+same_place_shown parts next slot same = map_read (option_map place_in_part) next slot None ∙ ap (option_map place_in_part) same ∙ sym (map_read (option_map place_in_part) parts slot None)
+
+pub same_trail_shown : (parts next : List (Option Part)) (slot : ℕ) → get_or next slot None ≡ get_or parts slot None → trail_of slot (trails_of next) ≡ trail_of slot (trails_of parts)
+same_trail_shown parts next slot same = map_read trail_in next slot None ∙ ap trail_in same ∙ sym (map_read trail_in parts slot None)
+
+-- ---- more slots
+
+pub record HasMoreRoom (store store' : Contents) (outbox outbox' : Queues) : Type 0 where
+  pub rows : store'.rows ≡ store.rows
+  pub stored : store.tenants ≤ store'.tenants
+  pub queues : (at dc : ℕ) → queue_of at dc outbox' ≡ queue_of at dc outbox
+  pub queued : outbox.tenants ≤ outbox'.tenants
+  pub own : outbox'.own ≡ outbox.own
+  pub data_centres : length outbox'.queues ≡ length outbox.queues
+
+pub IsNode-room : (id : NodeId) (dcs shards : ℕ) (parts : List (Option Part)) (store store' : Contents) (outbox outbox' : Queues) → IsNode id dcs shards parts store outbox → HasMoreRoom store store' outbox outbox' → IsNode id dcs shards parts store' outbox'
+IsNode-room id dcs shards parts store store' outbox outbox' h more = record {
+  slots =
+      let n = h.slots in
+      let stored = more.stored in
+      let queued = more.queued in
+      record {
+        dc_exists = n.dc_exists;
+        shard_exists = n.shard_exists;
+        numbers_fit = n.numbers_fit;
+        stored = (let le = n.stored in omega arith);
+        queued = (let le = n.queued in omega arith);
+        own_is = more.own ∙ n.own_is;
+        all_queues = more.data_centres ∙ n.all_queues;
+      };
+  each = λ slot part read.
+      let old = h.each slot part read in
+      let s = old.kept.stands in
+      let solo = left_by part.place part.trail.calls in
+      let stored = more.stored in
+      let queued = more.queued in
+      record {
+        id_is = old.id_is;
+        data_centres_are = old.data_centres_are;
+        shards_are = old.shards_are;
+        kept = record {
+          stands = record {
+            place_is = s.place_is;
+            stored = (let lt = s.stored in omega arith);
+            queued = (let lt = s.queued in omega arith);
+            own_is = more.own ∙ s.own_is;
+            all_queues = more.data_centres ∙ s.all_queues;
+            rows = subst (λ rs. StandsFor rs solo.recs) (sym (rows_stay slot)) s.rows;
+            queues = λ dc is_other. more.queues slot dc ∙ s.queues dc is_other;
+            all_acked = s.all_acked;
+            acked = s.acked;
+            clock_is = s.clock_is;
+            clock_fits = s.clock_fits;
+            marks = s.marks;
+            late = s.late;
+          };
+          moment = old.kept.moment;
+          trail_is = old.kept.trail_is;
+        };
+      };
+  vacant = λ slot read. (let old = h.vacant slot read in record {
+    rows = rows_stay slot ∙ old.rows;
+    queues = λ dc. more.queues slot dc ∙ old.queues dc;
+  });
+  fitting = h.fitting;
+}
+  where
+    rows_stay : (slot : ℕ) → rows_of slot store' ≡ rows_of slot store
+    rows_stay slot = ap (λ rs. rows_of slot (record store { rows = rs })) more.rows
+
+padded_read : {A : Type 0} (xs : List A) (n i : ℕ) (d : A) → get_or (xs ++ replicate n d) i d ≡ get_or xs i d
+padded_read [] zero i d = refl
+padded_read [] (suc n) zero d = refl
+padded_read [] (suc n) (suc i) d = padded_read [] n i d
+padded_read (x ∷ xs) n zero d = refl
+padded_read (x ∷ xs) n (suc i) d = padded_read xs n i d
+
+-- the slots that are new have no tenant
+pub IsNode-padded : (id : NodeId) (dcs shards more : ℕ) (parts : List (Option Part)) (store : Contents) (outbox : Queues) → IsNode id dcs shards parts store outbox
+    → length (parts ++ replicate more None) ≤ store.tenants → length (parts ++ replicate more None) ≤ outbox.tenants → IsNode id dcs shards (parts ++ replicate more None) store outbox
+IsNode-padded id dcs shards more parts store outbox h stored queued = record {
+  slots = record {
+    dc_exists = h.slots.dc_exists;
+    shard_exists = h.slots.shard_exists;
+    numbers_fit = h.slots.numbers_fit;
+    stored = stored;
+    queued = queued;
+    own_is = h.slots.own_is;
+    all_queues = h.slots.all_queues;
+  };
+  each = λ slot part read. h.each slot part (sym (padded_read parts more slot None) ∙ read);
+  vacant = λ slot read. h.vacant slot (sym (padded_read parts more slot None) ∙ read);
+  fitting = fits parts h.fitting;
+}
+  where
+    home : Place
+    home = HomePlace id dcs shards (length parts)
+
+    none : (n : ℕ) → AllByRecursion (AllFit (HomePlace id dcs shards (length parts))) (trails_of (replicate n None))
+    none zero = tt
+    none (suc n) = (tt, none n)
+
+    fits : (ps : List (Option Part)) → AllByRecursion (AllFit (HomePlace id dcs shards (length parts))) (trails_of ps) → AllByRecursion (AllFit (HomePlace id dcs shards (length parts))) (trails_of (ps ++ replicate more None))
+    fits [] all = none more
+    fits (p ∷ ps) all = (all.0, fits ps all.1)
+
+others_same : (slot : ℕ) (store : Contents) (outbox : Queues) → OthersStay slot store outbox store outbox
+others_same slot store outbox = record {
+  rows = λ other differ. refl;
+  queues = λ other dc differ. refl;
+  tenants = refl;
+  own = refl;
+  queued = refl;
+  data_centres = refl;
+}
+
+all_set_at : (P : List AuditEntry → Type 0) (xs : List (List AuditEntry)) (i : ℕ) (x : List AuditEntry) → AllByRecursion P xs → P x → AllByRecursion P (set xs i x)
+all_set_at P [] i x h px = tt
+all_set_at P (y ∷ xs) zero x h px = (px, h.1)
+all_set_at P (y ∷ xs) (suc i) x h px = (h.0, all_set_at P xs i x h.1 px)
+
+-- one slot has no calls
+no_calls_at : (place : Place) (parts : List (Option Part)) (slot : ℕ) (p : Option Part) → AllByRecursion (AllFit place) (trails_of parts) → trail_in p ≡ [] → AllByRecursion (AllFit place) (trails_of (set parts slot p))
+no_calls_at place parts slot p all none =
+    subst (AllByRecursion (AllFit place)) (sym (map-set trail_in parts slot p)) (all_set_at (AllFit place) (trails_of parts) slot (trail_in p) all (subst (AllFit place) (sym none) tt))
+
+-- a tenant comes: his part is fresh
+pub IsNode-admitted : (id : NodeId) (dcs shards slot : ℕ) (parts : List (Option Part)) (part : Part) (store : Contents) (outbox : Queues) → IsNode id dcs shards parts store outbox → slot < length parts → get_or parts slot None ≡ None
+    → IsFresh part → IsPlace part.place → part.place.id ≡ id → part.place.data_centres ≡ dcs → part.place.shards ≡ shards → IsNode id dcs shards (set parts slot (Some part)) store outbox
+IsNode-admitted id dcs shards slot parts part store outbox h within free fresh place ids sizes shards_are =
+    let unused = h.vacant slot free in
+    let stored = h.slots.stored in
+    let queued = h.slots.queued in
+    let own : IsPart id dcs shards slot part store outbox =
+    fresh_part id dcs shards slot part store outbox fresh place ids sizes shards_are (omega arith) (omega arith) h.slots.own_is h.slots.all_queues
+    (subst (λ rows. StandsFor rows []) (sym unused.rows) (record { records = IsPermutation-refl []; greatest_kept = λ key. refl })) unused.queues in
+    IsNode-set id dcs shards parts slot (Some part) store store outbox outbox h within
+    (λ q is. subst (λ (o : Option Part). IsHis o) is own) (λ is. absurd (true≢false (ap is_some is))) (others_same slot store outbox)
+    (no_calls_at (HomePlace id dcs shards (length parts)) parts slot (Some part) h.fitting fresh.trail)
+  where
+    IsHis : Option Part → Type 0
+    IsHis None = Unit {0}
+    IsHis (Some q) = IsPart id dcs shards slot q store outbox
+
+-- a tenant goes: nothing of him is left
+pub IsNode-closed : (id : NodeId) (dcs shards slot : ℕ) (parts : List (Option Part)) (store store' : Contents) (outbox outbox' : Queues) → IsNode id dcs shards parts store outbox → slot < length parts
+    → rows_of slot store' ≡ [] → ((dc : ℕ) → queue_of slot dc outbox' ≡ []) → OthersStay slot store outbox store' outbox' → IsNode id dcs shards (set parts slot None) store' outbox'
+IsNode-closed id dcs shards slot parts store store' outbox outbox' h within rows queues others =
+    IsNode-set id dcs shards parts slot None store store' outbox outbox' h within
+    (λ part is. absurd (true≢false (sym (ap is_some is)))) (λ is. record { rows = rows; queues = queues }) others
+    (no_calls_at (HomePlace id dcs shards (length parts)) parts slot None h.fitting refl)
+
+pub padded_length : {A : Type 0} (xs : List A) (n : ℕ) (d : A) → length (xs ++ replicate n d) ≡ length xs + n
+padded_length [] zero d = refl
+padded_length [] (suc n) d = let rest = padded_length [] n d in omega arith
+padded_length (x ∷ xs) n d = let rest = padded_length xs n d in omega arith
+
+-- a part that is there
+pub is_there : {A : Type 0} (xs : List (Option A)) (i : ℕ) → is_some (get_or xs i None) ≡ true → i < length xs
+is_there [] i h = absurd (true≢false (sym h))
+is_there (x ∷ xs) zero h = omega arith
+is_there (x ∷ xs) (suc i) h = let rest = is_there xs i h in omega arith
+
+pub some_copied : {A : Type 0} (o : Option (Bor A)) → is_some o ≡ true → is_some (option_copied o) ≡ true
+some_copied None h = absurd (true≢false (sym h))
+some_copied (Some r) h = refl
+
+module _ (id : NodeId) (dcs shards trans_time slot more first_clock : ℕ) (quota : Quota) (parts : List (Option Part)) (part : Part) (store store' : Contents) (outbox outbox' : Queues)
+    (h : IsNode id dcs shards parts store outbox) (room : HasMoreRoom store store' outbox outbox') (stored : store'.tenants ≡ max store.tenants (slot + 1)) (queued : outbox'.tenants ≡ max outbox.tenants (slot + 1))
+    (more_is : more ≡ slot + 1 - length parts) (free : get_or parts slot None ≡ None) (fresh : IsFresh part) (clock : first_clock ≤ last_clock)
+    (place : part.place ≡ record { id = id; data_centres = dcs; shards = shards; trans_time = trans_time; first_clock = first_clock; quota = quota }) where
+  abbrev made : List (Option Part)
+  made = parts ++ replicate more None
+
+  below : slot < length (parts ++ replicate more None)
+  below = let long = padded_length parts more None in omega arith
+
+  node_padded : IsNode id dcs shards (parts ++ replicate more None) store' outbox'
+  node_padded =
+      let long = padded_length parts more None in
+      let s = h.slots.stored in
+      let q = h.slots.queued in
+      IsNode-padded id dcs shards more parts store' outbox' (IsNode-room id dcs shards parts store store' outbox outbox' h room) (omega arith) (omega arith)
+
+  pub node_admitted : IsNode id dcs shards (set (parts ++ replicate more None) slot (Some part)) store' outbox'
+  node_admitted =
+      let back = sym place in
+      IsNode-admitted id dcs shards slot made part store' outbox' node_padded below (padded_read parts more slot None ∙ free) fresh (record {
+        dc_exists = subst (λ (q : Place). q.id.dc < q.data_centres) back h.slots.dc_exists;
+        shard_exists = subst (λ (q : Place). q.id.shard < q.shards) back h.slots.shard_exists;
+        numbers_fit = subst (λ (q : Place). q.data_centres * q.shards ≤ NODES) back h.slots.numbers_fit;
+        clock_fits = subst (λ (q : Place). q.first_clock ≤ last_clock) back clock;
+      }) (ap (λ (q : Place). q.id) place) (ap (λ (q : Place). q.data_centres) place) (ap (λ (q : Place). q.shards) place)
+
+  there : get_or (set (parts ++ replicate more None) slot (Some part)) slot None ≡ Some part
+  there = get_or-set_same made slot (Some part) None below
+
+  pub place_admitted : get_or (places_of (set (parts ++ replicate more None) slot (Some part))) slot None ≡ Some (record { id = id; data_centres = dcs; shards = shards; trans_time = trans_time; first_clock = first_clock; quota = quota })
+  place_admitted = place_shown (set made slot (Some part)) slot part there ∙ ap Some place
+
+  pub trail_admitted : trail_of slot (trails_of (set (parts ++ replicate more None) slot (Some part))) ≡ []
+  trail_admitted = trail_read (set made slot (Some part)) slot part there ∙ fresh.trail
+
+  pub others_admitted : (other : ℕ) → other ≢ slot
+      → (get_or (places_of (set (parts ++ replicate more None) slot (Some part))) other None ≡ get_or (places_of parts) other None) × (trail_of other (trails_of (set (parts ++ replicate more None) slot (Some part))) ≡ trail_of other (trails_of parts))
+  others_admitted other differ = (
+    place_elsewhere made slot other (Some part) differ ∙ same_place_shown parts made other (padded_read parts more other None),
+    trail_elsewhere made slot other (Some part) differ ∙ same_trail_shown parts made other (padded_read parts more other None),
+  )

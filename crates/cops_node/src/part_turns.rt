@@ -1,0 +1,57 @@
+//! One call at what a node keeps of one slot.
+ghost use Rattle.std.specs.Prelude.{◌≡◌, IsTrue, IfOk, OnErr};
+ghost use Rattle.cops_node.specs.Parts.{HasPartRoom, IsPartTurn, JoinsCalls, OthersStay, StandsForTrail};
+ghost use Rattle.cops_node.specs.Place.{fits};
+
+use crate::parts::{self, Part};
+use crate::{AuditRow, NodeCall, NodeReply, calls};
+use cops_outbox::Outbox;
+use cops_store::Store;
+use cops_types::Fault;
+use std::alloc::{AllocError, Global};
+
+// Makes a call at the part of a slot. Where the audit is full that is the reply, and nothing changes.
+// Nothing changes either where memory is refused.
+pub(crate) fn turn(
+    alloc: Global,
+    part: &mut Part,
+    store: &mut Store,
+    outbox: &mut Outbox,
+    slot: usize,
+    moment: u64,
+    call: NodeCall,
+) -> Result<NodeReply, AllocError>
+    requires stands { StandsForTrail slot part.old store.old outbox.old }
+    requires fits { IsTrue (fits part.old.place call) }
+    ensures turn { IfOk result (λ reply. IsPartTurn moment call reply part.old part.new) }
+    ensures noted { IfOk result (λ reply. JoinsCalls moment call reply part.old part.new) }
+    ensures stands { StandsForTrail slot part.new store.new outbox.new }
+    ensures others { OthersStay slot store.old outbox.old store.new outbox.new }
+    ensures place { part.new.place ≡ part.old.place }
+    ensures err { OnErr result (part.new.trail.calls ≡ part.old.trail.calls) }
+    ensures room { OnErr result (HasPartRoom part.old) }
+{
+    if parts::is_audit_full(part) {
+        return Ok(NodeReply::Refused(Fault::AuditFull));
+    }
+    if part.trail.reserve().is_err() {
+        return Err(AllocError);
+    }
+    let now = part.moment.max(moment);
+    let Ok(answered) = calls::act(
+        alloc,
+        &part.place,
+        &mut part.counters,
+        store,
+        outbox,
+        slot,
+        now,
+        call,
+    ) else {
+        return Err(AllocError);
+    };
+    part.moment = now;
+    let row = AuditRow::new(moment, answered.kept);
+    part.trail.push(row);
+    Ok(answered.told)
+}
