@@ -12,7 +12,7 @@ use Rattle.cops_types.specs.TenantConfig.{TenantConfig, tenant_config}
 use Rattle.cops_node.specs.declared.AuditEntry.{AuditEntry}
 use Rattle.cops_node.specs.declared.NodeId.{NodeId}
 use Rattle.cops_node.specs.Clusters.{id_of}
-use Rattle.cops_node.specs.Parts.{Shared, solo_of}
+use Rattle.cops_node.specs.Parts.{Shared, place_at, solo_of}
 use Rattle.cops_node.specs.Place.{place_of}
 use Rattle.cops_node.specs.Shape.{Shape}
 use Rattle.cops_node.specs.SoloNode.{SoloNode}
@@ -114,9 +114,9 @@ slot_there config tenant slot nodes i node are below is e =
 
 -- which is his place there
 pub place_there : (config : Config) (tenant : Tenant) (slot : ℕ) (nodes : List Shared) (i : ℕ) (node : Shared) → AreNodesOf config nodes → i < length nodes → node ≡ get_or nodes i node →
-    slice_get config.tenants slot ≡ Some tenant → slice_get node.home.places slot ≡ Some (place_of (tenant_config config tenant) (id_of config.shards i))
+    slice_get config.tenants slot ≡ Some tenant → place_at slot node ≡ Some (place_of (tenant_config config tenant) (id_of config.shards i))
 place_there config tenant slot nodes i node are below is e =
-    each_at (λ (n : Shared). slice_get n.home.places slot ≡ Some (place_of (tenant_config config tenant) n.home.id)) nodes i node (are.each_tenant slot tenant e) (slice_get-get_or nodes i node below ∙ ap Some (sym is))
+    each_at (λ (n : Shared). place_at slot n ≡ Some (place_of (tenant_config config tenant) n.home.id)) nodes i node (are.each_tenant slot tenant e) (slice_get-get_or nodes i node below ∙ ap Some (sym is))
     ∙ ap (λ id. Some (place_of (tenant_config config tenant) id)) (numbered config nodes i node are below is)
 
 -- the lines of a tenant's nodes

@@ -1,14 +1,14 @@
 -- Which nodes are a configuration's.
 use Rattle.std.proofs.Common.{◌≡◌, ℕ, zero, suc, ◌*◌, ◌<◌, ◌≤◌, List, [], ◌∷◌, length, get_or, refl, sym, subst, ap, ◌∙◌, arith}
-use Rattle.std.specs.Prelude.{Some, option_map, slice_get}
+use Rattle.std.specs.Prelude.{None, Some, slice_get}
 use Rattle.std.specs.List.{AllByRecursion}
-use Rattle.std.proofs.lemmas.Option.{slice_get-map}
 use Rattle.cops_types.specs.declared.configs.Config.{Config}
 use Rattle.cops_types.specs.declared.configs.Tenant.{Tenant}
 use Rattle.cops_types.specs.Layout.{NODES}
 use Rattle.cops_types.specs.TenantConfig.{tenant_config}
 use Rattle.cops_node.specs.Clusters.{id_of}
-use Rattle.cops_node.specs.Parts.{Home, Shared, home_of}
+use Rattle.cops_node.specs.Parts.{Home, Shared, home_of, place_at}
+use Rattle.cops_node.proofs.Clusters.{place_new}
 use Rattle.cops_node.specs.Place.{place_of}
 use Rattle.cops_replay.specs.AuditText.{AreNodesOf}
 
@@ -25,9 +25,8 @@ nodes_with_homes config nodes fit all each = record {
     all = all;
     each = λ number node below is. (ap (λ (h : Home). h.id) (each number node below is), ap (λ (h : Home). h.shape) (each number node below is));
   };
-  each_tenant = λ slot tenant e. all_from (λ (n : Shared). slice_get n.home.places slot ≡ Some (place_of (tenant_config config tenant) n.home.id)) nodes (λ number node below is.
+  each_tenant = λ slot tenant e. all_from (λ (n : Shared). place_at slot n ≡ Some (place_of (tenant_config config tenant) n.home.id)) nodes (λ number node below is.
       let home = each number node below is in
-      ap (λ (h : Home). slice_get h.places slot) home ∙ slice_get-map (λ (t : Tenant). place_of (tenant_config config t) (id_of config.shards number)) config.tenants slot
-      ∙ ap (option_map (λ (t : Tenant). place_of (tenant_config config t) (id_of config.shards number))) e
+      ap (λ (h : Home). get_or h.places slot None) home ∙ place_new config slot tenant (id_of config.shards number) e
       ∙ ap (λ (h : Home). Some (place_of (tenant_config config tenant) h.id)) (sym home));
 }

@@ -6,7 +6,7 @@ ghost use Rattle.cops_types.specs.Counts.{HasRisen};
 ghost use Rattle.cops_types.specs.HeadLines.{are_sizes};
 ghost use Rattle.cops_types.specs.Sink.{AppendsFront, sink_failures, sink_writer};
 ghost use Rattle.cops_types.specs.TenantConfig.{tenant_config};
-ghost use Rattle.cops_node.specs.Parts.{solo_of};
+ghost use Rattle.cops_node.specs.Parts.{place_at, solo_of};
 ghost use Rattle.cops_node.specs.Place.{place_of};
 ghost use Rattle.cops_replay.specs.Audits.{record_of, records_of};
 ghost use Rattle.cops_replay.specs.AuditText.{AreNodesOf, audit_of, config_text, ended, head_text, his_nodes, records_text, tenants_text, tenant_text};
@@ -63,7 +63,7 @@ fn put_node<W: Write>(
     node: &Node,
 ) -> Result<(), Fault>
     requires slot { slot < node.now.home.shape.slots }
-    requires place { slice_get node.now.home.places slot ≡ Some (place_of (tenant_config config.now tenant.now) id) }
+    requires place { place_at slot node.now ≡ Some (place_of (tenant_config config.now tenant.now) id) }
     ensures { PutsText (records_text tenant.now.name (map (record_of id) (solo_of slot (place_of (tenant_config config.now tenant.now) id) node.now).trail))
         (page out.old.items (W.contents (sink_writer sink.old)) (sink_failures sink.old)) result
         (page out.new.items (W.contents (sink_writer sink.new)) (sink_failures sink.new)) }

@@ -8,7 +8,7 @@ use Rattle.cops_node.specs.declared.AuditEntry.{AuditEntry}
 use Rattle.cops_node.specs.declared.NodeId.{NodeId}
 use Rattle.cops_node.specs.declared.Place.{Place}
 use Rattle.cops_node.specs.Clusters.{nodes_of}
-use Rattle.cops_node.specs.Parts.{Shared, solo_of}
+use Rattle.cops_node.specs.Parts.{Shared, place_at, solo_of}
 use Rattle.cops_node.specs.Place.{node_number, place_of}
 use Rattle.cops_node.specs.SoloNode.{SoloNode, new_node}
 use Rattle.cops_world.specs.Cluster.{SoloCluster}
@@ -24,7 +24,7 @@ all_at P (z ∷ xs) (suc i) x h lt is = all_at P xs i x h.1 (omega arith) is
 -- a node shows of a tenant what his own node has, in each cluster that his part of the world stands for
 pub shows_own : (world : World) (slot : ℕ) (id : NodeId) (place : ℕ) (node : Shared) (shown : Option AuditEntry) →
     (config_at world.setup slot).shards ≡ world.setup.shards → node_number world.setup.shards id < length world.nodes.nodes → node ≡ get_or world.nodes.nodes (node_number world.setup.shards id) node →
-    ((own : Place) → slice_get node.home.places slot ≡ Some own → shown ≡ slice_get (solo_of slot own node).trail place) →
+    ((own : Place) → place_at slot node ≡ Some own → shown ≡ slice_get (solo_of slot own node).trail place) →
     (cluster : SoloCluster) → ClusterStandsAt world slot cluster → shown ≡ audited_at (config_at world.setup slot) id place cluster
 shows_own world slot id place node shown shards within read told cluster stood =
     told (place_of config node.home.id) found ∙ ap (λ (solo : SoloNode). slice_get solo.trail place) solo_is
@@ -35,8 +35,8 @@ shows_own world slot id place node shown shards within read told cluster stood =
     solo : Shared → SoloNode
     solo n = solo_of slot (place_of config n.home.id) n
 
-    found : slice_get node.home.places slot ≡ Some (place_of config node.home.id)
-    found = all_at (λ (n : Shared). slice_get n.home.places slot ≡ Some (place_of config n.home.id)) world.nodes.nodes (node_number world.setup.shards id) node stood.has within read
+    found : place_at slot node ≡ Some (place_of config node.home.id)
+    found = all_at (λ (n : Shared). place_at slot n ≡ Some (place_of config n.home.id)) world.nodes.nodes (node_number world.setup.shards id) node stood.has within read
 
     solo_is : solo node ≡ get_or cluster.nodes (node_number config.shards id) (new_node config.data_centres)
     solo_is =
