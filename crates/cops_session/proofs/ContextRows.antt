@@ -155,15 +155,7 @@ ContextsStandFor-same number next before new rows opens issued is sees stand =
     subst (λ (cs : List OpenContext). ContextsStandFor (replaced number new rows) cs) (context_extended-nothing number opens)
     (ContextsStandFor-extended number next before new [] rows opens issued is (λ obs h. subst (λ (os : List Observation). ListsStandFor new os) (sym (append-nil obs)) (sees obs h)) stand)
 
--- ---- a row put back
-
-pub replaced-replaced : (number : ℕ) (a b : Lists) (rows : List (Open Lists)) → replaced number b (replaced number a rows) ≡ replaced number b rows
-replaced-replaced number a b [] = refl
-replaced-replaced number a b (row ∷ rows) =
-    elim (row.number == number) as (λ c. (row.number == number) ≡ c → replaced number b (replaced number a (row ∷ rows)) ≡ replaced number b (row ∷ rows)) [
-      | true ↦ λ own. rw (own, own) (ap (λ rs. record { number = row.number; row = b } ∷ rs) (replaced-replaced number a b rows))
-      | false ↦ λ other. rw (other, other) (ap (λ rs. row ∷ rs) (replaced-replaced number a b rows))
-    ] refl
+-- ---- a context that changes in its place
 
 unchanged_tail : (x : Open Lists) (number : ℕ) (new : Lists) (rows : List (Open Lists)) → x.number ≡ number → AllAbove by_number_total x rows → replaced number new rows ≡ rows
 unchanged_tail x number new [] is above = refl
@@ -192,30 +184,3 @@ row_at-replaced number before new (row ∷ rows) is =
       | true ↦ λ own. rw (own, own) refl
       | false ↦ λ other. rw (other, other) (row_at-replaced number before new rows (rw other at is))
     ] refl
-
--- ---- a context taken out, and put back with what it saw
-
-pub open_while_taken : (number : ℕ) (rows taken : List (Open Lists)) (empty before : Lists) → row_at number rows ≡ Some before → taken ≡ replaced number empty rows → row_at number taken ≡ Some empty
-open_while_taken number rows taken empty before was taken_is = ap (row_at number) taken_is ∙ row_at-replaced number before empty rows was
-
-module _ (number next : ℕ) (rows taken back : List (Open Lists)) (empty before after : Lists) (issued : AreIssued rows next) (was : row_at number rows ≡ Some before)
-    (taken_is : taken ≡ replaced number empty rows) (back_is : back ≡ replaced number after taken) where
-  pub rows_back : back ≡ replaced number after rows
-  rows_back = back_is ∙ ap (replaced number after) taken_is ∙ replaced-replaced number empty after rows
-
-  pub row_back : row_at number back ≡ Some after
-  row_back = ap (row_at number) rows_back ∙ row_at-replaced number before after rows was
-
-  pub same_rows_back : after ≡ before → back ≡ rows
-  same_rows_back same = rows_back ∙ ap (λ l. replaced number l rows) same ∙ replaced-same number next before rows issued was
-
-  pub stand_back : ((obs : List Observation) → ListsStandFor before obs → ListsStandFor after obs) → (opens : List OpenContext) → ContextsStandFor rows opens → ContextsStandFor back opens
-  stand_back sees opens stand = subst (λ (rs : List (Open Lists)). ContextsStandFor rs opens) (sym rows_back) (ContextsStandFor-same number next before after rows opens issued was sees stand)
-
-  pub stand_back_extended : (more : List Observation) → ((obs : List Observation) → ListsStandFor before obs → ListsStandFor after (obs ++ more)) → (opens : List OpenContext) → ContextsStandFor rows opens →
-      ContextsStandFor back (context_extended number more opens)
-  stand_back_extended more sees opens stand =
-      subst (λ (rs : List (Open Lists)). ContextsStandFor rs (context_extended number more opens)) (sym rows_back) (ContextsStandFor-extended number next before after more rows opens issued was sees stand)
-
-  pub stood : (opens : List OpenContext) → ContextsStandFor rows opens → ListsStandFor before (obs_in number opens)
-  stood opens stand = obs_in-stands number rows opens before stand was

@@ -2,31 +2,16 @@
 ghost use Rattle.std.specs.Prelude.{◌≡◌, [], ◌∷◌, List, not, IfOk, OnOk, OnErr};
 ghost use Rattle.cops_types.specs.Context.{Put, all_of, near_of, observations_of, can_put, can_observe};
 ghost use Rattle.cops_types.specs.Refusal.{IsAnswer, refused_if};
-ghost use Rattle.cops_handles.specs.Rows.{replaced};
 ghost use Rattle.cops_session.specs.Kept.{HasRoomInContext, IsOpen};
 ghost use Rattle.cops_session.specs.Session.{OpenContext, context_extended};
 ghost use Rattle.cops_session.specs.SessionStands.{ContextsStandFor, obs_in};
 
 use crate::kinds::Contexts;
-use cops_context::Context;
 use cops_handles::{Handle, Table};
 use cops_types::{Deps, Fault, Key, Near, Pair, Read};
-use std::alloc::Global;
-
-/// Puts a context under its number.
-fn put_back(contexts: &mut Table<Contexts>, handle: Handle<Contexts>, context: Context)
-    requires { IsOpen handle contexts.old.rows }
-    ensures { contexts.new ≡ record contexts.old { rows = replaced handle context contexts.old.rows } }
-{
-    match contexts.replace(handle, context) {
-        Ok(_) => {}
-        Err(_) => unreachable!(),
-    }
-}
 
 /// The two lists that a put of the key sends. From here on the context has room for that put.
 pub(crate) fn prepare_put(
-    alloc: Global,
     contexts: &mut Table<Contexts>,
     handle: Handle<Contexts>,
     key: &Key,
@@ -42,42 +27,21 @@ pub(crate) fn prepare_put(
     ensures numbers { contexts.new ≡ record contexts.old { rows = contexts.new.rows } }
     ensures err { OnErr result (contexts.new ≡ contexts.old) }
 {
-    let same = handle;
-    match contexts.replace(handle, Context::new(alloc)) {
-        Ok(mut context) => {
-            let lists = context.put_args(key, limit);
-            put_back(contexts, same, context);
-            lists
-        }
-        Err(_) => unreachable!(),
-    }
+    contexts.row_mut(handle).put_args(key, limit)
 }
 
 /// The context sees a pair that was put, for which there is room.
-pub(crate) fn see_put(
-    alloc: Global,
-    contexts: &mut Table<Contexts>,
-    handle: Handle<Contexts>,
-    pair: Pair,
-)
+pub(crate) fn see_put(contexts: &mut Table<Contexts>, handle: Handle<Contexts>, pair: Pair)
     requires { HasRoomInContext handle pair.key contexts.old.rows }
     ensures stands { (opens : List OpenContext) → ContextsStandFor contexts.old.rows opens →
         ContextsStandFor contexts.new.rows (context_extended handle (Put pair ∷ []) opens) }
     ensures numbers { contexts.new ≡ record contexts.old { rows = contexts.new.rows } }
 {
-    let same = handle;
-    match contexts.replace(handle, Context::new(alloc)) {
-        Ok(mut context) => {
-            context.after_put(pair);
-            put_back(contexts, same, context);
-        }
-        Err(_) => unreachable!(),
-    }
+    contexts.row_mut(handle).after_put(pair);
 }
 
 /// The context sees what was read, in order: all of it or nothing.
 pub(crate) fn see_reads(
-    alloc: Global,
     contexts: &mut Table<Contexts>,
     handle: Handle<Contexts>,
     reads: &[Read],
@@ -91,13 +55,5 @@ pub(crate) fn see_reads(
     ensures numbers { contexts.new ≡ record contexts.old { rows = contexts.new.rows } }
     ensures err { OnErr result (contexts.new ≡ contexts.old) }
 {
-    let same = handle;
-    match contexts.replace(handle, Context::new(alloc)) {
-        Ok(mut context) => {
-            let seen = context.observe_all(reads, limit);
-            put_back(contexts, same, context);
-            seen
-        }
-        Err(_) => unreachable!(),
-    }
+    contexts.row_mut(handle).observe_all(reads, limit)
 }

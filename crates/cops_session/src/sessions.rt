@@ -188,13 +188,7 @@ impl Session {
         if self.next_request == u64::MAX {
             return Err(Fault::IdsSpent);
         }
-        let (deps, near) = prepare_put(
-            self.alloc,
-            &mut self.contexts,
-            same,
-            &key,
-            self.setting.deps,
-        )?;
+        let (deps, near) = prepare_put(&mut self.contexts, same, &key, self.setting.deps)?;
         let writing = PendingPut {
             key,
             value,
@@ -335,7 +329,7 @@ impl Session {
         match write_step(nodes, self.setting, writing, self.moment) {
             Answer::Stored(pair) => {
                 let stored = pair;
-                see_put(self.alloc, &mut self.contexts, context, pair);
+                see_put(&mut self.contexts, context, pair);
                 Progress::Done(Answer::Stored(stored))
             }
             answer => Progress::Done(answer),
@@ -401,7 +395,6 @@ impl Session {
         ensures others { self.new ≡ record self.old { contexts = record self.old.contexts { rows = self.new.contexts.rows } } }
     {
         match see_reads(
-            self.alloc,
             &mut self.contexts,
             context,
             reads.as_slice(),
