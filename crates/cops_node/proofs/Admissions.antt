@@ -1,9 +1,9 @@
 -- What is kept of all slots where a tenant comes or goes.
-use Rattle.std.proofs.Common.{◌≡◌, ◌≢◌, ℕ, zero, suc, ◌+◌, ◌-◌, ◌*◌, ◌<◌, ◌≤◌, max, Bor, Bool, true, false, ◌||◌, List, [], ◌∷◌, ◌++◌, length, map, refl, sym, ap, ◌∙◌, subst, arith, true≢false, get_or, set}
+use Rattle.std.proofs.Common.{◌≡◌, ◌≢◌, ℕ, zero, suc, ◌+◌, ◌-◌, ◌*◌, ◌<◌, ◌≤◌, max, Bor, Bool, true, false, ◌||◌, List, [], ◌∷◌, ◌++◌, length, refl, sym, ap, ◌∙◌, subst, arith, true≢false, get_or, set}
 use Rattle.std.specs.Prelude.{Option, None, Some, is_some, replicate}
 use Rattle.std.specs.List.{AllByRecursion}
 use Rattle.std.specs.Option.{option_copied, option_map}
-use Rattle.std.proofs.lemmas.List.{get_or-set_same, get_or-set_other, map-append, map-set, length-set}
+use Rattle.std.proofs.lemmas.List.{get_or-set_same, map-set}
 use Rattle.std.proofs.lemmas.List.Sorted.{IsPermutation-refl}
 use Rattle.cops_types.specs.declared.quotas.Quota.{Quota}
 use Rattle.cops_types.specs.Layout.{NODES}
@@ -14,9 +14,8 @@ use Rattle.cops_outbox.specs.Queues.{Queues, queue_of}
 use Rattle.cops_node.specs.declared.NodeId.{NodeId}
 use Rattle.cops_node.specs.declared.Place.{Place}
 use Rattle.cops_node.specs.declared.parts.Part.{Part}
-use Rattle.cops_node.specs.Parts.{AllFit, IsFresh, IsNode, IsPart, IsPlace, IsUnused, OthersStay, left_by, places_of, trail_in, trail_of, trails_of}
+use Rattle.cops_node.specs.Parts.{AllFit, IsFresh, IsNode, IsPart, IsPlace, OthersStay, left_by, places_of, trail_in, trail_of, trails_of}
 use Rattle.cops_node.specs.declared.AuditEntry.{AuditEntry}
-use Rattle.cops_node.specs.Shape.{place_in}
 use Rattle.cops_node.proofs.Fresh.{fresh_part}
 use Rattle.cops_node.proofs.Slots.{HomePlace, IsNode-set, map_read, place_elsewhere, place_in_part, place_shown, trail_elsewhere, trail_read}
 

@@ -1,6 +1,5 @@
 -- What one call of a slot does to what a node keeps of it.
-use Rattle.std.proofs.Common.{◌≡◌, ◌≢◌, ℕ, ◌<◌, Bool, true, false, not, List, [], ◌∷◌, ◌++◌, length, refl, sym, ap, ◌∙◌, subst, arith, true≢false, nat_lt, max, inl, inr}
-use Rattle.std.specs.Prelude.{IsTrue}
+use Rattle.std.proofs.Common.{◌≡◌, ℕ, ◌<◌, Bool, true, false, not, [], ◌∷◌, ◌++◌, length, refl, sym, ap, ◌∙◌, subst, arith, true≢false, nat_lt, max, inr}
 use Rattle.cops_types.specs.declared.faults.Fault.TheVariants.{AuditFull}
 use Rattle.cops_types.specs.Records.{StandsFor}
 use Rattle.cops_store.specs.Contents.{Contents, rows_of}

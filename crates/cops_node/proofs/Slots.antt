@@ -15,8 +15,8 @@ use Rattle.cops_types.specs.declared.records.EntryParts.{EntryParts as Entry}
 use Rattle.cops_types.specs.Key.{shard_of}
 use Rattle.cops_types.specs.Records.{StandsFor, mark}
 use Rattle.cops_types.specs.Version.{Timestamp, version_eq}
-use Rattle.cops_store.specs.Contents.{Contents, rows_of}
-use Rattle.cops_outbox.specs.Queues.{Queues, front, queue_of}
+use Rattle.cops_store.specs.Contents.{Contents}
+use Rattle.cops_outbox.specs.Queues.{Queues, front}
 use Rattle.cops_node.specs.declared.AuditEntry.{AuditEntry}
 use Rattle.cops_node.specs.declared.NodeCall.{NodeCall}
 use Rattle.cops_node.specs.declared.NodeCall.TheVariants.{Get, Put, DepCheck, Pull, Commit, Ack, Collect}
@@ -26,14 +26,13 @@ use Rattle.cops_node.specs.declared.NodeReply.TheVariants.{Refused, Stored, Comm
 use Rattle.cops_node.specs.declared.Place.{Place}
 use Rattle.cops_node.specs.declared.parts.Counters.{Counters}
 use Rattle.cops_node.specs.declared.parts.Part.{Part}
-use Rattle.cops_node.specs.Parts.{AllFit, HasPartRoom, HasSolo, HasSlots, IsDone, IsNode, IsPart, IsPartTurn, IsSoloTurn, IsUnused, JoinsCalls, JoinsTrail, OthersStay, Shared, StandsAt, StandsForTrail, has_audit_room, left_by, noted, places_of, trail_in, trail_of, trails_of}
+use Rattle.cops_node.specs.Parts.{AllFit, HasPartRoom, IsNode, IsPart, IsPartTurn, IsSoloTurn, IsUnused, JoinsCalls, JoinsTrail, OthersStay, Shared, StandsAt, StandsForTrail, has_audit_room, left_by, noted, places_of, trail_in, trail_of, trails_of}
 use Rattle.cops_node.specs.Place.{fits}
 use Rattle.cops_node.specs.Run.{calls_in_trail, node_after}
 use Rattle.cops_node.specs.Shape.{place_in}
 use Rattle.cops_node.specs.SoloNode.{SoloNode, new_node, queue}
 use Rattle.cops_node.specs.Step.{CallEffect, acknowledge, audited, commit_refusal, effect, entry_of_put, node_put_refusal, node_step, put_with_version, store_unless, unchanged, version_of_put, was_committed}
-use Rattle.cops_node.proofs.AuditLaws.{node_after-push, trail_of_effect}
-use Rattle.cops_node.proofs.Effects.{StandsAt-raised}
+use Rattle.cops_node.proofs.AuditLaws.{node_after-push}
 
 -- ---- the audit
 

@@ -153,7 +153,14 @@ fn rows_in_full_under_want_of_memory(rt: HostRuntime) {
     insists(&rt, alloc, &mut node, 1, first, ("stored", 65536));
     let full = refused(Fault::OutboxFull);
     insists(&rt, alloc, &mut node, 1, put(&rt, alloc, long), full);
-    insists(&rt, alloc, &mut node, 1, get(&rt, long, 9, 0), ("not yet", 0));
+    insists(
+        &rt,
+        alloc,
+        &mut node,
+        1,
+        get(&rt, long, 9, 0),
+        ("not yet", 0),
+    );
     assert_eq!(rt; audited(&rt, alloc, &node, 0), ("stored", 65536));
     assert_eq!(rt; audited(&rt, alloc, &node, 1), full);
     assert_eq!(rt; audited(&rt, alloc, &node, 2), ("not yet", 0));

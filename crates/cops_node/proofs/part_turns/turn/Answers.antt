@@ -1,7 +1,6 @@
-use Rattle.std.proofs.Common.{◌≡◌, ◌∙◌, ◌++◌, ◌∷◌, [], ap, inl, refl, sym}
+use Rattle.std.proofs.Common.{◌≡◌, ◌∙◌, ◌++◌, ◌∷◌, [], ap, refl}
 use Rattle.cops_node.specs.declared.parts.Part.{Part}
 use Rattle.cops_node.specs.declared.rows.Exchange.{Exchange}
-use Rattle.cops_node.specs.Parts.{IsUnchanged}
 use Rattle.cops_node.proofs.PartTurns.{full_turn, nothing_done, open_room, raised_solo, stands_still, turn_done, turn_joins, turn_stands}
 use Rattle.cops_node.proofs.part_turns.turn.Goals as goal
 

@@ -1,4 +1,4 @@
-use Rattle.std.proofs.Common.{◌≡◌, ◌∙◌, ◌++◌, ◌+◌, ◌-◌, ◌≤◌, ap, arith, false, length, max, sym, subst, get_or, set, List}
+use Rattle.std.proofs.Common.{◌≡◌, ◌∙◌, ◌++◌, ◌+◌, ◌-◌, ap, arith, length, sym, subst, get_or, set, List}
 use Rattle.std.specs.Prelude.{None, Some, Option, is_some, nat_le, replicate}
 use Rattle.cops_outbox.specs.Queues.{Queues}
 use Rattle.cops_node.specs.declared.parts.Part.{Part}

@@ -1,4 +1,4 @@
-use Rattle.std.proofs.Common.{◌≡◌, ◌∙◌, ◌<◌, ap, arith, sym, subst, length, get_or, IsTrue, set}
+use Rattle.std.proofs.Common.{◌≡◌, ◌∙◌, ap, arith, sym, subst, length, get_or, IsTrue, set}
 use Rattle.std.specs.Prelude.{None, Some}
 use Rattle.std.proofs.lemmas.List.{get_or_default}
 use Rattle.cops_node.specs.Parts.{IsSoloTurn, JoinsTrail, Shared, place_at, trail_of}
