@@ -1,8 +1,8 @@
 -- A head of layout 1 whose clocks layout 2 has too is the same head in both.
-use Rattle.std.proofs.Common.{◌≡◌, ℕ, ◌+◌, ◌≤◌, Bool, true, false, cond, ◌&&◌, List, [], ◌∷◌, ◌++◌, length, refl, sym, subst, ap, ◌∙◌, true≢false, arith}
+use Rattle.std.proofs.Common.{◌≡◌, ℕ, ◌+◌, ◌≤◌, Bool, true, false, cond, ◌&&◌, List, [], ◌∷◌, ◌++◌, length, refl, sym, subst, ap, ◌∙◌, arith}
 use Rattle.std.specs.Prelude.{Option, Some, None, IsTrue, nat_le, nat_lt}
 use Rattle.std.specs.List.{AllByRecursion, list_all}
-use Rattle.std.specs.Option.{is_some, option_map, option_and_then}
+use Rattle.std.specs.Option.{option_map, option_and_then}
 use Rattle.std.specs.Str.{bytes_eq}
 use Rattle.std.proofs.lemmas.Bool.Decides.{nat_tests}
 use Rattle.cops_types.specs.declared.configs.Config.{Config}
@@ -16,10 +16,11 @@ use Rattle.cops_types.proofs.HeadLemmas.{tenant_in-finds, tenant_in_to-is}
 use Rattle.cops_types.proofs.WordLemmas.{both}
 use Rattle.cops_world.proofs.HeadRuns.{read_once}
 use Rattle.cops_replay.specs.declared.Record.{Record}
-use Rattle.cops_replay.specs.MigrationLaws.{IsAuditInBoth, IsInBoth, ReadsAlike}
+use Rattle.cops_replay.specs.MigrationLaws.{IsAuditInBoth, ReadsAlike}
 use Rattle.cops_replay.specs.OldRecords.{last_early_clock, old_record_in}
 use Rattle.cops_replay.specs.RecordLines.{record_in}
-use Rattle.cops_replay.proofs.RecordsInBoth.{same_record}
+use Rattle.cops_replay.specs.ReplayText.{IsEarlyLine, longest_record}
+use Rattle.cops_replay.proofs.EarlyRecords.{early_record}
 use Rattle.cops_replay.proofs.WholeMigrations.{clocks_before}
 
 -- ---- one line
@@ -106,14 +107,18 @@ read_today (line ∷ lines) number (Within found) config rest fine e =
 
 -- ---- the records
 
-same_read : (line : List ℕ) → IsInBoth line → record_in line ≡ old_record_in line
-same_read line is = by_read (old_record_in line) refl is.read
+same_read : (line : List ℕ) → IsEarlyLine line → record_in line ≡ old_record_in line
+same_read line (told, e) = by_short (nat_le (length line) longest_record) e
   where
-    by_read : (found : Option (List ℕ × Record)) → old_record_in line ≡ found → IsTrue (is_some found) → record_in line ≡ old_record_in line
-    by_read None e some = absurd (true≢false (sym some))
-    by_read (Some read) e some = same_record line read e ∙ sym e
+    by_read : (found : Option (List ℕ × Record)) → old_record_in line ≡ found → option_map (λ (read : List ℕ × Record). read.1) found ≡ Some told → record_in line ≡ old_record_in line
+    by_read None is e = absurd (let clash : ⊥ = cc in clash)
+    by_read (Some read) is e = early_record line read is ∙ sym is
 
-all_read : (lines : List (List ℕ)) → AllByRecursion IsInBoth lines → AllByRecursion (λ line. record_in line ≡ old_record_in line) lines
+    by_short : (t : Bool) → cond t (option_map (λ (read : List ℕ × Record). read.1) (old_record_in line)) None ≡ Some told → record_in line ≡ old_record_in line
+    by_short true e = by_read (old_record_in line) refl e
+    by_short false e = absurd (let clash : ⊥ = cc in clash)
+
+all_read : (lines : List (List ℕ)) → AllByRecursion IsEarlyLine lines → AllByRecursion (λ line. record_in line ≡ old_record_in line) lines
 all_read [] all = tt
 all_read (line ∷ lines) all = (same_read line all.0, all_read lines all.1)
 

@@ -31,7 +31,8 @@ use Rattle.cops_replay.specs.MigratedText.{Migration, bad_config_at, bad_line_at
 use Rattle.cops_replay.specs.MigrationRules.{OldHeadIsRefused, RecordRefuses, migration_answers, migration_end_refuses, migration_refuses, migration_rules, part_answers, part_ends, part_refuses, part_refuses_end, records_in}
 use Rattle.cops_replay.specs.OldRecords.{last_early_clock, old_refusal_of}
 use Rattle.cops_replay.specs.ReplayText.{longest_record, told_number}
-use Rattle.cops_replay.proofs.OldHeadLengths.{cut_in_old_head, take_all}
+use Rattle.cops_replay.specs.declared.layouts.Layout.TheVariants.{Early}
+use Rattle.cops_replay.proofs.AuditHeads.{cut_in_head, take_all}
 
 -- ---- lines, as they are cut
 
@@ -147,7 +148,7 @@ record Ran (old : Reached) (lines : List (List ℕ)) (text : List ℕ) (audit : 
 
 step_in_head : (front : Front) (n : ℕ) (line text : List ℕ) (old new : OldAudit) → HasReached (InHead front n) old → new.lines ≡ counted old.lines → (part : OldPart) → new.part ≡ part → part_answers (Head (Some front)) (cut_line longest_record line) text part → Ran (InHead front n) (line ∷ []) text new
 step_in_head front n line text old new (at, count, still, fine) lines (Head reader) is (g, silent) =
-    let found : old_front_after front line ≡ Some g.next = sym (cut_in_old_head front line) ∙ g.found in
+    let found : old_front_after front line ≡ Some g.next = sym (cut_in_head Early front line) ∙ g.found in
     record {
       next = InHead g.next (n + 1);
       there = (is ∙ ap Head g.kept, lines ∙ ap counted count ∙ counted_more n, g.still, g.clocks);
@@ -156,7 +157,7 @@ step_in_head front n line text old new (at, count, still, fine) lines (Head read
           ∙ ap (λ t. with_text t (migrated_from later (n + 1 + 1) g.next)) (sym silent);
     }
 step_in_head front n line text old new (at, count, still, fine) lines (Records k) is (config, ends, text_is, none) =
-    let found : old_front_after front line ≡ Some (Begun config) = sym (cut_in_old_head front line) ∙ ends in
+    let found : old_front_after front line ≡ Some (Begun config) = sym (cut_in_head Early front line) ∙ ends in
     let clocks = begun_clocks front line config found fine in
     let zeroth : 0 ≡ told_number 0 = omega arith in
     record {
@@ -198,10 +199,10 @@ refused_line (InHead front n) line later audit refusal (at, count, still, fine) 
   where
     by_refusal : (refusal : MigrationRefusal) → OldHeadIsRefused (Some front) (cut_line longest_record line) (counted audit.lines) refusal → migrated_from (line ∷ later) (n + 1) front ≡ ends_by (Err refusal)
     by_refusal (BadConfig bad) (none, number) =
-        head_line (n + 1) front line later (Err (bad_config_at (n + 1))) still (front_stops (n + 1) front line (sym (cut_in_old_head front line) ∙ none))
+        head_line (n + 1) front line later (Err (bad_config_at (n + 1))) still (front_stops (n + 1) front line (sym (cut_in_head Early front line) ∙ none))
         ∙ ap (λ k. ends_by (Err (BadConfig (record { line = k })))) (sym (number ∙ ap counted count ∙ counted_more n))
     by_refusal (BadLine bad) (next, found, great, number, fault_is) =
-        head_line (n + 1) front line later (Err (bad_line_at (n + 1) ClockTooGreat)) still (front_goes (n + 1) front next line (sym (cut_in_old_head front line) ∙ found) false great)
+        head_line (n + 1) front line later (Err (bad_line_at (n + 1) ClockTooGreat)) still (front_goes (n + 1) front next line (sym (cut_in_head Early front line) ∙ found) false great)
         ∙ (λ i. ends_by (Err (BadLine (record { line = sym (number ∙ ap counted count ∙ counted_more n) i; fault = sym fault_is i }))))
 refused_line (InRecords n k) line later audit refusal (at, count) refuses =
     by_refusal refusal (subst (λ (p : OldPart). part_refuses p (cut_line longest_record line) (counted audit.lines) refusal) at refuses)

@@ -1,8 +1,8 @@
 -- An audit that both layouts have is migrated whole.
-use Rattle.std.proofs.Common.{◌≡◌, ℕ, ◌+◌, Bool, true, false, cond, List, [], ◌∷◌, ◌++◌, length, refl, sym, subst, ap, ◌∙◌, true≢false, arith}
+use Rattle.std.proofs.Common.{◌≡◌, ℕ, ◌+◌, Bool, true, false, cond, List, [], ◌∷◌, ◌++◌, length, refl, sym, subst, ap, ◌∙◌, arith}
 use Rattle.std.specs.Prelude.{Option, Some, None, IsTrue, flat_map, nat_le, nat_lt, Ok}
 use Rattle.std.specs.List.{AllByRecursion, list_all}
-use Rattle.std.specs.Option.{is_none, is_some, option_and_then}
+use Rattle.std.specs.Option.{is_none, option_and_then, option_map}
 use Rattle.std.specs.Str.{bytes_eq}
 use Rattle.cops_types.specs.declared.configs.Config.{Config}
 use Rattle.cops_types.specs.declared.configs.Tenant.{Tenant}
@@ -16,21 +16,25 @@ use Rattle.cops_types.proofs.WordLemmas.{both}
 use Rattle.cops_replay.specs.declared.Record.{Record}
 use Rattle.cops_replay.specs.AuditText.{ended, head_text}
 use Rattle.cops_replay.specs.MigratedText.{migrated_from, migrated_records, migration_of, record_fault, with_text}
-use Rattle.cops_replay.specs.MigrationLaws.{IsAuditInBoth, IsInBoth, whole_migration}
+use Rattle.cops_replay.specs.MigrationLaws.{IsAuditInBoth, whole_migration}
 use Rattle.cops_replay.specs.OldRecords.{last_early_clock, old_fault_of, old_record_in, old_refusal_of}
-use Rattle.cops_replay.specs.ReplayText.{told_number}
+use Rattle.cops_replay.specs.ReplayText.{IsEarlyLine, longest_record, told_number}
 use Rattle.cops_replay.proofs.MigrationLemmas.{front_goes, head_line, record_line_left}
 
 -- ---- the records
 
-no_fault : (line : List ℕ) → IsInBoth line → record_fault line ≡ None
-no_fault line is = ap (λ b. cond b (old_refusal_of line) (Some Syntax)) is.short ∙ by_read (old_record_in line) refl is.read
+no_fault : (line : List ℕ) → IsEarlyLine line → record_fault line ≡ None
+no_fault line (told, e) = by_short (nat_le (length line) longest_record) e
   where
-    by_read : (found : Option (List ℕ × Record)) → old_record_in line ≡ found → IsTrue (is_some found) → old_refusal_of line ≡ None
-    by_read None e some = absurd (true≢false (sym some))
-    by_read (Some read) e some = ap (λ (o : Option (List ℕ × Record)). refused_if (is_none o) (old_fault_of line)) e
+    by_read : (found : Option (List ℕ × Record)) → old_record_in line ≡ found → option_map (λ (read : List ℕ × Record). read.1) found ≡ Some told → old_refusal_of line ≡ None
+    by_read None is e = absurd (let clash : ⊥ = cc in clash)
+    by_read (Some read) is e = ap (λ (o : Option (List ℕ × Record)). refused_if (is_none o) (old_fault_of line)) is
 
-records_whole : (lines : List (List ℕ)) (number count : ℕ) → AllByRecursion IsInBoth lines → migrated_records lines number count ≡ record { text = flat_map ended lines; outcome = Ok (told_number (count + length lines)) }
+    by_short : (t : Bool) → cond t (option_map (λ (read : List ℕ × Record). read.1) (old_record_in line)) None ≡ Some told → cond t (old_refusal_of line) (Some Syntax) ≡ None
+    by_short true e = by_read (old_record_in line) refl e
+    by_short false e = absurd (let clash : ⊥ = cc in clash)
+
+records_whole : (lines : List (List ℕ)) (number count : ℕ) → AllByRecursion IsEarlyLine lines → migrated_records lines number count ≡ record { text = flat_map ended lines; outcome = Ok (told_number (count + length lines)) }
 records_whole [] number count all = ap (λ n. record { text = []; outcome = Ok (told_number n) }) (omega arith)
 records_whole (line ∷ lines) number count (here, later) =
     record_line_left number count line lines None (no_fault line here)

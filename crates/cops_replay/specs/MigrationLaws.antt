@@ -1,7 +1,6 @@
 -- Which audits of layout 1 are migrated whole, and what is written of them.
-use Rattle.std.specs.Prelude.{◌≡◌, ℕ, nat_le, List, ◌++◌, flat_map, length, IsTrue, Some, Ok}
+use Rattle.std.specs.Prelude.{◌≡◌, ℕ, List, ◌++◌, flat_map, length, IsTrue, Some, Ok}
 use Rattle.std.specs.List.{AllByRecursion}
-use Rattle.std.specs.Option.{is_some}
 use Rattle.cops_types.specs.declared.configs.Config.{Config}
 use Rattle.cops_types.specs.Head.{Begun, Whole, head_of}
 use Rattle.cops_types.specs.Lines.{lines_of}
@@ -10,18 +9,13 @@ use Rattle.cops_replay.specs.AuditText.{ended, head_text}
 use Rattle.cops_replay.specs.MigratedText.{Migration}
 use Rattle.cops_replay.specs.OldRecords.{last_early_clock, old_record_in}
 use Rattle.cops_replay.specs.RecordLines.{record_in}
-use Rattle.cops_replay.specs.ReplayText.{longest_record, told_number}
-
--- the line isn't too long, and it gives a record that both layouts have
-pub record IsInBoth (line : List ℕ) : Type 0 where
-  pub short : IsTrue (nat_le (length line) longest_record)
-  pub read : IsTrue (is_some (old_record_in line))
+use Rattle.cops_replay.specs.ReplayText.{IsEarlyLine, told_number}
 
 -- the bytes are an audit of layout 1 with this head and these lines of records, all of which layout 2 has too
 pub record IsAuditInBoth (bytes : List ℕ) (config : Config) (lines : List (List ℕ)) : Type 0 where
   pub head : old_head_of (lines_of bytes) ≡ Whole config lines
   pub clocks : IsTrue (has_clocks_to last_early_clock (Some (Begun config)))
-  pub records : AllByRecursion IsInBoth lines
+  pub records : AllByRecursion IsEarlyLine lines
 
 -- all of it is written: the head, and the record lines as they are
 abbrev pub whole_migration : Config → List (List ℕ) → Migration
