@@ -7,7 +7,7 @@ use Rattle.std.specs.Str.{bytes_eq}
 use Rattle.std.proofs.lemmas.Bool.Decides.{nat_tests}
 use Rattle.cops_types.specs.declared.configs.Config.{Config}
 use Rattle.cops_types.specs.declared.configs.Tenant.{Tenant}
-use Rattle.cops_types.specs.Head.{Front, AtStart, Within, Begun, HeadReading, Whole, BadAt, front_after, is_begun, joined, may_join, reading_from, with_tenant}
+use Rattle.cops_types.specs.Head.{Front, AtStart, Within, Begun, HeadReading, Whole, BadAt, front_after, is_begun, head_with, may_join, reading_from, with_tenant}
 use Rattle.cops_types.specs.HeadLines.{begin_line, cluster_in, is_name, is_quota, is_tenant_to, tenant_in}
 use Rattle.cops_types.specs.Lines.{lines_of}
 use Rattle.cops_types.specs.OldHead.{has_clocks_to, last_old_clock, most_old_shards, old_front_after, old_reading_from, old_tenant_in, with_few_shards}
@@ -57,19 +57,19 @@ front_today AtStart line next e fine = by_cluster (cluster_in line) e
     by_cluster (Some config) e = by_few (nat_le config.shards most_old_shards) config e
 front_today (Within config) line next e fine = by_begin (bytes_eq line begin_line) e
   where
-    by_place : (t : Bool) (tenant : Tenant) → may_join config tenant ≡ t → old_tenant_in line ≡ Some tenant → cond t (Some (Within (with_tenant config tenant))) None ≡ Some next → option_and_then (joined config) (tenant_in line) ≡ Some next
+    by_place : (t : Bool) (tenant : Tenant) → may_join config tenant ≡ t → old_tenant_in line ≡ Some tenant → cond t (Some (Within (with_tenant config tenant))) None ≡ Some next → option_and_then (head_with config) (tenant_in line) ≡ Some next
     by_place false tenant may was e = absurd (let clash : ⊥ = cc in clash)
     by_place true tenant may was e =
         let same : Within (with_tenant config tenant) ≡ next = cc in
         let early = last_fits config.tenants tenant (subst (λ (f : Front). IsTrue (has_clocks_to last_early_clock (Some f))) (sym same) fine) in
-        ap (option_and_then (joined config)) (tenant_today line tenant was early) ∙ ap (λ t. cond t (Some (Within (with_tenant config tenant))) None) may ∙ e
+        ap (option_and_then (head_with config)) (tenant_today line tenant was early) ∙ ap (λ t. cond t (Some (Within (with_tenant config tenant))) None) may ∙ e
 
-    by_tenant : (found : Option Tenant) → old_tenant_in line ≡ found → option_and_then (joined config) found ≡ Some next → option_and_then (joined config) (tenant_in line) ≡ Some next
+    by_tenant : (found : Option Tenant) → old_tenant_in line ≡ found → option_and_then (head_with config) found ≡ Some next → option_and_then (head_with config) (tenant_in line) ≡ Some next
     by_tenant None was e = absurd (let clash : ⊥ = cc in clash)
     by_tenant (Some tenant) was e = by_place (may_join config tenant) tenant refl was e
 
-    by_begin : (t : Bool) → cond t (cond (nat_lt 0 (length config.tenants)) (Some (Begun config)) None) (option_and_then (joined config) (old_tenant_in line)) ≡ Some next →
-        cond t (cond (nat_lt 0 (length config.tenants)) (Some (Begun config)) None) (option_and_then (joined config) (tenant_in line)) ≡ Some next
+    by_begin : (t : Bool) → cond t (cond (nat_lt 0 (length config.tenants)) (Some (Begun config)) None) (option_and_then (head_with config) (old_tenant_in line)) ≡ Some next →
+        cond t (cond (nat_lt 0 (length config.tenants)) (Some (Begun config)) None) (option_and_then (head_with config) (tenant_in line)) ≡ Some next
     by_begin true e = e
     by_begin false e = by_tenant (old_tenant_in line) refl e
 front_today (Begun config) line next e fine = absurd (let clash : ⊥ = cc in clash)

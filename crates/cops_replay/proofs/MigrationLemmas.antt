@@ -12,7 +12,7 @@ use Rattle.cops_types.specs.declared.faults.Fault.TheVariants.{Syntax, ClockTooG
 use Rattle.cops_types.specs.declared.line_runs.fault.RunFault.{RunFault}
 use Rattle.cops_types.specs.declared.line_runs.fault.RunFault.TheVariants as fault
 use Rattle.cops_types.specs.Counts.{counted}
-use Rattle.cops_types.specs.Head.{Front, AtStart, Within, Begun, is_begun, joined, may_join, with_tenant}
+use Rattle.cops_types.specs.Head.{Front, AtStart, Within, Begun, is_begun, head_with, may_join, with_tenant}
 use Rattle.cops_types.specs.HeadLines.{begin_line}
 use Rattle.cops_types.specs.LineRules.{Run}
 use Rattle.cops_types.specs.LineRuns.{AnswersAll, IfRunRefused, StopsEarly}
@@ -96,7 +96,7 @@ begun_clocks (Within old) line config e fine = by_begin (bytes_eq line begin_lin
     by_place true tenant e = absurd (let clash : ⊥ = cc in clash)
     by_place false tenant e = absurd (let clash : ⊥ = cc in clash)
 
-    by_tenant : (found : Option Tenant) → option_and_then (joined old) found ≡ Some (Begun config) → IsTrue (has_clocks_to last_early_clock (Some (Begun config)))
+    by_tenant : (found : Option Tenant) → option_and_then (head_with old) found ≡ Some (Begun config) → IsTrue (has_clocks_to last_early_clock (Some (Begun config)))
     by_tenant None e = absurd (let clash : ⊥ = cc in clash)
     by_tenant (Some tenant) e = by_place (may_join old tenant) tenant e
 
@@ -104,7 +104,7 @@ begun_clocks (Within old) line config e fine = by_begin (bytes_eq line begin_lin
     by_count true e = let same : old ≡ config = cc in subst (λ (c : Config). IsTrue (has_clocks_to last_early_clock (Some (Begun c)))) same fine
     by_count false e = absurd (let clash : ⊥ = cc in clash)
 
-    by_begin : (t : Bool) → cond t (cond (nat_lt 0 (length old.tenants)) (Some (Begun old)) None) (option_and_then (joined old) (old_tenant_in line)) ≡ Some (Begun config) → IsTrue (has_clocks_to last_early_clock (Some (Begun config)))
+    by_begin : (t : Bool) → cond t (cond (nat_lt 0 (length old.tenants)) (Some (Begun old)) None) (option_and_then (head_with old) (old_tenant_in line)) ≡ Some (Begun config) → IsTrue (has_clocks_to last_early_clock (Some (Begun config)))
     by_begin true e = by_count (nat_lt 0 (length old.tenants)) e
     by_begin false e = by_tenant (old_tenant_in line) e
 begun_clocks (Begun old) line config e fine = absurd (let clash : ⊥ = cc in clash)
