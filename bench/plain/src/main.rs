@@ -104,7 +104,7 @@ fn execute(command: Command, options: &Options) -> Result<(), Stop> {
         Command::Serve(address, limits) => {
             let config = read_head(&mut Lines::new(input, LONGEST_LINE), options)?;
             let nodes = serve_at(&config, &address, &limits)?;
-            write_audit(output, &config, &nodes, options)
+            write_audit(output, &config, &nodes)
         }
     }
 }
