@@ -13,7 +13,7 @@ from scripts import ScriptMaker
 from services import converse
 from streams import StreamMaker
 
-COMMANDS = ["run", "solo", "audit", "replay", "serve"]
+COMMANDS = ["run", "solo", "audit", "replay", "migrate", "serve"]
 
 #: Every kind of reply and every refusal that a script can meet.
 SCRIPT_REPLIES = {
@@ -47,14 +47,28 @@ class Pair:
 
     def both(self, words: list[str], text: bytes) -> Outcome:
         """The outcome of both, which has to be one."""
-        ours = self.runner.run([*self.program, *words], text)
-        theirs = self.runner.run([*self.plain, *words], text)
+        ours, theirs = self.each(words, text)
         if ours != theirs:
-            files = {"input": text}
-            for name, outcome in (("program", ours), ("plain", theirs)):
-                files[name] = outcome.output + outcome.faults + b"status %d\n" % outcome.status
-            raise Difference(" ".join(words), files)
+            raise self.difference(words, text, ours, theirs)
         return ours
+
+    def both_but_for_fronts(self, words: list[str], text: bytes) -> Outcome:
+        """The same, but where they end early each may have written a front of its own length."""
+        ours, theirs = self.each(words, text)
+        one_goes_on = ours.output.startswith(theirs.output) or theirs.output.startswith(ours.output)
+        if (ours.status, ours.faults) != (theirs.status, theirs.faults) or not one_goes_on or ours.status == 0 and ours != theirs:
+            raise self.difference(words, text, ours, theirs)
+        return ours
+
+    def each(self, words: list[str], text: bytes) -> tuple[Outcome, Outcome]:
+        return self.runner.run([*self.program, *words], text), self.runner.run([*self.plain, *words], text)
+
+    @staticmethod
+    def difference(words: list[str], text: bytes, ours: Outcome, theirs: Outcome) -> Difference:
+        files = {"input": text}
+        for name, outcome in (("program", ours), ("plain", theirs)):
+            files[name] = outcome.output + outcome.faults + b"status %d\n" % outcome.status
+        return Difference(" ".join(words), files)
 
 
 def kinds(output: bytes) -> Counter[str]:
@@ -104,8 +118,21 @@ def compare_replays(pair: Pair, numbers: Random, audit: bytes) -> None:
     pair.both(["replay", name], audits.changed(numbers, audit))
     # The same records in a file of layout 1, which has no line for its layout.
     old = audit.split(b"\n", 1)[1]
-    pair.both(["replay", name], old)
+    replayed = pair.both(["replay", name], old)
     pair.both(["replay", name], audits.changed(numbers, old))
+    if "migrate" in pair.commands:
+        compare_migrations(pair, numbers, name, old, replayed)
+
+
+def compare_migrations(pair: Pair, numbers: Random, name: str, old: bytes, replayed: Outcome) -> None:
+    """A file of layout 1, whole and changed: brought to today's layout it has its lines still, and is replayed as before."""
+    changed = audits.changed(numbers, old)
+    for text, before in ((old, replayed), (changed, pair.both(["replay", name], changed))):
+        moved = pair.both_but_for_fronts(["migrate"], text)
+        if moved.status == 0 and text is old and moved.output != b"layout 2\n" + old:
+            raise Difference("a migration changes the text of an audit", {"input": old, "output": moved.output})
+        if moved.status == 0 and pair.both(["replay", name], moved.output) != before:
+            raise Difference(f"replay {name} of a migrated file", {"input": text, "output": moved.output})
 
 
 def hold_service(pair: Pair, numbers: Random) -> Counter[str]:
