@@ -20,7 +20,7 @@ mkdir -p "$room"
 
 program=${PROGRAM:-}
 if [ -z "$program" ]; then
-    (cd "$here/../crates/cops_cli" && "${RT:-rt}" run -- run <"$here/../examples/one_tenant_reads_its_own_write/input") >"$room/build.log" 2>&1 || {
+    (cd "$here/../crates/cops_cli" && "${RT:-rt}" run -- run <"$here/../demo/tenants.script") >"$room/build.log" 2>&1 || {
         tail -40 "$room/build.log"
         exit 1
     }
