@@ -7,7 +7,7 @@ use Rattle.std.specs.Str.{bytes_eq}
 use Rattle.std.proofs.lemmas.Bool.Decides.{nat_tests}
 use Rattle.cops_types.specs.declared.configs.Config.{Config}
 use Rattle.cops_types.specs.declared.configs.Tenant.{Tenant}
-use Rattle.cops_types.specs.Head.{Whole}
+use Rattle.cops_types.specs.Head.{BadAt, Whole}
 use Rattle.cops_types.specs.TenantConfig.{TenantConfig, tenant_config}
 use Rattle.cops_types.specs.Version.{Timestamp}
 use Rattle.cops_types.specs.Words.{first_word, number_of, parts_at, space}
@@ -18,9 +18,11 @@ use Rattle.cops_replay.specs.declared.Record.{Record}
 use Rattle.cops_replay.specs.declared.Replayed.{Replayed}
 use Rattle.cops_replay.specs.declared.layouts.Layout.{Layout}
 use Rattle.cops_replay.specs.declared.layouts.Layout.TheVariants.{Today, Early}
+use Rattle.cops_replay.specs.declared.refusals.ReplayRefusal.{ReplayRefusal}
+use Rattle.cops_replay.specs.declared.refusals.ReplayRefusal.TheVariants.{BadConfig, ClockTooGreat, UnknownTenant}
 use Rattle.cops_replay.specs.OldRecords.{early_version_of, is_early, is_old_record, last_early_clock, old_record_in}
 use Rattle.cops_replay.specs.Replaying.{fresh_nodes, nodes_after}
-use Rattle.cops_replay.specs.ReplayText.{FindsBy, IsEarlyLine, IsReplayBy, has_great_clock, head_by, is_great_in, longest_record, starts_great_in, told_of}
+use Rattle.cops_replay.specs.ReplayText.{FindsBy, IsEarlyLine, IsRefusedBy, IsReplayBy, has_great_clock, head_by, is_great_in, longest_record, starts_great_in, told_of}
 use Rattle.cops_replay.specs.RecordLines.{call_of_verb, read_ack, read_call, read_check, read_commit, read_entry, read_found, read_get, read_line, read_mark, read_pulled, read_put, read_reply, read_stored, read_told, record_by, record_in, reply_of_verb, sign_of, whole}
 use Rattle.cops_replay.specs.RecordWords.{Read, Versions, all_pairs_of, deps_of, key_in, kept_if, name_of, near_of, node_of, next_as, pair_of, pair_of_parts, pairs_of, then_read, value_in, version_in, wanted_of}
 
@@ -307,3 +309,19 @@ module _ (name : List ℕ) (lines moved : List (List ℕ)) (config : Config) (re
         finds = finds_by Today Early (tenant_config p.config p.tenant) 0 (fresh_nodes (tenant_config p.config p.tenant)) (alone_lines name p.records) p.found (all_back (alone_lines name p.records) own) p.finds;
         text_is = p.text_is;
       }
+
+  -- neither refuses what the other doesn't
+  pub refused_today : (refusal : ReplayRefusal) → IsRefusedBy Early name lines refusal → IsRefusedBy Today name moved refusal
+  refused_today (BadConfig bad) at = absurd (let clash : BadAt bad.line ≡ Whole config records = sym at ∙ old in let no : ⊥ = cc in no)
+  refused_today UnknownTenant (found, rest, at, none) = let same = same_whole found config rest records (sym at ∙ old) in (found, rest, new ∙ (λ i. Whole (sym same.0 i) (sym same.1 i)), none)
+  refused_today ClockTooGreat p =
+      let whole = same_whole p.config config p.records records (sym p.head ∙ old) in
+      let own = own_early name p.records (subst (AllByRecursion IsEarlyLine) (sym whole.1) early) in
+      let starts = starts_early p.config.tenants p.slot p.tenant (subst (λ (c : Config). IsTrue (list_all (λ (t : Tenant). nat_le t.first_clock last_early_clock) c.tenants)) (sym whole.0) clocks) p.tenant_is in
+      let fits = ap (λ b. b || list_any (is_great_in Early) (alone_lines name p.records)) starts ∙ none_great_early (alone_lines name p.records) own in
+      absurd (let clash : false ≡ true = sym fits ∙ p.great in let no : ⊥ = cc in no)
+
+  pub refused_as_old : (refusal : ReplayRefusal) → IsRefusedBy Today name moved refusal → IsRefusedBy Early name lines refusal
+  refused_as_old (BadConfig bad) at = absurd (let clash : BadAt bad.line ≡ Whole config records = sym at ∙ new in let no : ⊥ = cc in no)
+  refused_as_old UnknownTenant (found, rest, at, none) = let same = same_whole found config rest records (sym at ∙ new) in (found, rest, old ∙ (λ i. Whole (sym same.0 i) (sym same.1 i)), none)
+  refused_as_old ClockTooGreat p = absurd (let clash : false ≡ true = sym (none_great_today (alone_lines name p.records)) ∙ p.great in let no : ⊥ = cc in no)
