@@ -4,10 +4,13 @@ ghost use Rattle.clap.specs.Matches.{found_of};
 ghost use Rattle.clap.specs.Walk.{rows_of};
 ghost use Rattle.clap.specs.Words.{app_of, new_app, one_of, rule_of};
 ghost use Rattle.clap.specs.declared.builder.command.Command.TheViews.{out-Command};
-ghost use Rattle.cops_cli.specs.CommandLine.{IsAskedBy, IsServiceIn, IsSpelledBy, address, audit, cops, migrate, number, replay, serve, solo, tenant_word, with_audit, with_migrate, with_replay, with_run, with_solo};
+ghost use Rattle.cops_cli.specs.CommandLine.{IsAskedBy, IsServiceIn, IsSpelledBy, address, audit, cops, migrate, number, replay, run, serve, solo, tenant, tenant_word, with_audit, with_migrate, with_replay, with_run, with_solo};
 ghost use Rattle.cops_cli.specs.Faults.{IsOfWords};
 
 use crate::faults::CliFault;
+use crate::help_texts::{
+    AUDIT_HELP, COPS_HELP, MIGRATE_HELP, REPLAY_HELP, RUN_HELP, SERVE_HELP, SOLO_HELP,
+};
 use clap::builder::ValueParser;
 use clap::{Arg, ArgMatches, Command};
 use std::alloc::{AllocError, Global};
@@ -54,14 +57,34 @@ const MOST_WORKERS: u64 = 16;
 /// How many connections may be served, and are where nobody says.
 const MOST_CONNECTIONS: u64 = 4294967295;
 
+fn run_command<'a>(alloc: Global) -> Command<'a>
+    ensures app { app_of result ≡ run }
+    ensures no_globals { (out-Command result).has_globals ≡ false }
+{
+    Command::new(alloc, "run")
+        .about("Answers the script on standard input")
+        .after_help(RUN_HELP)
+}
+
+/// Whom a command is for.
+fn tenant_argument<'a>(alloc: Global) -> Arg<'a>
+    ensures rule { rule_of result ≡ tenant }
+    ensures local { result.global ≡ false }
+{
+    Arg::new(alloc, TENANT)
+        .help("The tenant's name in the head")
+        .required(true)
+}
+
 /// With the name of a tenant.
 fn solo_command<'a>(alloc: Global) -> Result<Command<'a>, AllocError>
     ensures app { IfOk result (λ command. app_of command ≡ solo) }
     ensures no_globals { IfOk result (λ command. (out-Command command).has_globals ≡ false) }
 {
-    let tenant = Arg::new(alloc, TENANT).required(true);
+    let tenant = tenant_argument(alloc);
     Command::new(alloc, "solo")
-        .about("Answers it for one tenant alone")
+        .about("Answers the script for one tenant alone")
+        .after_help(SOLO_HELP)
         .arg(tenant)
 }
 
@@ -69,7 +92,9 @@ fn audit_command<'a>(alloc: Global) -> Command<'a>
     ensures app { app_of result ≡ audit }
     ensures no_globals { (out-Command result).has_globals ≡ false }
 {
-    Command::new(alloc, "audit").about("Writes the audit of the script on standard input")
+    Command::new(alloc, "audit")
+        .about("Writes the audit of the script on standard input")
+        .after_help(AUDIT_HELP)
 }
 
 /// With the name of a tenant.
@@ -77,19 +102,20 @@ fn replay_command<'a>(alloc: Global) -> Result<Command<'a>, AllocError>
     ensures app { IfOk result (λ command. app_of command ≡ replay) }
     ensures no_globals { IfOk result (λ command. (out-Command command).has_globals ≡ false) }
 {
-    let name = Arg::new(alloc, TENANT).required(true);
+    let tenant = tenant_argument(alloc);
     Command::new(alloc, "replay")
         .about("Replays a tenant's records of the audit on standard input")
-        .arg(name)
+        .after_help(REPLAY_HELP)
+        .arg(tenant)
 }
 
 fn migrate_command<'a>(alloc: Global) -> Command<'a>
     ensures app { app_of result ≡ migrate }
     ensures no_globals { (out-Command result).has_globals ≡ false }
 {
-    Command::new(alloc, "migrate").about(
-        "Brings the audit on standard input from layout 1 to layout 2",
-    )
+    Command::new(alloc, "migrate")
+        .about("Brings the audit on standard input from layout 1 to layout 2")
+        .after_help(MIGRATE_HELP)
 }
 
 /// Where to listen.
@@ -126,7 +152,9 @@ fn bare_serve_command<'a>(alloc: Global) -> Command<'a>
     ensures app { app_of result ≡ new_app (codes "serve") }
     ensures no_globals { (out-Command result).has_globals ≡ false }
 {
-    Command::new(alloc, "serve").about("Serves clients over TCP, and then writes the audit")
+    Command::new(alloc, "serve")
+        .about("Serves clients over TCP, and then writes the audit")
+        .after_help(SERVE_HELP)
 }
 
 /// With an address, and two numbers that may be left out.
@@ -149,10 +177,11 @@ fn serve_command<'a>(alloc: Global) -> Result<Command<'a>, AllocError>
 fn first_commands<'a>(alloc: Global) -> Result<Command<'a>, AllocError>
     ensures { IfOk result (λ command. app_of command ≡ with_run) }
 {
-    let run = Command::new(alloc, "run").about("Answers the script on standard input");
+    let run = run_command(alloc);
     Command::new(alloc, "cops")
         .version("0.1")
         .about("A causal store shared by isolated tenants")
+        .after_help(COPS_HELP)
         .arg_required_else_help(true)
         .subcommand_required(true)
         .disable_help_subcommand(true)

@@ -8,6 +8,7 @@ ghost use Rattle.cops_cli.specs.Statuses.{status_of};
 
 mod command_line;
 mod faults;
+mod help_texts;
 mod program;
 mod serve;
 #[cfg(test)]

@@ -1,5 +1,6 @@
 //! What no contract says: the texts on standard error, and that calls succeed.
 use crate::faults::CliFault;
+use crate::help_texts::{AUDIT_HELP, MIGRATE_HELP, REPLAY_HELP, RUN_HELP, SERVE_HELP, SOLO_HELP};
 use crate::program::answer;
 use cops_types::{Fault, Sink, Source};
 use std::alloc::Global;
@@ -39,7 +40,7 @@ Usage: cops <COMMAND>
 
 Commands:
   run      Answers the script on standard input
-  solo     Answers it for one tenant alone
+  solo     Answers the script for one tenant alone
   audit    Writes the audit of the script on standard input
   replay   Replays a tenant's records of the audit on standard input
   migrate  Brings the audit on standard input from layout 1 to layout 2
@@ -48,6 +49,37 @@ Commands:
 Options:
   -h, --help     Print help
   -V, --version  Print version
+
+'cops COMMAND --help' tells what a command reads and writes, and how it ends.
+";
+
+const HELP_OF_SOLO: &str = "Answers the script for one tenant alone
+
+Usage: cops solo <TENANT>
+
+Arguments:
+  <TENANT>  The tenant's name in the head
+
+Options:
+  -h, --help  Print help
+
+Reads a script from standard input: a head, and then one event to a line.
+Writes one line of reply to standard output for each line of this tenant: what
+'cops run' writes where no other tenant is in the head or sends a line.
+
+Status  Standard error              When
+0                                   all was read, and the tenant answered
+1       cops: E23                   memory was refused
+1       cops: E26                   reading failed
+1       cops: E27                   writing failed
+2       cops: configuration line N  the head is bad; nothing is written
+2       cops: E02                   the head has no such tenant; nothing is written
+2       this, or what is wrong      help was asked for, or cops takes no such words
+
+With status 1 the first of the replies may be written.
+
+Example:
+  cops solo acme < demo/tenants.script
 ";
 
 const NO_COMMAND: &str = "error: unrecognized subcommand 'fly'
@@ -82,9 +114,10 @@ For more information, try '--help'.
 
 #[test]
 fn words_that_ask_for_nothing(rt: HostRuntime) -> Result<(), Fail> {
-    let cases: [(&[&str], &str); 7] = [
+    let cases: [(&[&str], &str); 8] = [
         (&["cops"], HELP),
         (&["cops", "--help"], HELP),
+        (&["cops", "solo", "--help"], HELP_OF_SOLO),
         (&["cops", "--version"], "cops 0.1\n"),
         (&["cops", "fly"], NO_COMMAND),
         (&["cops", "run", "acme"], LEFT_OVER),
@@ -98,6 +131,32 @@ fn words_that_ask_for_nothing(rt: HostRuntime) -> Result<(), Fail> {
             &rt, "a fault",
         );
         assert_eq!(rt; fault.to_string(rt.alloc())?.as_str(), text);
+        assert_eq!(rt; fault.status(), 2);
+        assert!(rt; sink.into_inner().is_empty());
+    }
+    Ok(())
+}
+
+/// What a command's help ends with is its own.
+#[test]
+fn words_that_ask_for_help(rt: HostRuntime) -> Result<(), Fail> {
+    let cases = [
+        ("run", RUN_HELP),
+        ("solo", SOLO_HELP),
+        ("audit", AUDIT_HELP),
+        ("replay", REPLAY_HELP),
+        ("migrate", MIGRATE_HELP),
+        ("serve", SERVE_HELP),
+    ];
+    for (command, text) in cases {
+        let words = ["cops", command, "--help"];
+        let mut source = Source::new(b"begin\n".as_slice());
+        let mut sink = Sink::new(Vec::new(rt.alloc()));
+        let fault = answer(&rt, rt.alloc(), &words, &mut source, &mut sink).expect_err(
+            &rt, "a fault",
+        );
+        let help = fault.to_string(rt.alloc())?;
+        assert!(rt; help.as_str().trim_end().ends_with(text));
         assert_eq!(rt; fault.status(), 2);
         assert!(rt; sink.into_inner().is_empty());
     }

@@ -1,0 +1,124 @@
+//! What `--help` tells of each command below its arguments.
+
+pub(crate) const COPS_HELP: &str =
+    "'cops COMMAND --help' tells what a command reads and writes, and how it ends.";
+
+pub(crate) const RUN_HELP: &str =
+    "Reads a script from standard input: a head, and then one event to a line.
+Writes one line of reply to standard output for each line after the head.
+
+Status  Standard error              When
+0                                   all was read and answered
+1       cops: E23                   memory was refused
+1       cops: E26                   reading failed
+1       cops: E27                   writing failed
+2       cops: configuration line N  the head is bad; nothing is written
+2       this, or what is wrong      help was asked for, or cops takes no such words
+
+With status 1 the first of the replies may be written.
+
+Example:
+  cops run < demo/tenants.script";
+
+pub(crate) const SOLO_HELP: &str =
+    "Reads a script from standard input: a head, and then one event to a line.
+Writes one line of reply to standard output for each line of this tenant: what
+'cops run' writes where no other tenant is in the head or sends a line.
+
+Status  Standard error              When
+0                                   all was read, and the tenant answered
+1       cops: E23                   memory was refused
+1       cops: E26                   reading failed
+1       cops: E27                   writing failed
+2       cops: configuration line N  the head is bad; nothing is written
+2       cops: E02                   the head has no such tenant; nothing is written
+2       this, or what is wrong      help was asked for, or cops takes no such words
+
+With status 1 the first of the replies may be written.
+
+Example:
+  cops solo acme < demo/tenants.script";
+
+pub(crate) const AUDIT_HELP: &str =
+    "Reads a script from standard input: a head, and then one event to a line.
+Writes the audit of it to standard output: the layout, the head, and then each
+call of a node with its reply, one to a line.
+
+Status  Standard error              When
+0                                   all was read, and the audit is written
+1       cops: E23                   memory was refused, to cops or by a reply
+1       cops: E26                   reading failed
+1       cops: E27                   writing failed
+2       cops: configuration line N  the head is bad; nothing is written
+2       this, or what is wrong      help was asked for, or cops takes no such words
+
+With status 1 a front of the audit may be written.
+
+Example:
+  cops audit < demo/tenants.script";
+
+pub(crate) const REPLAY_HELP: &str =
+    "Reads an audit of layout 1 or 2 from standard input, and computes this tenant's
+replies again, on nodes of its own. Writes one line to standard output:
+'same N' where none of its N lines differs, or 'differs PLACE', the place of the
+first that does among its lines, counted from 1.
+
+Status  Standard error              When
+0                                   all was read, and that line is written
+1       cops: E23                   memory was refused
+1       cops: E26                   reading failed
+1       cops: E27                   writing failed
+2       cops: configuration line N  the head is bad; nothing is written
+2       cops: E02                   the head has no such tenant; nothing is written
+2       cops: E29                   layout 1, and a clock of this tenant is too
+                                    great for layout 2; nothing is written
+2       this, or what is wrong      help was asked for, or cops takes no such words
+
+With status 1 a front of that line may be written.
+
+Example:
+  cops audit < demo/tenants.script | cops replay acme";
+
+pub(crate) const MIGRATE_HELP: &str =
+    "Reads an audit of layout 1 from standard input: its head, and then its records.
+Writes it to standard output as an audit of layout 2.
+
+Status  Standard error              When
+0                                   all was read and is written
+1       cops: E23                   memory was refused
+1       cops: E26                   reading failed
+1       cops: E27                   writing failed
+2       cops: configuration line N  line N can't stand in a head of layout 1
+2       cops: E01 line N            line N is no record of layout 1
+2       cops: E29 line N            a clock in line N is too great for layout 2
+2       this, or what is wrong      help was asked for, or cops takes no such words
+
+With status 1 a front of the audit may be written, and with status 2 a front of
+what comes before line N.
+
+Example:
+  examples/read input an_old_audit_is_migrated | cops migrate";
+
+pub(crate) const SERVE_HELP: &str =
+    "Reads a head from standard input: the lines of a script up to 'begin', and
+nothing after it. Then it serves clients, who each name one of the tenants by
+its token. After so many connections it writes the audit of all calls to
+standard output, and ends.
+
+Status  Standard error              When
+0                                   the audit is written
+1       cops: E19                   a turn of a node was never ended
+1       cops: E23                   memory was refused
+1       cops: E26                   standard input or the listener failed, nothing
+                                    can listen there, or a thread didn't start
+1       cops: E27                   writing failed
+2       cops: configuration line N  the head is bad; nothing is written
+2       this, or what is wrong      help was asked for, or cops takes no such words
+
+With status 1 a front of the audit may be written.
+
+Example:
+  head -4 demo/tenants.script | cops serve 127.0.0.1:7000 --connections 1 > audit.txt
+
+A client for it, from another shell:
+  PYTHONPATH=clients/python python3 -m cops_client 127.0.0.1 7000 00000000-0000-0000-0000-000000000001 0";
