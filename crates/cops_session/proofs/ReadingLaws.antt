@@ -1,18 +1,19 @@
 -- A get transaction that runs stands for its log: after each step too.
-use Rattle.std.proofs.Common.{◌≡◌, ℕ, suc, zero, ◌+◌, ◌-◌, ◌<◌, ◌≤◌, true, false, List, [], ◌∷◌, ◌++◌, map, length, get_or, refl, sym, ◌∙◌, ap, subst, arith}
-use Rattle.std.specs.Prelude.{Option, Some, None, slice_get, nat_lt, nat_le, unwrap_or}
+use Rattle.std.proofs.Common.{◌≡◌, ℕ, suc, zero, ◌+◌, ◌-◌, ◌<◌, ◌≤◌, Bool, true, false, List, [], ◌∷◌, ◌++◌, map, length, get_or, refl, sym, ◌∙◌, ap, subst, arith}
+use Rattle.std.specs.Prelude.{Option, Some, None, slice_get, nat_lt, nat_le, unwrap_or, if◌then◌else◌}
 use Rattle.std.proofs.lemmas.Bool.Decides.{nat_tests}
 use Rattle.std.proofs.lemmas.List.Elements.{filter_map-append}
 use Rattle.cops_types.specs.declared.contexts.Read.{Read}
 use Rattle.cops_types.specs.declared.faults.Fault.{Fault}
-use Rattle.cops_types.specs.declared.faults.Fault.TheVariants.{Overrun}
+use Rattle.cops_types.specs.declared.faults.Fault.TheVariants.{Overrun, OutOfMemory, Torn}
 use Rattle.cops_types.specs.Context.{Observation}
 use Rattle.cops_types.specs.TenantConfig.{TenantConfig}
+use Rattle.cops_node.specs.declared.NodeCall.{NodeCall}
 use Rattle.cops_node.specs.declared.NodeCall.TheVariants.{Get}
 use Rattle.cops_node.specs.declared.NodeReply.{NodeReply}
-use Rattle.cops_node.specs.declared.NodeReply.TheVariants.{Gone}
+use Rattle.cops_node.specs.declared.NodeReply.TheVariants.{Gone, Refused}
 use Rattle.cops_node.specs.declared.Wanted.TheVariants.{Latest, Exactly}
-use Rattle.cops_node.specs.Log.{Call, Directed, Ended, LogStep, Replied, Restart, fault_in, first_fault, replies_of, reply_in}
+use Rattle.cops_node.specs.Log.{Call, Directed, Ended, LogStep, Replied, Restart, fault_in, first_fault, is_asked, replies_of, reply_in}
 use Rattle.cops_session.specs.declared.Answer.{Answer}
 use Rattle.cops_session.specs.declared.Answer.TheVariants as ended
 use Rattle.cops_session.specs.declared.Progress.TheVariants as shows
@@ -40,6 +41,15 @@ not_gone_of_latest key _ none = refl
 pub not_gone_of_faulty : (key : List ℕ) (reply : NodeReply) (wish : Wish) (fault : Fault) → fault_in (Get key (Exactly wish.version)) reply ≡ Some fault → is_gone reply ≡ false
 not_gone_of_faulty key (Gone now) wish fault some = cc
 not_gone_of_faulty key _ wish fault some = refl
+
+-- only a node's own refusal brings want of memory
+none_is_torn : (asked : Bool) → (if asked then None else Some Torn) ≡ Some OutOfMemory → ⊥
+none_is_torn true is = cc
+none_is_torn false is = cc
+
+pub refused_for_memory : (call : NodeCall) (reply : NodeReply) → fault_in call reply ≡ Some OutOfMemory → reply ≡ Refused OutOfMemory
+refused_for_memory call (Refused fault) some = let same : fault ≡ OutOfMemory = cc in ap Refused same
+refused_for_memory call reply some = absurd (none_is_torn (is_asked call reply) some)
 
 pub goes_on_unless_gone : (keys : List (List ℕ)) (n : ℕ) (reply : NodeReply) → is_gone reply ≡ false → begins_again (Fetch keys) n (Replied reply) ≡ false
 goes_on_unless_gone keys n (Gone now) not = cc

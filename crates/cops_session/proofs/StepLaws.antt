@@ -36,6 +36,7 @@ use Rattle.cops_session.specs.Session.{OpenContext, Running, Session, context_ex
 use Rattle.cops_session.specs.SessionStands.{ContextsStandFor, IsSettingOf, IsWriting, RunningStandsFor, SessionStandsFor, obs_in}
 use Rattle.cops_session.specs.Stepping.{DoesNext, HasStepped}
 use Rattle.cops_session.specs.Turns.{CameOf, HasTurned, TurnsNext}
+use Rattle.cops_session.specs.Wants.{WantsMemory}
 use Rattle.cops_session.specs.Writing.{answer_to_put}
 use Rattle.cops_session.proofs.ContextRows.{context_extended-nothing}
 
@@ -71,6 +72,15 @@ put_progress : (config : TenantConfig) (dc : ℕ) (obs : List Observation) (key 
 put_progress config dc obs key value moment (reply.Stored version) = rw (none_restarted config) refl
 put_progress config dc obs key value moment (reply.Refused fault) = rw (none_restarted config) refl
 put_progress config dc obs key value moment _ = rw (none_restarted config) refl
+
+-- only the node's own refusal
+put_wants : (key : List ℕ) (r : NodeReply) → answer_to_put key r ≡ answer.Refused OutOfMemory → r ≡ reply.Refused OutOfMemory
+put_wants key (reply.Stored version) is = cc
+put_wants key (reply.Refused fault) is = let same : fault ≡ OutOfMemory = cc in ap reply.Refused same
+put_wants key _ is = cc
+
+ended_of : (ended : Answer) → Done ended ≡ Done (answer.Refused OutOfMemory) → ended ≡ answer.Refused OutOfMemory
+ended_of ended is = cc
 
 module _ (config : TenantConfig) (kept after : KeptSession) (session : Session) (running : Running) (number context : ℕ) where
   abbrev with_put : PendingPut → KeptSession
@@ -108,6 +118,7 @@ module _ (config : TenantConfig) (kept after : KeptSession) (session : Session) 
       let same : has_restarted running.action running.log step ≡ false = ap (λ a. has_restarted a running.log step) w.action_is in
       let has : HasStepped config session running step (Done ended) after = record {
         shown_is = inl (ap Done ended_is ∙ sym shows);
+        wants = λ memory. subst (WantsMemory config (request_of session running) running.log step) (sym w.action_is) (ap Replied (put_wants key r (sym ended_is ∙ ended_of ended memory)));
         stands =
             done_stands config (with_put writing) after session running step ended stands setting (moment_is ∙ at_is ∙ sym (ap (λ b. if b then raised at (Replied r) else at) same))
             (subst (λ (n : ℕ). ContextsStandFor after.contexts.rows (context_extended n (seen_in ended) session.contexts)) own.1 contexts) limit next_context next_request idle;
@@ -171,13 +182,13 @@ module _ (config : TenantConfig) (kept after : KeptSession) (session : Session) 
       context ≡ running.context → number ≡ running.number → running.action ≡ Fetch keys → HasTurned config (request_of session running) keys running.log step turn → HasStepped config session running step Working after
   works reading next_reading turn keys step stands came_is after_is same_context same_number action has =
       let here = subst (λ (c : Came). CameOf config (request_of session running) keys running.log step c) came_is has.came_is in
-      record { shown_is = inl (sym here.0); stands = goes_on reading next_reading keys step turn stands after_is same_context same_number action has here.1 }
+      record { shown_is = inl (sym here.0); wants = λ memory. cc; stands = goes_on reading next_reading keys step turn stands after_is same_context same_number action has here.1 }
 
   pub restarts : (reading next_reading : Reading) (turn : ReadStep) (keys : List (List ℕ)) (step : LogStep) → SessionStandsFor config (with_get reading) session → turn.came ≡ came.Restarted next_reading → after ≡ record (with_get next_reading) { moment = turn.moment } →
       context ≡ running.context → number ≡ running.number → running.action ≡ Fetch keys → HasTurned config (request_of session running) keys running.log step turn → HasStepped config session running step (Restarted next_reading.restarts) after
   restarts reading next_reading turn keys step stands came_is after_is same_context same_number action has =
       let here = subst (λ (c : Came). CameOf config (request_of session running) keys running.log step c) came_is has.came_is in
-      record { shown_is = inl (sym here.0); stands = goes_on reading next_reading keys step turn stands after_is same_context same_number action has here.1 }
+      record { shown_is = inl (sym here.0); wants = λ memory. cc; stands = goes_on reading next_reading keys step turn stands after_is same_context same_number action has here.1 }
 
   pub fails : (reading : Reading) (turn : ReadStep) (fault : Fault) (keys : List (List ℕ)) (step : LogStep) → SessionStandsFor config (with_get reading) session → turn.came ≡ came.Failed fault → after ≡ record kept { moment = turn.moment; running = None } →
       running.action ≡ Fetch keys → HasTurned config (request_of session running) keys running.log step turn → HasStepped config session running step (Done (answer.Refused fault)) after
@@ -185,16 +196,23 @@ module _ (config : TenantConfig) (kept after : KeptSession) (session : Session) 
       let here = subst (λ (c : Came). CameOf config (request_of session running) keys running.log step c) came_is has.came_is in
       record {
         shown_is = shows here;
+        wants = λ memory. subst (WantsMemory config (request_of session running) running.log step) (sym action) (wanted here memory);
         stands =
             subst (λ (k : KeptSession). SessionStandsFor config k (session_after session running step (Done (answer.Refused fault)))) (sym after_is)
             (done_stands config (with_get reading) (record kept { moment = turn.moment; running = None }) session running step (answer.Refused fault) stands refl (moment_turned keys step turn action has)
             (subst (λ (cs : List OpenContext). ContextsStandFor kept.contexts.rows cs) (sym (context_extended-nothing running.context session.contexts)) stands.contexts_are) refl refl refl refl);
       }
     where
-      shows : (progress config (request_of session running) running.log step ≡ Done (answer.Refused fault)) ⊎ (fault ≡ OutOfMemory) →
-          (Done (answer.Refused fault) ≡ progress config (request_of session running) running.log step) ⊎ (Done (answer.Refused fault) ≡ Done (answer.Refused OutOfMemory))
-      shows (inl h) = inl (sym h)
-      shows (inr h) = inr (ap (λ f. Done (answer.Refused f)) h)
+      Failing : Type 0
+      Failing = CameOf config (request_of session running) keys running.log step (came.Failed fault)
+
+      wanted : Failing → Done (answer.Refused fault) ≡ Done (answer.Refused OutOfMemory) → WantsMemory config (request_of session running) running.log step (Fetch keys)
+      wanted (inl h) memory = let same : fault ≡ OutOfMemory = cc in inl (h.1 same)
+      wanted (inr h) memory = inr h.1
+
+      shows : Failing → (Done (answer.Refused fault) ≡ progress config (request_of session running) running.log step) ⊎ (Done (answer.Refused fault) ≡ Done (answer.Refused OutOfMemory))
+      shows (inl h) = inl (sym h.0)
+      shows (inr h) = inr (ap (λ f. Done (answer.Refused f)) h.0)
 
   pub completes : (reading : Reading) (turn : ReadStep) (reads : List Read) (ended : Answer) (keys : List (List ℕ)) (step : LogStep) → SessionStandsFor config (with_get reading) session → turn.came ≡ came.Complete reads →
       (ended ≡ values_or_full kept.setting.deps (obs_in context session.contexts) reads) ⊎ (ended ≡ answer.Refused OutOfMemory) →
@@ -204,7 +222,8 @@ module _ (config : TenantConfig) (kept after : KeptSession) (session : Session) 
   completes reading turn reads ended keys step stands came_is ended_is contexts after_is same_context action has =
       let here = subst (λ (c : Came). CameOf config (request_of session running) keys running.log step c) came_is has.came_is in
       record {
-        shown_is = shows here ended_is;
+        shown_is = shows here.1 ended_is;
+        wants = λ memory. subst (WantsMemory config (request_of session running) running.log step) (sym action) (inr (record { same_attempt = here.0; is_read = inr (reads, here.1) }));
         stands =
             done_stands config (with_get reading) after session running step ended stands (ap (λ k. k.setting) after_is) (ap (λ k. k.moment) after_is ∙ moment_turned keys step turn action has)
             (subst (λ (n : ℕ). ContextsStandFor after.contexts.rows (context_extended n (seen_in ended) session.contexts)) same_context contexts)

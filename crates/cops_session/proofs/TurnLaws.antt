@@ -15,6 +15,7 @@ use Rattle.cops_node.specs.declared.NodeReply.TheVariants.{Gone as GoneAt}
 use Rattle.cops_node.specs.declared.Wanted.TheVariants.{Latest, Exactly}
 use Rattle.cops_node.specs.Log.{Late, LogStep, Next, Replied, fault_in, replies_of}
 use Rattle.cops_session.specs.declared.Answer.{Answer}
+use Rattle.cops_session.specs.declared.Progress.TheVariants as shows
 use Rattle.cops_session.specs.declared.asking.FirstAnswer.{FirstAnswer}
 use Rattle.cops_session.specs.declared.asking.FirstAnswer.TheVariants as first
 use Rattle.cops_session.specs.declared.asking.SecondAnswer.{SecondAnswer}
@@ -31,14 +32,16 @@ use Rattle.cops_session.specs.declared.rounds.Wish.{Wish}
 use Rattle.cops_session.specs.declared.settings.Setting.{Setting}
 use Rattle.cops_session.specs.Asking.{StandsAfterAsking, StandsAfterAskingAgain}
 use Rattle.cops_session.specs.Reading.{IsReading, RoundStandsFor, is_past}
-use Rattle.cops_session.specs.Request.{Request, Fetch, attempt_of, begins_again, next}
+use Rattle.cops_session.specs.Request.{Request, Fetch, attempt_of, begins_again, next, values_or_full}
 use Rattle.cops_session.specs.Rounds.{FirstReads, SecondReads}
 use Rattle.cops_session.specs.Session.{has_restarted}
+use Rattle.cops_session.specs.Session as session
 use Rattle.cops_session.specs.SessionStands.{IsSettingOf}
 use Rattle.cops_session.specs.Stands.{AreDistinctKeys, IsFirstOf, IsOver, IsSecondOf}
 use Rattle.cops_session.specs.Transaction.{ReadRequest, gets}
 use Rattle.cops_session.specs.Turns.{CameOf, HasTurned, TurnsNext}
-use Rattle.cops_session.proofs.ReadingLaws.{again_in_second, ends_with_fault, ends_with_reads, goes_on, goes_on_in_first, goes_on_unless_gone, next_call, next_late, not_gone_of_faulty, overruns, restarts}
+use Rattle.cops_session.proofs.ReadingLaws.{again_in_second, ends_with_fault, ends_with_reads, goes_on, goes_on_in_first, goes_on_unless_gone, next_call, next_late, not_gone_of_faulty, overruns, refused_for_memory, restarts}
+use Rattle.cops_session.proofs.RoundsStand.{first_ends, length-push}
 
 abbrev pub begun_again : FirstReads → ℕ → ℕ → Came
 begun_again round times limit = if nat_lt times limit then Restarted (record { restarts = times + 1; start = None; round = First round }) else Failed Overrun
@@ -97,12 +100,30 @@ module _ (config : TenantConfig) (setting : Setting) (obs : List Observation) (k
 
       completes : (reads : List Read) → fault_in (Get asked.key asked.wanted) reply ≡ None → IsOver keys (replies ++ reply ∷ []) reads →
           HasTurned config request keys log (replied moment reply) (record { moment = moment; came = Complete reads })
-      completes reads none over = record { moment_is = rw stay refl; came_is = ends_with_reads config setting.dc obs keys log reading stands moment asked reply is stay reads none over }
+      completes reads none over = record { moment_is = rw stay refl; came_is = (stay, ends_with_reads config setting.dc obs keys log reading stands moment asked reply is stay reads none over) }
 
-      fails : (fault : Fault) → (fault ≡ OutOfMemory) ⊎ (fault_in (Get asked.key asked.wanted) reply ≡ Some fault) →
+      fails : (fault : Fault) → fault_in (Get asked.key asked.wanted) reply ≡ Some fault → HasTurned config request keys log (replied moment reply) (record { moment = moment; came = Failed fault })
+      fails fault some = record {
+        moment_is = rw stay refl;
+        came_is = inl (
+          ends_with_fault config setting.dc obs keys log reading stands moment asked reply is stay fault some,
+          λ memory. ap Replied (refused_for_memory (Get asked.key asked.wanted) reply (some ∙ ap Some memory)),
+        );
+      }
+
+      -- the last read of the first round
+      lacks : (fault : Fault) → fault ≡ OutOfMemory → fault_in (Get asked.key asked.wanted) reply ≡ None → length replies + 1 ≡ length keys →
           HasTurned config request keys log (replied moment reply) (record { moment = moment; came = Failed fault })
-      fails fault (inl memory) = record { moment_is = rw stay refl; came_is = inr memory }
-      fails fault (inr some) = record { moment_is = rw stay refl; came_is = inl (ends_with_fault config setting.dc obs keys log reading stands moment asked reply is stay fault some) }
+      lacks fault memory none last = record {
+        moment_is = rw stay refl;
+        came_is = inr (memory, record { same_attempt = stay; is_read = by (first_ends keys (replies ++ reply ∷ []) (length-push replies reply ∙ last)) });
+      }
+        where
+          by : ((round : SecondReads) × IsSecondOf keys (replies ++ reply ∷ []) round) ⊎ ((reads : List Read) × IsOver keys (replies ++ reply ∷ []) reads) →
+              ((session.progress config request log (replied moment reply) ≡ shows.Working) × (length replies + 1 ≡ length keys))
+              ⊎ ((reads : List Read) × (session.progress config request log (replied moment reply) ≡ shows.Done (values_or_full config.quota.deps obs reads)))
+          by (inl (round, stand)) = inl ((goes_on config setting.dc obs keys log reading stands moment asked reply is stay (Second round) none stand).0, last)
+          by (inr (reads, over)) = inr (reads, ends_with_reads config setting.dc obs keys log reading stands moment asked reply is stay reads none over)
 
     -- another attempt, or one too many
     anew : (reading : Reading) → IsReading config request keys log reading → (step : LogStep) (round : FirstReads) → has_restarted (Fetch keys) log step ≡ true → IsFirstOf keys [] round →
@@ -111,7 +132,7 @@ module _ (config : TenantConfig) (setting : Setting) (obs : List Observation) (k
         elim (nat_lt reading.restarts setting.restarts) as (λ b. nat_lt reading.restarts setting.restarts ≡ b →
         CameOf config request keys log step (if b then Restarted (record { restarts = reading.restarts + 1; start = None; round = First round }) else Failed Overrun)) [
           | true ↦ λ left. restarts config setting.dc obs keys log reading stands step again round (ap (nat_lt reading.restarts) (sym setting_is.restarts) ∙ left) begun
-          | false ↦ λ spent. inl (overruns config setting.dc obs keys log reading stands step again (ap (nat_lt reading.restarts) (sym setting_is.restarts) ∙ spent))
+          | false ↦ λ spent. inl (overruns config setting.dc obs keys log reading stands step again (ap (nat_lt reading.restarts) (sym setting_is.restarts) ∙ spent), λ memory. cc)
         ] refl
 
     pub late_turned : (reading : Reading) (round : FirstReads) → IsReading config request keys log reading → stays → is_past setting.trans_time reading.start moment ≡ true → IsFirstOf keys [] round →
@@ -151,7 +172,11 @@ module _ (config : TenantConfig) (setting : Setting) (obs : List Observation) (k
         let said = says keys replies stands.round_is in
         let reading : Reading = record { restarts = times; start = start; round = First round } in
         let what : ReadRequest = record { key = key; wanted = Latest } in
-        turned reading stands what reply _ in_time said.0 answers (fails reading stands started started_is what reply said.0 (first_stays times start round reply stands) fault said.1)
+        let turns = turned reading stands what reply (record { moment = moment; came = Failed fault }) in_time said.0 answers in
+        elim said.1 [
+          | inl memory ↦ turns (lacks reading stands started started_is what reply said.0 (first_stays times start round reply stands) fault memory.0 memory.1 memory.2)
+          | inr some ↦ turns (fails reading stands started started_is what reply said.0 (first_stays times start round reply stands) fault some)
+        ]
 
     pub second_turned : (times : ℕ) (start : Option ℕ) (round : SecondReads) (started : ℕ) (wish : Wish) (reply : NodeReply) (asked : SecondAnswer) →
         IsReading config request keys log (record { restarts = times; start = start; round = Second round }) → started ≡ unwrap_or start moment → is_past setting.trans_time start moment ≡ false →
@@ -182,4 +207,4 @@ module _ (config : TenantConfig) (setting : Setting) (obs : List Observation) (k
         let reading : Reading = record { restarts = times; start = start; round = Second round } in
         let what : ReadRequest = record { key = wish.key; wanted = Exactly wish.version } in
         turned reading stands what reply _ in_time said.0 answers
-        (fails reading stands started started_is what reply said.0 (goes_on_unless_gone keys (length steps) reply (not_gone_of_faulty wish.key reply wish fault said.1)) fault (inr said.1))
+        (fails reading stands started started_is what reply said.0 (goes_on_unless_gone keys (length steps) reply (not_gone_of_faulty wish.key reply wish fault said.1)) fault said.1)

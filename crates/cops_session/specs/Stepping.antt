@@ -13,10 +13,13 @@ use Rattle.cops_session.specs.declared.Progress.TheVariants.{Done}
 use Rattle.cops_session.specs.Kept.{KeptSession}
 use Rattle.cops_session.specs.Session.{Running, Session, progress, request_of, session_after}
 use Rattle.cops_session.specs.SessionStands.{SessionStandsFor}
+use Rattle.cops_session.specs.Wants.{WantsMemory}
 
--- what the step shows is the definition's, or that there was no memory, which ends the request; the session stands for the one after that
+-- what the step shows is the definition's, or that there was no memory, which ends the request and is so only where memory was wanted; the session
+-- stands for the one after that
 pub record HasStepped (config : TenantConfig) (session : Session) (running : Running) (step : LogStep) (shown : Progress) (after : KeptSession) : Type 0 where
   pub shown_is : (shown ≡ progress config (request_of session running) running.log step) ⊎ (shown ≡ Done (Refused OutOfMemory))
+  pub wants : shown ≡ Done (Refused OutOfMemory) → WantsMemory config (request_of session running) running.log step running.action
   pub stands : SessionStandsFor config after (session_after session running step shown)
 
 -- the step does what comes next: it makes the call and goes on with the reply, or makes none where the moment is late;

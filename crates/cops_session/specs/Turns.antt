@@ -1,10 +1,11 @@
 -- A step of a get transaction that runs.
-use Rattle.std.specs.Prelude.{◌≡◌, ◌⊎◌, ℕ, List, [], ◌∷◌, ◌++◌, if◌then◌else◌}
+use Rattle.std.specs.Prelude.{◌≡◌, ◌⊎◌, ℕ, false, List, [], ◌∷◌, ◌++◌, if◌then◌else◌}
 use Rattle.cops_types.specs.declared.faults.Fault.TheVariants.{OutOfMemory}
 use Rattle.cops_types.specs.TenantConfig.{TenantConfig}
 use Rattle.cops_node.specs.declared.NodeCall.{NodeCall}
 use Rattle.cops_node.specs.declared.NodeId.{NodeId}
 use Rattle.cops_node.specs.declared.NodeReply.{NodeReply}
+use Rattle.cops_node.specs.declared.NodeReply.TheVariants.{Refused as RefusedAt}
 use Rattle.cops_node.specs.Log.{LogStep, Late, Replied, Next, Call, Restart, Ended}
 use Rattle.cops_session.specs.declared.Answer.{Answer}
 use Rattle.cops_session.specs.declared.Answer.TheVariants as answer
@@ -16,14 +17,18 @@ use Rattle.cops_session.specs.Reading.{IsReading}
 use Rattle.cops_session.specs.Request.{Request, Fetch, values_or_full}
 use Rattle.cops_session.specs.Session.{has_restarted, raised}
 use Rattle.cops_session.specs.Session as session
+use Rattle.cops_session.specs.Wants.{EndsRound}
 
 -- what the step shows, and that the transaction stands for one more step, where it goes on
 abbrev pub CameOf : TenantConfig → Request → List (List ℕ) → List LogStep → LogStep → Came → Type 0
 CameOf config request keys log step (Working reading) = (session.progress config request log step ≡ progress.Working) × IsReading config request keys (log ++ step ∷ []) reading
 CameOf config request keys log step (Restarted reading) =
     (session.progress config request log step ≡ progress.Restarted reading.restarts) × IsReading config request keys (log ++ step ∷ []) reading
-CameOf config request keys log step (Complete reads) = session.progress config request log step ≡ progress.Done (values_or_full config.quota.deps request.obs reads)
-CameOf config request keys log step (Failed fault) = (session.progress config request log step ≡ progress.Done (answer.Refused fault)) ⊎ (fault ≡ OutOfMemory)
+CameOf config request keys log step (Complete reads) =
+    (has_restarted (Fetch keys) log step ≡ false) × (session.progress config request log step ≡ progress.Done (values_or_full config.quota.deps request.obs reads))
+CameOf config request keys log step (Failed fault) =
+    ((session.progress config request log step ≡ progress.Done (answer.Refused fault)) × (fault ≡ OutOfMemory → step.outcome ≡ Replied (RefusedAt OutOfMemory)))
+    ⊎ ((fault ≡ OutOfMemory) × EndsRound config request keys log step)
 
 pub record HasTurned (config : TenantConfig) (request : Request) (keys : List (List ℕ)) (log : List LogStep) (step : LogStep) (turn : ReadStep) : Type 0 where
   pub moment_is : turn.moment ≡ (if has_restarted (Fetch keys) log step then raised step.moment step.outcome else step.moment)

@@ -1,6 +1,7 @@
 use Rattle.std.proofs.Common.{◌≡◌, ◌∙◌, ap, sym, refl, subst}
 use Rattle.std.specs.Prelude.{Some}
 use Rattle.cops_session.specs.declared.Progress.TheVariants.{Working, Restarted, Done}
+use Rattle.cops_session.specs.declared.Answer.{Answer}
 use Rattle.cops_session.specs.declared.Answer.TheVariants as answer
 use Rattle.cops_session.specs.declared.ongoing.Work.TheVariants.{Get}
 use Rattle.cops_session.specs.Kept.{KeptSession}
@@ -8,7 +9,7 @@ use Rattle.cops_session.specs.Request.{next}
 use Rattle.cops_session.specs.Session.{moment_at, request_of}
 use Rattle.cops_session.specs.SessionStands.{SessionStandsFor}
 use Rattle.cops_session.specs.Stepping.{DoesNext}
-use Rattle.cops_session.proofs.StepLaws.{fails, get_steps, restarts, works}
+use Rattle.cops_session.proofs.StepLaws.{completes, fails, get_steps, restarts, works}
 use Rattle.cops_session.proofs.sessions.Session.get.Goals as goal
 
 pub returns-in-Working-clause-stepped : goal.returns-in-Working-clause-stepped
@@ -55,3 +56,22 @@ returns-in-Failed-clause-stepped g c = λ config session running stand is.
     (get_steps config kept after session running c.args.number c.args.context (λ t id call reply. g.N.Nodes.Answers c.args.nodes.now id inside.setting.slot t call reply c.read_step-moment.new.nodes)
     (c.read_step-moment.new.nodes ≡ c.args.nodes.now) c.args.reading c.args.moment c.max-now.result turn (Done (answer.Refused c.in-Failed.fault)) stands is c.max-now.ensures c.read_step-moment.ensures.turned
     (λ keys step same number action has. fails config kept after session running c.args.number c.args.context c.args.reading turn c.in-Failed.fault keys step stands c.in-Failed.is (λ i. record { setting = inside.setting; moment = turn.moment; contexts = inside.contexts; next_request = inside.next_request; running = (ap (λ k. k.running) c.self.view_is ∙ c.requires.idle) i }) action has))
+
+pub returns-in-Complete-clause-stepped : goal.returns-in-Complete-clause-stepped
+returns-in-Complete-clause-stepped g c = λ config session running stand is.
+    let inside = c.self.inside in
+    let turn = c.read_step-moment.result in
+    let kept : KeptSession = record { setting = inside.setting; moment = inside.moment; contexts = inside.contexts; next_request = inside.next_request; running = inside.running } in
+    let after : KeptSession = c.values.new.self in
+    let ended : Answer = c.values.result in
+    let stands = subst (λ (k : KeptSession). SessionStandsFor config (record k { running = Some (record { number = c.args.number; context = c.args.context; work = Get c.args.reading }) }) session) (sym c.self.view_is) stand in
+    let idle = ap (λ (k : KeptSession). k.running) c.self.view_is ∙ c.requires.idle in
+    let after_is = c.values.ensures.others ∙ (λ i. record { setting = inside.setting; moment = turn.moment; contexts = record inside.contexts { rows = after.contexts.rows }; next_request = inside.next_request; running = idle i }) in
+    subst
+    (λ (k : KeptSession). DoesNext (λ id call reply. g.N.Nodes.Answers c.args.nodes.now id k.setting.slot (moment_at c.args.moment session) call reply c.read_step-moment.new.nodes) (c.read_step-moment.new.nodes ≡ c.args.nodes.now)
+    config session running (moment_at c.args.moment session) (Done ended) after (next config (request_of session running) running.log (moment_at c.args.moment session)))
+    c.self.view_is
+    (get_steps config kept after session running c.args.number c.args.context (λ t id call reply. g.N.Nodes.Answers c.args.nodes.now id inside.setting.slot t call reply c.read_step-moment.new.nodes)
+    (c.read_step-moment.new.nodes ≡ c.args.nodes.now) c.args.reading c.args.moment c.max-now.result turn (Done ended) stands is c.max-now.ensures c.read_step-moment.ensures.turned
+    (λ keys step same number action has. completes config kept after session running c.args.number c.args.context c.args.reading turn c.in-Complete.reads ended keys step stands c.in-Complete.is
+    (c.values.ensures.answer session.contexts stands.contexts_are) (c.values.ensures.stands session.contexts stands.contexts_are) after_is same action has))
