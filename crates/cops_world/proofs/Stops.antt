@@ -1,7 +1,6 @@
 -- A step for which there was no memory: what it leaves of the cluster.
 use Rattle.std.proofs.Common.{◌≡◌, ◌⊎◌, ◌++◌, ℕ, Bool, true, false, cond, inl, inr, List, [], ◌∷◌, append-nil, refl, sym, ◌∙◌, ap, subst, max, true≢false}
-use Rattle.std.specs.Prelude.{Option, Some, None, ◌==◌, is_some}
-use Rattle.std.specs.Option.{option_map, option_and_then}
+use Rattle.std.specs.Prelude.{Option, Some, None, ◌==◌, slice_index_or}
 use Rattle.cops_types.specs.declared.faults.Fault.{Fault}
 use Rattle.cops_types.specs.declared.faults.Fault.TheVariants.{OutOfMemory}
 use Rattle.cops_types.specs.TenantConfig.{TenantConfig}
@@ -10,22 +9,21 @@ use Rattle.cops_node.specs.declared.NodeId.{NodeId}
 use Rattle.cops_node.specs.declared.NodeReply.{NodeReply}
 use Rattle.cops_node.specs.declared.NodeReply.TheVariants as node_reply
 use Rattle.cops_node.specs.Log.{LogStep, Late, Replied, Directed, Next, Call, Restart, Ended}
-use Rattle.cops_node.specs.SoloNode.{SoloNode}
+use Rattle.cops_node.specs.Place.{node_number, place_of}
+use Rattle.cops_node.specs.SoloNode.{SoloNode, new_node}
 use Rattle.cops_session.specs.declared.Answer.{Answer}
 use Rattle.cops_session.specs.declared.Answer.TheVariants as answer
 use Rattle.cops_session.specs.declared.Progress.{Progress}
 use Rattle.cops_session.specs.declared.Progress.TheVariants as session_progress
 use Rattle.cops_session.specs.Kept.{KeptSession}
-use Rattle.cops_session.specs.Request.{next}
-use Rattle.cops_session.specs.Session.{OpenContext, Running, Session, context_extended, has_restarted, moment_after, moment_at, request_of, session_after}
-use Rattle.cops_session.specs.Session as session
+use Rattle.cops_session.specs.Request.{Action, Fetch, Write, next}
+use Rattle.cops_session.specs.Session.{OpenContext, Running, Session, context_extended, has_restarted, moment_after, moment_at, raised, request_of, session_after}
 use Rattle.cops_session.specs.SessionStands.{SessionStandsFor}
 use Rattle.cops_session.specs.Stepping.{DoesNext, HasStepped}
-use Rattle.cops_repl.specs.declared.Delivery.{Delivery}
+use Rattle.cops_session.specs.Wants.{EndsRound, WantsMemory}
 use Rattle.cops_repl.specs.declared.Progress.{Progress as CarrierProgress}
 use Rattle.cops_repl.specs.declared.Progress.TheVariants as carrying
-use Rattle.cops_repl.specs.Carrier.{Carrier, carrier_after}
-use Rattle.cops_repl.specs.Carrier as carrier
+use Rattle.cops_repl.specs.Carrier.{Carrier}
 use Rattle.cops_repl.specs.Stands.{KeptCarrier, is_done}
 use Rattle.cops_world.specs.declared.actors.Actor.{Actor as Kept}
 use Rattle.cops_world.specs.declared.actors.Actor.TheVariants as kept
@@ -33,10 +31,10 @@ use Rattle.cops_world.specs.declared.actors.Stepped.{Stepped}
 use Rattle.cops_world.specs.declared.replies.Reply.{Reply}
 use Rattle.cops_world.specs.declared.replies.Reply.TheVariants.{Refused}
 use Rattle.cops_world.specs.ActorsStand.{ActorSteps, CarrierSteps, SessionSteps, NodesTurn, IsAfter, StepsCluster, reply_of_carrying}
-use Rattle.cops_world.specs.Cluster.{ActEffect, Actor, OfCarrier, OfSession, SoloCluster, call_node, carrier_does, carrier_step, carrier_stepped, find_actor, reply_of_progress, request_does, running_step, session_in, step_of, with_actor, without_actor}
+use Rattle.cops_world.specs.Cluster.{Actor, OfCarrier, OfSession, SoloCluster, call_node, find_actor, reply_of_progress, without_actor}
 use Rattle.cops_world.specs.Events.{is_out_of_memory}
-use Rattle.cops_world.specs.Lacks.{ActorStops, CarrierStops, SessionStops, StepStops, moment_of}
-use Rattle.cops_world.proofs.ActorMoves.{found_again}
+use Rattle.cops_world.specs.Lacks.{ActorStops, IsLastRead, SessionStops, StepStops, without_request}
+use Rattle.cops_world.proofs.SparedCalls.{carrier_spared, lacks, node_spared}
 
 -- ---- what shows that memory was refused
 
@@ -65,6 +63,9 @@ unextended number (c ∷ contexts) = λ i. one (c.number == number) i ∷ unexte
     one true = λ i. record { number = c.number; obs = append-nil c.obs i }
     one false = refl
 
+replied_is : (answered : NodeReply) → Replied answered ≡ Replied (node_reply.Refused OutOfMemory) → answered ≡ node_reply.Refused OutOfMemory
+replied_is answered is = cc
+
 either_same : (t : Bool) (n : ℕ) → cond t n n ≡ n
 either_same true n = refl
 either_same false n = refl
@@ -75,82 +76,104 @@ module _ (config : TenantConfig) (name : List ℕ) (before : SoloCluster) (nodes
 
   -- ---- sessions
 
-  module _ (s : Session) (running : Running) (kept_after : KeptSession) (reply : Reply) (runs : s.running ≡ Some running) (found : find_actor name before ≡ Some (OfSession s)) (lack : is_out_of_memory reply ≡ true) where
-    abbrev Stopped : ActEffect → Type 0
-    Stopped turn = (after : SoloCluster) × SessionStops turn name moment s before after
-        × StepsCluster config name before nodes (record { reply = reply; after = after }) (record { reply = reply; is_over = false }) (kept.OfSession kept_after)
-
+  module _ (s : Session) (running : Running) (kept_after : KeptSession) (reply : Reply) (runs : s.running ≡ Some running) (lack : is_out_of_memory reply ≡ true) where
     abbrev at : ℕ
     at = moment_at moment s
 
-    ended_is : (step : LogStep) → session_after s running step (session_progress.Done (answer.Refused OutOfMemory)) ≡ record s { moment = moment_after running step; running = None }
-    ended_is step = λ i. record s { moment = moment_after running step; contexts = unextended running.context s.contexts i; running = None }
+    abbrev step : NodeReply → LogStep
+    step answered = record { moment = at; outcome = Replied answered }
 
-    -- the moment is the same where no node was changed
-    unmoved : (answered : NodeReply) → answered ≡ node_reply.Refused OutOfMemory → moment_after running (record { moment = at; outcome = Replied answered }) ≡ at
-    unmoved answered is = ap (λ r. moment_after running (record { moment = at; outcome = Replied r })) is ∙ either_same (has_restarted running.action running.log (record { moment = at; outcome = Replied (node_reply.Refused OutOfMemory) })) at
+    abbrev Wants : LogStep → Action → Type 0
+    Wants = WantsMemory config (request_of s running) running.log
 
-    -- and the definition's session is at the same one where the call was made
-    moved : (step : LogStep) (shown : Progress) → moment_of name (with_actor name (OfSession (session_after s running step shown)) before) ≡ Some (moment_after running step)
-    moved step shown = ap (λ o. option_map (λ (x : Session). x.moment) (option_and_then session_in o)) (found_again name (OfSession (session_after s running step shown)) (OfSession s) before found) ∙ by_shown shown
+    -- the cluster that is left at these nodes
+    abbrev left : SoloCluster
+    left = without_request name moment s (record before { nodes = nodes })
+
+    abbrev Stopped : Type 0
+    Stopped = (after : SoloCluster) × SessionStops config name moment s before after
+        × StepsCluster config name before nodes (record { reply = reply; after = after }) (record { reply = reply; is_over = false }) (kept.OfSession kept_after)
+
+    ended_is : (step : LogStep) → moment_after running step ≡ at → session_after s running step (session_progress.Done (answer.Refused OutOfMemory)) ≡ record s { moment = at; running = None }
+    ended_is step is = λ i. record s { moment = is i; contexts = unextended running.context s.contexts i; running = None }
+
+    abbrev turn : Directed → record { reply : NodeReply; after : SoloCluster }
+    turn d = call_node config d.node at d.call before
+
+    -- the session has ended so in its cluster
+    stops : (d : Directed) (shown : Progress) (answered : NodeReply) → next config (request_of s running) running.log at ≡ Call d → shown ≡ session_progress.Done (answer.Refused OutOfMemory) →
+        HasStepped config s running (step answered) shown kept_after → moment_after running (step answered) ≡ at →
+        (left ≡ without_request name moment s before) ⊎ (IsLastRead config s running (step (turn d).reply) × (left ≡ without_request name moment s (turn d).after)) → Stopped
+    stops d shown answered calls ends stepped same_moment is_left = (
+      left,
+      record { running = running; directed = d; runs = runs; calls = calls; left = is_left },
+      record {
+        reply_is = refl;
+        nodes_are = refl;
+        actors_are = (
+          OfSession (record s { moment = at; running = None }),
+          refl,
+          subst (SessionStandsFor config kept_after) (ap (session_after s running (step answered)) ends ∙ ended_is (step answered) same_moment) stepped.stands,
+        );
+      },
+    )
+
+    -- a refused call leaves the moment
+    unmoved : (answered : NodeReply) → answered ≡ node_reply.Refused OutOfMemory → moment_after running (step answered) ≡ at
+    unmoved answered is = ap (λ r. moment_after running (step r)) is ∙ either_same (has_restarted running.action running.log (step (node_reply.Refused OutOfMemory))) at
+
+    -- a last read leaves it too
+    unraised : (keys : List (List ℕ)) (answered : NodeReply) → running.action ≡ Fetch keys → EndsRound config (request_of s running) keys running.log (step answered) → moment_after running (step answered) ≡ at
+    unraised keys answered is ends =
+        ap (λ a. cond (has_restarted a running.log (step answered)) (raised at (Replied answered)) at) is ∙ ap (λ b. cond b (raised at (Replied answered)) at) ends.same_attempt
+
+    -- the node answered, so that it is a last read
+    last_read : (action : Action) (answered : NodeReply) → running.action ≡ action → lacks answered ≡ false → Wants (step answered) action →
+        (keys : List (List ℕ)) × (running.action ≡ Fetch keys) × EndsRound config (request_of s running) keys running.log (step answered)
+    last_read (Write key value) answered is spared wanted = absurd (true≢false (sym (ap lacks (replied_is answered wanted)) ∙ spared))
+    last_read (Fetch keys) answered is spared (inl wanted) = absurd (true≢false (sym (ap lacks (replied_is answered wanted)) ∙ spared))
+    last_read (Fetch keys) answered is spared (inr ends) = (keys, is, ends)
+
+    late_stops : (action : Action) → Wants (record { moment = at; outcome = Late }) action → ⊥
+    late_stops (Write key value) wanted = let never : Late ≡ Replied (node_reply.Refused OutOfMemory) = wanted in cc
+    late_stops (Fetch keys) (inl wanted) = let never : Late ≡ Replied (node_reply.Refused OutOfMemory) = wanted in cc
+    late_stops (Fetch keys) (inr ends) = true≢false ends.same_attempt
+
+    request_stops : (shown : Progress) → reply ≡ reply_of_progress shown → (n : Next Answer) → next config (request_of s running) running.log at ≡ n →
+        DoesNext (AtNodes at) (nodes ≡ before.nodes) config s running at shown kept_after n → Stopped
+    request_stops shown is (Call d) calls (answered, made, stepped) = by_turn made
       where
-        by_shown : (shown : Progress) → Some (session_after s running step shown).moment ≡ Some (moment_after running step)
-        by_shown session_progress.Working = refl
-        by_shown (session_progress.Restarted times) = refl
-        by_shown (session_progress.Done ended) = refl
+        ends : shown ≡ session_progress.Done (answer.Refused OutOfMemory)
+        ends = shown_of_lack shown (ap is_out_of_memory (sym is) ∙ lack)
 
-    session_stops : (turn : ActEffect) (step : LogStep) (shown : Progress) → reply ≡ reply_of_progress shown → HasStepped config s running step shown kept_after →
-        ((nodes ≡ before.nodes) × (moment_after running step ≡ at)) ⊎ ((nodes ≡ turn.after.nodes) × (moment_of name turn.after ≡ Some (moment_after running step))) → Stopped turn
-    session_stops turn step shown is stepped called =
-        let stopped : Session = record s { moment = moment_after running step; running = None } in
-        let ends = shown_of_lack shown (ap is_out_of_memory (sym is) ∙ lack) in (
-          record { nodes = nodes; actors = (with_actor name (OfSession stopped) before).actors },
-          record { ran = ap is_some runs; at = moment_after running step; called = called; actors_are = refl },
-          record {
-            reply_is = refl;
-            nodes_are = refl;
-            actors_are = (OfSession stopped, refl, subst (SessionStandsFor config kept_after) (ap (session_after s running step) ends ∙ ended_is step) stepped.stands);
-          },
-        )
+        by_turn : AtNodes at d.node d.call answered → Stopped
+        by_turn (inl (refused, stays)) = stops d shown answered calls ends stepped (unmoved answered refused) (inl (ap (λ (ns : List SoloNode). without_request name moment s (record before { nodes = ns })) stays))
+        by_turn (inr (turned, changed)) =
+            let spared : lacks answered ≡ false = ap lacks turned ∙ node_spared (place_of config d.node) at d.call (slice_index_or before.nodes (node_number config.shards d.node) (new_node config.data_centres)) in
+            let read = last_read running.action answered refl spared (stepped.wants ends) in
+            stops d shown answered calls ends stepped (unraised read.0 answered read.1 read.2)
+            (inr (subst (λ r. IsLastRead config s running (step r)) turned read, ap (λ (ns : List SoloNode). without_request name moment s (record before { nodes = ns })) changed))
+    request_stops shown is Restart calls (stays, stepped) = absurd (late_stops running.action (stepped.wants (shown_of_lack shown (ap is_out_of_memory (sym is) ∙ lack))))
+    request_stops shown is (Ended a) calls none = absurd none
 
-    request_stops : (shown : Progress) → reply ≡ reply_of_progress shown → (n : Next Answer) → DoesNext (AtNodes at) (nodes ≡ before.nodes) config s running at shown kept_after n →
-        Stopped (request_does config name s running at before n)
-    request_stops shown is (Call d) (answered, made, stepped) = by_turn made
-      where
-        turn : ActEffect
-        turn = request_does config name s running at before (Call d)
-
-        step : NodeReply → LogStep
-        step r = record { moment = at; outcome = Replied r }
-
-        by_turn : AtNodes at d.node d.call answered → Stopped (request_does config name s running at before (Call d))
-        by_turn (inl (refused, stays)) = session_stops turn (step answered) shown is stepped (inl (stays, unmoved answered refused))
-        by_turn (inr (turned, changed)) = session_stops turn (step answered) shown is stepped
-            (let answers = step (call_node config d.node at d.call before).reply in
-            inr (changed, moved answers (session.progress config (request_of s running) running.log answers) ∙ ap (λ r. Some (moment_after running (step r))) (sym turned)))
-    request_stops shown is Restart (stays, stepped) =
-        session_stops (request_does config name s running at before Restart) (record { moment = at; outcome = Late }) shown is stepped
-        (inl (stays, either_same (has_restarted running.action running.log (record { moment = at; outcome = Late })) at))
-    request_stops shown is (Ended a) none = absurd none
-
-  running_stops : (s : Session) (kept_after : KeptSession) (reply : Reply) → find_actor name before ≡ Some (OfSession s) → is_out_of_memory reply ≡ true → (running : Option Running) → s.running ≡ running →
+  running_stops : (s : Session) (kept_after : KeptSession) (reply : Reply) → is_out_of_memory reply ≡ true → (running : Option Running) → s.running ≡ running →
       SessionSteps AtNodes (nodes ≡ before.nodes) config s moment reply kept_after running →
-      (after : SoloCluster) × SessionStops (running_step config name s moment before running) name moment s before after
+      (after : SoloCluster) × SessionStops config name moment s before after
       × StepsCluster config name before nodes (record { reply = reply; after = after }) (record { reply = reply; is_over = false }) (kept.OfSession kept_after)
-  running_stops s kept_after reply found lack None runs (is, stays, stands) = absurd (true≢false (sym lack ∙ ap is_out_of_memory is))
-  running_stops s kept_after reply found lack (Some running) runs (shown, is, does) =
-      request_stops s running kept_after reply runs found lack shown is (next config (request_of s running) running.log (moment_at moment s)) does
+  running_stops s kept_after reply lack None runs (is, stays, stands) = absurd (true≢false (sym lack ∙ ap is_out_of_memory is))
+  running_stops s kept_after reply lack (Some running) runs (shown, is, does) =
+      request_stops s running kept_after reply runs lack shown is (next config (request_of s running) running.log (moment_at moment s)) refl does
 
   -- ---- carriers
 
   carrier_stops : (c : Carrier) (kept_after : KeptCarrier) (stepped : Stepped) → is_out_of_memory stepped.reply ≡ true → CarrierSteps AtNodes config c moment stepped kept_after →
-      (after : SoloCluster) × CarrierStops (carrier_step config name c (max c.moment moment) before) name before after
+      (after : SoloCluster) × (after ≡ without_actor name before)
       × StepsCluster config name before nodes (record { reply = stepped.reply; after = after }) stepped (kept.OfCarrier kept_after)
   carrier_stops c kept_after stepped lack p =
       let over : stepped.is_over ≡ true = p.over_is ∙ carrying_of_lack p.shown (ap is_out_of_memory (sym p.reply_is) ∙ lack) in
       let after : SoloCluster = record { nodes = nodes; actors = (without_actor name before).actors } in (
         after,
-        record { called = by_turn p.made; actors_are = refl },
+        ap (λ (ns : List SoloNode). record { nodes = ns; actors = (without_actor name before).actors }) (by_turn p.made),
         record { reply_is = refl; nodes_are = refl; actors_are = subst (IsAfter config name before after (kept.OfCarrier kept_after)) (sym over) refl },
       )
     where
@@ -160,16 +183,12 @@ module _ (config : TenantConfig) (name : List ℕ) (before : SoloCluster) (nodes
       d : Directed
       d = p.directed
 
-      same_nodes : (left : Carrier) (shown : CarrierProgress) (cluster : SoloCluster) → cluster.nodes ≡ (carrier_stepped name left shown cluster).after.nodes
-      same_nodes left carrying.Working cluster = refl
-      same_nodes left (carrying.Done ending) cluster = refl
-
-      by_turn : AtNodes at d.node d.call p.reply → (nodes ≡ before.nodes) ⊎ (nodes ≡ (carrier_step config name c at before).after.nodes)
-      by_turn (inl (refused, stays)) = inl stays
+      by_turn : AtNodes at d.node d.call p.reply → nodes ≡ before.nodes
+      by_turn (inl (refused, stays)) = stays
       by_turn (inr (turned, changed)) =
-          let turn = call_node config d.node at d.call before in
-          let step : LogStep = record { moment = at; outcome = Replied turn.reply } in
-          inr (changed ∙ same_nodes (carrier_after c step) (carrier.delivery_progress config.shards c step) turn.after ∙ ap (λ (n : Next Delivery). (carrier_does config name c at before n).after.nodes) (sym p.step_of.asked))
+          let spared : lacks p.reply ≡ false = ap lacks turned ∙ node_spared (place_of config d.node) at d.call (slice_index_or before.nodes (node_number config.shards d.node) (new_node config.data_centres)) in
+          absurd (true≢false (sym lack ∙ ap is_out_of_memory p.reply_is ∙ ap (λ shown. is_out_of_memory (reply_of_carrying shown)) p.step_of.shown
+          ∙ carrier_spared config.shards c.stream c.log d at p.reply p.step_of.asked spared))
 
   -- ---- any actor
 
@@ -177,16 +196,16 @@ module _ (config : TenantConfig) (name : List ℕ) (before : SoloCluster) (nodes
       ActorSteps AtNodes (nodes ≡ before.nodes) config moment stepped solo kept_after →
       (after : SoloCluster) × StepStops config name moment before after × StepsCluster config name before nodes (record { reply = stepped.reply; after = after }) stepped kept_after
   actor_stops solo kept_after stepped found lack steps =
-      subst (λ o. (after : SoloCluster) × ActorStops (step_of config name moment before o) name moment o before after
-      × StepsCluster config name before nodes (record { reply = stepped.reply; after = after }) stepped kept_after) (sym found) (by_actor solo kept_after found steps)
+      subst (λ o. (after : SoloCluster) × ActorStops config name moment o before after
+      × StepsCluster config name before nodes (record { reply = stepped.reply; after = after }) stepped kept_after) (sym found) (by_actor solo kept_after steps)
     where
-      by_actor : (solo : Actor) (kept_after : Kept) → find_actor name before ≡ Some solo → ActorSteps AtNodes (nodes ≡ before.nodes) config moment stepped solo kept_after →
-          (after : SoloCluster) × ActorStops (step_of config name moment before (Some solo)) name moment (Some solo) before after
+      by_actor : (solo : Actor) (kept_after : Kept) → ActorSteps AtNodes (nodes ≡ before.nodes) config moment stepped solo kept_after →
+          (after : SoloCluster) × ActorStops config name moment (Some solo) before after
           × StepsCluster config name before nodes (record { reply = stepped.reply; after = after }) stepped kept_after
-      by_actor (OfSession s) (kept.OfSession after) found (steps, lasts) =
-          subst (λ over. (left : SoloCluster) × SessionStops (running_step config name s moment before s.running) name moment s before left
+      by_actor (OfSession s) (kept.OfSession after) (steps, lasts) =
+          subst (λ over. (left : SoloCluster) × SessionStops config name moment s before left
           × StepsCluster config name before nodes (record { reply = stepped.reply; after = left }) (record { reply = stepped.reply; is_over = over }) (kept.OfSession after)) (sym lasts)
-          (running_stops s after stepped.reply found lack s.running refl steps)
-      by_actor (OfCarrier c) (kept.OfCarrier after) found steps = carrier_stops c after stepped lack steps
-      by_actor (OfSession s) (kept.OfCarrier after) found steps = absurd steps
-      by_actor (OfCarrier c) (kept.OfSession after) found steps = absurd steps
+          (running_stops s after stepped.reply lack s.running refl steps)
+      by_actor (OfCarrier c) (kept.OfCarrier after) steps = carrier_stops c after stepped lack steps
+      by_actor (OfSession s) (kept.OfCarrier after) steps = absurd steps
+      by_actor (OfCarrier c) (kept.OfSession after) steps = absurd steps

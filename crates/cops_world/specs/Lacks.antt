@@ -1,37 +1,42 @@
 -- What is left of a tenant's cluster by an act that was answered that memory was refused.
 use Rattle.std.specs.Prelude.{◌≡◌, ◌⊎◌, ℕ, true, zero, suc, List, Option, Some, None}
-use Rattle.std.specs.Option.{option_map}
 use Rattle.cops_types.specs.TenantConfig.{TenantConfig}
-use Rattle.cops_session.specs.Session.{Session, is_busy, moment_at}
+use Rattle.cops_node.specs.Log.{Call, Directed, LogStep, Replied}
+use Rattle.cops_session.specs.Request.{Fetch, next}
+use Rattle.cops_session.specs.Session.{Running, Session, moment_at, request_of}
+use Rattle.cops_session.specs.Wants.{EndsRound}
 use Rattle.cops_world.specs.declared.acts.Act.{Act}
 use Rattle.cops_world.specs.declared.acts.Act.TheVariants.{Open, Create, Delete, Put, Get, Show, Carry, Step, Done, Collect}
-use Rattle.cops_world.specs.Cluster.{ActEffect, Actor, OfCarrier, OfSession, SoloCluster, actor_step, find_actor, find_session, goes_on, most_steps, with_actor, without_actor}
+use Rattle.cops_world.specs.Cluster.{Actor, OfCarrier, OfSession, SoloCluster, actor_step, call_node, find_actor, goes_on, most_steps, with_actor, without_actor}
 
--- the moment of the session of this name
-abbrev pub moment_of : List ℕ → SoloCluster → Option ℕ
-moment_of name cluster = option_map (λ s. s.moment) (find_session name cluster)
+-- the session's request is over, at this moment, and its contexts are as they were
+abbrev pub without_request : List ℕ → ℕ → Session → SoloCluster → SoloCluster
+without_request name moment session cluster = with_actor name (OfSession (record session { moment = moment_at moment session; running = None })) cluster
 
--- a session's step stopped: its request has ended, and its contexts are as they were;
--- no node was changed, or the nodes and the session's moment are those that the definition's step leaves
-pub record SessionStops (turn : ActEffect) (name : List ℕ) (moment : ℕ) (session : Session) (before after : SoloCluster) : Type 0 where
-  pub ran : is_busy session ≡ true
-  pub at : ℕ
-  pub called : ((after.nodes ≡ before.nodes) × (at ≡ moment_at moment session)) ⊎ ((after.nodes ≡ turn.after.nodes) × (moment_of name turn.after ≡ Some at))
-  pub actors_are : after.actors ≡ (with_actor name (OfSession (record session { moment = at; running = None })) before).actors
+-- the reply to the step is the last of a round of a get transaction
+abbrev pub IsLastRead : TenantConfig → Session → Running → LogStep → Type 0
+IsLastRead config session running step = (keys : List (List ℕ)) × (running.action ≡ Fetch keys) × EndsRound config (request_of session running) keys running.log step
 
--- a carrier's step stopped: it is gone; no node was changed, or the nodes are those that the definition's step leaves
-pub record CarrierStops (turn : ActEffect) (name : List ℕ) (before after : SoloCluster) : Type 0 where
-  pub called : (after.nodes ≡ before.nodes) ⊎ (after.nodes ≡ turn.after.nodes)
-  pub actors_are : after.actors ≡ (without_actor name before).actors
+-- a session's step stopped where it was to make a call: no node was changed, or the node took its turn, and its reply is such a last read
+pub record SessionStops (config : TenantConfig) (name : List ℕ) (moment : ℕ) (session : Session) (before after : SoloCluster) : Type 0 where
+  pub running : Running
+  pub directed : Directed
+  pub runs : session.running ≡ Some running
+  pub calls : next config (request_of session running) running.log (moment_at moment session) ≡ Call directed
+  pub left :
+      let turn = call_node config directed.node (moment_at moment session) directed.call before in
+      (after ≡ without_request name moment session before)
+      ⊎ (IsLastRead config session running (record { moment = moment_at moment session; outcome = Replied turn.reply }) × (after ≡ without_request name moment session turn.after))
 
-abbrev pub ActorStops : ActEffect → List ℕ → ℕ → Option Actor → SoloCluster → SoloCluster → Type 0
-ActorStops turn name moment (Some (OfSession session)) before after = SessionStops turn name moment session before after
-ActorStops turn name moment (Some (OfCarrier carrier)) before after = CarrierStops turn name before after
-ActorStops turn name moment None before after = ⊥
+-- a carrier that stopped is gone, and no node was changed
+abbrev pub ActorStops : TenantConfig → List ℕ → ℕ → Option Actor → SoloCluster → SoloCluster → Type 0
+ActorStops config name moment (Some (OfSession session)) before after = SessionStops config name moment session before after
+ActorStops config name moment (Some (OfCarrier carrier)) before after = after ≡ without_actor name before
+ActorStops config name moment None before after = ⊥
 
 -- the step of an actor stopped
 abbrev pub StepStops : TenantConfig → List ℕ → ℕ → SoloCluster → SoloCluster → Type 0
-StepStops config name moment before after = ActorStops (actor_step config name moment before) name moment (find_actor name before) before after
+StepStops config name moment before after = ActorStops config name moment (find_actor name before) before after
 
 -- steps at one moment, at most `more` after the first: some by the definition, after each of which the actor goes on, and then one that stopped
 abbrev pub StepsStop : ℕ → TenantConfig → List ℕ → ℕ → SoloCluster → SoloCluster → Type 0
