@@ -1,9 +1,8 @@
 -- Only a node's own refusal says that memory was refused: the definition's nodes never do, and so neither do its carriers.
-use Rattle.std.proofs.Common.{◌≡◌, ℕ, Bool, true, false, cond, List, [], ◌∷◌, ◌++◌, length, refl, sym, ◌∙◌, ap, subst, max}
+use Rattle.std.proofs.Common.{◌≡◌, ℕ, Bool, true, false, cond, List, [], ◌∷◌, ◌++◌, length, refl, ◌∙◌, ap, max}
 use Rattle.std.specs.Prelude.{Option, Some, None, slice_get, nat_lt}
 use Rattle.std.specs.Option.{option_or}
 use Rattle.std.proofs.lemmas.List.Elements.{filter_map-append}
-use Rattle.cops_types.specs.declared.faults.Fault.{Fault}
 use Rattle.cops_types.specs.declared.faults.Fault.TheVariants.{AuditFull, ByteQuota, OutboxFull, Torn, VersionQuota}
 use Rattle.cops_types.specs.declared.pairs.Pair.{Pair}
 use Rattle.cops_types.specs.declared.records.EntryParts.{EntryParts as Entry}
@@ -17,7 +16,7 @@ use Rattle.cops_node.specs.declared.NodeReply.{NodeReply}
 use Rattle.cops_node.specs.declared.NodeReply.TheVariants as node_reply
 use Rattle.cops_node.specs.declared.Place.{Place}
 use Rattle.cops_node.specs.declared.Wanted.TheVariants.{Latest, Exactly}
-use Rattle.cops_node.specs.Log.{LogStep, Replied, replies_of, reply_in, Directed, Next, Call, Restart, Ended, fault_in, is_asked}
+use Rattle.cops_node.specs.Log.{LogStep, Replied, replies_of, reply_in, Directed, Next, Call, is_asked}
 use Rattle.cops_node.specs.Queues.{front}
 use Rattle.cops_node.specs.SoloNode.{SoloNode, queue}
 use Rattle.cops_node.specs.Step.{CallEffect, acknowledge, audited, effect, is_bytes_full, is_outbox_full, is_versions_full, node_step, put_with_version, reply_exact, reply_latest, reply_pull, store_unless, unchanged, version_of_put, was_committed}
