@@ -25,7 +25,9 @@ use Rattle.cops_world.proofs.AnswersTo.{config_at-found}
 use Rattle.cops_replay.specs.Audits.{HasShape, ReplaysSame, records_of}
 use Rattle.cops_replay.specs.AuditRuns.{HasItsTenants, IsOfWriting, ReplaysSameFor, WritesAudit, WritesAuditFront, audit_after, audit_out}
 use Rattle.cops_replay.specs.AuditText.{audit_of, audit_text, head_text, his_nodes, records_text, tenants_text}
+use Rattle.cops_replay.specs.WrittenAudits.{HaveLinesFor, SaysSameFor}
 use Rattle.cops_replay.proofs.PageLemmas.{front_of_none}
+use Rattle.cops_replay.proofs.WrittenAudits.{script_says_same}
 
 -- where each tenant has the same nodes, the records are the same
 tenants_text-same : (config : Config) (one other : TenantConfig → ℕ → List SoloNode) (slot : ℕ) (tenants : List Tenant) →
@@ -100,6 +102,12 @@ pub all_replay_same : (world : KeptWorld) (known : Option (List ℕ)) → IfSome
     ((config : TenantConfig) (slot : ℕ) → HasShape config (shape_of (setup_of world)) → ReplaysSame config (nodes_of config slot world.nodes)) → IfSome known (λ bytes. ReplaysSameFor (head_of (lines_of bytes)))
 all_replay_same world None left same = tt
 all_replay_same world (Some bytes) left same = replays_same_for world bytes left same
+
+pub all_say_same : (world : KeptWorld) (known : Option (List ℕ)) → IfSome known (λ bytes. IsLeftBy setup_of HasCluster bytes world) →
+    ((config : TenantConfig) (slot : ℕ) → HasShape config (shape_of (setup_of world)) → ReplaysSame config (nodes_of config slot world.nodes)) →
+    IfSome known (λ bytes. (text : List ℕ) → audit_out bytes ≡ Written text → HaveLinesFor (head_of (lines_of bytes)) → SaysSameFor (head_of (lines_of bytes)) text)
+all_say_same world None left same = tt
+all_say_same world (Some bytes) left same = λ text is all. script_says_same bytes text is all (replays_same_for world bytes left same)
 
 pub none_audited : (known contents : Option (List ℕ)) → IfSome known (λ bytes. WritesAuditFront bytes contents contents)
 none_audited None contents = tt

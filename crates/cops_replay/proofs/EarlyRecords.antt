@@ -236,7 +236,7 @@ own_early name (line ∷ lines) all = by_own (own_early name lines all.1) (bytes
     by_own rest true e = subst (AllByRecursion IsEarlyLine) (sym (ap (λ b. cond b (line ∷ alone_lines name lines) (alone_lines name lines)) e)) (all.0, rest)
     by_own rest false e = subst (AllByRecursion IsEarlyLine) (sym (ap (λ b. cond b (line ∷ alone_lines name lines) (alone_lines name lines)) e)) rest
 
-none_great_today : (lines : List (List ℕ)) → list_any (is_great_in Today) lines ≡ false
+pub none_great_today : (lines : List (List ℕ)) → list_any (is_great_in Today) lines ≡ false
 none_great_today [] = refl
 none_great_today (line ∷ lines) = none_great_today lines
 

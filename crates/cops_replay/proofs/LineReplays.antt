@@ -25,7 +25,7 @@ told_back tenant told named line =
 same_told : (a b : Record) → Some a ≡ Some b → a ≡ b
 same_told a b h = cc
 
-found_in : (config : TenantConfig) (tenant : List ℕ) (passed : ℕ) (nodes : List SoloNode) (records : List Record) (found : Replayed) → IsTrue (is_name tenant) → AllByRecursion (HasLine tenant) records
+pub found_in : (config : TenantConfig) (tenant : List ℕ) (passed : ℕ) (nodes : List SoloNode) (records : List Record) (found : Replayed) → IsTrue (is_name tenant) → AllByRecursion (HasLine tenant) records
     → FindsFrom config passed nodes records found → FindsIn config passed nodes (map (record_line tenant) records) found
 found_in config tenant passed nodes [] found named all finds = finds
 found_in config tenant passed nodes (told ∷ records) found named all finds = by (λ more. found_in config tenant (passed + 1) (nodes_after config told nodes) records found named all.1 more) finds
@@ -39,7 +39,7 @@ found_in config tenant passed nodes (told ∷ records) found named all finds = b
       stops.1,
     )
 
-all_formed : (tenant : List ℕ) (records : List Record) → AllByRecursion (HasLine tenant) records → AllByRecursion (λ (told : Record). IsTrue (is_record told)) records
+pub all_formed : (tenant : List ℕ) (records : List Record) → AllByRecursion (HasLine tenant) records → AllByRecursion (λ (told : Record). IsTrue (is_record told)) records
 all_formed tenant [] all = tt
 all_formed tenant (told ∷ records) all = (all.0.formed, all_formed tenant records all.1)
 

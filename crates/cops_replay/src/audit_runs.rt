@@ -1,5 +1,5 @@
 //! The audit of a script, over any reader and any writer.
-ghost use Rattle.std.specs.Prelude.{◌≡◌, ◌⊎◌, ℕ, IfErr, IfSome, IsErrOf, OnErr, OnOk};
+ghost use Rattle.std.specs.Prelude.{◌≡◌, ◌⊎◌, ℕ, List, IfErr, IfSome, IsErrOf, OnErr, OnOk};
 ghost use Rattle.std.specs.Io.KnownBytes.{Appends, IsAtEnd, Keeps};
 ghost use Rattle.cops_types.specs.Counts.{HasRisen, HasRisenBy};
 ghost use Rattle.cops_types.specs.Head.{BadAt, head_of};
@@ -9,10 +9,12 @@ ghost use Rattle.cops_types.specs.Sink.{AppendsFront, sink_failures, sink_writer
 ghost use Rattle.cops_types.specs.Source.{source_failures, source_reader, source_reads};
 ghost use Rattle.cops_types.specs.TenantConfig.{TenantConfig};
 ghost use Rattle.cops_node.specs.Clusters.{nodes_of, shape_of};
+ghost use Rattle.cops_world.specs.Script.{Written};
 ghost use Rattle.cops_world.specs.Worlds.{setup_of};
 ghost use Rattle.cops_replay.specs.Audits.{HasShape, ReplaysSame};
 ghost use Rattle.cops_replay.specs.AuditText.{audit_of};
-ghost use Rattle.cops_replay.specs.AuditRuns.{HasItsTenants, IsOfWriting, ReplaysSameFor, WritesAudit, WritesAuditFront};
+ghost use Rattle.cops_replay.specs.AuditRuns.{HasItsTenants, IsOfWriting, ReplaysSameFor, WritesAudit, WritesAuditFront, audit_out};
+ghost use Rattle.cops_replay.specs.WrittenAudits.{HaveLinesFor, SaysSameFor};
 
 use crate::audits::write_audit;
 use cops_types::{Fault, RunFault, Sink, Source};
@@ -62,6 +64,10 @@ pub fn audit_text<R: Read, O: Write>(
 
     // A replay of any tenant's records in it finds that all are the same.
     ensures replays { OnOk result (IfSome (R.remaining (source_reader source.old)) (λ bytes. ReplaysSameFor (head_of (lines_of bytes)))) }
+
+    // Where each record of the audit has a line, so does a replay of the text for any tenant.
+    ensures says_same { OnOk result (IfSome (R.remaining (source_reader source.old)) (λ bytes.
+        (text : List ℕ) → audit_out bytes ≡ Written text → HaveLinesFor (head_of (lines_of bytes)) → SaysSameFor (head_of (lines_of bytes)) text)) }
 
     // A head is refused where it is bad, and nothing is written then.
     ensures bad_head { IfErr result (λ fault. IfRunRefused fault (λ bad.

@@ -1,5 +1,5 @@
 use Rattle.std.proofs.lemmas.Result.{on_ok_weaker}
-use Rattle.cops_replay.proofs.AuditRunLemmas.{all_audited, all_replay_same, front_audited, never_read, never_refused, none_audited, on_err_any, on_ok_any, tenants_read}
+use Rattle.cops_replay.proofs.AuditRunLemmas.{all_audited, all_replay_same, all_say_same, front_audited, never_read, never_refused, none_audited, on_err_any, on_ok_any, tenants_read}
 use Rattle.cops_replay.proofs.audit_runs.audit_text.Goals as goal
 
 pub returns-in-Err-clause-err : goal.returns-in-Err-clause-err
@@ -25,3 +25,6 @@ returns-clause-read_fault g c is = absurd (never_read c.write_world-result.resul
 
 pub returns-clause-replays : goal.returns-clause-replays
 returns-clause-replays g c = on_ok_any _ c.write_world-result.result (all_replay_same c.in-Ok.world _ c.in-Ok.ensures.ok c.write_world-result.ensures.replays)
+
+pub returns-clause-says_same : goal.returns-clause-says_same
+returns-clause-says_same g c = on_ok_any _ c.write_world-result.result (all_say_same c.in-Ok.world _ c.in-Ok.ensures.ok c.write_world-result.ensures.replays)

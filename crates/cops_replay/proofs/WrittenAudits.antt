@@ -1,0 +1,71 @@
+-- A replay of a written audit says that all is the same.
+use Rattle.std.proofs.Common.{◌≡◌, ℕ, List, [], ◌∷◌, length, map, refl, sym, subst, ap, ◌∙◌, false}
+use Rattle.std.specs.Prelude.{IsTrue, Some, slice_get}
+use Rattle.std.specs.List.{AllByRecursion, list_any}
+use Rattle.cops_types.specs.declared.configs.Config.{Config}
+use Rattle.cops_types.specs.declared.configs.Tenant.{Tenant}
+use Rattle.cops_types.specs.Head.{HeadReading, Whole, BadAt, head_of}
+use Rattle.cops_types.specs.Lines.{lines_of}
+use Rattle.cops_types.specs.TenantConfig.{TenantConfig, tenant_config}
+use Rattle.cops_node.specs.SoloNode.{SoloNode}
+use Rattle.cops_world.specs.Script.{Output, Written, BadConfig, alone_lines}
+use Rattle.cops_replay.specs.declared.layouts.Layout.TheVariants.{Today}
+use Rattle.cops_replay.specs.declared.Record.{Record}
+use Rattle.cops_replay.specs.declared.Replayed.TheVariants.{Same}
+use Rattle.cops_replay.specs.Audits.{ReplaysSame}
+use Rattle.cops_replay.specs.AuditRuns.{ReplaysSameFor, audit_after, audit_out}
+use Rattle.cops_replay.specs.AuditText.{audit_text, tenants_text}
+use Rattle.cops_replay.specs.RecordText.{record_line}
+use Rattle.cops_replay.specs.Replaying.{fresh_nodes}
+use Rattle.cops_replay.specs.ReplayText.{FindsBy, HasLine, IsReplayBy, IsReplayOf, replayed_text}
+use Rattle.cops_replay.specs.WrittenAudits.{AreFormed, HaveLines, HaveLinesFor, SaysSame, SaysSameFor, his_records, nodes_left}
+use Rattle.cops_replay.proofs.AuditLines.{AreKnown, head_known, lines_his, name_at, named_at}
+use Rattle.cops_replay.proofs.EarlyRecords.{none_great_today}
+use Rattle.cops_replay.proofs.HeadTexts.{text_is_todays, text_reads_back}
+use Rattle.cops_replay.proofs.LineReplays.{all_formed, found_in}
+
+pub formed : (config : Config) (nodes : TenantConfig → ℕ → List SoloNode) → HaveLines config nodes → AreFormed config nodes
+formed config nodes all slot tenant e = all_formed tenant.name (his_records config nodes slot tenant) (all slot tenant e)
+
+-- those of a tenant are those of his records, where a head has him
+pub his_lines : (lines rest : List (List ℕ)) (config : Config) (nodes : TenantConfig → ℕ → List SoloNode) (slot : ℕ) (tenant : Tenant) → head_of lines ≡ Whole config rest → AreFormed config nodes →
+    slice_get config.tenants slot ≡ Some tenant → alone_lines tenant.name (lines_of (tenants_text config nodes 0 config.tenants)) ≡ map (record_line tenant.name) (his_records config nodes slot tenant)
+his_lines lines rest config nodes slot tenant head formed e = lines_his config nodes slot tenant (head_known lines rest config head) formed e
+
+pub says_same : (lines rest : List (List ℕ)) (config : Config) (nodes : TenantConfig → ℕ → List SoloNode) (slot : ℕ) (tenant : Tenant) → head_of lines ≡ Whole config rest → HaveLines config nodes →
+    slice_get config.tenants slot ≡ Some tenant → ReplaysSame (tenant_config config tenant) (nodes (tenant_config config tenant) slot) →
+    IsReplayOf tenant.name (audit_text config nodes) (replayed_text (Same (length (his_records config nodes slot tenant))))
+says_same lines rest config nodes slot tenant head all e same =
+    let known = head_known lines rest config head in
+    let his = tenant_config config tenant in
+    let records = his_records config nodes slot tenant in
+    let text = tenants_text config nodes 0 config.tenants in
+    let own : alone_lines tenant.name (lines_of text) ≡ map (record_line tenant.name) records = his_lines lines rest config nodes slot tenant head (formed config nodes all) e in
+    subst (λ layout. IsReplayBy layout tenant.name (lines_of (audit_text config nodes)) (replayed_text (Same (length records)))) (sym (text_is_todays lines rest config text head)) (record {
+      config = config;
+      records = lines_of text;
+      slot = slot;
+      tenant = tenant;
+      head = text_reads_back lines rest config text head;
+      there = named_at config.tenants slot tenant known.apart e;
+      tenant_is = e;
+      fits = none_great_today (alone_lines tenant.name (lines_of text));
+      found = Same (length records);
+      finds = subst (λ its. FindsBy Today his 0 (fresh_nodes his) its (Same (length records))) (sym own)
+          (found_in his tenant.name 0 (fresh_nodes his) records (Same (length records)) (name_at config.tenants slot tenant known.named e) (all slot tenant e) same);
+      text_is = refl;
+    })
+
+-- ---- of a script
+
+same_text : (text other : List ℕ) → Written text ≡ Written other → text ≡ other
+same_text text other e = cc
+
+by_head : (lines : List (List ℕ)) (reading : HeadReading) (text : List ℕ) → head_of lines ≡ reading → audit_after reading ≡ Written text → HaveLinesFor reading → ReplaysSameFor reading → SaysSameFor reading text
+by_head lines (Whole config rest) text head is all same =
+    subst (SaysSame config (nodes_left config rest)) (same_text (audit_text config (nodes_left config rest)) text is)
+    (λ slot tenant e. says_same lines rest config (nodes_left config rest) slot tenant head all e (same slot tenant e))
+by_head lines (BadAt number) text head is all same = tt
+
+pub script_says_same : (bytes text : List ℕ) → audit_out bytes ≡ Written text → HaveLinesFor (head_of (lines_of bytes)) → ReplaysSameFor (head_of (lines_of bytes)) → SaysSameFor (head_of (lines_of bytes)) text
+script_says_same bytes text is all same = by_head (lines_of bytes) (head_of (lines_of bytes)) text refl is all same

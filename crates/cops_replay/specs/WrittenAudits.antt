@@ -1,0 +1,47 @@
+-- What a replay of a written audit says to each of its tenants.
+use Rattle.std.specs.Prelude.{◌≡◌, ℕ, ⊤, List, length, slice_get, IsTrue, Some}
+use Rattle.std.specs.List.{AllByRecursion}
+use Rattle.cops_types.specs.declared.configs.Config.{Config}
+use Rattle.cops_types.specs.declared.configs.Tenant.{Tenant}
+use Rattle.cops_types.specs.Head.{HeadReading, Whole, BadAt}
+use Rattle.cops_types.specs.TenantConfig.{TenantConfig, tenant_config}
+use Rattle.cops_node.specs.SoloNode.{SoloNode}
+use Rattle.cops_world.specs.ScriptWorlds.{cluster_left}
+use Rattle.cops_replay.specs.declared.Record.{Record}
+use Rattle.cops_replay.specs.declared.Replayed.TheVariants.{Same}
+use Rattle.cops_replay.specs.Audits.{records_of}
+use Rattle.cops_replay.specs.RecordText.{is_record}
+use Rattle.cops_replay.specs.ReplayText.{HasLine, IsReplayOf, replayed_text}
+
+-- ---- where this gives each tenant's nodes
+
+abbrev pub his_records : Config → (TenantConfig → ℕ → List SoloNode) → ℕ → Tenant → List Record
+his_records config nodes slot tenant = records_of (tenant_config config tenant) (nodes (tenant_config config tenant) slot)
+
+-- the numbers, keys, values and lists of each record are such as a line may have
+abbrev pub AreFormed : Config → (TenantConfig → ℕ → List SoloNode) → Type 0
+AreFormed config nodes =
+    (slot : ℕ) (tenant : Tenant) → slice_get config.tenants slot ≡ Some tenant → AllByRecursion (λ (told : Record). IsTrue (is_record told)) (his_records config nodes slot tenant)
+
+-- and no record's line is too long
+abbrev pub HaveLines : Config → (TenantConfig → ℕ → List SoloNode) → Type 0
+HaveLines config nodes =
+    (slot : ℕ) (tenant : Tenant) → slice_get config.tenants slot ≡ Some tenant → AllByRecursion (HasLine tenant.name) (his_records config nodes slot tenant)
+
+-- a replay of the text for any tenant writes `same` and the number of his records
+abbrev pub SaysSame : Config → (TenantConfig → ℕ → List SoloNode) → List ℕ → Type 0
+SaysSame config nodes text =
+    (slot : ℕ) (tenant : Tenant) → slice_get config.tenants slot ≡ Some tenant → IsReplayOf tenant.name text (replayed_text (Same (length (his_records config nodes slot tenant))))
+
+-- ---- of a script, which leaves each tenant the nodes that he would have alone
+
+abbrev pub nodes_left : Config → List (List ℕ) → TenantConfig → ℕ → List SoloNode
+nodes_left config lines tenant slot = (cluster_left config lines tenant slot).nodes
+
+abbrev pub HaveLinesFor : HeadReading → Type 0
+HaveLinesFor (Whole config lines) = HaveLines config (nodes_left config lines)
+HaveLinesFor (BadAt number) = ⊤
+
+abbrev pub SaysSameFor : HeadReading → List ℕ → Type 0
+SaysSameFor (Whole config lines) text = SaysSame config (nodes_left config lines) text
+SaysSameFor (BadAt number) text = ⊤
