@@ -5,6 +5,7 @@ ghost use Rattle.std.specs.List.Sorted.{IsSearchInRange, IsPartitionPoint};
 ghost use Rattle.std.specs.declared.cmp.Ordering.TheVariants.{Less, Equal, Greater};
 ghost use Rattle.cops_types.specs.Key.{key_cmp};
 ghost use Rattle.cops_types.specs.Packed.{SHORT, has_short_key};
+ghost use Rattle.cops_types.specs.PackedRows.{pairs_of};
 ghost use Rattle.cops_types.specs.Pairs.{IsDeps, holds, pair_eq, pairs_eq, version_of, greatest_clock as greatest_clock_of};
 ghost use Rattle.cops_types.specs.Same.{same_pair, same_equivalence};
 ghost use Rattle.cops_types.specs.Version.{last_clock};
@@ -19,6 +20,7 @@ use crate::versions::Version;
 use std::alloc::{AllocError, Global};
 use std::cmp::Ordering;
 use std::marker::Model;
+use std::slice;
 
 /// A pair whose key has at most 15 bytes. Contracts see a pair like any other.
 #[derive(Clone, Copy, Debug)]
@@ -104,16 +106,19 @@ impl PartialEq for ShortPair {
     }
 }
 
-/// Pairs, all with short keys or in full.
+/// One pair with a short key where it stands, more of them, or pairs in full.
 #[derive(Debug, Drop)]
 enum Rows {
+    One(ShortPair),
     Short(Shared<ShortPair>),
     Full(Shared<Pair>),
 }
 
-/// Pairs that are shared. Contracts see the list of them.
+/// Pairs that are shared. Contracts see the list of them. One pair with a short key takes no memory
+/// of its own.
 #[derive(Debug, Drop)]
 pub(crate) struct PackedPairs {
+    alloc: Global,
     rows: Rows,
 }
 
@@ -145,6 +150,17 @@ fn shortened(alloc: Global, pairs: &[Pair]) -> Result<Vec<ShortPair>, AllocError
         list.push(ShortPair::of(pair))?;
     }
     Ok(list)
+}
+
+/// The rows of these pairs, which all have short keys.
+fn short_rows(alloc: Global, pairs: &[Pair]) -> Result<Rows, AllocError>
+    requires { IsTrue (list_all has_short_key pairs.now) }
+    ensures { IfOk result (λ rows. pairs_of rows ≡ pairs.now) }
+{
+    if pairs.len() == 1 {
+        return Ok(Rows::One(ShortPair::of(&pairs[0])));
+    }
+    Ok(Rows::Short(Shared::from_vec(shortened(alloc, pairs)?)?))
 }
 
 /// Where the key is among short pairs, or its place.
@@ -185,6 +201,7 @@ impl PackedPairs {
         ensures { result ≡ [] }
     {
         PackedPairs {
+            alloc,
             rows: Rows::Short(Shared::empty(alloc)),
         }
     }
@@ -194,11 +211,11 @@ impl PackedPairs {
         ensures { IfOk result (λ packed. packed ≡ pairs.now) }
     {
         let rows = if are_short(pairs) {
-            Rows::Short(Shared::from_vec(shortened(alloc, pairs)?)?)
+            short_rows(alloc, pairs)?
         } else {
             Rows::Full(Shared::from_slice(alloc, pairs)?)
         };
-        Ok(PackedPairs { rows })
+        Ok(PackedPairs { alloc, rows })
     }
 
     /// How many pairs there are.
@@ -206,6 +223,7 @@ impl PackedPairs {
         ensures { result ≡ length self.now }
     {
         match &self.rows {
+            Rows::One(_) => 1,
             Rows::Short(pairs) => pairs.as_slice().len(),
             Rows::Full(pairs) => pairs.as_slice().len(),
         }
@@ -217,6 +235,7 @@ impl PackedPairs {
         ensures { result ≡ slice_index_or self.now place result }
     {
         match &self.rows {
+            Rows::One(pair) => pair.pair(),
             Rows::Short(pairs) => pairs.as_slice()[place].pair(),
             Rows::Full(pairs) => pairs.as_slice()[place],
         }
@@ -229,6 +248,7 @@ impl PackedPairs {
         ensures { HoldsAt (λ p. key_cmp p.key key.now ≡ result) self.now place }
     {
         match &self.rows {
+            Rows::One(pair) => pair.key_order(key),
             Rows::Short(pairs) => pairs.as_slice()[place].key_order(key),
             Rows::Full(pairs) => pairs.as_slice()[place].key.cmp(key),
         }
@@ -240,6 +260,7 @@ impl PackedPairs {
         ensures { HoldsAt (λ p. p.version ≡ result) self.now place }
     {
         match &self.rows {
+            Rows::One(pair) => pair.version(),
             Rows::Short(pairs) => pairs.as_slice()[place].version(),
             Rows::Full(pairs) => pairs.as_slice()[place].version,
         }
@@ -247,10 +268,7 @@ impl PackedPairs {
 
     /// The handle for memory.
     pub(crate) fn allocator(&self) -> Global {
-        match &self.rows {
-            Rows::Short(pairs) => pairs.allocator(),
-            Rows::Full(pairs) => pairs.allocator(),
-        }
+        self.alloc
     }
 
     /// One more owner of the pairs.
@@ -258,10 +276,11 @@ impl PackedPairs {
         ensures { IfOk result (λ packed. packed ≡ self.now) }
     {
         let rows = match &self.rows {
+            Rows::One(pair) => Rows::One(*pair),
             Rows::Short(pairs) => Rows::Short(pairs.share(alloc)?),
             Rows::Full(pairs) => Rows::Full(pairs.share(alloc)?),
         };
-        Ok(PackedPairs { rows })
+        Ok(PackedPairs { alloc, rows })
     }
 
     /// Whether both have the same pairs.
@@ -269,13 +288,14 @@ impl PackedPairs {
         ensures { IsTrue result ↔ (self.now ≡ other.now) }
     {
         match &self.rows {
+            Rows::One(_) => self.is_same_by_pair(other),
             Rows::Short(pairs) => match &other.rows {
                 Rows::Short(others) => are_same_short(pairs.as_slice(), others.as_slice()),
-                Rows::Full(_) => self.is_same_by_pair(other),
+                _ => self.is_same_by_pair(other),
             },
             Rows::Full(pairs) => match &other.rows {
-                Rows::Short(_) => self.is_same_by_pair(other),
                 Rows::Full(others) => are_same_full(pairs.as_slice(), others.as_slice()),
+                _ => self.is_same_by_pair(other),
             },
         }
     }
@@ -304,6 +324,7 @@ impl PackedPairs {
             (IsPartitionPoint (λ p. key_cmp p.key key.now ≡ Less) (λ p. key_cmp p.key key.now ≡ Greater) self.now) }
     {
         match &self.rows {
+            Rows::One(pair) => place_among_short(slice::from_ref(pair), key),
             Rows::Short(pairs) => place_among_short(pairs.as_slice(), key),
             Rows::Full(pairs) => place_of(pairs.as_slice(), key),
         }
