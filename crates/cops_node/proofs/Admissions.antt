@@ -130,13 +130,13 @@ IsNode-padded id dcs shards more parts store outbox h stored queued = record {
 }
   where
     home : Place
-    home = HomePlace id dcs shards (length parts)
+    home = HomePlace id dcs shards
 
-    none : (n : ℕ) → AllByRecursion (AllFit (HomePlace id dcs shards (length parts))) (trails_of (replicate n None))
+    none : (n : ℕ) → AllByRecursion (AllFit (HomePlace id dcs shards)) (trails_of (replicate n None))
     none zero = tt
     none (suc n) = (tt, none n)
 
-    fits : (ps : List (Option Part)) → AllByRecursion (AllFit (HomePlace id dcs shards (length parts))) (trails_of ps) → AllByRecursion (AllFit (HomePlace id dcs shards (length parts))) (trails_of (ps ++ replicate more None))
+    fits : (ps : List (Option Part)) → AllByRecursion (AllFit (HomePlace id dcs shards)) (trails_of ps) → AllByRecursion (AllFit (HomePlace id dcs shards)) (trails_of (ps ++ replicate more None))
     fits [] all = none more
     fits (p ∷ ps) all = (all.0, fits ps all.1)
 
@@ -172,7 +172,7 @@ IsNode-admitted id dcs shards slot parts part store outbox h within free fresh p
     (subst (λ rows. StandsFor rows []) (sym unused.rows) (record { records = IsPermutation-refl []; greatest_kept = λ key. refl })) unused.queues in
     IsNode-set id dcs shards parts slot (Some part) store store outbox outbox h within
     (λ q is. subst (λ (o : Option Part). IsHis o) is own) (λ is. absurd (true≢false (ap is_some is))) (others_same slot store outbox)
-    (no_calls_at (HomePlace id dcs shards (length parts)) parts slot (Some part) h.fitting fresh.trail)
+    (no_calls_at (HomePlace id dcs shards) parts slot (Some part) h.fitting fresh.trail)
   where
     IsHis : Option Part → Type 0
     IsHis None = Unit {0}
@@ -184,7 +184,7 @@ pub IsNode-closed : (id : NodeId) (dcs shards slot : ℕ) (parts : List (Option 
 IsNode-closed id dcs shards slot parts store store' outbox outbox' h within rows queues others =
     IsNode-set id dcs shards parts slot None store store' outbox outbox' h within
     (λ part is. absurd (true≢false (sym (ap is_some is)))) (λ is. record { rows = rows; queues = queues }) others
-    (no_calls_at (HomePlace id dcs shards (length parts)) parts slot None h.fitting refl)
+    (no_calls_at (HomePlace id dcs shards) parts slot None h.fitting refl)
 
 pub padded_length : {A : Type 0} (xs : List A) (n : ℕ) (d : A) → length (xs ++ replicate n d) ≡ length xs + n
 padded_length [] zero d = refl

@@ -53,7 +53,7 @@ pub new_view : (config : Config) (id : NodeId) (parts : List (Option Part)) → 
 new_view config id parts fresh places =
     let long : length parts ≡ length config.tenants = sym (length-map parts (option_map place_in_part)) ∙ ap length places ∙ length-map config.tenants (λ (t : Tenant). Some (place_of (tenant_config config t) id)) in
     let trails = fresh_trails parts fresh ∙ ap no_calls long in
-    λ i. record { home = record { id = id; shape = record { data_centres = config.data_centres; shards = config.shards; slots = long i }; trans_time = config.trans_time; places = places i }; audit = trails i }
+    λ i. record { home = record { id = id; shape = record { data_centres = config.data_centres; shards = config.shards }; trans_time = config.trans_time; places = places i }; audit = trails i }
 
 pub replicate_read : {A : Type 0} (n i : ℕ) (x : A) → get_or (replicate n x) i x ≡ x
 replicate_read zero i x = refl
@@ -169,7 +169,7 @@ IsNode-new config id parts store outbox dc shard numbers clocks fresh places sto
     rows = no_rows (rows_of slot store) (empty slot);
     queues = waits slot;
   };
-  fitting = subst (AllByRecursion (AllFit (place_in (record { data_centres = config.data_centres; shards = config.shards; slots = length parts }) id))) (sym (fresh_trails parts fresh)) (no_calls_fit (place_in (record { data_centres = config.data_centres; shards = config.shards; slots = length parts }) id) (length parts));
+  fitting = subst (AllByRecursion (AllFit (place_in (record { data_centres = config.data_centres; shards = config.shards }) id))) (sym (fresh_trails parts fresh)) (no_calls_fit (place_in (record { data_centres = config.data_centres; shards = config.shards }) id) (length parts));
 }
   where
     own : outbox.own ≡ id.dc

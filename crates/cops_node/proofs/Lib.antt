@@ -15,3 +15,4 @@ pub mod Chains
 pub mod NodeTurns
 pub mod PartTurns
 pub mod Admissions
+pub mod LifeLemmas

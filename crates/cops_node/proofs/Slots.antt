@@ -195,13 +195,13 @@ trail_elsewhere parts slot other p differ = ap (trail_of other) (map-set trail_i
 pub place_elsewhere : (parts : List (Option Part)) (slot other : ℕ) (p : Option Part) → other ≢ slot → get_or (places_of (set parts slot p)) other None ≡ get_or (places_of parts) other None
 place_elsewhere parts slot other p differ = ap (λ ps. get_or ps other None) (map-set (option_map place_in_part) parts slot p) ∙ get_or-set_other (places_of parts) slot other (option_map place_in_part p) None differ
 
-abbrev pub HomePlace : NodeId → ℕ → ℕ → ℕ → Place
-HomePlace id dcs shards slots = place_in (record { data_centres = dcs; shards = shards; slots = slots }) id
+abbrev pub HomePlace : NodeId → ℕ → ℕ → Place
+HomePlace id dcs shards = place_in (record { data_centres = dcs; shards = shards }) id
 
 -- one slot is another, and the others stay
 pub IsNode-set : (id : NodeId) (dcs shards : ℕ) (parts : List (Option Part)) (slot : ℕ) (p : Option Part) (store store' : Contents) (outbox outbox' : Queues) → IsNode id dcs shards parts store outbox → slot < length parts
     → ((part : Part) → p ≡ Some part → IsPart id dcs shards slot part store' outbox') → (p ≡ None → IsUnused slot store' outbox') → OthersStay slot store outbox store' outbox'
-    → AllByRecursion (AllFit (HomePlace id dcs shards (length parts))) (trails_of (set parts slot p))
+    → AllByRecursion (AllFit (HomePlace id dcs shards)) (trails_of (set parts slot p))
     → IsNode id dcs shards (set parts slot p) store' outbox'
 IsNode-set id dcs shards parts slot p store store' outbox outbox' h within own unused stay fitting = record {
   slots =
@@ -275,15 +275,14 @@ OnErr-any (Err e) P p = p
 
 abbrev pub view_of : NodeId → ℕ → ℕ → ℕ → List (Option Part) → Shared
 view_of id dcs shards trans_time parts =
-    record { home = record { id = id; shape = record { data_centres = dcs; shards = shards; slots = length parts }; trans_time = trans_time; places = places_of parts }; audit = trails_of parts }
+    record { home = record { id = id; shape = record { data_centres = dcs; shards = shards }; trans_time = trans_time; places = places_of parts }; audit = trails_of parts }
 
 -- a part that keeps its place keeps the home
 pub home_set : (id : NodeId) (dcs shards trans_time slot : ℕ) (parts : List (Option Part)) (p new : Part) → get_or parts slot None ≡ Some p → new.place ≡ p.place
     → (view_of id dcs shards trans_time (set parts slot (Some new))).home ≡ (view_of id dcs shards trans_time parts).home
 home_set id dcs shards trans_time slot parts p new read same =
-    let long = length-set parts slot (Some new) in
     let places = places_set parts slot p new read same in
-    λ i. record { id = id; shape = record { data_centres = dcs; shards = shards; slots = long i }; trans_time = trans_time; places = places i }
+    λ i. record { id = id; shape = record { data_centres = dcs; shards = shards }; trans_time = trans_time; places = places i }
 
 -- a part that keeps its place and its calls does not show
 pub view_set : (id : NodeId) (dcs shards trans_time slot : ℕ) (parts : List (Option Part)) (p new : Part) → get_or parts slot None ≡ Some p → new.place ≡ p.place → new.trail.calls ≡ p.trail.calls
@@ -308,7 +307,7 @@ module _ (id : NodeId) (dcs shards trans_time slot moment : ℕ) (call : NodeCal
     (node : IsNode id dcs shards parts store outbox) (read : get_or parts slot None ≡ Some p) (place_is : new.place ≡ p.place)
     (stands : StandsForTrail slot new store' outbox') (others : OthersStay slot store outbox store' outbox') where
   abbrev home : Place
-  home = HomePlace id dcs shards (length parts)
+  home = HomePlace id dcs shards
 
   within : slot < length parts
   within = some_there parts slot p read

@@ -29,7 +29,7 @@ abbrev pub new_shared : Config → ℕ → Shared
 new_shared config number = record { home = home_of config (id_of config.shards number); audit = no_calls (length config.tenants) }
 
 abbrev pub shape_of : Config → Shape
-shape_of config = record { data_centres = config.data_centres; shards = config.shards; slots = length config.tenants }
+shape_of config = record { data_centres = config.data_centres; shards = config.shards }
 
 -- the nodes of a configuration, in number order, before any call
 abbrev pub new_nodes : Config → Cluster

@@ -16,6 +16,7 @@ pub use Rattle.cops_types.specs.Version
 pub use Rattle.cops_types.specs.TenantConfig
 pub mod Parts
 pub mod Clusters
+pub mod Lives
 pub mod Taken
 pub mod Trails
 pub use Rattle.cops_outbox.specs.Queues

@@ -75,7 +75,7 @@ abbrev pub home_of : Config → NodeId → Home
 home_of config id =
     record {
       id = id;
-      shape = record { data_centres = config.data_centres; shards = config.shards; slots = length config.tenants };
+      shape = record { data_centres = config.data_centres; shards = config.shards };
       trans_time = config.trans_time;
       places = map (λ tenant. Some (place_of (tenant_config config tenant) id)) config.tenants;
     }
@@ -219,7 +219,7 @@ pub record IsNode (id : NodeId) (data_centres shards : ℕ) (parts : List (Optio
   pub slots : HasSlots id data_centres shards (length parts) store outbox
   pub each : (slot : ℕ) (part : Part) → slice_index_or parts slot None ≡ Some part → IsPart id data_centres shards slot part store outbox
   pub vacant : (slot : ℕ) → slice_index_or parts slot None ≡ None → IsUnused slot store outbox
-  pub fitting : AllByRecursion (AllFit (place_in (record { data_centres = data_centres; shards = shards; slots = length parts }) id)) (trails_of parts)
+  pub fitting : AllByRecursion (AllFit (place_in (record { data_centres = data_centres; shards = shards }) id)) (trails_of parts)
 
 -- a part before any call
 pub record IsFresh (part : Part) : Type 0 where
@@ -303,8 +303,8 @@ pub record IsMachineTurn (old : Shared) (slot moment : ℕ) (call : NodeCall) (r
 
 -- the node before any call
 abbrev pub before_calls : Shared → Shared
-before_calls node = record { home = node.home; audit = no_calls node.home.shape.slots }
+before_calls node = record { home = node.home; audit = no_calls (length node.home.places) }
 
--- the slot is there, and the call may come to this node
+-- the call may come to this node, for whatever slot
 abbrev pub FitsNode : Shared → ℕ → NodeCall → Type 0
-FitsNode node slot call = (slot < node.home.shape.slots) × IsTrue (fits (place_in node.home.shape node.home.id) call)
+FitsNode node slot call = IsTrue (fits (place_in node.home.shape node.home.id) call)

@@ -1,21 +1,26 @@
 //! All nodes of a cluster in one process.
-ghost use Rattle.std.specs.Prelude.{◌≡◌, ℕ, ◌*◌, ◌≤◌, slice_get, replicate, Some, IsTrue, IfOk};
+ghost use Rattle.std.specs.Prelude.{◌≡◌, ℕ, ◌*◌, ◌≤◌, slice_get, replicate, Some, true, false, IsTrue, IfOk, OnErr, OnOk};
 ghost use Rattle.cops_types.specs.declared.configs.Tenant.{Tenant};
 ghost use Rattle.cops_types.specs.HeadLines.{are_sizes};
 ghost use Rattle.cops_types.specs.Layout.{NODES};
+ghost use Rattle.cops_types.specs.Refusal.{IsAnswer, refused_if};
 ghost use Rattle.cops_types.specs.TenantConfig.{tenant_config};
+ghost use Rattle.cops_types.specs.Version.{last_clock};
+ghost use Rattle.cops_types.specs.declared.faults.Fault.TheVariants.{NoSlot};
 ghost use Rattle.cops_node.specs.declared.NodeCall.{NodeCall};
 ghost use Rattle.cops_node.specs.declared.NodeReply.{NodeReply};
 ghost use Rattle.cops_node.specs.Clusters.{IsCall, IsCluster, HasTenant, nodes_of, new_nodes};
-ghost use Rattle.cops_node.specs.Parts.{AuditFits, are_clocks};
+ghost use Rattle.cops_node.specs.Lives.{AtEach, IsAdmitted, IsClosed};
+ghost use Rattle.cops_node.specs.Parts.{AuditFits, are_clocks, is_taken};
 ghost use Rattle.cops_node.specs.Shape.{Fits};
 ghost use Rattle.cops_node.specs.SoloNode.{new_node};
-ghost use Rattle.std.specs.List.{AllByRecursion};
+ghost use Rattle.std.specs.List.{AllByRecursion, list_any};
 
+use crate::lives::{admit_at_all, close_at_all, is_taken_at_any};
 use crate::node::Node;
 use crate::nodes::Nodes;
 use crate::{NodeCall, NodeId, NodeReply};
-use cops_types::Config;
+use cops_types::{Config, Fault, Quota};
 use std::alloc::{AllocError, Global};
 use std::marker::Model;
 
@@ -24,7 +29,6 @@ use std::marker::Model;
 pub struct Cluster0 {
     data_centres: u64,
     shards: u64,
-    tenants: u64,
     nodes: Vec<Node>,
 }
 
@@ -33,9 +37,9 @@ impl Model for Cluster0 {
 
     ghost Value = { Cluster };
 
-    ghost view = { λ c. record { shape = record { data_centres = c.data_centres; shards = c.shards; slots = c.tenants }; nodes = c.nodes.items } };
+    ghost view = { λ c. record { shape = record { data_centres = c.data_centres; shards = c.shards }; nodes = c.nodes.items } };
 
-    ghost invariant = { λ c. HoldsNodes (record { data_centres = c.data_centres; shards = c.shards; slots = c.tenants }) c.nodes.items };
+    ghost invariant = { λ c. HoldsNodes (record { data_centres = c.data_centres; shards = c.shards }) c.nodes.items };
 }
 
 // How many nodes there are.
@@ -68,7 +72,6 @@ impl Cluster0 {
         Ok(Cluster0 {
             data_centres: config.data_centres,
             shards,
-            tenants: config.tenants.len() as u64,
             nodes,
         })
     }
@@ -80,6 +83,31 @@ impl Cluster0 {
         ensures fitting { AllByRecursion AuditFits self.now.nodes }
     {
         self.nodes.as_slice()
+    }
+
+    /// Gives a slot that no node has a tenant at to one with this first clock, at most
+    /// `Version::LAST_CLOCK`, and quota: at all nodes, or at none. It is in nobody's audit.
+    pub fn admit(&mut self, slot: u64, first_clock: u64, quota: Quota) -> Result<(), Fault>
+        requires { first_clock ≤ last_clock }
+        ensures answer { IsAnswer (refused_if (list_any (is_taken slot) self.old.nodes) NoSlot) result }
+        ensures ok { OnOk result (AtEach (IsAdmitted slot first_clock quota) self.old.nodes self.new.nodes) }
+        ensures taken { list_any (is_taken slot) self.old.nodes ≡ true → self.new ≡ self.old }
+        ensures err { OnErr result (list_any (is_taken slot) self.old.nodes ≡ false → AtEach (IsClosed slot) self.old.nodes self.new.nodes) }
+        ensures shape { self.new.shape ≡ self.old.shape }
+    {
+        if is_taken_at_any(self.nodes.as_slice(), slot) {
+            return Err(Fault::NoSlot);
+        }
+        admit_at_all(&mut self.nodes, slot, first_clock, quota)
+    }
+
+    /// Drops all that the nodes have of a slot's tenant. It asks for no memory, and is in nobody's
+    /// audit. Where the slot has no tenant nothing is dropped.
+    pub fn close(&mut self, slot: u64)
+        ensures closed { AtEach (IsClosed slot) self.old.nodes self.new.nodes }
+        ensures shape { self.new.shape ≡ self.old.shape }
+    {
+        close_at_all(&mut self.nodes, slot);
     }
 }
 

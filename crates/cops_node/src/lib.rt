@@ -10,6 +10,7 @@ mod copies;
 mod gets;
 mod laws;
 mod limits;
+mod lives;
 mod node;
 mod nodes;
 mod part_turns;

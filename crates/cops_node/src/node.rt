@@ -42,7 +42,7 @@ impl Model for Node {
 
     ghost Value = { Shared };
 
-    ghost view = { λ n. record { home = record { id = n.id; shape = record { data_centres = n.data_centres; shards = n.shards; slots = length n.parts.items }; trans_time = n.trans_time; places = places_of n.parts.items }; audit = trails_of n.parts.items } };
+    ghost view = { λ n. record { home = record { id = n.id; shape = record { data_centres = n.data_centres; shards = n.shards }; trans_time = n.trans_time; places = places_of n.parts.items }; audit = trails_of n.parts.items } };
 
     ghost invariant = { λ n. IsNode n.id n.data_centres n.shards n.parts.items n.store n.outbox };
 }
@@ -78,7 +78,7 @@ impl Node {
 
     /// How many slots there are: those that had a tenant, and all before them.
     pub fn slots(&self) -> u64
-        ensures { result ≡ self.now.home.shape.slots }
+        ensures { result ≡ length self.now.home.places }
     {
         self.parts.len() as u64
     }
@@ -123,7 +123,6 @@ impl Node {
 
     /// How many calls are in the trail of a slot.
     pub fn audit_len(&self, slot: u64) -> u64
-        requires { slot < self.now.home.shape.slots }
         ensures calls { result ≡ length (trail_of slot self.now.audit) }
         ensures solo { (place : Place) → place_at slot self.now ≡ Some place → result ≡ length (solo_of slot place self.now).trail }
     {
@@ -135,7 +134,6 @@ impl Node {
 
     /// The call at a place of the trail of a slot.
     pub fn audit(&self, slot: u64, place: u64) -> Option<&AuditRow>
-        requires { slot < self.now.home.shape.slots }
         ensures call { option_copied result ≡ slice_get (trail_of slot self.now.audit) place }
         ensures solo { (own : Place) → place_at slot self.now ≡ Some own → option_copied result ≡ slice_get (solo_of slot own self.now).trail place }
     {
@@ -163,7 +161,7 @@ impl Node {
     }
 
     // Whether the slot has a tenant, or isn't one that a node has.
-    fn is_taken(&self, slot: u64) -> bool
+    pub(crate) fn is_taken(&self, slot: u64) -> bool
         ensures { result ≡ is_taken slot self.now }
     {
         slot >= MOST_SLOTS || parts::of(&self.parts, slot).is_some()

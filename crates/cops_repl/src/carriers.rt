@@ -62,7 +62,6 @@ impl Carrier {
     pub fn step<N: Nodes>(&mut self, nodes: &mut N, slot: u64, moment: u64) -> Progress
         requires goes_on { has_ended self.old ≡ false }
         requires stream { RunsIn (N.shape nodes.old) self.old.shards self.old.stream }
-        requires slot { slot < (N.shape nodes.old).slots }
 
         // One call is made. For each carrier of the definition that this one stood for, it is the next
         // call, and the step is the definition's.

@@ -30,7 +30,6 @@ fn collect_in<N: Nodes>(
 ) -> Result<u64, Fault>
     requires dc { dc < (N.shape nodes.old).data_centres }
     requires shards { shards ≡ (N.shape nodes.old).shards }
-    requires slot { slot < (N.shape nodes.old).slots }
     ensures collected { CollectsAll N.Answers slot moment start (nodes_of_data_centre shards dc) nodes.old nodes.new result }
     ensures shape { N.shape nodes.new ≡ N.shape nodes.old }
 {
@@ -53,7 +52,6 @@ pub fn collect_all<N: Nodes>(
 ) -> Result<u64, Fault>
     requires data_centres { config.now.data_centres ≡ (N.shape nodes.old).data_centres }
     requires shards { config.now.shards ≡ (N.shape nodes.old).shards }
-    requires slot { slot < (N.shape nodes.old).slots }
     ensures collected { CollectsAll N.Answers slot moment 0 (all_nodes config.now.data_centres config.now.shards) nodes.old nodes.new result }
     ensures shape { N.shape nodes.new ≡ N.shape nodes.old }
 {

@@ -49,7 +49,6 @@ impl Route {
         requires goes_on { stage_is_over stage ≡ false }
         requires sound { IsSound self.now.shards (stream_of self.now) stage }
         requires stream { RunsIn (N.shape nodes.old) self.now.shards (stream_of self.now) }
-        requires slot { slot < (N.shape nodes.old).slots }
         ensures called { (directed : Directed) × (reply : NodeReply)
             × N.Answers nodes.old directed.node slot moment directed.call reply nodes.new
             × IsStepFrom self.now.shards (stream_of self.now) stage directed reply result }
@@ -91,7 +90,6 @@ impl Route {
     /// Pulls the front of the queue at the origin.
     fn pull<N: Nodes>(&self, nodes: &mut N, slot: u64, moment: u64) -> After
         requires stream { RunsIn (N.shape nodes.old) self.now.shards (stream_of self.now) }
-        requires slot { slot < (N.shape nodes.old).slots }
         ensures called { (directed : Directed) × (reply : NodeReply)
             × N.Answers nodes.old directed.node slot moment directed.call reply nodes.new
             × IsStepFrom self.now.shards (stream_of self.now) Pulling directed reply result }
@@ -134,7 +132,6 @@ impl Route {
         requires small { length entry.near < 2 ^ 64 }
         requires own { is_foreign self.now.shards (stream_of self.now) entry ≡ false }
         requires stream { RunsIn (N.shape nodes.old) self.now.shards (stream_of self.now) }
-        requires slot { slot < (N.shape nodes.old).slots }
         ensures called { (directed : Directed) × (reply : NodeReply)
             × N.Answers nodes.old directed.node slot moment directed.call reply nodes.new
             × IsStepFrom self.now.shards (stream_of self.now) (Carrying entry checked) directed reply result }
@@ -161,7 +158,6 @@ impl Route {
     fn commit<N: Nodes>(&self, nodes: &mut N, slot: u64, moment: u64, entry: Entry) -> After
         requires own { is_foreign self.now.shards (stream_of self.now) entry ≡ false }
         requires stream { RunsIn (N.shape nodes.old) self.now.shards (stream_of self.now) }
-        requires slot { slot < (N.shape nodes.old).slots }
         ensures called { (directed : Directed) × (reply : NodeReply)
             × N.Answers nodes.old directed.node slot moment directed.call reply nodes.new
             × IsStepFrom self.now.shards (stream_of self.now) (Carrying entry (length entry.near)) directed reply result }
@@ -190,7 +186,6 @@ impl Route {
         fresh: bool,
     ) -> After
         requires stream { RunsIn (N.shape nodes.old) self.now.shards (stream_of self.now) }
-        requires slot { slot < (N.shape nodes.old).slots }
         ensures called { (directed : Directed) × (reply : NodeReply)
             × N.Answers nodes.old directed.node slot moment directed.call reply nodes.new
             × IsStepFrom self.now.shards (stream_of self.now) (Stored pair fresh) directed reply result }

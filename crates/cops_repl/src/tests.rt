@@ -26,7 +26,7 @@ struct Script {
 }
 
 impl Nodes for Script {
-    ghost shape = { λ _. record { data_centres = 2; shards = 2; slots = 1 } };
+    ghost shape = { λ _. record { data_centres = 2; shards = 2 } };
 
     ghost Answers = { λ _ _ _ _ _ _ _. Unit {0} };
 
@@ -95,14 +95,14 @@ fn y_entry(rt: &impl Abort, alloc: Global) -> Entry {
 
 /// A carrier from shard 1 of data centre 0 to data centre 1.
 fn y_carrier(alloc: Global) -> Carrier
-    ensures { RunsIn (record { data_centres = 2; shards = 2; slots = 1 }) result.shards result.stream }
+    ensures { RunsIn (record { data_centres = 2; shards = 2 }) result.shards result.stream }
 {
     Carrier::new(&config(alloc), NodeId { dc: 0, shard: 1 }, 1)
 }
 
 /// Steps a carrier to its end.
 fn carry(rt: &impl Abort, nodes: &mut Script, mut carrier: Carrier) -> Delivery
-    requires { RunsIn (record { data_centres = 2; shards = 2; slots = 1 }) carrier.shards carrier.stream }
+    requires { RunsIn (record { data_centres = 2; shards = 2 }) carrier.shards carrier.stream }
 {
     for _ in 0..9 {
         assert!(rt; !carrier.ended());

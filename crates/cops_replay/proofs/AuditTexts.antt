@@ -106,13 +106,7 @@ each_at P (y ∷ xs) (suc i) x h e = each_at P xs i x h.1 e
 pub numbered : (config : Config) (nodes : List Shared) (i : ℕ) (node : Shared) → AreNodesOf config nodes → i < length nodes → node ≡ get_or nodes i node → node.home.id ≡ id_of config.shards i
 numbered config nodes i node are below is = (are.by_number.each i node below is).0
 
--- it has a slot for each tenant
-pub slot_there : (config : Config) (tenant : Tenant) (slot : ℕ) (nodes : List Shared) (i : ℕ) (node : Shared) → AreNodesOf config nodes → i < length nodes → node ≡ get_or nodes i node →
-    slice_get config.tenants slot ≡ Some tenant → slot < node.home.shape.slots
-slot_there config tenant slot nodes i node are below is e =
-    subst (λ (s : Shape). slot < s.slots) (sym (are.by_number.each i node below is).1) (slice_get_within config.tenants slot tenant e)
-
--- which is his place there
+-- a tenant's slot has his place there
 pub place_there : (config : Config) (tenant : Tenant) (slot : ℕ) (nodes : List Shared) (i : ℕ) (node : Shared) → AreNodesOf config nodes → i < length nodes → node ≡ get_or nodes i node →
     slice_get config.tenants slot ≡ Some tenant → place_at slot node ≡ Some (place_of (tenant_config config tenant) (id_of config.shards i))
 place_there config tenant slot nodes i node are below is e =

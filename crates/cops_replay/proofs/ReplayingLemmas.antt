@@ -54,7 +54,6 @@ module _ (layout : Layout) (config alone : Config) (tenant : Tenant) (nodes : Cl
     alone = record {
       data_centres = ap (λ (k : Config). k.data_centres) (sym is) ∙ ap (λ (c : Cluster). c.shape.data_centres) (sym new);
       shards = ap (λ (k : Config). k.shards) (sym is) ∙ ap (λ (c : Cluster). c.shape.shards) (sym new);
-      slots = ap (λ (c : Cluster). c.shape.slots) new ∙ ap (λ (k : Config). length k.tenants) is;
       tenant = subst (λ (c : TenantConfig). HasTenant c 0 nodes) mine (has 0 tenant first);
     };
     nodes_are = subst (λ (c : TenantConfig). nodes_of c 0 nodes ≡ replicate (alone.data_centres * alone.shards) (new_node alone.data_centres)) mine (fresh 0 tenant first)

@@ -19,11 +19,10 @@ pub record Standing : Type 0 where
   pub passed : ℕ
   pub found : Option ℕ
 
--- the nodes are of a cluster of one tenant with these sizes
-pub record HasOneTenant (config : Config) (nodes : Cluster) : Type 0 where
+-- the nodes are of a cluster with these sizes
+pub record HasSizesOf (config : Config) (nodes : Cluster) : Type 0 where
   pub data_centres : nodes.shape.data_centres ≡ config.data_centres
   pub shards : nodes.shape.shards ≡ config.shards
-  pub slots : nodes.shape.slots ≡ 1
 
 -- no record has been replayed
 pub record IsBeforeRecords (config : TenantConfig) (replay : Standing) : Type 0 where

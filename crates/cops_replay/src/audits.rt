@@ -62,8 +62,7 @@ fn put_node<W: Write>(
     id: NodeId,
     node: &Node,
 ) -> Result<(), Fault>
-    requires slot { slot < node.now.home.shape.slots }
-    requires place { place_at slot node.now ≡ Some (place_of (tenant_config config.now tenant.now) id) }
+    requires { place_at slot node.now ≡ Some (place_of (tenant_config config.now tenant.now) id) }
     ensures { PutsText (records_text tenant.now.name (map (record_of id) (solo_of slot (place_of (tenant_config config.now tenant.now) id) node.now).trail))
         (page out.old.items (W.contents (sink_writer sink.old)) (sink_failures sink.old)) result
         (page out.new.items (W.contents (sink_writer sink.new)) (sink_failures sink.new)) }

@@ -37,13 +37,13 @@ pub struct Replay {
 }
 
 impl Model for Replay {
-    ghost use Rattle.cops_replay.specs.Replayings.{HasOneTenant, Standing};
+    ghost use Rattle.cops_replay.specs.Replayings.{HasSizesOf, Standing};
 
     ghost Value = { Standing };
 
     ghost view = { λ r. record { layout = r.layout; nodes = r.nodes; passed = r.passed; found = r.found } };
 
-    ghost invariant = { λ r. HasOneTenant r.alone r.nodes };
+    ghost invariant = { λ r. HasSizesOf r.alone r.nodes };
 }
 
 /// A short line that is no record: refused where it is one of layout 1, and only a clock is too great.

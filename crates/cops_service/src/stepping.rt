@@ -28,7 +28,6 @@ impl<R: Wait> Desk<'_, R> {
     ) -> Result<cops_session::Progress, Fault>
         requires data_centres { session.old.setting.data_centres ≡ (shape_in self.old.cluster.now).data_centres }
         requires shards { session.old.setting.shards ≡ (shape_in self.old.cluster.now).shards }
-        requires slot { session.old.setting.slot < (shape_in self.old.cluster.now).slots }
         ensures cluster { self.new.cluster.now ≡ self.old.cluster.now }
         ensures turn { MakesOneTurnAtMost self.old.cluster.now self.old.seat.now session.old.setting.slot self.new.seat.now }
         ensures stepped { (config : TenantConfig) (solo : SoloSession) → SessionStandsFor config session.old solo → MatchResult result
@@ -51,7 +50,6 @@ impl<R: Wait> Desk<'_, R> {
     ) -> cops_repl::Progress
         requires goes_on { has_ended carrier.old ≡ false }
         requires stream { RunsIn (shape_in self.old.cluster.now) carrier.old.shards carrier.old.stream }
-        requires slot { slot < (shape_in self.old.cluster.now).slots }
         ensures cluster { self.new.cluster.now ≡ self.old.cluster.now }
         ensures called { (directed : Directed) × (reply : NodeReply)
             × IsDeskCall self.old.cluster.now self.old.seat.now directed.node slot (max carrier.old.moment moment) directed.call reply self.new.seat.now

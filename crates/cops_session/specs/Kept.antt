@@ -48,7 +48,6 @@ is_running number None = false
 is_running number (Some ongoing) = ongoing.number == number
 
 -- the session is one for nodes of these sizes
-pub record IsOfSizes (data_centres shards slots : ℕ) (setting : Setting) : Type 0 where
+pub record IsOfSizes (data_centres shards : ℕ) (setting : Setting) : Type 0 where
   pub data_centres_are : setting.data_centres ≡ data_centres
   pub shards_are : setting.shards ≡ shards
-  pub slot_exists : setting.slot < slots

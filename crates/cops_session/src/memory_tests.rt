@@ -20,7 +20,7 @@ struct Once {
 impl Nodes for Once {
     ghost use Rattle.std.specs.Prelude.{◌≡◌, ◌⊎◌, Some, None};
 
-    ghost shape = { λ _. record { data_centres = 1; shards = 2; slots = 1 } };
+    ghost shape = { λ _. record { data_centres = 1; shards = 2 } };
 
     ghost Answers = { λ old _ _ _ _ reply new. (old.reply ≡ Some reply) ⊎ (old.reply ≡ None) };
 
@@ -33,7 +33,7 @@ impl Nodes for Once {
 }
 
 fn session(alloc: Global) -> Session
-    ensures { IsOfSizes 1 2 1 result.setting }
+    ensures { IsOfSizes 1 2 result.setting }
 {
     let setting = Setting {
         slot: 0,
@@ -48,8 +48,8 @@ fn session(alloc: Global) -> Session
 }
 
 fn context(rt: &impl Abort, session: &mut Session) -> Handle<Contexts>
-    requires { IsOfSizes 1 2 1 session.old.setting }
-    ensures { IsOfSizes 1 2 1 session.new.setting }
+    requires { IsOfSizes 1 2 session.old.setting }
+    ensures { IsOfSizes 1 2 session.new.setting }
 {
     match session.create_context() {
         Ok(handle) => handle,
@@ -72,8 +72,8 @@ fn put(
     context: Handle<Contexts>,
     bytes: &[u8],
 ) -> Handle<Running>
-    requires { IsOfSizes 1 2 1 session.old.setting }
-    ensures { IsOfSizes 1 2 1 session.new.setting }
+    requires { IsOfSizes 1 2 session.old.setting }
+    ensures { IsOfSizes 1 2 session.new.setting }
 {
     match session.begin_put(context, key(rt, bytes), value(rt, alloc)) {
         Ok(handle) => handle,
@@ -90,8 +90,8 @@ fn get(
     context: Handle<Contexts>,
     keys: &[Key],
 ) -> Handle<Running>
-    requires { IsOfSizes 1 2 1 session.old.setting }
-    ensures { IsOfSizes 1 2 1 session.new.setting }
+    requires { IsOfSizes 1 2 session.old.setting }
+    ensures { IsOfSizes 1 2 session.new.setting }
 {
     match session.begin_get_trans(context, keys) {
         Ok(handle) => handle,
@@ -106,8 +106,8 @@ fn step(
     handle: Handle<Running>,
     reply: NodeReply,
 ) -> Progress
-    requires { IsOfSizes 1 2 1 session.old.setting }
-    ensures { IsOfSizes 1 2 1 session.new.setting }
+    requires { IsOfSizes 1 2 session.old.setting }
+    ensures { IsOfSizes 1 2 session.new.setting }
 {
     let mut nodes = Once { reply: Some(reply) };
     match session.step(&mut nodes, handle, 0) {
@@ -126,8 +126,8 @@ fn reads_both(
     session: &mut Session,
     context: Handle<Contexts>,
 ) -> bool
-    requires { IsOfSizes 1 2 1 session.old.setting }
-    ensures { IsOfSizes 1 2 1 session.new.setting }
+    requires { IsOfSizes 1 2 session.old.setting }
+    ensures { IsOfSizes 1 2 session.new.setting }
 {
     let request = get(rt, session, context, &[key(rt, b"x"), key(rt, b"y")]);
     let x = NodeReply::Found(Version::of(1, 0), value(rt, alloc), Deps::empty(alloc));

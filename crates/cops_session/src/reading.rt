@@ -80,7 +80,6 @@ fn read_first<N: Nodes>(
     requires dc { setting.dc < (N.shape nodes.old).data_centres }
     requires shards { setting.shards ≡ (N.shape nodes.old).shards }
     requires some_shard { 0 < setting.shards }
-    requires slot { setting.slot < (N.shape nodes.old).slots }
     requires in_time { is_past setting.trans_time start moment ≡ false }
     ensures turned { (config : TenantConfig) (obs : List Observation) (keys : List (List ℕ)) (log : List LogStep) → IsSettingOf config setting →
         IsReading config (record { dc = setting.dc; obs = obs; action = Fetch keys }) keys log (record { restarts = restarts; start = start; round = First round }) →
@@ -130,7 +129,6 @@ fn read_second<N: Nodes>(
     requires dc { setting.dc < (N.shape nodes.old).data_centres }
     requires shards { setting.shards ≡ (N.shape nodes.old).shards }
     requires some_shard { 0 < setting.shards }
-    requires slot { setting.slot < (N.shape nodes.old).slots }
     requires in_time { is_past setting.trans_time start moment ≡ false }
     ensures turned { (config : TenantConfig) (obs : List Observation) (keys : List (List ℕ)) (log : List LogStep) → IsSettingOf config setting →
         IsReading config (record { dc = setting.dc; obs = obs; action = Fetch keys }) keys log (record { restarts = restarts; start = start; round = Second round }) →
@@ -187,7 +185,6 @@ pub(crate) fn read_step<N: Nodes>(
     requires dc { setting.dc < (N.shape nodes.old).data_centres }
     requires shards { setting.shards ≡ (N.shape nodes.old).shards }
     requires some_shard { 0 < setting.shards }
-    requires slot { setting.slot < (N.shape nodes.old).slots }
     ensures turned { (config : TenantConfig) (obs : List Observation) (keys : List (List ℕ)) (log : List LogStep) → IsSettingOf config setting →
         IsReading config (record { dc = setting.dc; obs = obs; action = Fetch keys }) keys log reading →
         TurnsNext (λ id call reply. N.Answers nodes.old id setting.slot moment call reply nodes.new) (nodes.new ≡ nodes.old)

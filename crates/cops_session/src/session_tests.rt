@@ -11,7 +11,7 @@ use std::process::Abort;
 
 /// A session of one data centre and two shards, with one restart and two contexts at most.
 fn session(alloc: Global, deps: u64, first: u64) -> Session
-    ensures { IsOfSizes 1 2 1 result.setting }
+    ensures { IsOfSizes 1 2 result.setting }
 {
     let setting = Setting {
         slot: 0,
@@ -26,8 +26,8 @@ fn session(alloc: Global, deps: u64, first: u64) -> Session
 }
 
 fn context(rt: &impl Abort, session: &mut Session) -> Handle<Contexts>
-    requires { IsOfSizes 1 2 1 session.old.setting }
-    ensures { IsOfSizes 1 2 1 session.new.setting }
+    requires { IsOfSizes 1 2 session.old.setting }
+    ensures { IsOfSizes 1 2 session.new.setting }
 {
     session.create_context().expect(rt, "a context")
 }
@@ -39,8 +39,8 @@ fn put(
     context: Handle<Contexts>,
     bytes: &[u8],
 ) -> Handle<Running>
-    requires { IsOfSizes 1 2 1 session.old.setting }
-    ensures { IsOfSizes 1 2 1 session.new.setting }
+    requires { IsOfSizes 1 2 session.old.setting }
+    ensures { IsOfSizes 1 2 session.new.setting }
 {
     let value = Value::new(alloc, b"10").expect(rt, "a value");
     session
@@ -54,8 +54,8 @@ fn get(
     context: Handle<Contexts>,
     keys: &[Key],
 ) -> Handle<Running>
-    requires { IsOfSizes 1 2 1 session.old.setting }
-    ensures { IsOfSizes 1 2 1 session.new.setting }
+    requires { IsOfSizes 1 2 session.old.setting }
+    ensures { IsOfSizes 1 2 session.new.setting }
 {
     session.begin_get_trans(context, keys).expect(rt, "a get")
 }
@@ -69,8 +69,8 @@ fn step(
     moment: u64,
     reply: NodeReply,
 ) -> Progress
-    requires { IsOfSizes 1 2 1 session.old.setting }
-    ensures { IsOfSizes 1 2 1 session.new.setting }
+    requires { IsOfSizes 1 2 session.old.setting }
+    ensures { IsOfSizes 1 2 session.new.setting }
 {
     let mut nodes = Script {
         replies: Vec::new(alloc),
@@ -87,8 +87,8 @@ fn step(
 
 /// No request of this number runs.
 fn assert_idle(rt: &impl Abort, alloc: Global, session: &mut Session, handle: Handle<Running>)
-    requires { IsOfSizes 1 2 1 session.old.setting }
-    ensures { IsOfSizes 1 2 1 session.new.setting }
+    requires { IsOfSizes 1 2 session.old.setting }
+    ensures { IsOfSizes 1 2 session.new.setting }
 {
     let mut nodes = Script {
         replies: Vec::new(alloc),
@@ -142,8 +142,8 @@ fn put_x(
     session: &mut Session,
     handle: Handle<Contexts>,
 ) -> Handle<Running>
-    requires { IsOfSizes 1 2 1 session.old.setting }
-    ensures { IsOfSizes 1 2 1 session.new.setting }
+    requires { IsOfSizes 1 2 session.old.setting }
+    ensures { IsOfSizes 1 2 session.new.setting }
 {
     let request = put(rt, alloc, session, handle, b"x");
     let reply = NodeReply::Stored(Version::of(1, 0));
@@ -159,8 +159,8 @@ fn in_second_round(
     session: &mut Session,
     handle: Handle<Contexts>,
 ) -> Handle<Running>
-    requires { IsOfSizes 1 2 1 session.old.setting }
-    ensures { IsOfSizes 1 2 1 session.new.setting }
+    requires { IsOfSizes 1 2 session.old.setting }
+    ensures { IsOfSizes 1 2 session.new.setting }
 {
     let request = get(rt, session, handle, &[key(rt, b"x"), key(rt, b"y")]);
     assert!(rt;

@@ -262,7 +262,6 @@ impl Session {
     ) -> Result<Progress, Fault>
         requires data_centres { self.old.setting.data_centres ≡ (N.shape nodes.old).data_centres }
         requires shards { self.old.setting.shards ≡ (N.shape nodes.old).shards }
-        requires slot { self.old.setting.slot < (N.shape nodes.old).slots }
         ensures stepped { (config : TenantConfig) (session : SoloSession) → SessionStandsFor config self.old session → MatchResult result
             (λ shown. (running : SoloRunning) × (session.running ≡ Some running) × (running.number ≡ handle)
             × DoesNext (λ id call reply. N.Answers nodes.old id self.old.setting.slot (moment_at moment session) call reply nodes.new) (nodes.new ≡ nodes.old)
@@ -314,7 +313,6 @@ impl Session {
     ) -> Progress
         requires data_centres { self.old.setting.data_centres ≡ (N.shape nodes.old).data_centres }
         requires shards { self.old.setting.shards ≡ (N.shape nodes.old).shards }
-        requires slot { self.old.setting.slot < (N.shape nodes.old).slots }
         requires idle { self.old.running ≡ None }
         requires ready { HasRoomInContext context writing.key self.old.contexts.rows }
         ensures stepped { (config : TenantConfig) (session : SoloSession) (running : SoloRunning) (number : ℕ) →
@@ -347,7 +345,6 @@ impl Session {
     ) -> Progress
         requires data_centres { self.old.setting.data_centres ≡ (N.shape nodes.old).data_centres }
         requires shards { self.old.setting.shards ≡ (N.shape nodes.old).shards }
-        requires slot { self.old.setting.slot < (N.shape nodes.old).slots }
         requires idle { self.old.running ≡ None }
         requires ready { IsOpen context self.old.contexts.rows }
         ensures stepped { (config : TenantConfig) (session : SoloSession) (running : SoloRunning) →

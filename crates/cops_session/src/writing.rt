@@ -31,7 +31,6 @@ pub(crate) fn write_step<N: Nodes>(
     requires dc { setting.dc < (N.shape nodes.old).data_centres }
     requires shards { setting.shards ≡ (N.shape nodes.old).shards }
     requires some_shard { 0 < setting.shards }
-    requires slot { setting.slot < (N.shape nodes.old).slots }
     ensures called { (reply : NodeReply)
         × N.Answers nodes.old (record { dc = setting.dc; shard = shard_of writing.key setting.shards }) setting.slot moment (Put writing.key writing.value writing.deps writing.near) reply nodes.new
         × (result ≡ answer_to_put writing.key reply) }

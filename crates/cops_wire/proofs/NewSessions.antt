@@ -30,15 +30,14 @@ there_is [] slot lt = absurd (omega arith)
 there_is (first ∷ tenants) slot lt = (get_or (first ∷ tenants) slot first, slice_get-get_or (first ∷ tenants) slot first lt)
 
 pub new_sizes : (config : Config) (shape : Shape) (kept : KeptSession) (solo : Session) (slot : ℕ) → shape ≡ shape_of config → slot < length config.tenants →
-    ((tenant : Tenant) → slice_get config.tenants slot ≡ Some tenant → SessionStandsFor (tenant_config config tenant) kept solo) → kept.setting.slot ≡ slot →
-    IsOfSizes shape.data_centres shape.shards shape.slots kept.setting
-new_sizes config shape kept solo slot is lt stands slot_is =
+    ((tenant : Tenant) → slice_get config.tenants slot ≡ Some tenant → SessionStandsFor (tenant_config config tenant) kept solo) →
+    IsOfSizes shape.data_centres shape.shards kept.setting
+new_sizes config shape kept solo slot is lt stands =
     let found = there_is config.tenants slot lt in
     let setting = (stands found.0 found.1).setting_is in
     record {
       data_centres_are = setting.data_centres ∙ ap (λ (s : Shape). s.data_centres) (sym is);
       shards_are = setting.shards ∙ ap (λ (s : Shape). s.shards) (sym is);
-      slot_exists = subst (λ n. n < shape.slots) (sym slot_is) (subst (λ n. slot < n) (ap (λ (s : Shape). s.slots) (sym is)) lt);
     }
 
 pub conversed : {N M : Type 0} (Calls : N → NodeId → ℕ → ℕ → NodeCall → NodeReply → N → Type 0) (Gives : M → ℕ → M → Type 0) (config : Config) (remaining greeted_remaining new_remaining contents greeted_contents new_contents : Option (List ℕ))

@@ -149,7 +149,7 @@ fn run<N: Nodes, M: Moments>(
     begun: Result<(), Fault>,
     out: &mut Vec<u8>,
 ) -> Result<(), AllocError>
-    requires fits { IsOfSizes (N.shape nodes.old).data_centres (N.shape nodes.old).shards (N.shape nodes.old).slots session.old.setting }
+    requires fits { IsOfSizes (N.shape nodes.old).data_centres (N.shape nodes.old).shards session.old.setting }
     ensures ran { HasRun (KeepsShape N.shape N.Answers) M.Gives (backend session.old nodes.old moments.old) begun (backend session.new nodes.new moments.new) (PutsFrame result out.old.items out.new.items) }
     ensures setting { session.new.setting ≡ session.old.setting }
     ensures shape { N.shape nodes.new ≡ N.shape nodes.old }
@@ -171,7 +171,7 @@ pub(crate) fn answer<N: Nodes, M: Moments>(
     request: &Message,
     out: &mut Vec<u8>,
 ) -> Result<(), AllocError>
-    requires fits { IsOfSizes (N.shape nodes.old).data_centres (N.shape nodes.old).shards (N.shape nodes.old).slots session.old.setting }
+    requires fits { IsOfSizes (N.shape nodes.old).data_centres (N.shape nodes.old).shards session.old.setting }
     requires request { IsTrue (is_request request.now) }
     ensures answered { (reply : Message)
         × HasAnswered (KeepsShape N.shape N.Answers) M.Gives (backend session.old nodes.old moments.old) request.now reply (backend session.new nodes.new moments.new)

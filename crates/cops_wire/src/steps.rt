@@ -18,7 +18,7 @@ fn step_once<N: Nodes, M: Moments>(
     nodes: &mut N,
     moments: &mut M,
 ) -> Option<Answer>
-    requires fits { IsOfSizes (N.shape nodes.old).data_centres (N.shape nodes.old).shards (N.shape nodes.old).slots session.old.setting }
+    requires fits { IsOfSizes (N.shape nodes.old).data_centres (N.shape nodes.old).shards session.old.setting }
     ensures stepped { (config : TenantConfig) (solo : SoloSession) (running : SoloRunning) → SessionStandsFor config session.old solo → solo.running ≡ Some running →
         HasStepped (KeepsShape N.shape N.Answers) M.Gives config session.old.setting.slot (backend solo nodes.old moments.old) session.new nodes.new moments.new result }
     ensures setting { session.new.setting ≡ session.old.setting }
@@ -44,7 +44,7 @@ pub(crate) fn finish<N: Nodes, M: Moments>(
     nodes: &mut N,
     moments: &mut M,
 ) -> Answer
-    requires fits { IsOfSizes (N.shape nodes.old).data_centres (N.shape nodes.old).shards (N.shape nodes.old).slots session.old.setting }
+    requires fits { IsOfSizes (N.shape nodes.old).data_centres (N.shape nodes.old).shards session.old.setting }
     ensures ended { (config : TenantConfig) (solo : SoloSession) (running : SoloRunning) → HasFewRestarts config → SessionStandsFor config session.old solo → solo.running ≡ Some running → running.log ≡ [] → HasFewKeys running.action →
         HasEnded (KeepsShape N.shape N.Answers) M.Gives config session.old.setting.slot (backend solo nodes.old moments.old) session.new nodes.new moments.new result }
     ensures setting { session.new.setting ≡ session.old.setting }

@@ -116,7 +116,7 @@ pub(crate) fn one_node(rt: &impl Abort, alloc: Global) -> Config
 fn session(alloc: Global, config: &Config) -> Session
     requires sizes { IsTrue (are_sizes config.now) }
     requires tenant { length config.now.tenants ≡ 1 }
-    ensures { IsOfSizes config.now.data_centres config.now.shards (length config.now.tenants) result.setting }
+    ensures { IsOfSizes config.now.data_centres config.now.shards result.setting }
 {
     Session::new(alloc, config, 0, 0)
 }

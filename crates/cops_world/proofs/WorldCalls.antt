@@ -36,12 +36,11 @@ and_right false b h = absurd (true≢false (sym h))
 
 -- ---- collections
 
-pub node_fits : (shape : Shape) (config : TenantConfig) (id : NodeId) (slot : ℕ) → config.data_centres ≡ shape.data_centres → config.shards ≡ shape.shards → slot < shape.slots →
-    has_node config id.dc id.shard ≡ true → Fits shape id slot node_call.Collect
-node_fits shape config id slot data_centres shards within there = record {
+pub node_fits : (shape : Shape) (config : TenantConfig) (id : NodeId) → config.data_centres ≡ shape.data_centres → config.shards ≡ shape.shards →
+    has_node config id.dc id.shard ≡ true → Fits shape id node_call.Collect
+node_fits shape config id data_centres shards there = record {
   dc_exists = subst (λ n. id.dc < n) data_centres (ltb-true id.dc config.data_centres (and_left _ _ there));
   shard_exists = subst (λ n. id.shard < n) shards (ltb-true id.shard config.shards (and_right (nat_lt id.dc config.data_centres) _ there));
-  slot_exists = within;
   call_fits = refl;
 }
 

@@ -60,7 +60,6 @@ pub(crate) fn step_at<N: Nodes>(
     requires value { slice_get (values actors.old) place ≡ actor_at actors.old id }
     requires unique { IsDistinct same_actor (keys actors.old) }
     requires runs { AllRun (N.shape nodes.old) actors.old }
-    requires slot { id.slot < (N.shape nodes.old).slots }
     ensures stepped { (before : Kept) → actor_at actors.old id ≡ Some before → (after : Kept) × PutsBack actors.old id after actors.new
         × ((config : TenantConfig) (solo : Solo) → ActorStandsFor config before solo →
         ActorSteps (λ at node call reply. N.Answers nodes.old node id.slot at call reply nodes.new) (nodes.new ≡ nodes.old) config moment result solo after)

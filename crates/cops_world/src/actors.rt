@@ -218,7 +218,6 @@ fn reply_of_delivery(delivery: Delivery) -> Reply
 fn step_session<N: Nodes>(session: &mut Session, nodes: &mut N, moment: u64) -> Reply
     requires data_centres { session.old.setting.data_centres ≡ (N.shape nodes.old).data_centres }
     requires shards { session.old.setting.shards ≡ (N.shape nodes.old).shards }
-    requires slot { session.old.setting.slot < (N.shape nodes.old).slots }
     ensures steps { (config : TenantConfig) (solo : SoloSession) → SessionStandsFor config session.old solo →
         SessionSteps (λ at id call reply. N.Answers nodes.old id session.old.setting.slot at call reply nodes.new) (nodes.new ≡ nodes.old) config solo moment result session.new solo.running }
     ensures once { (nodes.new ≡ nodes.old)
@@ -239,7 +238,6 @@ fn step_session<N: Nodes>(session: &mut Session, nodes: &mut N, moment: u64) -> 
 fn step_carrier<N: Nodes>(carrier: &mut Carrier, nodes: &mut N, slot: u64, moment: u64) -> Stepped
     requires goes_on { has_ended carrier.old ≡ false }
     requires stream { RunsIn (N.shape nodes.old) carrier.old.shards carrier.old.stream }
-    requires slot { slot < (N.shape nodes.old).slots }
     ensures steps { (config : TenantConfig) (solo : SoloCarrier) → CarrierStandsFor config.shards carrier.old solo →
         CarrierSteps (λ at id call reply. N.Answers nodes.old id slot at call reply nodes.new) config solo moment result carrier.new }
     ensures once { (id : NodeId) × (at : ℕ) × (call : NodeCall) × (reply : NodeReply) × N.Answers nodes.old id slot at call reply nodes.new }
@@ -274,8 +272,7 @@ impl Actor {
 
     /// Takes a step at a moment, for the tenant of a slot.
     pub(crate) fn step<N: Nodes>(&mut self, nodes: &mut N, slot: u64, moment: u64) -> Stepped
-        requires runs { RunsAt (N.shape nodes.old) slot self.old }
-        requires slot { slot < (N.shape nodes.old).slots }
+        requires { RunsAt (N.shape nodes.old) slot self.old }
         ensures steps { (config : TenantConfig) (solo : Solo) → ActorStandsFor config self.old solo →
             ActorSteps (λ at id call reply. N.Answers nodes.old id slot at call reply nodes.new) (nodes.new ≡ nodes.old) config moment result solo self.new }
         ensures once { (nodes.new ≡ nodes.old)

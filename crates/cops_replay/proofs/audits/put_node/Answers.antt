@@ -21,7 +21,7 @@ returns-in-Err g c =
     let trail = (solo_of c.args.slot place c.args.node.now).trail in
     let entry = c.in-Some.row.now in
     let found : slice_get trail c.loop-place.place ≡ Some entry =
-    sym (c.in-Some.ensures.solo place c.requires.place) in
+    sym (c.in-Some.ensures.solo place c.requires) in
     Puts-ends (records_text name (map (record_of id) (take c.loop-place.place trail))) (ended (record_line name (record_of id entry)))
     (records_text name (map (record_of id) (drop (suc c.loop-place.place) trail))) (records_text name (map (record_of id) trail))
     (page c.args.out.now.items (g.W.Write.contents (sink_writer c.args.sink.now)) (sink_failures c.args.sink.now)) (page c.loop-place.out.items (g.W.Write.contents (sink_writer c.loop-place.sink)) (sink_failures c.loop-place.sink)) tt c.in-Err.fault (page c.put_row.new.out.items (g.W.Write.contents (sink_writer c.put_row.new.sink)) (sink_failures c.put_row.new.sink))
@@ -35,7 +35,7 @@ loop-place-preserved g c =
     let trail = (solo_of c.args.slot place c.args.node.now).trail in
     let entry = c.in-Some.row.now in
     let found : slice_get trail c.loop-place.place ≡ Some entry =
-    sym (c.in-Some.ensures.solo place c.requires.place) in
+    sym (c.in-Some.ensures.solo place c.requires) in
     let old = page c.args.out.now.items (g.W.Write.contents (sink_writer c.args.sink.now)) (sink_failures c.args.sink.now) in
     let new = page c.put_row.new.out.items (g.W.Write.contents (sink_writer c.put_row.new.sink)) (sink_failures c.put_row.new.sink) in
     subst (λ l. PutsText {T = Unit {0}} l old (Ok tt) new) (sym (node_text_one_more name id trail c.loop-place.place entry found))
@@ -49,7 +49,7 @@ returns g c =
     let place = place_of (tenant_config c.args.config.now c.args.tenant.now) id in
     let trail = (solo_of c.args.slot place c.args.node.now).trail in
     let many : c.audit_len-place-end.result ≡ length trail =
-    c.audit_len-place-end.ensures.solo place c.requires.place in
+    c.audit_len-place-end.ensures.solo place c.requires in
     let old = page c.args.out.now.items (g.W.Write.contents (sink_writer c.args.sink.now)) (sink_failures c.args.sink.now) in
     let new = page c.loop-place.out.items (g.W.Write.contents (sink_writer c.loop-place.sink)) (sink_failures c.loop-place.sink) in
     let all : take c.loop-place.place trail ≡ trail = take_whole trail c.loop-place.place (omega arith) in

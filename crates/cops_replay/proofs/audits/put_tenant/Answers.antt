@@ -8,7 +8,7 @@ use Rattle.cops_replay.specs.Audits.{record_of, records_from}
 use Rattle.cops_replay.specs.AuditText.{his_nodes, records_text}
 use Rattle.cops_replay.specs.Pages.{PutsText, page}
 use Rattle.cops_replay.proofs.PageLemmas.{Puts-ends, Puts-then}
-use Rattle.cops_replay.proofs.AuditTexts.{his_node, nodes_text_cut, nodes_text_one_more, place_there, slot_there}
+use Rattle.cops_replay.proofs.AuditTexts.{his_node, nodes_text_cut, nodes_text_one_more, place_there}
 use Rattle.cops_replay.proofs.audits.put_tenant.Goals as goal
 
 pub returns-in-Err : goal.returns-in-Err
@@ -42,10 +42,6 @@ loop-place-preserved g c =
     (Puts-then (records_text name (records_from shards 0 (take i nodes))) (records_text name (map (record_of (id_of shards i)) solo.trail))
     old (page c.loop-place.out.items (g.W.Write.contents (sink_writer c.loop-place.sink)) (sink_failures c.loop-place.sink)) tt (Ok tt) new c.loop-place.invariant c.in_default.ensures)
 
-pub put_node-requires-clause-slot : goal.put_node-requires-clause-slot
-put_node-requires-clause-slot g c =
-    slot_there c.args.config.now c.args.tenant.now c.args.slot c.args.nodes.now c.loop-place.place c.index-nodes-place.result c.requires.nodes (omega arith) c.index-nodes-place.is c.requires.tenant
-
-pub put_node-requires-clause-place : goal.put_node-requires-clause-place
-put_node-requires-clause-place g c =
+pub put_node-requires : goal.put_node-requires
+put_node-requires g c =
     place_there c.args.config.now c.args.tenant.now c.args.slot c.args.nodes.now c.loop-place.place c.index-nodes-place.result c.requires.nodes (omega arith) c.index-nodes-place.is c.requires.tenant

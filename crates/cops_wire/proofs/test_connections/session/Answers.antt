@@ -14,5 +14,4 @@ returns c =
     record {
       data_centres_are = setting.data_centres;
       shards_are = setting.shards;
-      slot_exists = (let slot = c.new.ensures.slot in let one = c.requires.tenant in omega arith);
     }

@@ -5,8 +5,8 @@ use Rattle.cops_world.specs.ActorsStand.{ActorStandsFor, RunsAt}
 use Rattle.cops_world.proofs.ActorTableLemmas.{actor_laws, puts, stays_unique}
 use Rattle.cops_world.proofs.actor_table.step_at.Goals as goal
 
-pub step-requires-clause-runs : goal.step-requires-clause-runs
-step-requires-clause-runs g c = c.requires.runs c.args.id c.index_mut-actor.result.now (sym c.requires.value ∙ c.index_mut-actor.ensures.value)
+pub step-requires : goal.step-requires
+step-requires g c = c.requires.runs c.args.id c.index_mut-actor.result.now (sym c.requires.value ∙ c.index_mut-actor.ensures.value)
 
 pub returns-clause-stepped : goal.returns-clause-stepped
 returns-clause-stepped g c = λ before e.

@@ -2,7 +2,7 @@ use Rattle.std.proofs.Common.{◌≡◌, ◌*◌, ◌∙◌, ap, sym, subst, map
 use Rattle.std.specs.List.{range_with_len}
 use Rattle.std.proofs.lemmas.List.FromFn.{map-range_with_len_more}
 use Rattle.cops_types.specs.TenantConfig.{tenant_config}
-use Rattle.cops_node.specs.Clusters.{HoldsNodes, HasTenant, nodes_of, new_shared, shape_of}
+use Rattle.cops_node.specs.Clusters.{HasTenant, nodes_of, new_shared, shape_of}
 use Rattle.cops_node.specs.Parts.{Shared}
 use Rattle.cops_node.proofs.Clusters.{HoldsNodes-new, tenant_new, solos_new}
 use Rattle.cops_node.proofs.Fresh.{numbers_fit}
@@ -19,8 +19,7 @@ loop-number-preserved c =
 pub invariant_of-result : goal.invariant_of-result
 invariant_of-result c =
     let done : c.loop-number.number ≡ c.args.config.now.data_centres * c.args.config.now.shards = omega (arith, c.count_of-number-end.ensures.value, c.loop-number-test.false, c.loop-number.auto.number-end) in
-    subst (λ n. HoldsNodes (record { data_centres = c.args.config.now.data_centres; shards = c.args.config.now.shards; slots = n }) c.loop-number.nodes.items) (sym c.len.ensures)
-    (HoldsNodes-new c.args.config.now c.loop-number.nodes.items (numbers_fit c.args.config.now c.requires.sizes) (c.loop-number.invariant ∙ ap (λ n. map (new_shared c.args.config.now) (range_with_len 0 n)) done))
+    HoldsNodes-new c.args.config.now c.loop-number.nodes.items (numbers_fit c.args.config.now c.requires.sizes) (c.loop-number.invariant ∙ ap (λ n. map (new_shared c.args.config.now) (range_with_len 0 n)) done)
 
 pub returns-clause-tenants : goal.returns-clause-tenants
 returns-clause-tenants c = λ slot tenant found.

@@ -9,8 +9,8 @@ use Rattle.cops_node.proofs.cluster.Cluster0Nodes.step.Goals as goal
 
 pub step-requires : goal.step-requires
 step-requires c =
-    let shape : Shape = record { data_centres = c.self.inside.data_centres; shards = c.self.inside.shards; slots = c.self.inside.tenants } in
-    let fitting : Fits shape c.args.id c.args.slot c.args.call = subst (λ (v : Cluster). Fits v.shape c.args.id c.args.slot c.args.call) (sym c.self.view_is) c.requires in
+    let shape : Shape = record { data_centres = c.self.inside.data_centres; shards = c.self.inside.shards } in
+    let fitting : Fits shape c.args.id c.args.call = subst (λ (v : Cluster). Fits v.shape c.args.id c.args.call) (sym c.self.view_is) c.requires in
     let within : node_number shape.shards c.args.id < length c.self.inside.nodes.items = subst (λ n. node_number shape.shards c.args.id < n) (sym c.self.invariant.in_order.all) (number_within shape c.args.id fitting.dc_exists fitting.shard_exists) in
     let at = c.self.invariant.in_order.each (node_number shape.shards c.args.id) c.index_mut-node.result.now within c.index_mut-node.ensures.value in
     subst (λ (s : Shape). IsTrue (fits (place_in s c.index_mut-node.result.now.home.id) c.args.call)) (sym at.1)
@@ -18,8 +18,8 @@ step-requires c =
 
 pub returns-clause-answers : goal.returns-clause-answers
 returns-clause-answers c =
-    let shape : Shape = record { data_centres = c.self.inside.data_centres; shards = c.self.inside.shards; slots = c.self.inside.tenants } in
-    let fitting : Fits shape c.args.id c.args.slot c.args.call = subst (λ (v : Cluster). Fits v.shape c.args.id c.args.slot c.args.call) (sym c.self.view_is) c.requires in
+    let shape : Shape = record { data_centres = c.self.inside.data_centres; shards = c.self.inside.shards } in
+    let fitting : Fits shape c.args.id c.args.call = subst (λ (v : Cluster). Fits v.shape c.args.id c.args.call) (sym c.self.view_is) c.requires in
     let within : node_number shape.shards c.args.id < length c.self.inside.nodes.items = subst (λ n. node_number shape.shards c.args.id < n) (sym c.self.invariant.in_order.all) (number_within shape c.args.id fitting.dc_exists fitting.shard_exists) in
     let at = c.self.invariant.in_order.each (node_number shape.shards c.args.id) c.index_mut-node.result.now within c.index_mut-node.ensures.value in
     let new : Cluster = record { shape = shape; nodes = set c.self.inside.nodes.items (node_number shape.shards c.args.id) c.step.new.self } in
@@ -29,8 +29,8 @@ returns-clause-answers c =
 
 pub invariant_of-self : goal.invariant_of-self
 invariant_of-self c =
-    let shape : Shape = record { data_centres = c.self.inside.data_centres; shards = c.self.inside.shards; slots = c.self.inside.tenants } in
-    let fitting : Fits shape c.args.id c.args.slot c.args.call = subst (λ (v : Cluster). Fits v.shape c.args.id c.args.slot c.args.call) (sym c.self.view_is) c.requires in
+    let shape : Shape = record { data_centres = c.self.inside.data_centres; shards = c.self.inside.shards } in
+    let fitting : Fits shape c.args.id c.args.call = subst (λ (v : Cluster). Fits v.shape c.args.id c.args.call) (sym c.self.view_is) c.requires in
     let within : node_number shape.shards c.args.id < length c.self.inside.nodes.items = subst (λ n. node_number shape.shards c.args.id < n) (sym c.self.invariant.in_order.all) (number_within shape c.args.id fitting.dc_exists fitting.shard_exists) in
     let at = c.self.invariant.in_order.each (node_number shape.shards c.args.id) c.index_mut-node.result.now within c.index_mut-node.ensures.value in
     let here = at.0 ∙ id_is shape.shards c.args.id fitting.shard_exists in

@@ -1,4 +1,4 @@
-use Rattle.std.proofs.Common.{◌≡◌, ◌∙◌, ap, arith, sym, subst, length, get_or, IsTrue, set}
+use Rattle.std.proofs.Common.{◌≡◌, ◌∙◌, ap, arith, sym, subst, get_or, IsTrue, set}
 use Rattle.std.specs.Prelude.{None, Some}
 use Rattle.std.proofs.lemmas.List.{get_or_default}
 use Rattle.cops_node.specs.Parts.{IsSoloTurn, JoinsTrail, Shared, place_at, trail_of}
@@ -32,7 +32,7 @@ turn-requires-clause-stands c = (c.self.invariant.each c.args.slot c.in-Some.par
 pub turn-requires-clause-fits : goal.turn-requires-clause-fits
 turn-requires-clause-fits c =
     let own = c.self.invariant.each c.args.slot c.in-Some.part (at_call c) in
-    fits_same c.args.call c.in-Some.part.place (HomePlace c.self.inside.id c.self.inside.data_centres c.self.inside.shards (length c.self.inside.parts.items)) own.id_is own.data_centres_are own.shards_are
+    fits_same c.args.call c.in-Some.part.place (HomePlace c.self.inside.id c.self.inside.data_centres c.self.inside.shards) own.id_is own.data_centres_are own.shards_are
     ∙ subst (λ (v : Shared). IsTrue (fits (place_in v.home.shape v.home.id) c.args.call)) (sym c.self.view_is) c.requires
 
 -- ---- memory was refused

@@ -11,7 +11,6 @@ step-reply-requires g c =
     record {
       dc_exists = c.requires.stream.to_dc_exists;
       shard_exists = c.requires.stream.shard_exists;
-      slot_exists = c.requires.slot;
       call_fits = commit_fits shape route.shards (stream_of route) c.args.entry c.requires.stream c.requires.own;
     }
 

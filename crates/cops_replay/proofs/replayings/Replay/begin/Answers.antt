@@ -27,7 +27,6 @@ invariant_of-result c =
     (record {
       data_centres = ap (λ (k : Cluster). k.shape.data_centres) new;
       shards = ap (λ (k : Cluster). k.shape.shards) new;
-      slots = ap (λ (k : Cluster). k.shape.slots) new ∙ ap (λ (k : Config). length k.tenants) (c.in_ok-alone.ensures at.0 at.1);
     })
 
 pub returns-clause-fresh : goal.returns-clause-fresh

@@ -9,7 +9,7 @@ use Rattle.cops_wire.proofs.connections.Connection.converse.Goals as goal
 pub serve-requires : goal.serve-requires
 serve-requires g c =
     let lt : c.in_ok-slot.slot < length c.args.config.now.tenants = search rules in
-    record { fits = new_sizes c.args.config.now _ c.new-session.result _ c.in_ok-slot.slot c.requires.nodes lt c.new-session.ensures.stands c.new-session.ensures.slot }
+    record { fits = new_sizes c.args.config.now _ c.new-session.result _ c.in_ok-slot.slot c.requires.nodes lt c.new-session.ensures.stands }
 
 pub returns-clause-conversed : goal.returns-clause-conversed
 returns-clause-conversed g c =

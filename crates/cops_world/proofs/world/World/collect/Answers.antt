@@ -1,4 +1,4 @@
-use Rattle.std.proofs.Common.{◌≡◌, ◌<◌, true, length, ap, refl, subst, sym, ◌∙◌}
+use Rattle.std.proofs.Common.{◌≡◌, true, ap, refl, subst, sym, ◌∙◌}
 use Rattle.cops_node.specs.Shape.{Shape}
 use Rattle.cops_types.specs.declared.faults.Fault.TheVariants.{NoSuchPlace}
 use Rattle.cops_world.specs.declared.acts.Act.TheVariants as acts
@@ -26,10 +26,9 @@ step-requires c =
     let sizes = sizes_at now.setup c.args.slot c.requires in
     let same_shape = c.self.invariant.whole.shape_is in
     let same_setup = ap (λ (k : KeptWorld). k.setup) c.self.view_is in
-    node_fits shape (config_at now.setup c.args.slot) c.args.id c.args.slot
+    node_fits shape (config_at now.setup c.args.slot) c.args.id
     (sizes.data_centres ∙ sym (ap (λ (s : Shape). s.data_centres) same_shape ∙ ap (λ setup. setup.data_centres) same_setup))
     (sizes.shards ∙ sym (ap (λ (s : Shape). s.shards) same_shape ∙ ap (λ setup. setup.shards) same_setup))
-    (subst (λ n. c.args.slot < n) (sym (ap (λ (s : Shape). s.slots) same_shape ∙ ap (λ setup. length setup.tenants) same_setup)) c.requires)
     (sym (c.has_node.ensures (config_at now.setup c.args.slot) sizes) ∙ c.if-not-has_node.false)
 
 pub returns-clause-moves : goal.returns-clause-moves

@@ -1,7 +1,7 @@
 use Rattle.std.proofs.Common.{◌≡◌, ◌≤◌, ◌+◌, suc, length, set, subst, ◌∙◌, arith}
-use Rattle.cops_world.specs.Lives.{AtFirst, IsClosed}
-use Rattle.cops_world.proofs.LifeLemmas.{first_all, first_below, first_length, first_more, first_none}
-use Rattle.cops_world.proofs.lives.close_at_all.Goals as goal
+use Rattle.cops_node.specs.Lives.{AtFirst, IsClosed}
+use Rattle.cops_node.proofs.LifeLemmas.{first_all, first_below, first_length, first_more, first_none}
+use Rattle.cops_node.proofs.lives.close_at_all.Goals as goal
 
 pub loop-number-init : goal.loop-number-init
 loop-number-init c = first_none (IsClosed c.args.slot) c.args.nodes.now.items

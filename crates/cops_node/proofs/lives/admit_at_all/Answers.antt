@@ -1,9 +1,9 @@
 use Rattle.std.proofs.Common.{◌≡◌, ◌≤◌, ◌+◌, List, false, suc, length, set, subst, ap, ◌∙◌, arith}
 use Rattle.std.proofs.lemmas.List.{set-get_or}
 use Rattle.cops_node.specs.Parts.{Shared, is_taken}
-use Rattle.cops_world.specs.Lives.{AtEach, AtFirst, IsAdmitted, IsClosed}
-use Rattle.cops_world.proofs.LifeLemmas.{all_gone_again, first_all, first_below, first_length, first_more, first_none, only_lack, still}
-use Rattle.cops_world.proofs.lives.admit_at_all.Goals as goal
+use Rattle.cops_node.specs.Lives.{AtEach, AtFirst, IsAdmitted, IsClosed}
+use Rattle.cops_node.proofs.LifeLemmas.{all_gone_again, first_all, first_below, first_length, first_more, first_none, only_lack, still}
+use Rattle.cops_node.proofs.lives.admit_at_all.Goals as goal
 
 pub loop-number-init : goal.loop-number-init
 loop-number-init c = first_none (IsAdmitted c.args.slot c.args.first_clock c.args.quota) c.args.nodes.now.items

@@ -1,16 +1,23 @@
 //! Tenants that come and go, at all nodes of a cluster or at none.
 ghost use Rattle.std.specs.Prelude.{◌≡◌, ◌≤◌, IfErr, OnErr, OnOk, false};
-ghost use Rattle.std.specs.List.{AllByRecursion};
+ghost use Rattle.std.specs.List.{AllByRecursion, list_any};
 ghost use Rattle.cops_types.specs.Version.{last_clock};
 ghost use Rattle.cops_types.specs.declared.faults.Fault.TheVariants.{OutOfMemory};
 ghost use Rattle.cops_node.specs.Parts.{is_taken};
-ghost use Rattle.cops_world.specs.Lives.{AtEach, IsAdmitted, IsClosed};
+ghost use Rattle.cops_node.specs.Lives.{AtEach, IsAdmitted, IsClosed};
 
-use cops_node::Node;
+use crate::node::Node;
 use cops_types::{Fault, Quota};
 
-/// Drops all that each node has of a slot's tenant. It asks for no memory.
-pub fn close_at_all(nodes: &mut Vec<Node>, slot: u64)
+// Whether a node has a tenant at the slot, or hasn't such a slot.
+pub(crate) fn is_taken_at_any(nodes: &[Node], slot: u64) -> bool
+    ensures { result ≡ list_any (is_taken slot) nodes.now }
+{
+    nodes.iter().any(|node| node.is_taken(slot))
+}
+
+// Drops all that each node has of a slot's tenant. It asks for no memory.
+pub(crate) fn close_at_all(nodes: &mut Vec<Node>, slot: u64)
     ensures { AtEach (IsClosed slot) nodes.old.items nodes.new.items }
 {
     for number in 0..nodes.len() {
@@ -19,9 +26,9 @@ pub fn close_at_all(nodes: &mut Vec<Node>, slot: u64)
     }
 }
 
-/// Gives a slot that no node has a tenant at to one with this first clock, at most
-/// `Version::LAST_CLOCK`, and quota: at all nodes, or, where memory is refused at one of them, at none.
-pub fn admit_at_all(
+// Gives a slot that no node has a tenant at to one with this first clock and quota: at all nodes, or,
+// where memory is refused at one of them, at none.
+pub(crate) fn admit_at_all(
     nodes: &mut Vec<Node>,
     slot: u64,
     first_clock: u64,
