@@ -73,7 +73,7 @@ fn wait<M: Machine, R: Wait>(
         if serving == ticket {
             return;
         }
-        sleepers.pause(rt, board, tries, serving);
+        sleepers.wait_in_line(rt, board, tries, serving);
         tries = tries.saturating_add(1);
     }
     unreachable!()

@@ -15,55 +15,78 @@ const LOOKS: u32 = 7;
 // After so many tries a thread no longer holds back: it draws its ticket and waits in line.
 const HOLDS: u32 = 32;
 
-/// How many threads sleep until a turn ends. A turn that finds none wakes none.
+/// Who sleeps until a turn ends. A turn that finds nobody makes no system call.
 #[derive(Drop)]
 pub(crate) struct Sleepers {
-    count: AtomicU64,
+    /// How many sleep that have a ticket. They sleep on the serving word.
+    in_line: AtomicU64,
+    /// 1 where threads without a ticket may sleep, which they do on this word. It is 0 where none does, and from the end
+    /// of a turn that wakes one until that one goes on.
+    held_back: AtomicU64,
 }
 
 impl Sleepers {
     pub(crate) fn none() -> Sleepers {
         Sleepers {
-            count: AtomicU64::new(0),
+            in_line: AtomicU64::new(0),
+            held_back: AtomicU64::new(0),
         }
     }
 
-    // Sleeps until a turn ends, where the ticket that was seen is still served.
-    // The thread is counted before the word is read again, and a turn ends before the count is read, so no end is missed.
-    fn sleep<M: Machine, R: Wait>(&self, rt: &R, board: &Board<M>, seen: u64)
-        requires { board.now.shared.table_id.words ≡ 2 }
-    {
-        self.count.fetch_add(1, SeqCst);
-        board.shared.park(rt, SERVING, (seen % (1 << 32)) as u32);
-        self.count.fetch_sub(1, SeqCst);
-    }
-
-    /// Waits a while, the longer the more tries there were. `seen` is the ticket that was served at the last look.
-    pub(crate) fn pause<M: Machine, R: Wait>(&self, rt: &R, board: &Board<M>, tries: u32, seen: u64)
+    /// Waits a while with a ticket, the longer the more tries there were. `seen` is the ticket that was served at the last look.
+    ///
+    /// The thread is counted before the word is read again, and a turn ends before the count is read, so no end is missed.
+    pub(crate) fn wait_in_line<M: Machine, R: Wait>(
+        &self,
+        rt: &R,
+        board: &Board<M>,
+        tries: u32,
+        seen: u64,
+    )
         requires { board.now.shared.table_id.words ≡ 2 }
     {
         if tries < LOOKS {
-            for _ in 0..1u32 << tries {
-                hint::spin_loop();
-            }
+            spin(tries);
         } else {
-            self.sleep(rt, board, seen);
+            self.in_line.fetch_add(1, SeqCst);
+            board.shared.park(rt, SERVING, (seen % (1 << 32)) as u32);
+            self.in_line.fetch_sub(1, SeqCst);
         }
     }
 
-    /// Wakes who may go on, now that `serving` is served.
-    /// Where no ticket is out any sleeper may draw the next one, and else the one that has this ticket is to see it.
-    /// Behind the last ticket no turn follows, so all are woken.
+    // Waits a while without a ticket, the longer the more tries there were.
+    // A turn that ended after the look is seen here, or finds the word at 1. Nobody falls asleep once it has taken that down.
+    fn hold_back<M: Machine, R: Wait>(&self, rt: &R, board: &Board<M>, tries: u32, seen: u64)
+        requires { board.now.shared.table_id.words ≡ 2 }
+    {
+        if tries < LOOKS {
+            spin(tries);
+        } else {
+            self.others_may_sleep();
+            if board.shared.peek(SERVING) == seen {
+                self.held_back.park(rt, 1);
+            }
+        }
+    }
+
+    // Said by a thread that is about to sleep, and by one that slept before it goes on: it alone was woken.
+    fn others_may_sleep(&self) {
+        self.held_back.store(1, SeqCst);
+    }
+
+    /// Wakes who may go on, now that `serving` is served: those in line, since one of them may have this ticket, and one
+    /// of those who hold back. Behind the last ticket no turn follows, so all of these are woken.
     pub(crate) fn wake<M: Machine>(&self, board: &Board<M>, serving: u64)
         requires { board.now.shared.table_id.words ≡ 2 }
     {
-        if self.count.load(SeqCst) == 0 {
-            return;
-        }
-        if serving < LAST && board.shared.peek(TICKET) == serving {
-            board.shared.wake_one(SERVING);
-        } else {
+        if self.in_line.load(SeqCst) > 0 {
             board.shared.wake_all(SERVING);
+        }
+        if serving >= LAST {
+            self.held_back.store(0, SeqCst);
+            self.held_back.wake_all();
+        } else if self.held_back.load(SeqCst) == 1 && self.held_back.swap(0, SeqCst) == 1 {
+            self.held_back.wake_one();
         }
     }
 }
@@ -80,10 +103,14 @@ pub(crate) fn hold_back<M: Machine, R: Wait>(rt: &R, board: &Board<M>, sleepers:
         let serving = board.shared.peek(SERVING);
         let ticket = board.shared.peek(TICKET);
         if ticket == serving || ticket >= LAST {
+            if tries > LOOKS {
+                sleepers.others_may_sleep();
+            }
             return below_last(ticket);
         }
-        sleepers.pause(rt, board, tries, serving);
+        sleepers.hold_back(rt, board, tries, serving);
     }
+    sleepers.others_may_sleep();
     below_last(board.shared.peek(TICKET))
 }
 
@@ -92,4 +119,12 @@ fn below_last(ticket: u64) -> u64
     ensures { result < 2 ^ 62 }
 {
     if ticket < LAST { ticket } else { 0 }
+}
+
+fn spin(tries: u32)
+    requires { tries < 32 }
+{
+    for _ in 0..1u32 << tries {
+        hint::spin_loop();
+    }
 }
