@@ -1,14 +1,13 @@
 -- What a replay comes to in the head of a file of either layout, over lines as they are cut.
 use Rattle.std.proofs.Common.{◌≡◌, ℕ, zero, suc, ◌+◌, ◌<◌, ◌≤◌, ◌^◌, ◌-◌, Bool, true, false, ◌&&◌, nat_eq, min, List, [], ◌∷◌, ◌++◌, length, map, take, inl, inr, refl, sym, subst, ap, ◌∙◌, length-append, length-take, true≢false, arith}
 use Rattle.std.specs.Prelude.{Option, Some, None, nat_lt, IsTrue}
-use Rattle.std.specs.List.{AllByRecursion}
 use Rattle.std.specs.Str.{bytes_eq}
 use Rattle.std.proofs.Math.Nat.{min-eq_left}
 use Rattle.std.proofs.lemmas.Bool.Decides.{nat_tests}
 use Rattle.cops_types.specs.declared.configs.Config.{Config}
 use Rattle.cops_types.specs.declared.configs.Tenant.{Tenant}
 use Rattle.cops_types.specs.Counts.{counted}
-use Rattle.cops_types.specs.Head.{Front, AtStart, Within, Begun, Follows, HeadReading, Whole, BadAt, front_after, is_begun, may_join, reading_from, with_tenant}
+use Rattle.cops_types.specs.Head.{Front, AtStart, Within, Begun, Follows, HeadReading, Whole, BadAt, is_begun, may_join, reading_from}
 use Rattle.cops_types.specs.HeadLines.{is_distinct, is_name}
 use Rattle.cops_types.specs.LineRules.{Run}
 use Rattle.cops_types.specs.Lines.{cut_line}
@@ -27,7 +26,7 @@ use Rattle.cops_replay.specs.declared.replay_machine.ReplayStage.{ReplayStage}
 use Rattle.cops_replay.specs.declared.replay_machine.ReplayStage.TheVariants.{OldHead, Head, Running}
 use Rattle.cops_replay.specs.AuditText.{layout_line}
 use Rattle.cops_replay.specs.Replayings.{Standing}
-use Rattle.cops_replay.specs.ReplayRules.{GoesOnBy, HeadAnswersBy, IsHeadBy, OldHeadAnswers, StartsFor, front_by, replay_answers, replay_answers_in, replay_rules, tells_today}
+use Rattle.cops_replay.specs.ReplayRules.{GoesOnBy, HeadAnswersBy, IsHeadBy, OldHeadAnswers, StartsFor, front_by, replay_answers_in, replay_rules, tells_today}
 use Rattle.cops_replay.specs.ReplayText.{longest_record}
 use Rattle.cops_replay.proofs.OldFronts.{OldFollows, old_front_after-is, old_front_after-short}
 

@@ -1,6 +1,6 @@
 -- The lines of a written audit, and those of them that are one tenant's.
-use Rattle.std.proofs.Common.{◌≡◌, ℕ, zero, suc, ◌+◌, ◌<◌, ◌≤◌, Bool, true, false, cond, not, List, [], ◌∷◌, ◌++◌, map, length, inl, inr, refl, sym, subst, ap, ◌∙◌, append-nil, true≢false, arith}
-use Rattle.std.specs.Prelude.{IsTrue, Option, Some, None, codes, decimal, filter, flat_map, nat_lt, position, slice_get}
+use Rattle.std.proofs.Common.{◌≡◌, ℕ, zero, suc, ◌+◌, ◌<◌, ◌≤◌, Bool, true, false, cond, List, [], ◌∷◌, ◌++◌, map, length, inl, inr, refl, sym, subst, ap, ◌∙◌, append-nil, arith}
+use Rattle.std.specs.Prelude.{IsTrue, Some, None, codes, decimal, flat_map, nat_lt, slice_get}
 use Rattle.std.specs.List.{AllByRecursion, position_or_len}
 use Rattle.std.specs.Str.{bytes_eq}
 use Rattle.std.proofs.lemmas.Bool.Decides.{nat_tests}
@@ -14,7 +14,7 @@ use Rattle.cops_types.specs.HeadLines.{is_distinct}
 use Rattle.cops_types.specs.Key.{is_name}
 use Rattle.cops_types.specs.Lines.{lines_of}
 use Rattle.cops_types.specs.Slots.{AreNamed, slot_of_name}
-use Rattle.cops_types.specs.TenantConfig.{TenantConfig, tenant_config}
+use Rattle.cops_types.specs.TenantConfig.{TenantConfig}
 use Rattle.cops_types.specs.Version.{last_clock}
 use Rattle.cops_types.specs.Words.{first_word, newline, space, spaced}
 use Rattle.cops_types.proofs.FrontLemmas.{head_of-says}
@@ -25,8 +25,7 @@ use Rattle.cops_world.specs.Script.{alone_lines}
 use Rattle.cops_world.proofs.ApartTenants.{AreApart, apart_push, none_apart, of_name, only_one}
 use Rattle.cops_world.proofs.HeadRuns.{tenants_in}
 use Rattle.cops_replay.specs.declared.Record.{Record}
-use Rattle.cops_replay.specs.Audits.{records_of}
-use Rattle.cops_replay.specs.AuditText.{ended, records_text, tenants_text}
+use Rattle.cops_replay.specs.AuditText.{ended, tenants_text}
 use Rattle.cops_replay.specs.RecordText.{call_words, is_record, node_text, record_line, reply_words}
 use Rattle.cops_replay.specs.WrittenAudits.{AreFormed, his_records}
 use Rattle.cops_replay.proofs.HeadsBack.{lines_of-lines}

@@ -1,5 +1,5 @@
 -- The audit of a script's world is that of its text.
-use Rattle.std.proofs.Common.{◌≡◌, ℕ, zero, suc, ◌+◌, ◌<◌, List, [], ◌∷◌, ◌++◌, length, refl, sym, subst, ap, ◌∙◌, arith}
+use Rattle.std.proofs.Common.{◌≡◌, ℕ, suc, ◌+◌, ◌<◌, List, [], ◌∷◌, ◌++◌, length, refl, sym, subst, ap, ◌∙◌, arith}
 use Rattle.std.specs.Prelude.{Option, Some, None, IfErr, IfSome, OnErr, OnOk, Result, Ok, Err, option_map, slice_get}
 use Rattle.std.specs.Io.KnownBytes.{Appends}
 use Rattle.std.proofs.lemmas.Option.{slice_get-map, slice_get_within}
@@ -12,7 +12,6 @@ use Rattle.cops_types.specs.LineRuns.{IfRunRefused}
 use Rattle.cops_types.specs.Lines.{lines_of}
 use Rattle.cops_types.specs.Sink.{AppendsFront}
 use Rattle.cops_types.specs.TenantConfig.{TenantConfig, tenant_config}
-use Rattle.cops_types.proofs.KnownLemmas.{AppendsFront-more}
 use Rattle.cops_node.specs.Clusters.{HasTenant, nodes_of, shape_of}
 use Rattle.cops_node.specs.SoloNode.{SoloNode}
 use Rattle.cops_world.specs.declared.scripts.BadConfig.{BadConfig}

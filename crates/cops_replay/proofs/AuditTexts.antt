@@ -14,7 +14,6 @@ use Rattle.cops_node.specs.declared.NodeId.{NodeId}
 use Rattle.cops_node.specs.Clusters.{id_of}
 use Rattle.cops_node.specs.Parts.{Shared, place_at, solo_of}
 use Rattle.cops_node.specs.Place.{place_of}
-use Rattle.cops_node.specs.Shape.{Shape}
 use Rattle.cops_node.specs.SoloNode.{SoloNode}
 use Rattle.cops_replay.specs.declared.Record.{Record}
 use Rattle.cops_replay.specs.Audits.{record_of, records_from, records_of}

@@ -1,6 +1,6 @@
 -- A replay of the lines of records finds what a replay of the records does.
-use Rattle.std.proofs.Common.{◌≡◌, ℕ, ◌+◌, true, List, [], ◌∷◌, map, length, ◌⊎◌, inl, inr, sym, subst, ap, ◌∙◌}
-use Rattle.std.specs.Prelude.{IsTrue, nat_le, if◌then◌else◌, Option, Some, None}
+use Rattle.std.proofs.Common.{◌≡◌, ℕ, ◌+◌, List, [], ◌∷◌, map, ◌⊎◌, inl, inr, sym, subst, ap, ◌∙◌}
+use Rattle.std.specs.Prelude.{IsTrue, if◌then◌else◌, Some, None}
 use Rattle.std.specs.Option.{option_map}
 use Rattle.std.specs.List.{AllByRecursion}
 use Rattle.cops_types.specs.Key.{is_name}
@@ -14,7 +14,7 @@ use Rattle.cops_replay.specs.AuditText.{records_text}
 use Rattle.cops_replay.specs.RecordLines.{record_in}
 use Rattle.cops_replay.specs.RecordText.{is_record, record_line}
 use Rattle.cops_replay.specs.Replaying.{Agrees, Finds, FindsFrom, fresh_nodes, nodes_after}
-use Rattle.cops_replay.specs.ReplayText.{FindsIn, HasLine, longest_record, told_in}
+use Rattle.cops_replay.specs.ReplayText.{FindsIn, HasLine, told_in}
 use Rattle.cops_replay.proofs.LinesBack.{spelled_back, text_lines}
 
 told_back : (tenant : List ℕ) (told : Record) → IsTrue (is_name tenant) → HasLine tenant told → told_in (record_line tenant told) ≡ Some told

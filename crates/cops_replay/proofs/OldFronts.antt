@@ -10,11 +10,10 @@ use Rattle.cops_types.specs.declared.configs.Tenant.{Tenant}
 use Rattle.cops_types.specs.declared.heads.HeadLine.{HeadLine}
 use Rattle.cops_types.specs.declared.heads.HeadLine.TheVariants.{More, Begin, BadLine}
 use Rattle.cops_types.specs.Counts.{counted}
-use Rattle.cops_types.specs.Head.{Front, AtStart, Within, Begun, Ends, Joins, front_after, head_with, may_join, with_tenant}
-use Rattle.cops_types.specs.HeadLines.{IsClusterLine, IsTenantLineTo, are_sizes, begin_line, cluster_in, is_tenant, is_tenant_to, tenant_line}
+use Rattle.cops_types.specs.Head.{Front, AtStart, Within, Begun, Ends, Joins, head_with, may_join, with_tenant}
+use Rattle.cops_types.specs.HeadLines.{IsClusterLine, IsTenantLineTo, are_sizes, begin_line, cluster_in, is_tenant, tenant_line}
 use Rattle.cops_types.specs.HeadReader.{said_at, still_open}
-use Rattle.cops_types.specs.Key.{is_name}
-use Rattle.cops_types.specs.OldHead.{last_old_clock, most_old_shards, old_cluster_in, old_front_after, old_front_with, old_tenant_in, with_few_shards}
+use Rattle.cops_types.specs.OldHead.{last_old_clock, most_old_shards, old_front_after, old_front_with, old_tenant_in, with_few_shards}
 use Rattle.cops_types.specs.Version.{last_clock}
 use Rattle.cops_types.specs.Words.{spaced}
 use Rattle.cops_types.proofs.FrontLemmas.{front_after-finds}

@@ -1,5 +1,5 @@
 -- What a replay finds over a tenant's lines, as they are cut.
-use Rattle.std.proofs.Common.{◌≡◌, ℕ, zero, suc, ◌+◌, ◌-◌, ◌^◌, ◌<◌, ◌≤◌, Bool, true, false, ◌&&◌, ◌||◌, cond, min, List, [], ◌∷◌, ◌++◌, length, map, take, inl, inr, ◌⊎◌, refl, sym, subst, ap, ◌∙◌, arith, length-take}
+use Rattle.std.proofs.Common.{◌≡◌, ℕ, ◌+◌, ◌<◌, ◌≤◌, Bool, true, false, ◌&&◌, ◌||◌, cond, List, [], ◌∷◌, ◌++◌, length, map, take, inl, inr, ◌⊎◌, refl, sym, subst, ap, ◌∙◌, arith, length-take}
 use Rattle.std.specs.Prelude.{Option, Some, None, nat_le, codes, decimal}
 use Rattle.std.specs.List.{list_any}
 use Rattle.std.specs.Option.{is_none, option_map}
@@ -23,10 +23,9 @@ use Rattle.cops_replay.specs.declared.replay_machine.ReplayStage.{ReplayStage}
 use Rattle.cops_replay.specs.declared.replay_machine.ReplayStage.TheVariants.{Running}
 use Rattle.cops_replay.specs.OldRecords.{is_old_record, old_record_in, versions_in}
 use Rattle.cops_replay.specs.RecordLines.{record_by}
-use Rattle.cops_replay.specs.Replaying.{Agrees}
 use Rattle.cops_replay.specs.Replayings.{Differs, IsReplayedLine, Passes, Standing, found_of, found_so_far}
 use Rattle.cops_replay.specs.ReplayRules.{ReplaysOwn, replay_answers_in, replay_rules}
-use Rattle.cops_replay.specs.ReplayText.{FindsBy, has_great_clock, is_great_in, longest_record, replayed_text, told_number, told_of}
+use Rattle.cops_replay.specs.ReplayText.{FindsBy, is_great_in, longest_record, replayed_text, told_number, told_of}
 use Rattle.cops_replay.specs.Replays.{IsAlone}
 use Rattle.cops_replay.proofs.AuditHeads.{take_all}
 

@@ -1,6 +1,6 @@
 -- What the rules of a replay come to over a whole file.
-use Rattle.std.proofs.Common.{◌≡◌, ℕ, zero, suc, ◌+◌, ◌-◌, ◌^◌, ◌<◌, ◌≤◌, Bool, true, false, ◌&&◌, ◌||◌, nat_eq, cond, List, [], ◌∷◌, ◌++◌, length, length-take, map, take, inl, inr, ◌⊎◌, refl, sym, subst, ap, ◌∙◌, append_assoc, append-nil, true≢false, arith}
-use Rattle.std.specs.Prelude.{Option, Some, None, IfSome, IsTrue, slice_get}
+use Rattle.std.proofs.Common.{◌≡◌, ℕ, ◌+◌, ◌≤◌, Bool, true, false, ◌&&◌, ◌||◌, nat_eq, cond, List, [], ◌∷◌, ◌++◌, length, length-take, map, take, inl, inr, ◌⊎◌, refl, sym, subst, ap, ◌∙◌, append_assoc, append-nil, true≢false, arith}
+use Rattle.std.specs.Prelude.{Option, Some, None, IfSome, slice_get}
 use Rattle.std.specs.List.{list_any}
 use Rattle.std.specs.Str.{bytes_eq}
 use Rattle.std.specs.Io.KnownBytes.{Appends, Keeps}
@@ -8,7 +8,6 @@ use Rattle.cops_types.specs.declared.configs.Config.{Config}
 use Rattle.cops_types.specs.declared.configs.Tenant.{Tenant}
 use Rattle.cops_types.specs.declared.line_runs.fault.RunFault.{RunFault}
 use Rattle.cops_types.specs.declared.line_runs.fault.RunFault.TheVariants as fault
-use Rattle.cops_types.specs.Counts.{counted}
 use Rattle.cops_types.specs.Head.{Front, AtStart, Begun, is_begun, Whole, BadAt}
 use Rattle.cops_types.specs.LineRules.{Run}
 use Rattle.cops_types.specs.LineRuns.{AnswersAll, IfRunRefused, IsWhole, StopsEarly}
@@ -36,9 +35,9 @@ use Rattle.cops_replay.specs.declared.replay_machine.ReplayStage.TheVariants.{Ol
 use Rattle.cops_replay.specs.AuditText.{layout_line}
 use Rattle.cops_replay.specs.Replaying.{fresh_nodes, nodes_after}
 use Rattle.cops_replay.specs.Replayings.{Standing, found_of}
-use Rattle.cops_replay.specs.ReplayRules.{HeadAnswersBy, HeadRefusesBy, IsBadAfter, IsHeadBy, IsNotBegun, OldHeadAnswers, OldHeadRefuses, RefusesOwn, SaysAtEnd, StartsFor, front_by, replay_answers_in, replay_end_answers, replay_end_refuses, replay_end_refuses_in, replay_refuses, replay_refuses_in, replay_rules, tells_today}
-use Rattle.cops_replay.specs.ReplayText.{FindsBy, IsRefusedBy, IsReplayBy, IsReplayOf, IsTooGreatBy, RefusesReplayOf, ReplaysFront, head_by, is_great_in, is_too_great_in, layout_of, longest_record, replayed_text, starts_great_in}
-use Rattle.cops_replay.proofs.AuditHeads.{HeadRun, InHead, IsCounted, PastHead, TellsNot, bad_end, bad_first, counted-small, cut_in_head, heads, lines_before, read_once, read_whole, reading_by, start, take_all, tells, tells_not}
+use Rattle.cops_replay.specs.ReplayRules.{HeadRefusesBy, IsBadAfter, IsHeadBy, OldHeadAnswers, OldHeadRefuses, SaysAtEnd, StartsFor, front_by, replay_answers_in, replay_end_answers, replay_end_refuses, replay_end_refuses_in, replay_refuses, replay_refuses_in, replay_rules, tells_today}
+use Rattle.cops_replay.specs.ReplayText.{FindsBy, IsRefusedBy, IsReplayBy, IsReplayOf, RefusesReplayOf, ReplaysFront, head_by, is_great_in, layout_of, longest_record, replayed_text, starts_great_in}
+use Rattle.cops_replay.proofs.AuditHeads.{HeadRun, InHead, IsCounted, PastHead, TellsNot, bad_end, bad_first, counted-small, cut_in_head, heads, read_once, read_whole, reading_by, start, take_all, tells, tells_not}
 use Rattle.cops_replay.proofs.RecordRuns.{TellsAs, any_great, great_cut, running, same_own}
 
 by_test : {C : Type 0} (b : Bool) → (b ≡ true → C) → (b ≡ false → C) → C

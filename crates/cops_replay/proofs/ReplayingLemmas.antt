@@ -1,9 +1,7 @@
 -- A replay's beginning, and one line of it.
-use Rattle.std.proofs.Common.{◌≡◌, ℕ, ◌*◌, ◌⊎◌, Bool, true, false, ◌&&◌, cond, List, [], length, refl, sym, subst, ap, ◌∙◌, inl, inr, append-nil, true≢false}
+use Rattle.std.proofs.Common.{◌≡◌, ℕ, ◌*◌, ◌⊎◌, Bool, true, false, ◌&&◌, List, [], length, refl, sym, subst, ap, ◌∙◌, inl, inr, append-nil, true≢false}
 use Rattle.std.specs.Prelude.{Option, Some, None, nat_le, replicate, slice_get, IsFalse, IsTrue, OnOk, Result, Ok, Err}
 use Rattle.std.specs.Option.{is_none, is_some}
-use Rattle.std.specs.Str.{bytes_eq}
-use Rattle.std.proofs.lemmas.Bool.Decides.{nat_tests}
 use Rattle.cops_types.specs.declared.configs.Config.{Config}
 use Rattle.cops_types.specs.declared.configs.Tenant.{Tenant}
 use Rattle.cops_types.specs.Counts.{counted}
@@ -11,13 +9,10 @@ use Rattle.cops_types.specs.declared.faults.Fault.{Fault}
 use Rattle.cops_types.specs.declared.faults.Fault.TheVariants as fault
 use Rattle.cops_types.specs.Head.{Front, AtStart, Begun, Within}
 use Rattle.cops_types.specs.LineAnswers.{Answers}
-use Rattle.cops_types.specs.Refusal.{IsAnswer, refused_if}
-use Rattle.cops_types.specs.Version.{last_clock}
-use Rattle.cops_types.proofs.WordLemmas.{and}
+use Rattle.cops_types.specs.Refusal.{refused_if}
 use Rattle.cops_types.specs.TenantConfig.{TenantConfig, tenant_config}
 use Rattle.cops_node.specs.Clusters.{Cluster, HasTenant, new_nodes, nodes_of}
-use Rattle.cops_node.specs.SoloNode.{SoloNode, new_node}
-use Rattle.cops_node.specs.Parts.{are_clocks}
+use Rattle.cops_node.specs.SoloNode.{new_node}
 use Rattle.cops_world.specs.GoodHeads.{HeadContinues}
 use Rattle.cops_world.specs.declared.scripts.HeadSoFar.{HeadSoFar}
 use Rattle.cops_replay.specs.declared.layouts.Layout.{Layout}
@@ -32,8 +27,8 @@ use Rattle.cops_replay.specs.OldRecords.{is_old_record, old_record_in, versions_
 use Rattle.cops_replay.specs.RecordLines.{record_by}
 use Rattle.cops_replay.specs.OldHeads.{OldHeadContinues}
 use Rattle.cops_replay.specs.ReplayRules.{HeadAnswersBy, HeadRefusesBy, IsHeadBy, OldHeadAnswers, OldHeadRefuses, StartsFor, front_with_by, replay_answers, replay_answers_in, replay_refuses, replay_refuses_in, tells_today}
-use Rattle.cops_replay.specs.ReplayText.{great_clock_of, has_great_clock, is_great_in, longest_record, starts_great_in, told_of}
-use Rattle.cops_replay.specs.Replaying.{Agrees, fresh_nodes}
+use Rattle.cops_replay.specs.ReplayText.{great_clock_of, is_great_in, longest_record, told_of}
+use Rattle.cops_replay.specs.Replaying.{Agrees}
 use Rattle.cops_replay.specs.Replayings.{IsBeforeRecords, IsRecordCounted, IsReplayedLine, Standing}
 use Rattle.cops_replay.specs.Replays.{IsAlone, IsReplayed}
 use Rattle.cops_world.specs.MainTheorem.{with_tenant_alone}

@@ -8,7 +8,7 @@ use Rattle.cops_types.specs.declared.faults.Fault.{Fault}
 use Rattle.cops_types.specs.declared.faults.Fault.TheVariants.{VersionQuota, ByteQuota, OutboxFull, ClockFull}
 use Rattle.cops_types.specs.declared.pairs.Pair.{Pair}
 use Rattle.cops_types.specs.declared.records.EntryParts.{EntryParts as Entry}
-use Rattle.cops_types.specs.Key.{is_key, is_key_byte, is_name, key_cmp}
+use Rattle.cops_types.specs.Key.{is_key, is_name, key_cmp}
 use Rattle.cops_types.specs.Pairs.{pair_cmp}
 use Rattle.cops_types.specs.Search.{is_rising}
 use Rattle.cops_types.specs.Version.{Timestamp}
@@ -22,7 +22,7 @@ use Rattle.cops_node.specs.declared.NodeReply.TheVariants.{Found, Absent, Gone, 
 use Rattle.cops_node.specs.declared.Wanted.{Wanted}
 use Rattle.cops_node.specs.declared.Wanted.TheVariants.{Latest, Exactly}
 use Rattle.cops_replay.specs.declared.Record.{Record}
-use Rattle.cops_replay.specs.RecordText.{are_deps, are_near, bytes_text, call_words, digit_text, entry_words, is_audited, is_bytes, is_call, is_entry, is_pair, is_record, is_reply, is_version, is_wanted, node_text, record_value, record_words, reply_words, wanted_text}
+use Rattle.cops_replay.specs.RecordText.{are_deps, are_near, bytes_text, call_words, digit_text, entry_words, is_audited, is_bytes, is_call, is_entry, is_pair, is_record, is_reply, is_version, is_wanted, node_text, record_value, reply_words, wanted_text}
 use Rattle.cops_replay.proofs.ReadBack.{lacks_both, version_numbers}
 
 -- ---- what holds of the parts of a record

@@ -1,25 +1,23 @@
 -- A replay of a written audit says that all is the same.
-use Rattle.std.proofs.Common.{◌≡◌, ℕ, List, [], ◌∷◌, length, map, refl, sym, subst, ap, ◌∙◌, false}
-use Rattle.std.specs.Prelude.{IsTrue, Some, slice_get}
-use Rattle.std.specs.List.{AllByRecursion, list_any}
+use Rattle.std.proofs.Common.{◌≡◌, ℕ, List, length, map, refl, sym, subst}
+use Rattle.std.specs.Prelude.{Some, slice_get}
 use Rattle.cops_types.specs.declared.configs.Config.{Config}
 use Rattle.cops_types.specs.declared.configs.Tenant.{Tenant}
 use Rattle.cops_types.specs.Head.{HeadReading, Whole, BadAt, head_of}
 use Rattle.cops_types.specs.Lines.{lines_of}
 use Rattle.cops_types.specs.TenantConfig.{TenantConfig, tenant_config}
 use Rattle.cops_node.specs.SoloNode.{SoloNode}
-use Rattle.cops_world.specs.Script.{Output, Written, BadConfig, alone_lines}
+use Rattle.cops_world.specs.Script.{Written, alone_lines}
 use Rattle.cops_replay.specs.declared.layouts.Layout.TheVariants.{Today}
-use Rattle.cops_replay.specs.declared.Record.{Record}
 use Rattle.cops_replay.specs.declared.Replayed.TheVariants.{Same}
 use Rattle.cops_replay.specs.Audits.{ReplaysSame}
 use Rattle.cops_replay.specs.AuditRuns.{ReplaysSameFor, audit_after, audit_out}
 use Rattle.cops_replay.specs.AuditText.{audit_text, tenants_text}
 use Rattle.cops_replay.specs.RecordText.{record_line}
 use Rattle.cops_replay.specs.Replaying.{fresh_nodes}
-use Rattle.cops_replay.specs.ReplayText.{FindsBy, HasLine, IsReplayBy, IsReplayOf, replayed_text}
+use Rattle.cops_replay.specs.ReplayText.{FindsBy, IsReplayBy, IsReplayOf, replayed_text}
 use Rattle.cops_replay.specs.WrittenAudits.{AreFormed, HaveLines, HaveLinesFor, SaysSame, SaysSameFor, his_records, nodes_left}
-use Rattle.cops_replay.proofs.AuditLines.{AreKnown, head_known, lines_his, name_at, named_at}
+use Rattle.cops_replay.proofs.AuditLines.{head_known, lines_his, name_at, named_at}
 use Rattle.cops_replay.proofs.EarlyRecords.{none_great_today}
 use Rattle.cops_replay.proofs.HeadTexts.{text_is_todays, text_reads_back}
 use Rattle.cops_replay.proofs.LineReplays.{all_formed, found_in}

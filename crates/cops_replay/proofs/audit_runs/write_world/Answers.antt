@@ -1,7 +1,6 @@
-use Rattle.std.proofs.Common.{List, sym, subst, ap, ◌∙◌}
+use Rattle.std.proofs.Common.{sym, subst}
 use Rattle.cops_types.specs.declared.configs.Config.{Config}
 use Rattle.cops_node.specs.Clusters.{shape_of}
-use Rattle.cops_node.specs.Parts.{Shared}
 use Rattle.cops_world.specs.Worlds.{setup_of}
 use Rattle.cops_replay.specs.AuditText.{AreNodesOf}
 use Rattle.cops_replay.proofs.NodeAudits.{cluster_replays_same}

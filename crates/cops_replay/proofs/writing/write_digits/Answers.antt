@@ -1,4 +1,4 @@
-use Rattle.std.proofs.Common.{◌<◌, ◌∙◌, arith}
+use Rattle.std.proofs.Common.{◌∙◌, arith}
 use Rattle.hex.specs.Hex.{IsBytes}
 use Rattle.cops_types.proofs.LineRunLemmas.{on_ok_at}
 use Rattle.cops_replay.proofs.Digits.{digits_of_bytes, not_refused}
