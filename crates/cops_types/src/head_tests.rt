@@ -6,34 +6,63 @@ const CLUSTER: &[u8] = b"cluster 1 1 5000 1";
 
 const ACME: &[u8] = b"tenant acme 00000000-0000-0000-0000-000000000001 0 100 10000 10 4 20 8 1000";
 
-/// What a line says: 0 for more, 1 for a bad line, and 2 and the number of tenants at the end.
-fn said(rt: &impl Abort, reader: &mut ConfigReader, alloc: Global, line: &[u8]) -> usize {
-    match reader.line(alloc, line).expect(rt, "memory") {
+/// 0 for more, 1 for a bad line, and 2 and the number of tenants at the end.
+fn number_of(line: &HeadLine) -> usize {
+    match line {
         HeadLine::More => 0,
         HeadLine::BadLine => 1,
         HeadLine::Begin(config) => config.tenants.len().saturating_add(2),
     }
 }
 
-/// Asserts the number of the first bad line of a head, or 0 for a whole head.
-fn assert_bad(rt: &impl Abort, alloc: Global, head: &str, bad: usize) {
-    let mut reader = ConfigReader::new();
+/// The same, and the line is no more.
+fn taken(line: HeadLine) -> usize {
+    let number = number_of(&line);
+    drop(line);
+    number
+}
+
+/// What a line says, as a number.
+fn said(rt: &impl Abort, reader: &mut ConfigReader, alloc: Global, line: &[u8]) -> usize {
+    taken(reader.line(alloc, line).expect(rt, "memory"))
+}
+
+/// The same of a text.
+fn said_to(rt: &impl Abort, reader: &mut ConfigReader, alloc: Global, line: &str) -> usize {
+    said(rt, reader, alloc, line.as_bytes())
+}
+
+/// Asserts what a line says.
+fn assert_said(
+    rt: &impl Abort,
+    reader: &mut ConfigReader,
+    alloc: Global,
+    line: &[u8],
+    says: usize,
+) {
+    assert_eq!(rt; said(rt, reader, alloc, line), says);
+}
+
+/// The number of the first bad line of a head, of the next line where it ends early, or 0 for a whole head.
+fn bad_line(rt: &impl Abort, reader: &mut ConfigReader, alloc: Global, head: &str) -> usize {
     let mut number = 0usize;
     for line in head.lines() {
         number = number.saturating_add(1);
-        match said(rt, &mut reader, alloc, line.as_bytes()) {
+        match said_to(rt, reader, alloc, line) {
             0 => {}
-            1 => {
-                assert_eq!(rt; number, bad, "{head}");
-                return;
-            }
-            _ => {
-                assert_eq!(rt; 0, bad, "{head}");
-                return;
-            }
+            1 => return number,
+            _ => return 0,
         }
     }
-    assert_eq!(rt; number.saturating_add(1), bad, "{head}");
+    number.saturating_add(1)
+}
+
+/// Asserts the number of the first bad line of a head, or 0 for a whole head.
+fn assert_bad(rt: &impl Abort, alloc: Global, head: &str, bad: usize) {
+    let mut reader = ConfigReader::new();
+    let number = bad_line(rt, &mut reader, alloc, head);
+    drop(reader);
+    assert_eq!(rt; number, bad, "{head}");
 }
 
 /// Heads, each with the number of its first bad line or 0 before it.
@@ -119,15 +148,18 @@ cluster 01 1 5000 1
 
 cluster +1 1 5000 1";
 
+/// What a line alone says.
+fn said_alone(rt: &impl Abort, alloc: Global, line: &str) -> usize {
+    let mut reader = ConfigReader::new();
+    let number = said_to(rt, &mut reader, alloc, line);
+    drop(reader);
+    number
+}
+
 /// Asserts that each line alone is a head of one good line, or of none.
 fn assert_alone(rt: &impl Abort, alloc: Global, lines: &str, bad: usize) {
     for line in lines.lines() {
-        let mut reader = ConfigReader::new();
-        assert_eq!(rt;
-            said(rt, &mut reader, alloc, line.as_bytes()),
-            bad,
-            "{line}"
-        );
+        assert_eq!(rt; said_alone(rt, alloc, line), bad, "{line}");
     }
 }
 
@@ -157,18 +189,27 @@ tenant A 00000000-0000-0000-0000-000000000001 0 0 0 0 0 0 0 0
 tenant a 0000000000000000000000000000001 0 0 0 0 0 0 0 0
 tenant  00000000-0000-0000-0000-000000000001 0 0 0 0 0 0 0 0";
 
-/// What each line says after a line of a cluster, and whether a head may end there.
+/// What a line says after a line of a cluster, once it is asserted whether a head may end there.
+fn said_behind(rt: &impl Abort, reader: &mut ConfigReader, alloc: Global, line: &str) -> usize {
+    assert_said(rt, reader, alloc, CLUSTER, 0);
+    let number = said_to(rt, reader, alloc, line);
+    let end = if number == 0 { 3 } else { 1 };
+    assert_said(rt, reader, alloc, b"begin", end);
+    number
+}
+
+/// What a line says as that of the first tenant.
+fn said_of_tenant(rt: &impl Abort, alloc: Global, line: &str) -> usize {
+    let mut reader = ConfigReader::new();
+    let number = said_behind(rt, &mut reader, alloc, line);
+    drop(reader);
+    number
+}
+
+/// Asserts what each line says as that of the first tenant.
 fn assert_first_tenant(rt: &impl Abort, alloc: Global, lines: &str, bad: usize) {
     for line in lines.lines() {
-        let mut reader = ConfigReader::new();
-        assert_eq!(rt; said(rt, &mut reader, alloc, CLUSTER), 0);
-        assert_eq!(rt;
-            said(rt, &mut reader, alloc, line.as_bytes()),
-            bad,
-            "{line}"
-        );
-        let end = if bad == 0 { 3 } else { 1 };
-        assert_eq!(rt; said(rt, &mut reader, alloc, b"begin"), end);
+        assert_eq!(rt; said_of_tenant(rt, alloc, line), bad, "{line}");
     }
 }
 
@@ -178,20 +219,34 @@ fn limits_of_a_tenant(rt: HostRuntime) {
     assert_first_tenant(&rt, rt.alloc(), BAD_TENANTS, 1);
 }
 
-/// For runs in which one allocation fails: the line is read again, and says the same.
+/// What the line of a tenant says. It is read again where memory was refused, and says the same.
+fn said_in_the_end(rt: &impl Abort, reader: &mut ConfigReader, alloc: Global) -> usize {
+    match reader.line(alloc, ACME) {
+        Ok(line) => taken(line),
+        Err(_) => said(rt, reader, alloc, ACME),
+    }
+}
+
+/// Asserts what the lines of a head say, for runs in which one allocation fails.
+fn assert_read_again(rt: &impl Abort, reader: &mut ConfigReader, alloc: Global) {
+    assert_said(rt, reader, alloc, CLUSTER, 0);
+    assert!(rt; said_in_the_end(rt, reader, alloc) == 0);
+    assert_said(rt, reader, alloc, b"begin", 3);
+}
+
 #[test]
 fn a_line_is_read_again_after_want_of_memory(rt: HostRuntime) {
     let mut reader = ConfigReader::new();
-    assert_eq!(rt; said(&rt, &mut reader, rt.alloc(), CLUSTER), 0);
-    let result = match reader.line(rt.alloc(), ACME) {
-        Ok(line) => matches!(line, HeadLine::More),
-        Err(_) => said(&rt, &mut reader, rt.alloc(), ACME) == 0,
-    };
-    assert!(rt; result);
-    assert_eq!(rt; said(&rt, &mut reader, rt.alloc(), b"begin"), 3);
+    assert_read_again(&rt, &mut reader, rt.alloc());
+    drop(reader);
 }
 
-/// Asserts what a line of a head of layout 1 says, as `said` does.
+/// What a line of a head of layout 1 says, as a number.
+fn old_said(rt: &impl Abort, reader: &mut OldConfigReader, alloc: Global, line: &[u8]) -> usize {
+    taken(reader.line(alloc, line).expect(rt, "memory"))
+}
+
+/// Asserts what a line of a head of layout 1 says.
 fn assert_old(
     rt: &impl Abort,
     reader: &mut OldConfigReader,
@@ -199,12 +254,7 @@ fn assert_old(
     line: &[u8],
     says: usize,
 ) {
-    let said = match reader.line(alloc, line).expect(rt, "memory") {
-        HeadLine::More => 0,
-        HeadLine::BadLine => 1,
-        HeadLine::Begin(config) => config.tenants.len().saturating_add(2),
-    };
-    assert_eq!(rt; said, says);
+    assert_eq!(rt; old_said(rt, reader, alloc, line), says);
 }
 
 const LAST: &[u8] =
@@ -213,29 +263,55 @@ const LAST: &[u8] =
 const PAST: &[u8] =
     b"tenant acme 00000000-0000-0000-0000-000000000001 72057594037927936 0 0 0 0 0 0 0";
 
+/// Asserts that the last clock of layout 1 may be the first of a tenant.
+fn assert_last_clock(rt: &impl Abort, reader: &mut OldConfigReader, alloc: Global) {
+    assert_old(rt, reader, alloc, b"cluster 8 16 5000 1", 0);
+    assert!(rt; reader.has_clocks_to(0));
+    assert_old(rt, reader, alloc, LAST, 0);
+    assert!(rt; !reader.has_clocks_to(72057594037927934));
+    assert_old(rt, reader, alloc, b"begin", 3);
+}
+
 #[test]
 fn heads_of_layout_1(rt: HostRuntime) {
     let mut reader = ConfigReader::layout_1();
-    assert_old(&rt, &mut reader, rt.alloc(), b"cluster 8 16 5000 1", 0);
-    assert!(rt; reader.has_clocks_to(0));
-    assert_old(&rt, &mut reader, rt.alloc(), LAST, 0);
-    assert!(rt; !reader.has_clocks_to(72057594037927934));
-    assert_old(&rt, &mut reader, rt.alloc(), b"begin", 3);
+    assert_last_clock(&rt, &mut reader, rt.alloc());
+    drop(reader);
+}
+
+#[test]
+fn a_node_of_layout_1_has_4_bits(rt: HostRuntime) {
     let mut reader = ConfigReader::layout_1();
     assert_old(&rt, &mut reader, rt.alloc(), b"cluster 1 17 5000 1", 1);
+    drop(reader);
+}
+
+#[test]
+fn a_clock_past_the_last_of_layout_1(rt: HostRuntime) {
     let mut reader = ConfigReader::layout_1();
     assert_old(&rt, &mut reader, rt.alloc(), CLUSTER, 0);
     assert_old(&rt, &mut reader, rt.alloc(), PAST, 1);
+    drop(reader);
 }
 
-/// For runs in which one allocation fails: the line is read again, and says the same.
+/// What the line of a tenant says. It is read again where memory was refused, and says the same.
+fn old_said_in_the_end(rt: &impl Abort, reader: &mut OldConfigReader, alloc: Global) -> usize {
+    match reader.line(alloc, ACME) {
+        Ok(line) => taken(line),
+        Err(_) => old_said(rt, reader, alloc, ACME),
+    }
+}
+
+/// Asserts what the lines of a head say, for runs in which one allocation fails.
+fn assert_old_read_again(rt: &impl Abort, reader: &mut OldConfigReader, alloc: Global) {
+    assert_old(rt, reader, alloc, CLUSTER, 0);
+    assert!(rt; old_said_in_the_end(rt, reader, alloc) == 0);
+    assert_old(rt, reader, alloc, b"begin", 3);
+}
+
 #[test]
 fn an_old_line_is_read_again_after_want_of_memory(rt: HostRuntime) {
     let mut reader = ConfigReader::layout_1();
-    assert_old(&rt, &mut reader, rt.alloc(), CLUSTER, 0);
-    match reader.line(rt.alloc(), ACME) {
-        Ok(line) => assert!(rt; matches!(line, HeadLine::More)),
-        Err(_) => assert_old(&rt, &mut reader, rt.alloc(), ACME, 0),
-    }
-    assert_old(&rt, &mut reader, rt.alloc(), b"begin", 3);
+    assert_old_read_again(&rt, &mut reader, rt.alloc());
+    drop(reader);
 }

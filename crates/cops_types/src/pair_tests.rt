@@ -40,7 +40,7 @@ fn a_long_key_is_added_to_short_ones(rt: HostRuntime) {
     let mut list = brief(&rt, rt.alloc());
     assert!(rt; matches!(list.add(long(&rt, 9), 2), Err(Fault::DependenciesFull)));
     list.add(long(&rt, 9), 3).expect(&rt, "room");
-    assert_eq!(rt; list.greatest_clock(), 9);
+    assert!(rt; list.greatest_clock() == 9);
     assert_deps(&rt, &list, &[first(&rt, 2), short(&rt, 7), long(&rt, 9)]);
 }
 
@@ -57,7 +57,7 @@ fn growing_lists_take_long_keys(rt: HostRuntime) {
     list.add(first(&rt, 2)).expect(&rt, "memory");
     list.join(&mixed(&rt, rt.alloc()), 3).expect(&rt, "room");
     let all = [first(&rt, 2), short(&rt, 8), long(&rt, 3)];
-    assert_eq!(rt; list.pairs(), all.as_slice());
+    assert!(rt; list.pairs() == all.as_slice());
     let kept = list.to_deps().expect(&rt, "memory");
     assert_deps(&rt, &kept, &all);
 }
@@ -89,9 +89,21 @@ fn a_copy_of_a_near_list_keeps_what_it_had(rt: HostRuntime) {
 
 #[test]
 fn lists_of_the_same_pairs_are_equal(rt: HostRuntime) {
-    let alloc = rt.alloc();
-    let list = brief(&rt, alloc);
-    assert!(rt; list == brief(&rt, alloc) && list != mixed(&rt, alloc));
-    assert!(rt; mixed(&rt, alloc) == mixed(&rt, alloc));
-    assert!(rt; list != deps(&rt, alloc, &[first(&rt, 2), short(&rt, 8)]));
+    assert!(rt; brief(&rt, rt.alloc()) == brief(&rt, rt.alloc()));
+}
+
+#[test]
+fn lists_with_a_long_key_are_equal(rt: HostRuntime) {
+    assert!(rt; mixed(&rt, rt.alloc()) == mixed(&rt, rt.alloc()));
+}
+
+#[test]
+fn lists_of_other_pairs_are_not_equal(rt: HostRuntime) {
+    assert!(rt; brief(&rt, rt.alloc()) != mixed(&rt, rt.alloc()));
+}
+
+#[test]
+fn lists_of_other_versions_are_not_equal(rt: HostRuntime) {
+    let other = deps(&rt, rt.alloc(), &[first(&rt, 2), short(&rt, 8)]);
+    assert!(rt; brief(&rt, rt.alloc()) != other);
 }

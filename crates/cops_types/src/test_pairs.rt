@@ -21,9 +21,18 @@ pub(crate) fn deps(rt: &impl Abort, alloc: Global, pairs: &[Pair]) -> Deps {
     deps
 }
 
+/// The nearest dependencies of these pairs.
+pub(crate) fn near(rt: &impl Abort, alloc: Global, pairs: &[Pair]) -> Near {
+    let mut near = Near::empty(alloc);
+    for pair in pairs {
+        near.add(*pair, 100).expect(rt, "room");
+    }
+    near
+}
+
 /// Asserts which pairs a list has.
 pub(crate) fn assert_deps(rt: &impl Abort, deps: &Deps, pairs: &[Pair]) {
-    assert_eq!(rt; deps.len(), pairs.len());
+    assert!(rt; deps.len() == pairs.len());
     for (place, pair) in pairs.iter().enumerate() {
         assert!(rt; place < deps.len() && deps.pair(place) == *pair);
     }
@@ -31,7 +40,7 @@ pub(crate) fn assert_deps(rt: &impl Abort, deps: &Deps, pairs: &[Pair]) {
 
 /// Asserts which pairs a list of nearest ones has.
 pub(crate) fn assert_near(rt: &impl Abort, near: &Near, pairs: &[Pair]) {
-    assert_eq!(rt; near.len(), pairs.len());
+    assert!(rt; near.len() == pairs.len());
     for (place, pair) in pairs.iter().enumerate() {
         assert!(rt; place < near.len() && near.pair(place) == *pair);
     }

@@ -1,10 +1,7 @@
-use crate::test_pairs::{assert_deps, assert_near, deps, pair};
-use crate::{
-    Deps, DepsBuilder, Entry, EntryParts, Fault, Key, Near, NearBuilder, Pair, Value, Version,
-};
+use crate::test_pairs::{assert_deps, assert_near, deps, near, pair};
+use crate::{Deps, DepsBuilder, Entry, EntryParts, Fault, NearBuilder, Value, Version};
 use std::alloc::Global;
 use std::process::Abort;
-use std::test::Fail;
 use std::thread;
 use std::thread::Threads;
 
@@ -18,16 +15,16 @@ fn versions(rt: HostRuntime) {
 
 #[test]
 fn numbers_of_versions(rt: HostRuntime) {
-    assert_eq!(rt; Version::of(1, 0).to_u64(), 65536);
-    assert_eq!(rt; Version::from_u64(131073).clock(), 2);
-    assert_eq!(rt; Version::from_u64(131073).node(), 1);
+    assert!(rt; Version::of(1, 0).to_u64() == 65536);
+    assert!(rt; Version::from_u64(131073).clock() == 2);
+    assert!(rt; Version::from_u64(131073).node() == 1);
 }
 
 #[test]
-fn values(rt: HostRuntime) -> Result<(), Fail> {
+fn values(rt: HostRuntime) {
     let value = Value::new(rt.alloc(), b"10").expect(&rt, "a value");
-    assert_eq!(rt; value.copy(rt.alloc())?.bytes(), b"10".as_slice());
-    Ok(())
+    let copy = value.copy(rt.alloc()).expect(&rt, "memory");
+    assert!(rt; copy.bytes() == b"10".as_slice());
 }
 
 #[test]
@@ -79,19 +76,32 @@ fn a_growing_join_over_the_limit_changes_nothing(rt: HostRuntime) {
     let mut list = DepsBuilder::empty(rt.alloc());
     list.add(x).expect(&rt, "memory");
     assert!(rt; matches!(list.join(&more, 1), Err(Fault::DependenciesFull)));
-    assert_eq!(rt; list.pairs(), [x].as_slice());
+    assert!(rt; list.pairs() == [x].as_slice());
+}
+
+/// A growing list of x, after the other pairs came to it.
+fn joined(rt: &impl Abort, alloc: Global) -> DepsBuilder {
+    let mut list = DepsBuilder::empty(alloc);
+    list.add(pair(rt, b"x", 1, 0)).expect(rt, "memory");
+    list.join(&newer_x_and_y(rt, alloc), 2).expect(rt, "room");
+    list
 }
 
 #[test]
 fn growing_lists_join(rt: HostRuntime) {
-    let (x1, x2) = (pair(&rt, b"x", 1, 0), pair(&rt, b"x", 2, 1));
-    let more = newer_x_and_y(&rt, rt.alloc());
-    let mut list = DepsBuilder::empty(rt.alloc());
-    list.add(x1).expect(&rt, "memory");
-    list.join(&more, 2).expect(&rt, "room");
-    assert_eq!(rt; list.pairs(), [x2, pair(&rt, b"y", 1, 0)].as_slice());
-    assert_eq!(rt; list.len(), 2);
-    assert!(rt; list.has_key(&x1.key) && list.holds(&x2) && !list.holds(&x1));
+    let list = joined(&rt, rt.alloc());
+    let (x, y) = (pair(&rt, b"x", 2, 1), pair(&rt, b"y", 1, 0));
+    assert!(rt; list.pairs() == [x, y].as_slice());
+    assert!(rt; list.len() == 2);
+}
+
+#[test]
+fn growing_lists_hold_the_greatest_version(rt: HostRuntime) {
+    let list = joined(&rt, rt.alloc());
+    let (older, newer) = (pair(&rt, b"x", 1, 0), pair(&rt, b"x", 2, 1));
+    assert!(rt; list.has_key(&older.key));
+    assert!(rt; list.holds(&newer));
+    assert!(rt; !list.holds(&older));
 }
 
 #[test]
@@ -127,16 +137,16 @@ fn nearest_pairs_have_a_limit(rt: HostRuntime) {
         .expect(&rt, "the pair is there");
     let refused = near.add(pair(&rt, b"y", 1, 0), 2);
     assert!(rt; matches!(refused, Err(Fault::DependenciesFull)));
-    assert_eq!(rt; near.len(), 2);
+    assert!(rt; near.len() == 2);
 }
 
 #[test]
 fn a_copy_with_room(rt: HostRuntime) {
     let near = two_nearest(&rt, rt.alloc());
     let mut copy = near.with_room(1).expect(&rt, "memory");
-    assert_eq!(rt; copy.pairs(), near.pairs());
+    assert!(rt; copy.pairs() == near.pairs());
     copy.add(pair(&rt, b"y", 1, 0), 3).expect(&rt, "room");
-    assert_eq!(rt; copy.len(), 3);
+    assert!(rt; copy.len() == 3);
 }
 
 /// A thing of this type may be sent to a thread, and be read by several at once.
@@ -144,21 +154,18 @@ fn is_for_threads<T: Send + Sync>(_thing: &T) -> bool {
     true
 }
 
-fn entry_of(alloc: Global) -> Result<Entry, Fault> {
-    let key = Key::new(&[107])?;
-    let version = Version::of(1, 0);
-    let (mut deps, mut near) = (Deps::empty(alloc), Near::empty(alloc));
-    deps.add(Pair { key, version }, 1)?;
-    near.add(Pair { key, version }, 1)?;
+fn entry_of(rt: &impl Abort, alloc: Global) -> Entry {
+    let only = [pair(rt, b"k", 1, 0)];
+    let (deps, near) = (deps(rt, alloc, &only), near(rt, alloc, &only));
     let parts = EntryParts {
-        key,
+        key: pair(rt, b"k", 2, 0).key,
         version: Version::of(2, 0),
-        value: Value::new(alloc, &[1, 2, 3])?,
+        value: Value::new(alloc, &[1, 2, 3]).expect(rt, "a value"),
         deps,
         near,
         prev: Version::none(),
     };
-    Ok(Entry::new(alloc, parts)?)
+    Entry::new(alloc, parts).expect(rt, "memory")
 }
 
 fn size_of_entry(entry: &Entry) -> usize {
@@ -166,19 +173,15 @@ fn size_of_entry(entry: &Entry) -> usize {
 }
 
 /// One thread reads a copy and drops it, while this one reads the entry.
-fn read_by_two(rt: &impl Threads, alloc: Global) -> Result<(usize, usize), Fault> {
-    let entry = entry_of(alloc)?;
-    let copy = entry.copy(alloc)?;
-    Ok(thread::join(rt, move || size_of_entry(&copy), || size_of_entry(&entry)))
+fn read_by_two(rt: &impl Threads, entry: Entry, copy: Entry) -> (usize, usize) {
+    thread::join(rt, move || size_of_entry(&copy), || size_of_entry(&entry))
 }
 
 #[test]
 fn copies_are_for_threads(rt: HostRuntime) {
-    match (entry_of(rt.alloc()), read_by_two(&rt, rt.alloc())) {
-        (Ok(entry), Ok(lengths)) => {
-            assert!(rt; is_for_threads(&entry));
-            assert_eq!(rt; lengths, (3, 3));
-        }
-        _ => assert!(rt; false),
-    }
+    let entry = entry_of(&rt, rt.alloc());
+    assert!(rt; is_for_threads(&entry));
+    let copy = entry.copy(rt.alloc()).expect(&rt, "memory");
+    let (one, other) = read_by_two(&rt, entry, copy);
+    assert!(rt; one == 3 && other == 3);
 }

@@ -1,100 +1,111 @@
-use crate::test_pairs::{deps, pair};
+use crate::test_pairs::{deps, near, pair};
 use crate::texts::{push_deps, push_fault, push_near, push_number, push_pair, push_version};
-use crate::{ByteLists, Bytes, Fault, Near, Pair, Version};
+use crate::{ByteLists, Bytes, Deps, Fault, Near, Pair, Version};
 use std::alloc::Global;
 use std::process::Abort;
-use std::test::Fail;
+
+/// Asserts how a fault is displayed.
+fn assert_displayed(rt: &impl Abort, alloc: Global, fault: Fault, text: &[u8]) {
+    let shown = format!(in alloc; "{fault}").expect(rt, "memory");
+    assert!(rt; shown.as_bytes() == text);
+}
 
 /// Asserts how a fault is written.
-fn assert_fault(rt: &impl Abort, alloc: Global, fault: Fault, text: &str) -> Result<(), Fail> {
-    assert_eq!(rt; fault.text().as_slice(), text.as_bytes());
-    assert_eq!(rt; format!(in alloc; "{fault}")?.as_str(), text);
+fn assert_fault(rt: &impl Abort, alloc: Global, fault: Fault, text: &[u8]) {
+    assert!(rt; fault.text().as_slice() == text);
+    assert_displayed(rt, alloc, fault, text);
     let mut out = Vec::new(alloc);
-    push_fault(&mut out, fault)?;
-    assert_eq!(rt; out.as_slice(), text.as_bytes());
-    Ok(())
+    push_fault(&mut out, fault).expect(rt, "memory");
+    assert!(rt; out.as_slice() == text);
 }
 
 #[test]
-fn texts_of_faults(rt: HostRuntime) -> Result<(), Fail> {
-    assert_fault(&rt, rt.alloc(), Fault::Syntax, "E01")?;
-    assert_fault(&rt, rt.alloc(), Fault::BadKey, "E10")?;
-    assert_fault(&rt, rt.alloc(), Fault::OutOfMemory, "E23")?;
-    assert_fault(&rt, rt.alloc(), Fault::WriteFault, "E27")?;
-    assert_fault(&rt, rt.alloc(), Fault::NoSlot, "E28")?;
-    assert_fault(&rt, rt.alloc(), Fault::ClockTooGreat, "E29")
+fn texts_of_faults(rt: HostRuntime) {
+    assert_fault(&rt, rt.alloc(), Fault::Syntax, b"E01");
+    assert_fault(&rt, rt.alloc(), Fault::BadKey, b"E10");
+    assert_fault(&rt, rt.alloc(), Fault::OutOfMemory, b"E23");
+    assert_fault(&rt, rt.alloc(), Fault::WriteFault, b"E27");
+    assert_fault(&rt, rt.alloc(), Fault::NoSlot, b"E28");
+    assert_fault(&rt, rt.alloc(), Fault::ClockTooGreat, b"E29");
 }
 
 #[test]
-fn texts_of_numbers(rt: HostRuntime) -> Result<(), Fail> {
+fn texts_of_numbers(rt: HostRuntime) {
     let mut out = Vec::new(rt.alloc());
-    push_number(&mut out, 0)?;
-    push_number(&mut out, 18446744073709551615)?;
-    assert_eq!(rt; out.as_slice(), b"018446744073709551615".as_slice());
-    Ok(())
+    push_number(&mut out, 0).expect(&rt, "memory");
+    push_number(&mut out, 18446744073709551615).expect(&rt, "memory");
+    assert!(rt; out.as_slice() == b"018446744073709551615".as_slice());
 }
 
 #[test]
-fn texts_of_versions(rt: HostRuntime) -> Result<(), Fail> {
+fn a_version_displayed(rt: HostRuntime) {
     let version = Version::from_u64(131073);
-    assert_eq!(rt; format!(in rt.alloc(); "{version}")?.as_str(), "2.1");
-    let mut out = Vec::new(rt.alloc());
-    push_version(&mut out, version)?;
-    assert_eq!(rt; out.as_slice(), b"2.1".as_slice());
-    Ok(())
+    let shown = format!(in rt.alloc(); "{version}").expect(&rt, "memory");
+    assert!(rt; shown.as_str() == "2.1");
 }
 
 #[test]
-fn texts_of_pairs(rt: HostRuntime) -> Result<(), Fail> {
+fn texts_of_versions(rt: HostRuntime) {
     let mut out = Vec::new(rt.alloc());
-    push_pair(&mut out, &pair(&rt, b"x", 2, 1))?;
-    assert_eq!(rt; out.as_slice(), b"x:2.1".as_slice());
-    Ok(())
+    push_version(&mut out, Version::from_u64(131073)).expect(&rt, "memory");
+    assert!(rt; out.as_slice() == b"2.1".as_slice());
 }
 
-/// Asks whether both kinds of lists of these pairs are written so.
-fn are_written(rt: &impl Abort, alloc: Global, pairs: &[Pair], text: &[u8]) -> Result<(), Fail> {
-    let all = deps(rt, alloc, pairs);
-    let mut near = Near::empty(alloc);
-    for pair in pairs {
-        near.add(*pair, 3).expect(rt, "room");
-    }
+#[test]
+fn texts_of_pairs(rt: HostRuntime) {
+    let mut out = Vec::new(rt.alloc());
+    push_pair(&mut out, &pair(&rt, b"x", 2, 1)).expect(&rt, "memory");
+    assert!(rt; out.as_slice() == b"x:2.1".as_slice());
+}
+
+/// Asserts how a list is written.
+fn assert_deps_text(rt: &impl Abort, alloc: Global, deps: &Deps, text: &[u8]) {
     let mut out = Vec::new(alloc);
-    push_deps(&mut out, &all)?;
-    assert_eq!(rt; out.as_slice(), text);
-    out.clear();
-    push_near(&mut out, &near)?;
-    assert_eq!(rt; out.as_slice(), text);
-    Ok(())
+    push_deps(&mut out, deps).expect(rt, "memory");
+    assert!(rt; out.as_slice() == text);
+}
+
+/// Asserts how a list of nearest ones is written.
+fn assert_near_text(rt: &impl Abort, alloc: Global, near: &Near, text: &[u8]) {
+    let mut out = Vec::new(alloc);
+    push_near(&mut out, near).expect(rt, "memory");
+    assert!(rt; out.as_slice() == text);
+}
+
+/// Asserts how both kinds of lists of these pairs are written.
+fn assert_written(rt: &impl Abort, alloc: Global, pairs: &[Pair], text: &[u8]) {
+    assert_deps_text(rt, alloc, &deps(rt, alloc, pairs), text);
+    assert_near_text(rt, alloc, &near(rt, alloc, pairs), text);
 }
 
 #[test]
-fn lists_as_words(rt: HostRuntime) -> Result<(), Fail> {
-    are_written(&rt, rt.alloc(), &[], b"-")?;
-    let x = pair(&rt, b"x", 2, 1);
-    are_written(&rt, rt.alloc(), &[x], b"x:2.1")?;
+fn short_lists_as_words(rt: HostRuntime) {
+    assert_written(&rt, rt.alloc(), &[], b"-");
+    assert_written(&rt, rt.alloc(), &[pair(&rt, b"x", 2, 1)], b"x:2.1");
+}
+
+#[test]
+fn lists_as_words(rt: HostRuntime) {
     let two = [pair(&rt, b"y", 3, 0), pair(&rt, b"x", 2, 1)];
-    are_written(&rt, rt.alloc(), &two, b"x:2.1,y:3.0")?;
+    assert_written(&rt, rt.alloc(), &two, b"x:2.1,y:3.0");
     let long = [pair(&rt, b"z", 3, 0), pair(&rt, b"sixteen_letters_", 4, 5)];
-    are_written(&rt, rt.alloc(), &long, b"sixteen_letters_:4.5,z:3.0")
+    assert_written(&rt, rt.alloc(), &long, b"sixteen_letters_:4.5,z:3.0");
 }
 
 #[test]
-fn bytes_are_kept(rt: HostRuntime) -> Result<(), Fail> {
-    let bytes = Bytes::new(rt.alloc(), b"\x00\xff")?;
-    assert_eq!(rt; bytes.as_slice(), b"\x00\xff".as_slice());
-    assert_eq!(rt; bytes.len(), 2);
-    Ok(())
+fn bytes_are_kept(rt: HostRuntime) {
+    let bytes = Bytes::new(rt.alloc(), b"\x00\xff").expect(&rt, "memory");
+    assert!(rt; bytes.as_slice() == b"\x00\xff".as_slice());
+    assert!(rt; bytes.len() == 2);
 }
 
 #[test]
-fn lists_of_bytes(rt: HostRuntime) -> Result<(), Fail> {
+fn lists_of_bytes(rt: HostRuntime) {
     let mut lists = ByteLists::new(rt.alloc());
-    lists.push(rt.alloc(), b"x")?;
-    lists.push(rt.alloc(), b"")?;
+    lists.push(rt.alloc(), b"x").expect(&rt, "memory");
+    lists.push(rt.alloc(), b"").expect(&rt, "memory");
     assert!(rt; lists.len() == 2);
-    assert_eq!(rt; lists.bytes(0), b"x".as_slice());
-    assert_eq!(rt; lists.bytes(1), b"".as_slice());
-    assert_eq!(rt; lists.as_slice().len(), 2);
-    Ok(())
+    assert!(rt; lists.bytes(0) == b"x".as_slice());
+    assert!(rt; lists.bytes(1) == b"".as_slice());
+    assert!(rt; lists.as_slice().len() == 2);
 }
