@@ -1,13 +1,14 @@
 //! Answers of requests, as the frames of their replies.
-ghost use Rattle.std.specs.Prelude.{◌≡◌, ◌≤◌, ◌++◌, length, map, true, IfOk, MatchBool, OnOk, OnErr};
+ghost use Rattle.std.specs.Prelude.{◌≡◌, ◌≤◌, ◌∷◌, ◌++◌, length, map, true, IfOk, MatchBool, OnOk, OnErr};
 ghost use Rattle.std.specs.Bool.{OnTrue};
 ghost use Rattle.cops_types.specs.Words.{StartsWith};
 ghost use Rattle.cops_wire.specs.Requests.{are_counted, is_counted, is_one_frame, link_to, message_of_answer, outcome_of_read, values_of};
 ghost use Rattle.cops_wire.specs.Spelling.{body_of, link_of, outcome_of, parts_of, spelled_value, spelled_version, spelling};
 ghost use Rattle.cops_wire.specs.declared.messages.Message.{Message};
 
-use crate::messages::Message;
-use crate::writing::{encode, push_key, push_number_8, push_number_16, push_value, push_version};
+use crate::writing::{
+    push_key, push_number_8, push_number_16, push_refusal, push_tag, push_value, push_version,
+};
 use byteorder::{BigEndian, ByteOrder};
 use cops_session::Answer;
 use cops_types::{Deps, Fault, Key, Pair, Read, Reads, Value, Version};
@@ -129,13 +130,13 @@ fn push_values(out: &mut Vec<u8>, reads: &[Read]) -> Result<bool, AllocError>
     Ok(true)
 }
 
-/// Puts the body of a reply with a stored pair at the end. After an `Err` a front of it may be there.
+/// Puts a place for a length, and the body of a reply with a stored pair at the end. After an `Err` a front of them may be there.
 fn push_stored_body(out: &mut Vec<u8>, pair: &Pair) -> Result<(), AllocError>
-    ensures ok { OnOk result (out.new.items ≡ out.old.items ++ body_of (Message.Stored pair.now.key pair.now.version)) }
+    ensures ok { OnOk result (out.new.items ≡ out.old.items ++ (0 ∷ 0 ∷ 0 ∷ 0 ∷ body_of (Message.Stored pair.now.key pair.now.version))) }
     ensures short { OnOk result (length (body_of (Message.Stored pair.now.key pair.now.version)) ≤ LONGEST_BODY) }
     ensures front { StartsWith out.new.items out.old.items }
 {
-    push_number_8(out, 0x84)?;
+    push_tag(out, 0x84)?;
     push_pair(out, pair)
 }
 
@@ -145,7 +146,6 @@ fn push_stored(out: &mut Vec<u8>, pair: &Pair) -> Result<(), AllocError>
     ensures front { OnErr result (StartsWith out.new.items out.old.items) }
 {
     let start = out.len();
-    out.extend_from_slice(&[0; 4])?;
     push_stored_body(out, pair)?;
     let len = (out.len() - start - 4) as u32;
     BigEndian::write_u32(&mut out[start..], len);
@@ -172,7 +172,7 @@ pub(crate) fn push_reply(out: &mut Vec<u8>, answer: &Answer) -> Result<(), Alloc
                 Ok(true) => Ok(()),
                 Ok(false) => {
                     out.truncate(len);
-                    encode(&Message::Refused(Fault::DependenciesFull), out)
+                    push_refusal(out, Fault::DependenciesFull)
                 }
                 Err(error) => {
                     out.truncate(len);
@@ -180,6 +180,6 @@ pub(crate) fn push_reply(out: &mut Vec<u8>, answer: &Answer) -> Result<(), Alloc
                 }
             }
         }
-        Answer::Refused(fault) => encode(&Message::Refused(*fault), out),
+        Answer::Refused(fault) => push_refusal(out, *fault),
     }
 }

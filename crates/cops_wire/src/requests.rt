@@ -21,7 +21,7 @@ use crate::messages::Message;
 use crate::moments::Moments;
 use crate::replies::push_reply;
 use crate::steps::finish;
-use crate::writing::encode;
+use crate::writing::{encode, push_refusal};
 use cops_handles::Handle;
 use cops_node::Nodes;
 use cops_session::{Contexts, Session};
@@ -156,7 +156,7 @@ fn run<N: Nodes, M: Moments>(
 {
     match begun {
         Ok(()) => push_reply(out, &finish(session, nodes, moments)),
-        Err(fault) => encode(&Message::Refused(fault), out),
+        Err(fault) => push_refusal(out, fault),
     }
 }
 
