@@ -2,16 +2,16 @@
 ghost use Rattle.std.specs.Prelude.{◌≡◌, ◌++◌, flat_map, IfErr, IfNone, IfOk, IfSome, None, OnOk, Some};
 ghost use Rattle.cops_types.specs.Head.{AtStart};
 ghost use Rattle.cops_types.specs.LineAnswers.{Answers, IfRefused};
-ghost use Rattle.cops_types.specs.Refusal.{IsAnswer};
 ghost use Rattle.cops_replay.specs.AuditText.{ended, head_text, tenant_text};
 ghost use Rattle.cops_replay.specs.declared.migration_machine.OldPart.TheVariants.{Head};
 ghost use Rattle.cops_replay.specs.MigratedText.{record_fault};
 ghost use Rattle.cops_replay.specs.MigrationRules.{OldHeadEnds, OldHeadGoesOn, OldHeadIsRefused, RecordRefuses, part_answers, part_refuses};
 
+use crate::checking::is_record;
 use crate::heads::{push_begin, push_cluster, push_layout, push_tenant};
-use crate::layouts::LAST_EARLY_CLOCK;
+use crate::layouts::{LAST_EARLY_CLOCK, Layout};
 use crate::migrations::{BadLine, MigrationRefusal};
-use crate::reading::read_record_1;
+use crate::reading::old_fault;
 use crate::replayings::LONGEST_RECORD;
 use cops_types::{
     Config, ConfigReader, Fault, HeadLine, LineMachine, OldConfigReader, Stop, Tenant,
@@ -94,17 +94,17 @@ fn read_old_head(
     }
 }
 
-/// Refuses a line that can't be migrated as a record's.
-fn check_record(alloc: Global, line: &[u8]) -> Result<(), Fault>
-    ensures { IsAnswer (record_fault line.now) result }
+/// Why a line can't be migrated as a record's, where it can't.
+fn record_fault(line: &[u8]) -> Option<Fault>
+    ensures { result ≡ record_fault line.now }
 {
     if line.len() > LONGEST_RECORD {
-        return Err(Fault::Syntax);
+        return Some(Fault::Syntax);
     }
-    match read_record_1(alloc, line) {
-        Ok(_read) => Ok(()),
-        Err(fault) => Err(fault),
+    if is_record(Layout::Early, line) {
+        return None;
     }
+    Some(old_fault(line))
 }
 
 /// Puts a line at the end, with its newline.
@@ -117,23 +117,17 @@ fn push_line(out: &mut Vec<u8>, line: &[u8]) -> Result<(), AllocError>
 }
 
 /// Puts the line of this number at the end, with its newline, where it is a record's.
-fn move_record(
-    alloc: Global,
-    line: &[u8],
-    number: u64,
-    out: &mut Vec<u8>,
-) -> Result<(), Stop<MigrationRefusal>>
+fn move_record(line: &[u8], number: u64, out: &mut Vec<u8>) -> Result<(), Stop<MigrationRefusal>>
     ensures moved { OnOk result (record_fault line.now ≡ None) }
     ensures text { OnOk result (out.new.items ≡ out.old.items ++ ended line.now) }
     ensures err { IfErr result (λ stop. IfRefused stop (RecordRefuses line.now number)) }
 {
-    match check_record(alloc, line) {
-        Ok(()) => {
+    match record_fault(line) {
+        None => {
             push_line(out, line)?;
             Ok(())
         }
-        Err(Fault::OutOfMemory) => Err(Stop::OutOfMemory),
-        Err(fault) => Err(Stop::Refused(MigrationRefusal::BadLine(BadLine {
+        Some(fault) => Err(Stop::Refused(MigrationRefusal::BadLine(BadLine {
             line: number,
             fault,
         }))),
@@ -161,7 +155,7 @@ fn answer_line(
             }
         },
         OldPart::Records(count) => {
-            move_record(alloc, line, number, out)?;
+            move_record(line, number, out)?;
             *count = count.saturating_add(1);
             Ok(())
         }

@@ -1,0 +1,126 @@
+-- What tells whether a line says a record, where none is made of it.
+use Rattle.std.specs.Prelude.{ℕ, Bool, true, false, ◌&&◌, ◌%◌, ◌==◌, nat_lt, nat_le, length, if◌then◌else◌, List, [], ◌∷◌, codes, Option, Some, None}
+use Rattle.std.specs.List.{list_all}
+use Rattle.std.specs.Option.{is_some, option_and_then, option_map}
+use Rattle.std.specs.Ordering.{is_lt}
+use Rattle.std.specs.declared.cmp.Ordering.{Ordering}
+use Rattle.std.specs.Str.{bytes_eq}
+use Rattle.cops_types.specs.declared.pairs.Pair.{Pair}
+use Rattle.cops_types.specs.Key.{key_cmp}
+use Rattle.cops_types.specs.Search.{is_rising}
+use Rattle.cops_types.specs.Version.{Timestamp}
+use Rattle.cops_types.specs.Words.{number_of}
+use Rattle.cops_replay.specs.RecordLines.{bare_reply, sign_of}
+use Rattle.cops_replay.specs.RecordWords.{Read, Versions, deps_of, digit_of, done_with, kept_if, key_in, name_of, near_of, next_as, node_of, pair_of, then_read, value_in, wanted_of}
+
+-- each byte is a digit of a value
+abbrev pub are_digits : List ℕ → Bool
+are_digits word = list_all (λ code. is_some (digit_of code)) word
+
+-- so many digits are those of bytes: some, an even number of them, and those of at most 4,096 bytes
+abbrev pub has_count : List ℕ → Bool
+has_count word = nat_lt 0 (length word) && (length word % 2 == 0) && nat_le (length word) 8192
+
+-- two numbers, where both are there
+abbrev pub both_numbers : Option ℕ → Option ℕ → Option (ℕ × ℕ)
+both_numbers first second = option_and_then (λ n. option_map (λ m. (n, m)) second) first
+
+-- the pair of a key and a version
+abbrev pub pair_told : List ℕ → Timestamp → Pair
+pair_told key version = record { key = key; version = version }
+
+-- the pairs, where each is below the next
+abbrev pub kept_pairs : (Pair → Pair → Ordering) → Option (List Pair) → Option (List Pair)
+kept_pairs cmp pairs = option_and_then (λ ps. kept_if (is_rising cmp ps) ps) pairs
+
+module _ (versions : Versions) (cmp : Pair → Pair → Ordering) where
+  -- the parts are pairs, each above the one before, and the first above this one
+  abbrev pub rise_from : Pair → List (List ℕ) → Bool
+  rise_from last [] = true
+  rise_from last (part ∷ parts) = elim (pair_of versions part) [ None ↦ false | Some pair ↦ is_lt (cmp last pair) && rise_from pair parts ]
+
+  -- the parts are pairs, each above the one before
+  abbrev pub all_rise : List (List ℕ) → Bool
+  all_rise [] = true
+  all_rise (part ∷ parts) = elim (pair_of versions part) [ None ↦ false | Some pair ↦ rise_from pair parts ]
+
+module _ (versions : Versions) where
+  -- the parts are pairs, each with a key above the one before, and the first above this one
+  abbrev pub keys_rise_from : List ℕ → List (List ℕ) → Bool
+  keys_rise_from last [] = true
+  keys_rise_from last (part ∷ parts) = elim (pair_of versions part) [ None ↦ false | Some pair ↦ is_lt (key_cmp last pair.key) && keys_rise_from pair.key parts ]
+
+  -- the parts are pairs, each with a key above the one before
+  abbrev pub all_keys_rise : List (List ℕ) → Bool
+  all_keys_rise [] = true
+  all_keys_rise (part ∷ parts) = elim (pair_of versions part) [ None ↦ false | Some pair ↦ keys_rise_from pair.key parts ]
+
+-- the words after those that were looked at
+abbrev pub Checked : Type 0
+Checked = Read (Unit {0})
+
+-- the first word says something
+abbrev pub checked_as : {A : Type 0} → (List ℕ → Option A) → List (List ℕ) → Checked
+checked_as said words = next_as (λ word. kept_if (is_some (said word)) tt) words
+
+-- and then more
+abbrev pub then_checked : (List (List ℕ) → Checked) → Checked → Checked
+then_checked more first = then_read (λ done. more) first
+
+module _ (versions : Versions) where
+  abbrev pub entry_checked : List (List ℕ) → Checked
+  entry_checked words =
+      then_checked (λ w1. then_checked (λ w2. then_checked (λ w3. then_checked (λ w4. then_checked (λ w5. checked_as versions w5)
+      (checked_as (near_of versions) w4)) (checked_as (deps_of versions) w3)) (checked_as value_in w2)) (checked_as versions w1)) (checked_as key_in words)
+
+  abbrev pub get_checked : List (List ℕ) → Checked
+  get_checked words = then_checked (λ w1. checked_as (wanted_of versions) w1) (checked_as key_in words)
+
+  abbrev pub put_checked : List (List ℕ) → Checked
+  put_checked words =
+      then_checked (λ w1. then_checked (λ w2. then_checked (λ w3. checked_as (near_of versions) w3)
+      (checked_as (deps_of versions) w2)) (checked_as value_in w1)) (checked_as key_in words)
+
+  abbrev pub check_checked : List (List ℕ) → Checked
+  check_checked words = then_checked (λ w1. checked_as versions w1) (checked_as key_in words)
+
+  abbrev pub ack_checked : List (List ℕ) → Checked
+  ack_checked words = then_checked (λ w1. checked_as versions w1) (checked_as number_of words)
+
+  abbrev pub call_of_verb_checked : List ℕ → List (List ℕ) → Checked
+  call_of_verb_checked verb words =
+      if bytes_eq verb (codes "get") then get_checked words
+      else if bytes_eq verb (codes "put") then put_checked words
+      else if bytes_eq verb (codes "check") then check_checked words
+      else if bytes_eq verb (codes "pull") then checked_as number_of words
+      else if bytes_eq verb (codes "commit") then entry_checked words
+      else if bytes_eq verb (codes "ack") then ack_checked words
+      else if bytes_eq verb (codes "collect") then done_with tt words
+      else None
+
+  abbrev pub call_checked : List (List ℕ) → Checked
+  call_checked words = then_read call_of_verb_checked (next_as Some words)
+
+  abbrev pub found_checked : List (List ℕ) → Checked
+  found_checked words = then_checked (λ w1. then_checked (λ w2. checked_as (deps_of versions) w2) (checked_as value_in w1)) (checked_as versions words)
+
+  abbrev pub reply_of_verb_checked : List ℕ → List (List ℕ) → Checked
+  reply_of_verb_checked verb words =
+      if bytes_eq verb (codes "found") then found_checked words
+      else if bytes_eq verb (codes "gone") then checked_as number_of words
+      else if bytes_eq verb (codes "stored") then checked_as versions words
+      else if bytes_eq verb (codes "entry") then entry_checked words
+      else if bytes_eq verb (codes "outoforder") then checked_as versions words
+      else if bytes_eq verb (codes "removed") then checked_as number_of words
+      else checked_as bare_reply (verb ∷ words)
+
+  abbrev pub reply_checked : List (List ℕ) → Checked
+  reply_checked words = then_read reply_of_verb_checked (next_as Some words)
+
+  abbrev pub told_checked : List (List ℕ) → Checked
+  told_checked words =
+      then_checked (λ w1. then_checked (λ w2. then_checked (λ w3. then_checked (λ w4. reply_checked w4)
+      (checked_as sign_of w3)) (call_checked w2)) (checked_as number_of w1)) (checked_as node_of words)
+
+  abbrev pub line_checked : List (List ℕ) → Checked
+  line_checked words = then_checked (λ w1. told_checked w1) (checked_as name_of words)

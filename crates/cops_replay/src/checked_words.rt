@@ -1,0 +1,246 @@
+//! Whether single words of a record line say what they are to, where nothing is made of it.
+ghost use Rattle.std.specs.Prelude.{◌≡◌, Some, None, IfSome, IfNone};
+ghost use Rattle.std.specs.Option.{is_some};
+ghost use Rattle.std.specs.Ordering.{is_lt, on};
+ghost use Rattle.cops_types.specs.Key.{key_cmp};
+ghost use Rattle.cops_types.specs.Pairs.{pair_cmp};
+ghost use Rattle.cops_types.specs.Words.{number_of, parts_at};
+ghost use Rattle.cops_replay.specs.OldRecords.{versions_in};
+ghost use Rattle.cops_replay.specs.RecordChecks.{all_keys_rise, all_rise, are_digits, has_count, kept_pairs, keys_rise_from, pair_told, rise_from};
+ghost use Rattle.cops_replay.specs.RecordWords.{all_pairs_of, deps_of, digit_of, key_in, name_of, near_of, node_of, pair_of, some_bytes_of, value_in, wanted_of};
+
+use crate::layouts::Layout;
+use crate::parts::Parts;
+use crate::said;
+use cops_types::Version;
+use cops_types::words::parse_number;
+use std::cmp::Ordering;
+
+/// The most digits of a value.
+const MOST_DIGITS: usize = 8192;
+
+/// Whether the word is a key.
+pub(crate) fn is_key(word: &[u8]) -> bool
+    ensures { result ≡ is_some (key_in word.now) }
+{
+    said::key_said(word).is_some()
+}
+
+/// Whether the word is a name.
+pub(crate) fn is_name(word: &[u8]) -> bool
+    ensures { result ≡ is_some (name_of word.now) }
+{
+    said::name_said(word).is_some()
+}
+
+/// Whether the word is a number.
+pub(crate) fn is_number(word: &[u8]) -> bool
+    ensures { result ≡ is_some (number_of word.now) }
+{
+    parse_number(word).is_some()
+}
+
+/// Whether the word is a node.
+pub(crate) fn is_node(word: &[u8]) -> bool
+    ensures { result ≡ is_some (node_of word.now) }
+{
+    said::node_said(word).is_some()
+}
+
+/// Whether the word is a version.
+pub(crate) fn is_version(layout: Layout, word: &[u8]) -> bool
+    ensures { result ≡ is_some (versions_in layout word.now) }
+{
+    said::version_said(layout, word).is_some()
+}
+
+/// Whether the word says which version is asked for.
+pub(crate) fn is_wanted(layout: Layout, word: &[u8]) -> bool
+    ensures { result ≡ is_some (wanted_of (versions_in layout) word.now) }
+{
+    said::wanted_said(layout, word).is_some()
+}
+
+/// Whether the byte is a digit of a value.
+fn is_digit(code: u8) -> bool
+    ensures { result ≡ is_some (digit_of code) }
+{
+    48 <= code && code <= 57 || 97 <= code && code <= 102
+}
+
+/// Whether each byte is a digit of a value. All are looked at, so that many can be at once.
+fn are_digits(word: &[u8]) -> bool
+    ensures { result ≡ are_digits word.now }
+{
+    let mut all = true;
+    for code in word {
+        all = all & is_digit(*code);
+    }
+    all
+}
+
+/// Whether so many digits are those of a value's bytes.
+fn has_count(word: &[u8]) -> bool
+    ensures { result ≡ has_count word.now }
+{
+    0 < word.len() && word.len() % 2 == 0 && word.len() <= MOST_DIGITS
+}
+
+/// Whether the word is a value of some bytes.
+fn is_some_bytes(word: &[u8]) -> bool
+    ensures { result ≡ is_some (some_bytes_of word.now) }
+{
+    if !has_count(word) {
+        return false;
+    }
+    are_digits(word)
+}
+
+/// Whether the word is a value.
+pub(crate) fn is_value(word: &[u8]) -> bool
+    ensures { result ≡ is_some (value_in word.now) }
+{
+    if word == b"-".as_slice() {
+        return true;
+    }
+    is_some_bytes(word)
+}
+
+/// The key and the version of a pair.
+fn pair_parts<'a>(layout: Layout, part: &'a [u8]) -> Option<(&'a [u8], Version)>
+    ensures some { IfSome result (λ parts. pair_of (versions_in layout) part.now ≡ Some (pair_told parts.0.now parts.1)) }
+    ensures none { IfNone result (pair_of (versions_in layout) part.now ≡ None) }
+{
+    let mut parts = Parts::of(b':', part);
+    let key = parts.next_part()?;
+    let version = parts.next_part()?;
+    if !parts.is_empty() {
+        return None;
+    }
+    if !is_key(key) {
+        return None;
+    }
+    let version = said::version_said(layout, version)?;
+    Some((key, version))
+}
+
+/// Whether the first key is below the second.
+fn are_keys_rising(key: &[u8], next: &[u8]) -> bool
+    ensures { result ≡ is_lt (key_cmp key.now next.now) }
+{
+    key.cmp(next).is_lt()
+}
+
+/// Whether the first pair is below the second.
+fn are_pairs_rising(key: &[u8], version: Version, next: &[u8], later: Version) -> bool
+    ensures { result ≡ is_lt (pair_cmp (pair_told key.now version) (pair_told next.now later)) }
+{
+    match key.cmp(next) {
+        Ordering::Less => true,
+        Ordering::Equal => version < later,
+        Ordering::Greater => false,
+    }
+}
+
+/// Whether the parts are pairs with rising keys, the first above this one.
+fn go_on_with_keys<'a>(layout: Layout, key: &'a [u8], parts: &mut Parts<'a>) -> bool
+    ensures { result ≡ keys_rise_from (versions_in layout) key.now parts.old }
+{
+    let mut last = key;
+    while let Some(part) = parts.next_part() {
+        let Some((next, _)) = pair_parts(layout, part) else {
+            return false;
+        };
+        if !are_keys_rising(last, next) {
+            return false;
+        }
+        last = next;
+    }
+    true
+}
+
+/// Whether the parts are rising pairs, the first above this one.
+fn go_on_with_pairs<'a>(
+    layout: Layout,
+    key: &'a [u8],
+    version: Version,
+    parts: &mut Parts<'a>,
+) -> bool
+    ensures { result ≡ rise_from (versions_in layout) pair_cmp (pair_told key.now version) parts.old }
+{
+    let mut last = key;
+    let mut latest = version;
+    while let Some(part) = parts.next_part() {
+        let Some((next, later)) = pair_parts(layout, part) else {
+            return false;
+        };
+        if !are_pairs_rising(last, latest, next, later) {
+            return false;
+        }
+        last = next;
+        latest = later;
+    }
+    true
+}
+
+/// Whether the parts are pairs with rising keys.
+fn have_rising_keys(layout: Layout, parts: &mut Parts) -> bool
+    ensures { result ≡ all_keys_rise (versions_in layout) parts.old }
+{
+    let Some(part) = parts.next_part() else {
+        return true;
+    };
+    let Some((key, _)) = pair_parts(layout, part) else {
+        return false;
+    };
+    go_on_with_keys(layout, key, parts)
+}
+
+/// Whether the parts are rising pairs.
+fn are_rising(layout: Layout, parts: &mut Parts) -> bool
+    ensures { result ≡ all_rise (versions_in layout) pair_cmp parts.old }
+{
+    let Some(part) = parts.next_part() else {
+        return true;
+    };
+    let Some((key, version)) = pair_parts(layout, part) else {
+        return false;
+    };
+    go_on_with_pairs(layout, key, version, parts)
+}
+
+/// Whether the word is a list of one pair and more, with rising keys.
+fn are_some_deps(layout: Layout, word: &[u8]) -> bool
+    ensures { result ≡ is_some (kept_pairs (on (λ p. p.key) key_cmp) (all_pairs_of (versions_in layout) (parts_at 44 word.now))) }
+{
+    let mut parts = Parts::of(b',', word);
+    have_rising_keys(layout, &mut parts)
+}
+
+/// Whether the word is a list of one pair and more, which rise.
+fn are_some_near(layout: Layout, word: &[u8]) -> bool
+    ensures { result ≡ is_some (kept_pairs pair_cmp (all_pairs_of (versions_in layout) (parts_at 44 word.now))) }
+{
+    let mut parts = Parts::of(b',', word);
+    are_rising(layout, &mut parts)
+}
+
+/// Whether the word is a list of pairs with rising keys.
+pub(crate) fn are_deps(layout: Layout, word: &[u8]) -> bool
+    ensures { result ≡ is_some (deps_of (versions_in layout) word.now) }
+{
+    if word == b"-".as_slice() {
+        return true;
+    }
+    are_some_deps(layout, word)
+}
+
+/// Whether the word is a list of rising pairs.
+pub(crate) fn are_near(layout: Layout, word: &[u8]) -> bool
+    ensures { result ≡ is_some (near_of (versions_in layout) word.now) }
+{
+    if word == b"-".as_slice() {
+        return true;
+    }
+    are_some_near(layout, word)
+}
