@@ -5,7 +5,7 @@ use Rattle.cops_store.proofs.table.renew.Given as goal
 
 abbrev pub invariant-loop-i : goal.invariant-loop-i
 invariant-loop-i l = record {
-  done : take l.i l.due.items ≡ map (renewed l.slot l.now l.trans_time (chains_of l.table.entries)) (take l.i l.initial.due.items);
+  done : take l.i l.due.items ≡ map (renewed l.now l.trans_time (chains_of l.table.entries)) (take l.i l.initial.due.items);
   left : (k : ℕ) (d : Due) → l.i ≤ k → get_or l.due.items k d ≡ get_or l.initial.due.items k d;
   long : length l.due.items ≡ length l.initial.due.items;
 }

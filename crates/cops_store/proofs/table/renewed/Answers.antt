@@ -5,7 +5,7 @@ use Rattle.cops_store.proofs.Collections.{renewed_hit}
 use Rattle.cops_store.proofs.table.renewed.Goals as goal
 
 pub returns-in-Some : goal.returns-in-Some
-returns-in-Some c = renewed_hit c.args.slot c.args.now c.args.trans_time (chains_of c.args.table.now.entries) c.args.entry (Some c.in-Some.oldest) c.max.result (sym c.is_hit.ensures ∙ c.if-is_hit.true) (sym c.in-Some.is ∙ c.oldest_at.ensures) (c.max.ensures ∙ ap (max c.in-Some.oldest) c.saturating_sub.ensures)
+returns-in-Some c = renewed_hit c.args.now c.args.trans_time (chains_of c.args.table.now.entries) c.args.entry (Some c.in-Some.oldest) c.max.result (sym c.is_hit.ensures ∙ c.if-is_hit.true) (sym c.in-Some.is ∙ c.oldest_at.ensures) (c.max.ensures ∙ ap (max c.in-Some.oldest) c.saturating_sub.ensures)
 
 pub returns-in-None : goal.returns-in-None
-returns-in-None c = renewed_hit c.args.slot c.args.now c.args.trans_time (chains_of c.args.table.now.entries) c.args.entry None c.args.entry.stale (sym c.is_hit.ensures ∙ c.if-is_hit.true) (sym c.in-None.is ∙ c.oldest_at.ensures) refl
+returns-in-None c = renewed_hit c.args.now c.args.trans_time (chains_of c.args.table.now.entries) c.args.entry None c.args.entry.stale (sym c.is_hit.ensures ∙ c.if-is_hit.true) (sym c.in-None.is ∙ c.oldest_at.ensures) refl

@@ -1,0 +1,237 @@
+-- What is kept of one slot among all.
+use Rattle.std.proofs.Common.{◌≡◌, ◌≢◌, ◌⊎◌, ℕ, zero, suc, ◌+◌, ◌<◌, ◌≤◌, Bool, true, false, List, [], ◌∷◌, ◌++◌, length, map, refl, sym, ap, ◌∙◌, subst, arith, inl, inr, nat_eq, get_or, set}
+use Rattle.std.specs.Prelude.{Some, None, Result, Ok, Err, OnOk, OnErr, if◌then◌else◌}
+use Rattle.std.specs.List.{AllByRecursion, Contains}
+use Rattle.std.proofs.lemmas.Bool.Decides.{Decides-eqb}
+use Rattle.std.proofs.lemmas.List.{get_or-set_same, get_or-set_other}
+use Rattle.std.proofs.lemmas.List.Elements.{filter_map-append}
+use Rattle.cops_types.specs.declared.records.Dated.{Dated}
+use Rattle.cops_types.specs.declared.records.Record.{Record}
+use Rattle.cops_types.specs.Records.{Tracked, StandsFor, ever, latest as latest_record, exact as exact_record}
+use Rattle.cops_types.specs.Version.{Timestamp}
+use Rattle.cops_store.specs.Contents.{Contents, HasRoom, NoneLater, rows_in, rows_of}
+use Rattle.cops_store.specs.Shelves.{Kept, nothing, rows_from, ready_from}
+use Rattle.cops_store.proofs.Meaning.{StandsFor-none, flags, to_left, latest_is, exact_is}
+use Rattle.cops_store.proofs.Tables.{fails, latest_missing, exact_missing}
+use Rattle.cops_store.proofs.Versions.{Among, Among-map, Among-from_Contains, Contains-from_Among}
+
+-- ---- the rows of one slot
+own_rows : (first slot : ℕ) (rows : List Dated) → rows_in slot (map (λ row. (first, row)) rows) ≡ (if nat_eq first slot then rows else [])
+own_rows first slot rows = by (nat_eq first slot) refl rows
+  where
+    by : (b : Bool) → nat_eq first slot ≡ b → (rows : List Dated) → rows_in slot (map (λ row. (first, row)) rows) ≡ (if b then rows else [])
+    by true is [] = refl
+    by false is [] = refl
+    by true is (k ∷ rows) = rw is (ap (λ xs. k ∷ xs) (by true is rows))
+    by false is (k ∷ rows) = rw is (by false is rows)
+
+rows_split : (first slot : ℕ) (k : Kept) (shelves : List Kept) → rows_in slot (rows_from first (k ∷ shelves)) ≡ (if nat_eq first slot then k.rows else []) ++ rows_in slot (rows_from (suc first) shelves)
+rows_split first slot k shelves =
+    filter_map-append (λ (row : ℕ × Dated). if nat_eq row.0 slot then Some row.1 else None) (map (λ row. (first, row)) k.rows) (rows_from (suc first) shelves)
+    ∙ ap (λ xs. xs ++ rows_in slot (rows_from (suc first) shelves)) (own_rows first slot k.rows)
+
+differs : (a b : ℕ) → (a ≡ b → ⊥) → nat_eq a b ≡ false
+differs a b differ = fails (nat_eq a b) (λ same. differ ((Decides-eqb a b).0 same))
+
+-- later slots have none of its rows
+rows_later : (first slot : ℕ) (shelves : List Kept) → slot < first → rows_in slot (rows_from first shelves) ≡ []
+rows_later first slot [] lt = refl
+rows_later first slot (k ∷ shelves) lt =
+    rows_split first slot k shelves ∙ ap (λ b. (if b then k.rows else []) ++ rows_in slot (rows_from (suc first) shelves)) (differs first slot (λ same. absurd (omega arith)))
+    ∙ rows_later (suc first) slot shelves (omega arith)
+
+append_none : {A : Type 0} (xs ys : List A) → ys ≡ [] → xs ++ ys ≡ xs
+append_none [] ys none = none
+append_none (x ∷ xs) ys none = ap (λ zs. x ∷ zs) (append_none xs ys none)
+
+rows_at : (first slot n : ℕ) (shelves : List Kept) → slot ≡ first + n → rows_in slot (rows_from first shelves) ≡ (get_or shelves n nothing).rows
+rows_at first slot n [] at = refl
+rows_at first slot zero (k ∷ shelves) at =
+    let here : first ≡ slot = omega arith in
+    rows_split first slot k shelves ∙ ap (λ b. (if b then k.rows else []) ++ rows_in slot (rows_from (suc first) shelves)) ((Decides-eqb first slot).1 here)
+    ∙ append_none k.rows (rows_in slot (rows_from (suc first) shelves)) (rows_later (suc first) slot shelves (omega arith))
+rows_at first slot (suc n) (k ∷ shelves) at =
+    rows_split first slot k shelves ∙ ap (λ b. (if b then k.rows else []) ++ rows_in slot (rows_from (suc first) shelves)) (differs first slot (λ same. absurd (omega arith)))
+    ∙ rows_at (suc first) slot n shelves (omega arith)
+
+-- where a slot is there, no default is taken
+same_default : (shelves : List Kept) (n : ℕ) (d e : Kept) → n < length shelves → get_or shelves n d ≡ get_or shelves n e
+same_default [] n d e lt = absurd (omega arith)
+same_default (k ∷ shelves) zero d e lt = refl
+same_default (k ∷ shelves) (suc n) d e lt = same_default shelves n d e (omega arith)
+
+no_shelf : (shelves : List Kept) (n : ℕ) → length shelves ≤ n → get_or shelves n nothing ≡ nothing
+no_shelf [] n le = refl
+no_shelf (k ∷ shelves) zero le = absurd (omega arith)
+no_shelf (k ∷ shelves) (suc n) le = no_shelf shelves n (omega arith)
+
+pub rows_read : (shelves : List Kept) (slot : ℕ) (s : Kept) → slot < length shelves → s ≡ get_or shelves slot s → rows_in slot (rows_from 0 shelves) ≡ s.rows
+rows_read shelves slot s lt read = rows_at 0 slot slot shelves (omega arith) ∙ ap (λ (k : Kept). k.rows) (same_default shelves slot nothing s lt ∙ sym read)
+
+pub rows_missing : (shelves : List Kept) (slot : ℕ) → length shelves ≤ slot → rows_in slot (rows_from 0 shelves) ≡ []
+rows_missing shelves slot le = rows_at 0 slot slot shelves (omega arith) ∙ ap (λ (k : Kept). k.rows) (no_shelf shelves slot le)
+
+-- ---- one slot is changed
+pub length-set : (shelves : List Kept) (slot : ℕ) (s : Kept) → length (set shelves slot s) ≡ length shelves
+length-set [] slot s = refl
+length-set (k ∷ shelves) zero s = refl
+length-set (k ∷ shelves) (suc slot) s = ap suc (length-set shelves slot s)
+
+pub rows_set : (shelves : List Kept) (slot : ℕ) (s : Kept) → slot < length shelves → rows_in slot (rows_from 0 (set shelves slot s)) ≡ s.rows
+rows_set shelves slot s lt = rows_at 0 slot slot (set shelves slot s) (omega arith) ∙ ap (λ (k : Kept). k.rows) (get_or-set_same shelves slot s nothing lt)
+
+pub rows_set_other : (shelves : List Kept) (slot other : ℕ) (s : Kept) → other ≢ slot → rows_in other (rows_from 0 (set shelves slot s)) ≡ rows_in other (rows_from 0 shelves)
+rows_set_other shelves slot other s differ =
+    rows_at 0 other other (set shelves slot s) (omega arith) ∙ ap (λ (k : Kept). k.rows) (get_or-set_other shelves slot other s nothing differ) ∙ sym (rows_at 0 other other shelves (omega arith))
+
+same_rows_from : (first : ℕ) (shelves : List Kept) (slot : ℕ) (s s' : Kept) → slot < length shelves → s ≡ get_or shelves slot s → s'.rows ≡ s.rows → rows_from first (set shelves slot s') ≡ rows_from first shelves
+same_rows_from first [] slot s s' lt read same = absurd (omega arith)
+same_rows_from first (k ∷ shelves) zero s s' lt read same = ap (λ rows. map (λ row. (first, row)) rows ++ rows_from (suc first) shelves) (same ∙ ap (λ (k : Kept). k.rows) read)
+same_rows_from first (k ∷ shelves) (suc slot) s s' lt read same = ap (λ rows. map (λ row. (first, row)) k.rows ++ rows) (same_rows_from (suc first) shelves slot s s' (omega arith) read same)
+
+-- all rows stay where the slot's do
+pub rows_same : (shelves : List Kept) (slot : ℕ) (s s' : Kept) → slot < length shelves → s ≡ get_or shelves slot s → s'.rows ≡ s.rows → rows_from 0 (set shelves slot s') ≡ rows_from 0 shelves
+rows_same = same_rows_from 0
+
+-- ---- the keys for which there is room
+Among-either : {A : Type 0} (x : A) (xs ys : List A) → Among x (xs ++ ys) → Among x xs ⊎ Among x ys
+Among-either x [] ys h = inr h
+Among-either x (y ∷ xs) ys (inl e) = inl (inl e)
+Among-either x (y ∷ xs) ys (inr h) = by (Among-either x xs ys h)
+  where
+    by : Among x xs ⊎ Among x ys → Among x (y ∷ xs) ⊎ Among x ys
+    by (inl k) = inl (inr k)
+    by (inr k) = inr k
+
+Among-front : {A : Type 0} (x : A) (xs ys : List A) → Among x xs → Among x (xs ++ ys)
+Among-front x [] ys h = absurd h
+Among-front x (y ∷ xs) ys (inl e) = inl e
+Among-front x (y ∷ xs) ys (inr h) = inr (Among-front x xs ys h)
+
+Among-behind : {A : Type 0} (x : A) (xs ys : List A) → Among x ys → Among x (xs ++ ys)
+Among-behind x [] ys h = h
+Among-behind x (y ∷ xs) ys h = inr (Among-behind x xs ys h)
+
+abbrev pub slotted : ℕ → List ℕ → ℕ × List ℕ
+slotted slot key = (slot, key)
+
+with_slot : (slot : ℕ) (key : List ℕ) (keys : List (List ℕ)) → Among key keys → Among (slotted slot key) (map (slotted slot) keys)
+with_slot slot key [] h = absurd h
+with_slot slot key (k ∷ keys) (inl e) = inl (ap (slotted slot) e)
+with_slot slot key (k ∷ keys) (inr h) = inr (with_slot slot key keys h)
+
+ready_to : (first slot n : ℕ) (key : List ℕ) (shelves : List Kept) → slot ≡ first + n → Among key (get_or shelves n nothing).ready → Among (slotted slot key) (ready_from first shelves)
+ready_to first slot n key [] at h = absurd h
+ready_to first slot zero key (k ∷ shelves) at h =
+    let here : slot ≡ first = omega arith in
+    subst (λ m. Among (slotted slot key) (map (slotted m) k.ready ++ ready_from (suc first) shelves)) here (Among-front (slotted slot key) (map (λ key. (slotted slot key)) k.ready) (ready_from (suc first) shelves) (with_slot slot key k.ready h))
+ready_to first slot (suc n) key (k ∷ shelves) at h = Among-behind (slotted slot key) (map (slotted first) k.ready) (ready_from (suc first) shelves) (ready_to (suc first) slot n key shelves (omega arith) h)
+
+-- the keys are of the slots from the first on
+ready_not_before : (first slot : ℕ) (key : List ℕ) (shelves : List Kept) → Among (slotted slot key) (ready_from first shelves) → first ≤ slot
+ready_not_before first slot key [] h = absurd h
+ready_not_before first slot key (k ∷ shelves) h = by (ready_not_before (suc first) slot key shelves) (Among-either (slotted slot key) (map (slotted first) k.ready) (ready_from (suc first) shelves) h)
+  where
+    by : (Among (slotted slot key) (ready_from (suc first) shelves) → suc first ≤ slot) → Among (slotted slot key) (map (slotted first) k.ready) ⊎ Among (slotted slot key) (ready_from (suc first) shelves) → first ≤ slot
+    by rest (inl here) = let found = Among-map (slotted first) (slotted slot key) k.ready here in let same : first ≡ slot = ap (λ p. p.0) found.2 in omega arith
+    by rest (inr later) = let past = rest later in omega arith
+
+ready_of : (first slot n : ℕ) (key : List ℕ) (shelves : List Kept) → slot ≡ first + n → Among (slotted slot key) (ready_from first shelves) → Among key (get_or shelves n nothing).ready
+ready_of first slot n key [] at h = absurd h
+ready_of first slot zero key (k ∷ shelves) at h = by (Among-either (slotted slot key) (map (slotted first) k.ready) (ready_from (suc first) shelves) h)
+  where
+    by : Among (slotted slot key) (map (slotted first) k.ready) ⊎ Among (slotted slot key) (ready_from (suc first) shelves) → Among key k.ready
+    by (inl here) = let found = Among-map (slotted first) (slotted slot key) k.ready here in subst (λ x. Among x k.ready) (ap (λ p. p.1) found.2) found.1
+    by (inr later) = let past = ready_not_before (suc first) slot key shelves later in absurd (omega arith)
+ready_of first slot (suc n) key (k ∷ shelves) at h = by (ready_of (suc first) slot n key shelves (omega arith)) (Among-either (slotted slot key) (map (slotted first) k.ready) (ready_from (suc first) shelves) h)
+  where
+    by : (Among (slotted slot key) (ready_from (suc first) shelves) → Among key (get_or shelves n nothing).ready) → Among (slotted slot key) (map (slotted first) k.ready) ⊎ Among (slotted slot key) (ready_from (suc first) shelves) → Among key (get_or shelves n nothing).ready
+    by rest (inl here) = let found = Among-map (slotted first) (slotted slot key) k.ready here in let same : first ≡ slot = ap (λ p. p.0) found.2 in absurd (omega arith)
+    by rest (inr later) = rest later
+
+pub ready_read : (shelves : List Kept) (slot : ℕ) (key : List ℕ) (s : Kept) → slot < length shelves → s ≡ get_or shelves slot s → Contains (ready_from 0 shelves) (slotted slot key) → Contains s.ready key
+ready_read shelves slot key s lt read h =
+    Contains-from_Among _ _ (subst (λ (k : Kept). Among key k.ready) (same_default shelves slot nothing s lt ∙ sym read) (ready_of 0 slot slot key shelves (omega arith) (Among-from_Contains _ _ h)))
+
+pub ready_set : (shelves : List Kept) (slot : ℕ) (key : List ℕ) (s : Kept) → slot < length shelves → Contains s.ready key → Contains (ready_from 0 (set shelves slot s)) (slotted slot key)
+ready_set shelves slot key s lt h =
+    Contains-from_Among _ _ (ready_to 0 slot slot key (set shelves slot s) (omega arith) (subst (λ (k : Kept). Among key k.ready) (sym (get_or-set_same shelves slot s nothing lt)) (Among-from_Contains _ _ h)))
+
+-- ---- a call for one slot
+pub OnOk-then : {A E : Type 0} (r : Result A E) (P Q : Type 0) → (P → Q) → OnOk r P → OnOk r Q
+OnOk-then (Ok x) P Q f p = f p
+OnOk-then (Err e) P Q f p = tt
+
+pub OnErr-then : {A E : Type 0} (r : Result A E) (P Q : Type 0) → (P → Q) → OnErr r P → OnErr r Q
+OnErr-then (Ok x) P Q f p = tt
+OnErr-then (Err e) P Q f p = f p
+
+-- one more record is kept
+abbrev pub Keeps : List Dated → List Dated → ℕ → Record → Type 0
+Keeps rows rows' now n = (tracked : List Tracked) → StandsFor rows tracked → NoneLater now tracked → StandsFor rows' (tracked ++ record { record_of = n; removed = false } ∷ [])
+
+module _ (shelves : List Kept) (slot : ℕ) (s s' : Kept) (v : Contents) (shown : record { tenants = length shelves; rows = rows_from 0 shelves; ready = ready_from 0 shelves } ≡ v) (within : slot < v.tenants) (read : s ≡ get_or shelves slot s) where
+  pub there : slot < length shelves
+  there = subst (λ (w : Contents). slot < w.tenants) (sym shown) within
+
+  pub rows_before : rows_of slot v ≡ s.rows
+  rows_before = ap (rows_of slot) (sym shown) ∙ rows_read shelves slot s there read
+
+  pub rows_after : rows_in slot (rows_from 0 (set shelves slot s')) ≡ s'.rows
+  rows_after = rows_set shelves slot s' there
+
+  pub keeps : {A E : Type 0} (r : Result A E) (now : ℕ) (n : Record) → OnOk r (Keeps s.rows s'.rows now n) → OnOk r (Keeps (rows_of slot v) (rows_in slot (rows_from 0 (set shelves slot s'))) now n)
+  keeps r now n = OnOk-then r (Keeps s.rows s'.rows now n) (Keeps (rows_of slot v) (rows_in slot (rows_from 0 (set shelves slot s'))) now n)
+      (λ kept tracked stands late. subst (λ rows. StandsFor rows (tracked ++ record { record_of = n; removed = false } ∷ [])) (sym rows_after) (kept tracked (subst (λ rows. StandsFor rows tracked) rows_before stands) late))
+
+  pub others_stay : (other : ℕ) → other ≢ slot → rows_in other (rows_from 0 (set shelves slot s')) ≡ rows_of other v
+  others_stay other differ = rows_set_other shelves slot other s' differ ∙ ap (rows_of other) shown
+
+  pub slots_stay : length (set shelves slot s') ≡ v.tenants
+  slots_stay = length-set shelves slot s' ∙ ap (λ (w : Contents). w.tenants) shown
+
+  pub rows_stay : s'.rows ≡ s.rows → rows_from 0 (set shelves slot s') ≡ v.rows
+  rows_stay same = rows_same shelves slot s s' there read same ∙ ap (λ (w : Contents). w.rows) shown
+
+  pub room_before : (key : List ℕ) → HasRoom slot key v → Contains s.ready key
+  room_before key room = ready_read shelves slot key s there read (subst (HasRoom slot key) (sym shown) room)
+
+  pub room_after : (key : List ℕ) → Contains s'.ready key → Contains (ready_from 0 (set shelves slot s')) (slot, key)
+  room_after key room = ready_set shelves slot key s' there room
+
+-- ---- more slots of which nothing is kept
+abbrev pub AreNothing : List Kept → Type 0
+AreNothing shelves = AllByRecursion (λ s. s ≡ nothing) shelves
+
+no_rows : (first : ℕ) (more : List Kept) → AreNothing more → rows_from first more ≡ []
+no_rows first [] h = refl
+no_rows first (k ∷ more) h = ap (λ (s : Kept). map (λ row. (first, row)) s.rows ++ rows_from (suc first) more) h.0 ∙ no_rows (suc first) more h.1
+
+no_ready : (first : ℕ) (more : List Kept) → AreNothing more → ready_from first more ≡ []
+no_ready first [] h = refl
+no_ready first (k ∷ more) h = ap (λ (s : Kept). map (λ key. (first, key)) s.ready ++ ready_from (suc first) more) h.0 ∙ no_ready (suc first) more h.1
+
+past_rows : (first : ℕ) (shelves more : List Kept) → AreNothing more → rows_from first (shelves ++ more) ≡ rows_from first shelves
+past_rows first [] more h = no_rows first more h
+past_rows first (k ∷ shelves) more h = ap (λ rows. map (λ row. (first, row)) k.rows ++ rows) (past_rows (suc first) shelves more h)
+
+past_ready : (first : ℕ) (shelves more : List Kept) → AreNothing more → ready_from first (shelves ++ more) ≡ ready_from first shelves
+past_ready first [] more h = no_ready first more h
+past_ready first (k ∷ shelves) more h = ap (λ keys. map (λ key. (first, key)) k.ready ++ keys) (past_ready (suc first) shelves more h)
+
+pub rows_past : (shelves more : List Kept) → AreNothing more → rows_from 0 (shelves ++ more) ≡ rows_from 0 shelves
+rows_past = past_rows 0
+
+pub ready_past : (shelves more : List Kept) → AreNothing more → ready_from 0 (shelves ++ more) ≡ ready_from 0 shelves
+ready_past = past_ready 0
+
+-- a store with nothing stands for no records
+pub empty_stands : (shelves : List Kept) → AreNothing shelves → (slot : ℕ) → StandsFor (rows_in slot (rows_from 0 shelves)) []
+empty_stands shelves h slot = subst (λ rows. StandsFor (rows_in slot rows) []) (sym (no_rows 0 shelves h)) StandsFor-none
+
+-- ---- of a slot that isn't there nothing is found
+pub latest_nowhere : (key : List ℕ) (rows : List Dated) (tracked : List Tracked) → rows ≡ [] → StandsFor rows tracked → None ≡ latest_record key tracked
+latest_nowhere key rows tracked none stands = latest_missing key [] tt tt (ever tracked) (flags tracked) (to_left [] tracked (subst (λ r. StandsFor r tracked) none stands)) ∙ latest_is key tracked
+
+pub exact_nowhere : (key : List ℕ) (version : Timestamp) (rows : List Dated) (tracked : List Tracked) → rows ≡ [] → StandsFor rows tracked → None ≡ exact_record key version tracked
+exact_nowhere key version rows tracked none stands = exact_missing key version [] tt tt (ever tracked) (flags tracked) (to_left [] tracked (subst (λ r. StandsFor r tracked) none stands)) ∙ exact_is key version tracked

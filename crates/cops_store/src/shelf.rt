@@ -1,0 +1,177 @@
+//! The kept records of one tenant.
+ghost use Rattle.std.specs.Prelude.{◌≡◌, ◌≤◌, ℕ, ◌+◌, ◌^◌, ◌<◌, ◌⊎◌, false, None, Some, Err, List, [], ◌∷◌, ◌++◌, length, IsOk, IfErr, OnOk, OnErr, IfSome};
+ghost use Rattle.std.specs.List.{Contains};
+ghost use Rattle.std.specs.Option.{option_copied};
+ghost use Rattle.cops_types.specs.declared.faults.Fault.TheVariants.{OutOfMemory};
+ghost use Rattle.cops_types.specs.Records.{Tracked, StandsFor, latest as latest_record, exact as exact_record, records_in_use, bytes_in_use, collected as collected_records, collectable};
+ghost use Rattle.cops_store.specs.Shelves.{nothing};
+ghost use Rattle.cops_store.specs.Contents.{LacksVersion, NoneLater, use_of, refusal, size_of};
+
+use crate::notes::DueNotes;
+use crate::usage::{InUse, size};
+use crate::{chain, table};
+use cops_types::{Dated, Entry, Fault, Key, Quota, Record, Seeds, Value, Version};
+use indexmap::IndexMap;
+use std::alloc::Global;
+use std::marker::Model;
+
+/// What is kept of one tenant. With nothing kept it has no memory of its own.
+#[derive(Drop)]
+pub struct Shelf {
+    /// The chain of each key.
+    table: IndexMap<Key, Vec<Dated>, Seeds>,
+    /// Where something is stale, and not before when.
+    due: DueNotes,
+    /// What is kept.
+    used: InUse,
+    /// Where in the table room was made last: a guess for the next look-up, which may be any number.
+    last: usize,
+}
+
+impl Model for Shelf {
+    ghost use Rattle.cops_store.specs.Shelves.{Kept};
+
+    ghost Value = { Kept };
+
+    ghost use Rattle.cops_store.specs.Tables.{chains_of, all_rows, ready_in, IsShelf};
+
+    ghost view = { λ s. record { rows = all_rows (chains_of s.table.entries); ready = ready_in s.due s.table.entries } };
+
+    ghost invariant = { λ s. IsShelf s.used s.due.items (chains_of s.table.entries) };
+}
+
+impl Shelf {
+    // A shelf with nothing. It asks for no memory.
+    pub(crate) fn new(alloc: Global, seeds: Seeds) -> Self
+        ensures { result ≡ nothing }
+    {
+        Shelf {
+            table: IndexMap::with_hasher(alloc, seeds),
+            due: DueNotes::new(alloc),
+            used: InUse {
+                records: 0,
+                bytes: 0,
+            },
+            last: 0,
+        }
+    }
+
+    // The record of the key with the greatest version.
+    pub(crate) fn latest(&self, key: &Key) -> Option<&Record>
+        ensures { (tracked : List Tracked) → StandsFor self.now.rows tracked → option_copied result ≡ latest_record key.now tracked }
+    {
+        match self.table.get(key) {
+            Some(chain) => chain::last(chain),
+            None => None,
+        }
+    }
+
+    // The record of the key with this version.
+    pub(crate) fn exactly(&self, key: &Key, version: Version) -> Option<&Record>
+        ensures found { (tracked : List Tracked) → StandsFor self.now.rows tracked → option_copied result ≡ exact_record key.now version tracked }
+        ensures absent { result ≡ None → LacksVersion key.now version self.now.rows }
+    {
+        match self.table.get(key) {
+            Some(chain) => chain::find(chain, version),
+            None => None,
+        }
+    }
+
+    // How many records and bytes are kept.
+    pub(crate) fn in_use(&self) -> InUse
+        ensures rows { result ≡ use_of self.now.rows }
+        ensures fits { (result.records < 2 ^ 64) × (result.bytes < 2 ^ 64) }
+        ensures records { (tracked : List Tracked) → StandsFor self.now.rows tracked → result ≡ record { records = records_in_use tracked; bytes = bytes_in_use tracked } }
+    {
+        InUse::of(self.used.records, self.used.bytes)
+    }
+
+    // Why one more record of that key and value is refused, where it is.
+    pub(crate) fn refused(&self, key: &Key, value: &Value, quota: &Quota) -> Option<Fault>
+        ensures { result ≡ refusal quota.now (length key.now + length value.now) (use_of self.now.rows) }
+    {
+        let name = key.bytes();
+        let content = value.bytes();
+        let size = name.len() as u64 + content.len() as u64;
+        refusal_of(quota, size, self.in_use())
+    }
+
+    // Makes room for a record of the key: the next call, if it inserts one, needs no memory.
+    pub(crate) fn reserve(&mut self, alloc: Global, key: &Key) -> Result<(), Fault>
+        ensures ready { OnOk result (Contains self.new.ready key.now) }
+        ensures rows { self.new.rows ≡ self.old.rows }
+        ensures err { IfErr result (λ fault. fault ≡ OutOfMemory) }
+    {
+        match table::make_room(alloc, &mut self.table, &mut self.due, &mut self.last, key) {
+            Ok(_) => Ok(()),
+            Err(error) => Err(Fault::from(error)),
+        }
+    }
+
+    // Keeps an entry, committed at the moment `now`. A refusal changes no row.
+    pub(crate) fn insert(
+        &mut self,
+        alloc: Global,
+        entry: Entry,
+        now: u64,
+        quota: &Quota,
+    ) -> Result<(), Fault>
+        requires new_version { LacksVersion entry.key entry.version self.old.rows }
+
+        // Whatever the rows stand for, they then stand for that with one more record.
+        ensures stands_for { OnOk result ((tracked : List Tracked) → StandsFor self.old.rows tracked → NoneLater now tracked → StandsFor self.new.rows (tracked ++ record { record_of = record { entry = entry; at = now }; removed = false } ∷ [])) }
+
+        // The quotas are the only refusals where there is room.
+        ensures refused { IfSome (refusal quota.now (size_of entry) (use_of self.old.rows)) (λ fault. result ≡ Err fault) }
+        ensures faults { IfErr result (λ fault. (refusal quota.now (size_of entry) (use_of self.old.rows) ≡ Some fault) ⊎ (fault ≡ OutOfMemory)) }
+        ensures succeeds { Contains self.old.ready entry.key → refusal quota.now (size_of entry) (use_of self.old.rows) ≡ None → IsOk result }
+        ensures err { OnErr result (self.new.rows ≡ self.old.rows) }
+    {
+        let size = size(&entry);
+        let used = self.used;
+        if let Some(fault) = refusal_of(quota, size, used) {
+            return Err(fault);
+        }
+        let key = entry.key();
+        let i = table::make_room(alloc, &mut self.table, &mut self.due, &mut self.last, &key)?;
+        let kept = entry.committed(now);
+        table::put(&mut self.table, &mut self.due, i, &key, kept);
+        self.used = InUse {
+            records: used.records + 1,
+            bytes: used.bytes + size,
+        };
+        Ok(())
+    }
+
+    // Removes the records that have been stale for longer than `trans_time`, and answers how many they were.
+    pub(crate) fn collect(&mut self, now: u64, trans_time: u64) -> u64
+        ensures removed { (tracked : List Tracked) → StandsFor self.old.rows tracked → result ≡ collectable trans_time now tracked }
+        ensures stands_for { (tracked : List Tracked) → StandsFor self.old.rows tracked → StandsFor self.new.rows (collected_records trans_time now tracked) }
+    {
+        if !self.due.is_ripe(now, trans_time) {
+            return 0;
+        }
+        let used = self.in_use();
+        let freed = table::clean(&mut self.table, self.due.list(), now, trans_time);
+        self.due.put_off(&self.table, now, trans_time);
+        self.used = InUse {
+            records: used.records - freed.records,
+            bytes: used.bytes - freed.bytes,
+        };
+        freed.records
+    }
+}
+
+// Why one more record of that size is refused, where so much is in use.
+fn refusal_of(quota: &Quota, size: u64, used: InUse) -> Option<Fault>
+    ensures value { result ≡ refusal quota.now size used }
+    ensures fits { result ≡ None → (used.records + 1 < 2 ^ 64) × (used.bytes + size < 2 ^ 64) }
+{
+    if used.records >= quota.versions {
+        return Some(Fault::VersionQuota);
+    }
+    if used.bytes > quota.bytes || quota.bytes - used.bytes < size {
+        return Some(Fault::ByteQuota);
+    }
+    None
+}
