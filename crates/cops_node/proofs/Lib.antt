@@ -15,4 +15,5 @@ pub mod Chains
 pub mod NodeTurns
 pub mod PartTurns
 pub mod Admissions
+pub mod Hosting
 pub mod LifeLemmas

@@ -20,3 +20,4 @@ pub mod Lives
 pub mod Taken
 pub mod Trails
 pub use Rattle.cops_outbox.specs.Queues
+pub mod Hosting

@@ -8,6 +8,7 @@ mod commits;
 mod comparing;
 mod copies;
 mod gets;
+mod hosted;
 mod laws;
 mod limits;
 mod lives;
@@ -30,6 +31,7 @@ mod trails;
 
 pub use cluster::Cluster0;
 use cops_types::{Deps, Entry, Fault, Key, Near, Quota, Value, Version};
+pub use hosted::{HostedNode, SlotCall, SlotReply};
 pub use laws::{audit_tells_all, greatest_version_stays, marks_never_fall};
 pub use limits::has_clocks;
 pub use node::Node;

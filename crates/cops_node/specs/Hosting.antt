@@ -1,0 +1,104 @@
+-- What a slot of a node holds where tenants come and go, and what a turn does to it.
+use Rattle.std.specs.Prelude.{◌≡◌, ◌≢◌, ℕ, ◌≤◌, nat_le, IsTrue, List, [], ◌∷◌, Option, None, Some, if◌then◌else◌}
+use Rattle.std.specs.Option.{option_map}
+use Rattle.cops_types.specs.declared.configs.Tenant.{Tenant}
+use Rattle.cops_types.specs.declared.faults.Fault.TheVariants.{NoSlot, UnknownTenant}
+use Rattle.cops_types.specs.Version.{last_clock}
+use Rattle.cops_node.specs.declared.NodeCall.{NodeCall}
+use Rattle.cops_node.specs.declared.NodeReply.TheVariants as node_reply
+use Rattle.cops_node.specs.declared.Place.{Place}
+use Rattle.cops_node.specs.declared.hosted.SlotCall.{SlotCall}
+use Rattle.cops_node.specs.declared.hosted.SlotCall.TheVariants.{Own, Admit, Close}
+use Rattle.cops_node.specs.declared.hosted.SlotReply.{SlotReply}
+use Rattle.cops_node.specs.declared.hosted.SlotReply.TheVariants as told
+use Rattle.cops_node.specs.Parts.{Home, MOST_SLOTS, Shared, place_at, place_for, solo_of}
+use Rattle.cops_node.specs.Place.{fits}
+use Rattle.cops_node.specs.Shape.{place_in}
+use Rattle.cops_node.specs.SoloNode.{SoloNode, new_node}
+use Rattle.cops_node.specs.Step.{node_step}
+
+-- ---- what a slot holds
+
+-- the place of a tenant at the node, and his solo node
+pub record Held : Type 0 where
+  pub place : Place
+  pub solo : SoloNode
+
+abbrev pub held_in : ℕ → Shared → Place → Held
+held_in slot node place = record { place = place; solo = solo_of slot place node }
+
+-- what the slot holds: its tenant's place and solo node, or nothing
+abbrev pub slot_holds : ℕ → Shared → Option Held
+slot_holds slot node = option_map (held_in slot node) (place_at slot node)
+
+-- ---- what a turn does to it
+
+-- the reply, and what the slot holds after it
+pub record SlotEffect : Type 0 where
+  pub reply : SlotReply
+  pub after : Option Held
+
+-- a call of the tenant is one of his solo node
+abbrev pub own_turn : ℕ → NodeCall → Option Held → SlotEffect
+own_turn moment call None = record { reply = told.Own (node_reply.Refused UnknownTenant); after = None }
+own_turn moment call (Some held) =
+    let turn = node_step held.place moment call held.solo in
+    record { reply = told.Own turn.reply; after = Some (record { place = held.place; solo = turn.after }) }
+
+-- a new tenant's place, and a solo node to which no call has come
+abbrev pub newly_held : Home → Tenant → Held
+newly_held home tenant = record { place = place_for home tenant.first_clock tenant.quota; solo = new_node home.shape.data_centres }
+
+-- a slot without a tenant, of the most that a node has, is given to this one
+abbrev pub admit_turn : Home → ℕ → Tenant → Option Held → SlotEffect
+admit_turn home slot tenant (Some held) = record { reply = told.Refused NoSlot; after = Some held }
+admit_turn home slot tenant None =
+    if nat_le MOST_SLOTS slot
+    then record { reply = told.Refused NoSlot; after = None }
+    else record { reply = told.Admitted; after = Some (newly_held home tenant) }
+
+-- a tenant goes, and nothing of him is left
+abbrev pub close_turn : Option Held → SlotEffect
+close_turn None = record { reply = told.Refused UnknownTenant; after = None }
+close_turn (Some held) = record { reply = told.Closed; after = None }
+
+abbrev pub slot_turn : Home → ℕ → ℕ → SlotCall → Option Held → SlotEffect
+slot_turn home slot moment (Own call) held = own_turn moment call held
+slot_turn home slot moment (Admit tenant) held = admit_turn home slot tenant held
+slot_turn home slot moment Close held = close_turn held
+
+-- ---- turns of a machine
+
+-- the node without any tenant: its number, the sizes of the cluster, and how long a stale version stays
+abbrev pub without_tenants : Shared → Shared
+without_tenants node = record { home = record { id = node.home.id; shape = node.home.shape; trans_time = node.home.trans_time; places = [] }; audit = [] }
+
+-- the turn of what the slot holds; what another slot holds stays, and the node is the same
+pub record IsSlotTurn (old : Shared) (slot moment : ℕ) (call : SlotCall) (reply : SlotReply) (new : Shared) : Type 0 where
+  pub reply_is : reply ≡ (slot_turn (without_tenants old).home slot moment call (slot_holds slot old)).reply
+  pub after : slot_holds slot new ≡ (slot_turn (without_tenants old).home slot moment call (slot_holds slot old)).after
+  pub others : (other : ℕ) → other ≢ slot → slot_holds other new ≡ slot_holds other old
+  pub home : without_tenants new ≡ without_tenants old
+
+-- A tenant's call may come to this node. Every node may be asked to admit a tenant with a first clock that a clock has, and to close
+abbrev pub FitsSlot : Shared → ℕ → SlotCall → Type 0
+FitsSlot node slot (Own call) = IsTrue (fits (place_in node.home.shape node.home.id) call)
+FitsSlot node slot (Admit tenant) = tenant.first_clock ≤ last_clock
+FitsSlot node slot Close = Unit {0}
+
+-- ---- calls in a row
+
+-- a call of a slot with the moment that is handed in
+pub record TimedSlotCall : Type 0 where
+  pub moment : ℕ
+  pub call : SlotCall
+
+-- what the calls leave in the slot
+abbrev pub slot_after : Home → ℕ → List TimedSlotCall → Option Held → Option Held
+slot_after home slot [] held = held
+slot_after home slot (c ∷ calls) held = slot_after home slot calls (slot_turn home slot c.moment c.call held).after
+
+-- the reply to each, in order
+abbrev pub slot_replies : Home → ℕ → List TimedSlotCall → Option Held → List SlotReply
+slot_replies home slot [] held = []
+slot_replies home slot (c ∷ calls) held = let turn = slot_turn home slot c.moment c.call held in turn.reply ∷ slot_replies home slot calls turn.after

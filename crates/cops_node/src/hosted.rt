@@ -1,0 +1,102 @@
+//! Nodes at which tenants come and go while calls are made.
+ghost use Rattle.std.specs.Prelude.{◌≡◌};
+
+use crate::{Node, NodeCall, NodeReply};
+use cops_types::{Fault, Machine, Tenant};
+use std::marker::Model;
+
+/// What is asked of a slot of a node: by a session or a carrier of its tenant, or by the host.
+#[derive(Debug, Drop)]
+pub enum SlotCall {
+    /// A call of the slot's tenant.
+    Own(NodeCall),
+    /// Give the slot to this tenant. Its name and token are of no concern to a node.
+    Admit(Tenant),
+    /// Drop all that the node has of the slot's tenant.
+    Close,
+}
+
+/// What is answered.
+#[derive(Debug, Drop)]
+pub enum SlotReply {
+    /// The node's reply to a call of the tenant.
+    Own(NodeReply),
+    /// The slot is the tenant's.
+    Admitted,
+    /// The slot has no tenant any more.
+    Closed,
+    /// Why the host's call did nothing.
+    Refused(Fault),
+}
+
+/// A node at which tenants come and go. For a gate each coming and going is one turn, as a call is.
+#[derive(Drop)]
+pub struct HostedNode {
+    node: Node,
+}
+
+impl Model for HostedNode {
+    ghost use Rattle.cops_node.specs.Parts.{Shared};
+
+    ghost Value = { Shared };
+
+    ghost view = { λ h. h.node };
+}
+
+impl HostedNode {
+    /// The node, with the tenants that it has.
+    pub fn of(node: Node) -> Self
+        ensures { result ≡ node }
+    {
+        HostedNode { node }
+    }
+
+    /// The node.
+    pub fn node(&self) -> &Node
+        ensures { result.now ≡ self.now }
+    {
+        &self.node
+    }
+
+    /// The node alone.
+    pub fn into_node(self) -> Node
+        ensures { result ≡ self }
+    {
+        let HostedNode { node } = self;
+        node
+    }
+}
+
+impl Machine for HostedNode {
+    ghost use Rattle.cops_node.specs.Hosting.{FitsSlot, IsSlotTurn, without_tenants};
+
+    type Call = SlotCall;
+
+    type Reply = SlotReply;
+
+    /// The node without tenants.
+    type Place = Node;
+
+    ghost place = { without_tenants };
+
+    ghost fits = { FitsSlot };
+
+    ghost turns = { IsSlotTurn };
+
+    fn turn(&mut self, slot: u64, moment: u64, call: SlotCall) -> Result<SlotReply, Fault> {
+        match call {
+            SlotCall::Own(call) => Ok(SlotReply::Own(self.node.turn(slot, moment, call)?)),
+            SlotCall::Admit(tenant) => {
+                if self.node.is_taken(slot) {
+                    return Ok(SlotReply::Refused(Fault::NoSlot));
+                }
+                self.node.admit(slot, tenant.first_clock, tenant.quota)?;
+                Ok(SlotReply::Admitted)
+            }
+            SlotCall::Close => match self.node.close(slot) {
+                Ok(()) => Ok(SlotReply::Closed),
+                Err(fault) => Ok(SlotReply::Refused(fault)),
+            },
+        }
+    }
+}
