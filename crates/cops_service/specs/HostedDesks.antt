@@ -1,0 +1,52 @@
+-- A cluster of nodes at which tenants come and go, behind gates, as a thread sees it.
+use Rattle.std.specs.Prelude.{◌≡◌, ℕ, ◌+◌, ◌^◌, ◌≤◌, ◌⊎◌, true, IsTrue, List, length, Some, None}
+use Rattle.cops_types.specs.declared.faults.Fault.TheVariants.{OutOfMemory, GateSpent, Torn}
+use Rattle.cops_types.specs.Version.{last_clock}
+use Rattle.cops_gate.specs.History.{entry}
+use Rattle.cops_gate.specs.Seats.{Origin, Known, Extends}
+use Rattle.cops_node.specs.declared.NodeCall.{NodeCall}
+use Rattle.cops_node.specs.declared.NodeId.{NodeId}
+use Rattle.cops_node.specs.declared.NodeReply.{NodeReply}
+use Rattle.cops_node.specs.declared.NodeReply.TheVariants as node_reply
+use Rattle.cops_node.specs.declared.hosted.SlotCall.{SlotCall}
+use Rattle.cops_node.specs.declared.hosted.SlotCall.TheVariants.{Own, Admit, Close}
+use Rattle.cops_node.specs.declared.hosted.SlotReply.{SlotReply}
+use Rattle.cops_node.specs.declared.hosted.SlotReply.TheVariants as told
+use Rattle.cops_node.specs.Hosting.{IsSlotTurn}
+use Rattle.cops_node.specs.Parts.{Shared}
+use Rattle.cops_node.specs.Place.{fits}
+use Rattle.cops_node.specs.Shape.{Shape, place_in}
+use Rattle.cops_service.specs.Gates.{Gates, At}
+
+abbrev pub HostedSeat : Type 0
+HostedSeat = Known Shared SlotCall SlotReply
+
+-- the call may come to the node: every node may be asked to admit a tenant with a first clock that a clock has, and to close
+abbrev pub FitsThere : Shape → NodeId → SlotCall → Type 0
+FitsThere shape id (Own call) = IsTrue (fits (place_in shape id) call)
+FitsThere shape id (Admit tenant) = tenant.first_clock ≤ last_clock
+FitsThere shape id Close = Unit {0}
+
+-- The seat's history at a node has grown by this call and reply. Or memory was refused and it has grown by a blank turn, or the node's tickets are spent and it stays
+pub record IsToldAtSlot (slot moment : ℕ) (call : SlotCall) (reply : SlotReply) (gate : Origin Shared) (before after : HostedSeat) : Type 0 where
+  pub grows :
+      Extends IsSlotTurn gate.opening before (Some (entry slot moment call reply)) after
+      ⊎ (reply ≡ told.Refused OutOfMemory) × Extends IsSlotTurn gate.opening before None after
+      ⊎ (reply ≡ told.Refused GateSpent) × (after.history ≡ before.history) × (after.spent ≡ true)
+  pub same : (after.gate ≡ before.gate) × (after.number ≡ before.number)
+  pub room : gate.ticket + length after.history ≤ 2 ^ 62
+
+-- a call of a slot at a node: the seat at that node is told the reply, and the seats at other nodes stay
+abbrev pub IsSlotCall : Gates Shared → List HostedSeat → NodeId → ℕ → ℕ → SlotCall → SlotReply → List HostedSeat → Type 0
+IsSlotCall cluster old id slot moment call reply new = At cluster id old new (IsToldAtSlot slot moment call reply)
+
+-- what a session or a carrier is told
+abbrev pub reply_to_own : SlotReply → NodeReply
+reply_to_own (told.Own reply) = reply
+reply_to_own (told.Refused fault) = node_reply.Refused fault
+reply_to_own told.Admitted = node_reply.Refused Torn
+reply_to_own told.Closed = node_reply.Refused Torn
+
+-- a call of a session or a carrier at a node, for the tenant of a slot
+abbrev pub IsOwnCall : Gates Shared → List HostedSeat → NodeId → ℕ → ℕ → NodeCall → NodeReply → List HostedSeat → Type 0
+IsOwnCall cluster old id slot moment call reply new = (answer : SlotReply) × (reply ≡ reply_to_own answer) × IsSlotCall cluster old id slot moment (Own call) answer new
