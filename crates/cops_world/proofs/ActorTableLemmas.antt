@@ -1,12 +1,14 @@
 -- The table of actors: what is found, and what follows when one is put in another's place.
-use Rattle.std.proofs.Common.{◌≡◌, ◌≢◌, ℕ, zero, suc, ◌<◌, Bool, true, false, cond, ◌&&◌, List, [], ◌∷◌, length, get_or, nat_eq, refl, sym, subst, ap, ◌∙◌, true≢false, arith}
-use Rattle.std.specs.Prelude.{IsTrue, OnOk, Option, Some, Result, Ok, Err, slice_get, position}
+use Rattle.std.proofs.Common.{◌≡◌, ◌≢◌, ℕ, zero, suc, ◌+◌, ◌<◌, nat_lt, lt-ltb, not, unwrap_or, Bool, true, false, cond, ◌&&◌, List, [], ◌∷◌, length, get_or, nat_eq, refl, sym, subst, ap, ◌∙◌, true≢false, arith}
+use Rattle.std.specs.Prelude.{IsTrue, OnOk, Option, Some, None, is_some, Result, Ok, Err, slice_get, position}
 use Rattle.std.specs.Result.{is_ok}
 use Rattle.std.specs.Cmp.{IsEquivalence}
-use Rattle.std.specs.List.{IsDistinct}
+use Rattle.std.specs.List.{AllByRecursion, IsDistinct, position_or_len}
 use Rattle.std.specs.Map.{keys_of, values_of}
 use Rattle.std.proofs.lemmas.Bool.Decides.{Decides-eqb}
 use Rattle.std.proofs.lemmas.List.Quantifiers.{position-Some}
+use Rattle.std.proofs.lemmas.Option.{slice_get_within}
+use Rattle.std.proofs.lemmas.Map.Keys.{IsDistinct-head, IsDistinct-tail}
 use Rattle.std.proofs.lemmas.Slice.Eq.{bytes_eq-Decides}
 use Rattle.indexmap.specs.IndexMap.{IndexMap, keys, with_value_at, IsUnique, Updates}
 use Rattle.indexmap.proofs.CallerLemmas.{updates-with_value_at, keys-with_value_at}
@@ -50,6 +52,21 @@ other_name slot name other apart = by (same_actor (record { slot = slot; name = 
     by true e = sym (and_right (nat_eq slot slot) (key_eq name other) e) ∙ apart
     by false e = refl
 
+pub actor_laws : IsEquivalence same_actor
+actor_laws = record {
+  refl = same_actor-refl;
+  symm = λ a b. turned a b (same_actor a b) refl;
+  congr = λ a b c e. ap (λ x. same_actor x c) (same_actor-is a b e);
+}
+  where
+    not_back : (a b : ActorId) → same_actor a b ≡ false → (t : Bool) → same_actor b a ≡ t → false ≡ t
+    not_back a b e true is = absurd (true≢false (sym (same_actor-refl a) ∙ ap (same_actor a) (sym (same_actor-is b a is)) ∙ e))
+    not_back a b e false is = refl
+
+    turned : (a b : ActorId) (t : Bool) → same_actor a b ≡ t → same_actor a b ≡ same_actor b a
+    turned a b true e = let same = same_actor-is a b e in λ i. same_actor (same i) (sym same i)
+    turned a b false e = e ∙ not_back a b e (same_actor b a) refl
+
 -- the entry at an index that was found
 record Here {V : Type 0} (id : ActorId) (es : List (ActorId × V)) (i : ℕ) : Type 0 where
   value : V
@@ -70,6 +87,24 @@ here id es i h =
     let found = position-Some (same_actor id) (keys_of es) i id (sym h) in
     here_at id es i (subst (λ n. i < n) (length-keys es) found.0) found.1
 
+-- where no two entries are of one actor, one that is at an index is at none before it
+pub guessed_place : {V : Type 0} (id : ActorId) (es : List (ActorId × V)) (i : ℕ) (e : ActorId × V) → IsDistinct same_actor (keys_of es) → slice_get es i ≡ Some e → same_actor id e.0 ≡ true → position (same_actor id) (keys_of es) ≡ Some i
+guessed_place {V} id es i e distinct reads same =
+    ap (λ n. cond (nat_lt n (length (keys_of es))) (Some n) None) (is_first es i distinct reads)
+    ∙ ap (λ b. cond b (Some i) None) (lt-ltb i (length (keys_of es)) (subst (λ n. i < n) (sym (length-keys es)) (slice_get_within es i e reads)))
+  where
+    apart : (a : ActorId) (es : List (ActorId × V)) (i : ℕ) → AllByRecursion (λ b. same_actor a b ≡ false) (keys_of es) → slice_get es i ≡ Some e → same_actor a e.0 ≡ false
+    apart a [] i all reads = absurd (true≢false (sym (ap is_some reads)))
+    apart a (x ∷ es) zero all reads = ap (λ o. same_actor a (unwrap_or o x).0) (sym reads) ∙ all.0
+    apart a (x ∷ es) (suc i) all reads = apart a es i all.1 reads
+
+    is_first : (es : List (ActorId × V)) (i : ℕ) → IsDistinct same_actor (keys_of es) → slice_get es i ≡ Some e → position_or_len (same_actor id) (keys_of es) ≡ i
+    is_first [] i distinct reads = absurd (true≢false (sym (ap is_some reads)))
+    is_first (x ∷ es) zero distinct reads = ap (λ b. cond (not b) (1 + position_or_len (same_actor id) (keys_of es)) 0) (ap (λ o. same_actor id (unwrap_or o x).0) reads ∙ same)
+    is_first (x ∷ es) (suc i) distinct reads =
+        let other = sym (actor_laws.symm x.0 id) ∙ (ap (λ q. same_actor x.0 q) (same_actor-is id e.0 same) ∙ apart x.0 es i (IsDistinct-head same_actor x.0 (keys_of es) distinct) reads) in
+        ap (λ b. cond (not b) (1 + position_or_len (same_actor id) (keys_of es)) 0) other ∙ ap (λ n. 1 + n) (is_first es i (IsDistinct-tail same_actor x.0 (keys_of es) distinct) reads) ∙ omega arith
+
 -- a write at the index of an actor puts it in its place
 module _ {V Z : Type 0} (laws : IsEquivalence same_actor) (id : ActorId) (table : IndexMap ActorId V Z) (unique : IsUnique same_actor table) (i : ℕ) (index : Some i ≡ position (same_actor id) (keys table)) where
   pub puts : (after : V) → Updates same_actor table (with_value_at table i after) id (Some after)
@@ -86,21 +121,6 @@ put_same {V} old new id value after updates there same q = updates q ∙ by (sam
 
 pub stays_unique : {V Z : Type 0} (table : IndexMap ActorId V Z) (i : ℕ) (after : V) → IsDistinct same_actor (keys table) → IsDistinct same_actor (keys (with_value_at table i after))
 stays_unique table i after unique = subst (IsDistinct same_actor) (sym (keys-with_value_at table i after)) unique
-
-pub actor_laws : IsEquivalence same_actor
-actor_laws = record {
-  refl = same_actor-refl;
-  symm = λ a b. turned a b (same_actor a b) refl;
-  congr = λ a b c e. ap (λ x. same_actor x c) (same_actor-is a b e);
-}
-  where
-    not_back : (a b : ActorId) → same_actor a b ≡ false → (t : Bool) → same_actor b a ≡ t → false ≡ t
-    not_back a b e true is = absurd (true≢false (sym (same_actor-refl a) ∙ ap (same_actor a) (sym (same_actor-is b a is)) ∙ e))
-    not_back a b e false is = refl
-
-    turned : (a b : ActorId) (t : Bool) → same_actor a b ≡ t → same_actor a b ≡ same_actor b a
-    turned a b true e = let same = same_actor-is a b e in λ i. same_actor (same i) (sym same i)
-    turned a b false e = e ∙ not_back a b e (same_actor b a) refl
 
 -- what holds on success holds where there was success
 pub ok_is : {A E : Type 0} {P : Type 0} (r : Result A E) {said : Bool} → IsTrue said → said ≡ is_ok r → OnOk r P → P

@@ -1,5 +1,5 @@
 //! The actors of all tenants, by slot and name.
-ghost use Rattle.std.specs.Prelude.{◌≡◌, ◌≢◌, ◌<◌, ◌⊎◌, ℕ, IsTrue, IsFalse, position, slice_get, Some, None};
+ghost use Rattle.std.specs.Prelude.{◌≡◌, ◌≢◌, ◌<◌, ◌⊎◌, ℕ, IsTrue, IsFalse, IfSome, is_some, position, slice_get, Some, None};
 ghost use Rattle.std.specs.List.{IsDistinct};
 ghost use Rattle.indexmap.specs.IndexMap.{keys, values, Updates};
 ghost use Rattle.cops_types.specs.TenantConfig.{TenantConfig};
@@ -24,9 +24,28 @@ use cops_types::{Fault, Seeds};
 use indexmap::IndexMap;
 use std::alloc::Global;
 
-/// Has the actor do what is asked.
+/// The place of an actor in the table. Where the guess is right, nothing is hashed.
+pub(crate) fn place_of(
+    actors: &IndexMap<ActorId, Actor, Seeds>,
+    guess: usize,
+    id: &ActorId,
+) -> Option<usize>
+    requires unique { IsDistinct same_actor (keys actors.now) }
+    ensures index { result ≡ position (same_actor id.now) (keys actors.now) }
+    ensures found { is_some result ≡ is_some (actor_at actors.now id.now) }
+    ensures value { IfSome result (λ place. slice_get (values actors.now) place ≡ actor_at actors.now id.now) }
+{
+    match actors.get_index(guess) {
+        Some((at, _)) if id == at => Some(guess),
+        _ => actors.get_index_of(id),
+    }
+}
+
+/// Has the actor do what is asked. It is looked for first where `last` says, which may be any number, and its place is left
+/// there.
 pub(crate) fn act_at(
     actors: &mut IndexMap<ActorId, Actor, Seeds>,
+    last: &mut usize,
     id: ActorId,
     alloc: Global,
     deed: Deed,
@@ -39,8 +58,9 @@ pub(crate) fn act_at(
     ensures lack { IsTrue (is_out_of_memory result) → (q : Id) → actor_at actors.new q ≡ actor_at actors.old q }
     ensures unique { IsDistinct same_actor (keys actors.new) }
 {
-    match actors.get_index_of(&id) {
+    match place_of(actors, *last, &id) {
         Some(place) => {
+            *last = place;
             let actor = &mut actors[place];
             actor.act(alloc, deed)
         }

@@ -1,16 +1,16 @@
 //! Runs of events and of scripts, over readers and writers that cut what they are given or fail.
-ghost use Rattle.std.specs.Prelude.{◌≡◌, ◌<◌, All, IfOk, length};
+ghost use Rattle.std.specs.Prelude.{◌≡◌, ◌<◌, All, IfOk, IsTrue, length};
 ghost use Rattle.cops_types.specs.declared.configs.Tenant.{Tenant};
+ghost use Rattle.cops_world.specs.GoodHeads.{is_good};
 
 use crate::script_runs::run_script_in;
 use crate::scripts::BadConfig;
 use crate::test_streams::{Endless, Pieces, Trickle};
 use crate::test_worlds::{config_of, event_of, row, says};
 use crate::{Event, Reply, World, run, run_script, solo};
-use cops_types::{RunFault, Sink, Source, Tenants};
+use cops_types::{Config, RunFault, Sink, Source, Tenants};
 use std::alloc::{AllocError, Global};
 use std::process::Abort;
-use std::test::Fail;
 
 const TWO_SHARDS: &str = "cluster 1 2 5000 1
 tenant acme 00000000-0000-0000-0000-000000000001 0 100 10000 10 4 20 8 1000
@@ -78,41 +78,58 @@ fn events_of<'a>(
     Ok(events)
 }
 
+/// Asserts that a reply, which is there, is that of a row.
+fn assert_reply(rt: &impl Abort, alloc: Global, reply: Option<&Reply>, line: &str) {
+    match reply {
+        Some(reply) => assert!(rt; says(rt, alloc, reply, row(rt, line).1), "{line}"),
+        None => panic!(rt; "a reply to each event"),
+    }
+}
+
 /// Asserts that the replies are those of the rows that begin with this.
 fn assert_told(rt: &impl Abort, alloc: Global, told: &[Reply], rows: &str, begin: &str) {
     let mut rest = told.iter();
     for line in rows.lines() {
         if line.starts_with(begin) {
-            match rest.next() {
-                Some(reply) => assert!(rt; says(rt, alloc, reply, row(rt, line).1), "{line}"),
-                None => panic!(rt; "a reply to each event"),
-            }
+            assert_reply(rt, alloc, rest.next(), line);
         }
     }
     assert!(rt; rest.next().is_none());
 }
 
 #[test]
-fn a_tenant_between_the_rounds_is_not_noticed(rt: HostRuntime) -> Result<(), Fail> {
+fn a_tenant_between_the_rounds_is_not_noticed(rt: HostRuntime) {
     let alloc = rt.alloc();
     let config = config_of(&rt, alloc, TWO_SHARDS);
-    let events = events_of(&rt, alloc, &config.tenants, BOTH, "")?;
-    let told = run(alloc, config, &events)?;
+    let events = events_of(&rt, alloc, &config.tenants, BOTH, "").expect(&rt, "memory");
+    let told = run(alloc, config, &events).expect(&rt, "memory");
     assert_told(&rt, alloc, &told, BOTH, "");
-    Ok(())
+}
+
+/// Asserts that a tenant alone is told what his rows say, which begin with this.
+fn assert_alone(
+    rt: &impl Abort,
+    alloc: Global,
+    config: &Config,
+    slot: u64,
+    events: &[Event],
+    begin: &str,
+)
+    requires { IsTrue (is_good config.now) }
+{
+    assert!(rt; slot < config.tenants.len() as u64);
+    let told = solo(alloc, config, slot, events).expect(rt, "memory");
+    assert_told(rt, alloc, &told, BOTH, begin);
 }
 
 #[test]
-fn a_tenant_alone_is_told_the_same(rt: HostRuntime) -> Result<(), Fail> {
+fn a_tenant_alone_is_told_the_same(rt: HostRuntime) {
     let alloc = rt.alloc();
     let config = config_of(&rt, alloc, TWO_SHARDS);
-    let events = events_of(&rt, alloc, &config.tenants, BOTH, "")?;
+    let events = events_of(&rt, alloc, &config.tenants, BOTH, "").expect(&rt, "memory");
     assert!(rt; config.tenants.len() == 2);
-    for (slot, begin) in [(0, "acme "), (1, "beta ")] {
-        let alone = solo(alloc, &config, slot, &events)?;
-        assert_told(&rt, alloc, &alone, BOTH, begin);
-    }
-    Ok(())
+    assert_alone(&rt, alloc, &config, 0, &events, "acme ");
+    assert_alone(&rt, alloc, &config, 1, &events, "beta ");
 }
 
 const SCRIPT: &[u8] = b"cluster 1 1 5000 1
@@ -169,21 +186,27 @@ fn code(ran: Result<(), RunFault<BadConfig>>) -> u64 {
     }
 }
 
+/// With a reader that fails after some reads, a front is written, and no read follows.
+fn assert_read_fault(rt: &impl Abort, alloc: Global, reads: u64) {
+    let mut source = Source::new(Pieces {
+        bytes: SCRIPT,
+        len: 1,
+        reads_to_failure: reads,
+    });
+    let mut sink = Sink::new(Vec::new(alloc));
+    assert!(rt; code(run_script(alloc, &mut source, &mut sink)) == 26);
+    assert!(rt; source.failures() == 1);
+    let written = sink.into_inner();
+    assert!(rt;
+        ANSWER.starts_with(written.as_slice()),
+        "after {reads} reads"
+    );
+}
+
 #[test]
 fn failing_readers_leave_a_front(rt: HostRuntime) {
     for reads in 0..SCRIPT.len() as u64 {
-        let mut source = Source::new(Pieces {
-            bytes: SCRIPT,
-            len: 1,
-            reads_to_failure: reads,
-        });
-        let mut sink = Sink::new(Vec::new(rt.alloc()));
-        assert_eq!(rt; code(run_script(rt.alloc(), &mut source, &mut sink)), 26);
-        assert_eq!(rt; source.failures(), 1);
-        assert!(rt;
-            ANSWER.starts_with(sink.into_inner().as_slice()),
-            "after {reads} reads"
-        );
+        assert_read_fault(&rt, rt.alloc(), reads);
     }
 }
 
@@ -194,8 +217,8 @@ fn failing_writers_leave_a_front(rt: HostRuntime) {
         taken: Vec::new(rt.alloc()),
         writes_to_failure: 1,
     });
-    assert_eq!(rt; code(run_script(rt.alloc(), &mut source, &mut sink)), 27);
-    assert_eq!(rt; sink.failures(), 1);
+    assert!(rt; code(run_script(rt.alloc(), &mut source, &mut sink)) == 27);
+    assert!(rt; sink.failures() == 1);
     assert!(rt; sink.into_inner().taken.as_slice() == b"-".as_slice());
 }
 
@@ -204,8 +227,8 @@ fn assert_endless(rt: &impl Abort, alloc: Global, bytes: &[u8], answer: &[u8]) {
     let mut source = Source::new(Endless { bytes });
     let mut sink = Sink::new(Vec::new(alloc));
     let ran = run_script_in::<World, Endless, Vec<u8>>(alloc, 100, &mut source, &mut sink);
-    assert_eq!(rt; code(ran), 26);
-    assert_eq!(rt; (source.reads(), source.failures()), (100, 0));
+    assert!(rt; code(ran) == 26);
+    assert!(rt; source.reads() == 100 && source.failures() == 0);
     assert!(rt; sink.into_inner().as_slice() == answer);
 }
 

@@ -24,7 +24,7 @@ ghost use Rattle.cops_world.specs.ActorTables.{same_actor};
 ghost use Rattle.cops_world.specs.declared.acts.Act.TheVariants as acts;
 ghost use Rattle.cops_world.specs.declared.replies.Reply.TheVariants.{Refused};
 
-use crate::actor_table::{act_at, put_new, step_at, take_out};
+use crate::actor_table::{act_at, place_of, put_new, step_at, take_out};
 use crate::actors::{Actor, ActorId, Deed, Keys, Stepped};
 use crate::{Act, ByteSlice, ByteSlices, Event, Reply, Tenancy};
 use cops_node::{AuditRow, Cluster0, Node, NodeCall, NodeId, NodeReply, Nodes};
@@ -42,6 +42,8 @@ pub struct World {
     config: Config,
     nodes: Cluster0,
     actors: IndexMap<ActorId, Actor, Seeds>,
+    /// Where the last actor was found: a guess for the next look-up, which may be any number.
+    last: usize,
     counts: Vec<u64>,
 }
 
@@ -121,7 +123,8 @@ impl World {
         ensures moves { Moves (λ config. deed_step config name deed) (world_of self.old) slot result (world_of self.new) }
         ensures lack { Leaves Stays (world_of self.old) slot result (world_of self.new) }
     {
-        act_at(&mut self.actors, ActorId { slot, name }, self.alloc, deed)
+        let id = ActorId { slot, name };
+        act_at(&mut self.actors, &mut self.last, id, self.alloc, deed)
     }
 
     /// Whether a tenant has as many actors as he may.
@@ -244,9 +247,10 @@ impl World {
         ensures lack { Leaves (λ config. StepStops config name moment) (world_of self.old) slot result (world_of self.new) }
     {
         let id = ActorId { slot, name };
-        let Some(place) = self.actors.get_index_of(&id) else {
+        let Some(place) = place_of(&self.actors, self.last, &id) else {
             return Reply::Refused(Fault::UnknownName);
         };
+        self.last = place;
         let Stepped { reply, is_over } = step_at(
             &mut self.actors,
             place,
@@ -391,6 +395,7 @@ impl World {
             config,
             nodes,
             actors: IndexMap::with_hasher(alloc, seeds),
+            last: 0,
             counts,
         })
     }

@@ -54,7 +54,7 @@ fn after_carrying(rt: &impl Abort, alloc: Global) -> World {
 /// Asserts how many calls of each of two tenants a node has in its audit.
 fn assert_calls(rt: &impl Abort, node: &Node, acme: u64, beta: u64) {
     assert!(rt; node.slots() == 2);
-    assert_eq!(rt; (node.audit_len(0), node.audit_len(1)), (acme, beta));
+    assert!(rt; node.audit_len(0) == acme && node.audit_len(1) == beta);
 }
 
 #[test]
@@ -77,35 +77,34 @@ tenant acme 00000000-0000-0000-0000-000000000001 0 100 10000 10 1 2 2 1000
 tenant beta 00000000-0000-0000-0000-000000000002 0 100 10000 10 1 2 2 1000
 begin";
 
+/// Why a world refuses an event.
+fn refusal(rt: &impl Abort, world: &mut World, event: &Event) -> Fault {
+    assert!(rt; event.slot < world.config().tenants.len() as u64);
+    match world.apply(event) {
+        Reply::Refused(fault) => fault,
+        _ => panic!(rt; "a refusal"),
+    }
+}
+
+/// Why beta's get of these keys is refused.
+fn refusal_of_get(rt: &impl Abort, alloc: Global, keys: ByteSlices) -> Fault {
+    let mut world = new_world(rt, alloc, NARROW);
+    let name = Name::new(b"z").expect(rt, "a name");
+    let act = Act::Get(name, 9, keys);
+    refusal(rt, &mut world, &Event { slot: 1, act })
+}
+
 #[test]
 fn a_get_of_no_keys_has_no_form(rt: HostRuntime) {
-    let mut world = new_world(&rt, rt.alloc(), NARROW);
-    let event = Event {
-        slot: 1,
-        act: Act::Get(
-            Name::new(b"z").expect(&rt, "a name"),
-            9,
-            ByteSlices::of(&[]),
-        ),
-    };
-    assert!(rt; event.slot < world.config().tenants.len() as u64);
-    assert!(rt; matches!(world.apply(&event), Reply::Refused(Fault::Syntax)));
+    let fault = refusal_of_get(&rt, rt.alloc(), ByteSlices::of(&[]));
+    assert!(rt; fault == Fault::Syntax);
 }
 
 #[test]
 fn keys_come_without_a_line(rt: HostRuntime) {
-    let mut world = new_world(&rt, rt.alloc(), NARROW);
     let keys = [ByteSlice::of(b"x"), ByteSlice::of(b"no key")];
-    let event = Event {
-        slot: 1,
-        act: Act::Get(
-            Name::new(b"z").expect(&rt, "a name"),
-            9,
-            ByteSlices::of(&keys),
-        ),
-    };
-    assert!(rt; event.slot < world.config().tenants.len() as u64);
-    assert!(rt; matches!(world.apply(&event), Reply::Refused(Fault::BadKey)));
+    let fault = refusal_of_get(&rt, rt.alloc(), ByteSlices::of(&keys));
+    assert!(rt; fault == Fault::BadKey);
 }
 
 /// Each part may be begun anew: a request or a carrier that met refused memory has ended.
