@@ -9,8 +9,8 @@ use std::sync::Wait;
 use std::sync::atomic::AtomicU64;
 use std::sync::atomic::Ordering::SeqCst;
 
-// The first tries that look again at once, each after twice the pause of the one before. Later ones sleep.
-const LOOKS: u32 = 7;
+// The first tries that stay awake, each for twice as many looks as the one before. Later ones sleep.
+const LOOKS: u32 = 10;
 
 // After so many tries a thread no longer holds back: it draws its ticket and waits in line.
 const HOLDS: u32 = 32;
@@ -46,7 +46,7 @@ impl Sleepers {
         requires { board.now.shared.table_id.words ≡ 2 }
     {
         if tries < LOOKS {
-            spin(tries);
+            look_again(board, tries, seen);
         } else {
             self.in_line.fetch_add(1, SeqCst);
             board.shared.park(rt, SERVING, (seen % (1 << 32)) as u32);
@@ -60,7 +60,7 @@ impl Sleepers {
         requires { board.now.shared.table_id.words ≡ 2 }
     {
         if tries < LOOKS {
-            spin(tries);
+            look_again(board, tries, seen);
         } else {
             self.others_may_sleep();
             if board.shared.peek(SERVING) == seen {
@@ -121,10 +121,15 @@ fn below_last(ticket: u64) -> u64
     if ticket < LAST { ticket } else { 0 }
 }
 
-fn spin(tries: u32)
-    requires { tries < 32 }
+// Looks until a turn has ended, but at most so often.
+fn look_again<M: Machine>(board: &Board<M>, tries: u32, seen: u64)
+    requires words { board.now.shared.table_id.words ≡ 2 }
+    requires tries { tries < 32 }
 {
     for _ in 0..1u32 << tries {
+        if board.shared.peek(SERVING) != seen {
+            return;
+        }
         hint::spin_loop();
     }
 }
