@@ -7,31 +7,37 @@ use std::alloc::Global;
 use std::net::{Net, TcpListener, TcpStream};
 use std::process::Abort;
 use std::sync::Wait;
-use std::test::Fail;
 use std::thread::Threads;
 use std::time::Clock;
 
+/// Asserts what standard error gets of a fault.
+fn assert_text(rt: &impl Abort, alloc: Global, fault: CliFault, text: &str) {
+    let written = fault.to_string(alloc).expect(rt, "memory");
+    assert!(rt; written.as_str() == text, "{text}");
+}
+
 #[test]
-fn texts_of_faults(rt: HostRuntime) -> Result<(), Fail> {
-    let texts = [
-        (CliFault::BadHead(7), "cops: configuration line 7\n"),
-        (
-            CliFault::BadLine(Fault::ClockTooGreat, 4),
-            "cops: E29 line 4\n",
-        ),
-        (CliFault::UnknownTenant, "cops: E02\n"),
-        (CliFault::OutOfMemory, "cops: E23\n"),
-        (CliFault::ReadFault, "cops: E26\n"),
-        (CliFault::WriteFault, "cops: E27\n"),
-        (
-            CliFault::NoText,
-            "cops: a word of the command line isn't text\n",
-        ),
-    ];
-    for (fault, text) in &texts {
-        assert_eq!(rt; fault.to_string(rt.alloc())?.as_str(), *text);
-    }
-    Ok(())
+fn texts_of_refusals(rt: HostRuntime) {
+    let alloc = rt.alloc();
+    let late = CliFault::BadLine(Fault::ClockTooGreat, 4);
+    assert_text(
+        &rt,
+        alloc,
+        CliFault::BadHead(7),
+        "cops: configuration line 7\n",
+    );
+    assert_text(&rt, alloc, late, "cops: E29 line 4\n");
+    assert_text(&rt, alloc, CliFault::UnknownTenant, "cops: E02\n");
+    let text = "cops: a word of the command line isn't text\n";
+    assert_text(&rt, alloc, CliFault::NoText, text);
+}
+
+#[test]
+fn texts_of_failures(rt: HostRuntime) {
+    let alloc = rt.alloc();
+    assert_text(&rt, alloc, CliFault::OutOfMemory, "cops: E23\n");
+    assert_text(&rt, alloc, CliFault::ReadFault, "cops: E26\n");
+    assert_text(&rt, alloc, CliFault::WriteFault, "cops: E27\n");
 }
 
 const HELP: &str = "A causal store shared by isolated tenants
@@ -112,55 +118,67 @@ Usage: cops replay <TENANT>
 For more information, try '--help'.
 ";
 
+/// What words are told that end with status 2 and with nothing written.
+fn told<T>(rt: &T, alloc: Global, words: &[&str], input: &[u8]) -> String
+where
+    T: Net<Listener = TcpListener, Stream = TcpStream> + Threads + Wait + Clock + Sync + Abort,
+{
+    let mut source = Source::new(input);
+    let mut sink = Sink::new(Vec::new(alloc));
+    let fault = answer(rt, alloc, words, &mut source, &mut sink).expect_err(rt, "a fault");
+    assert!(rt; sink.into_inner().is_empty());
+    assert!(rt; fault.status() == 2);
+    fault.to_string(alloc).expect(rt, "memory")
+}
+
+/// Asserts what words are told that end with status 2 and with nothing written.
+fn assert_told<T>(rt: &T, alloc: Global, words: &[&str], input: &[u8], text: &str)
+where
+    T: Net<Listener = TcpListener, Stream = TcpStream> + Threads + Wait + Clock + Sync + Abort,
+{
+    let said = told(rt, alloc, words, input);
+    assert!(rt; said.as_str() == text, "{text}");
+}
+
+const BEGIN: &[u8] = b"begin\n";
+
 #[test]
-fn words_that_ask_for_nothing(rt: HostRuntime) -> Result<(), Fail> {
-    let cases: [(&[&str], &str); 8] = [
-        (&["cops"], HELP),
-        (&["cops", "--help"], HELP),
-        (&["cops", "solo", "--help"], HELP_OF_SOLO),
-        (&["cops", "--version"], "cops 0.1\n"),
-        (&["cops", "fly"], NO_COMMAND),
-        (&["cops", "run", "acme"], LEFT_OVER),
-        (&["cops", "solo"], NO_TENANT),
-        (&["cops", "replay"], NO_TENANT_TO_REPLAY),
-    ];
-    for (words, text) in cases {
-        let mut source = Source::new(b"begin\n".as_slice());
-        let mut sink = Sink::new(Vec::new(rt.alloc()));
-        let fault = answer(&rt, rt.alloc(), words, &mut source, &mut sink).expect_err(
-            &rt, "a fault",
-        );
-        assert_eq!(rt; fault.to_string(rt.alloc())?.as_str(), text);
-        assert_eq!(rt; fault.status(), 2);
-        assert!(rt; sink.into_inner().is_empty());
-    }
-    Ok(())
+fn words_that_ask_for_nothing(rt: HostRuntime) {
+    let alloc = rt.alloc();
+    assert_told(&rt, alloc, &["cops"], BEGIN, HELP);
+    assert_told(&rt, alloc, &["cops", "--help"], BEGIN, HELP);
+    assert_told(&rt, alloc, &["cops", "solo", "--help"], BEGIN, HELP_OF_SOLO);
+    assert_told(&rt, alloc, &["cops", "--version"], BEGIN, "cops 0.1\n");
+}
+
+#[test]
+fn words_of_no_form(rt: HostRuntime) {
+    let alloc = rt.alloc();
+    assert_told(&rt, alloc, &["cops", "fly"], BEGIN, NO_COMMAND);
+    assert_told(&rt, alloc, &["cops", "run", "acme"], BEGIN, LEFT_OVER);
+    assert_told(&rt, alloc, &["cops", "solo"], BEGIN, NO_TENANT);
+    assert_told(&rt, alloc, &["cops", "replay"], BEGIN, NO_TENANT_TO_REPLAY);
+}
+
+/// Asserts what the help of a command ends with.
+fn assert_help<T>(rt: &T, alloc: Global, command: &str, text: &str)
+where
+    T: Net<Listener = TcpListener, Stream = TcpStream> + Threads + Wait + Clock + Sync + Abort,
+{
+    let help = told(rt, alloc, &["cops", command, "--help"], BEGIN);
+    assert!(rt; help.as_str().trim_end().ends_with(text), "{command}");
 }
 
 /// What a command's help ends with is its own.
 #[test]
-fn words_that_ask_for_help(rt: HostRuntime) -> Result<(), Fail> {
-    let cases = [
-        ("run", RUN_HELP),
-        ("solo", SOLO_HELP),
-        ("audit", AUDIT_HELP),
-        ("replay", REPLAY_HELP),
-        ("migrate", MIGRATE_HELP),
-        ("serve", SERVE_HELP),
-    ];
-    for (command, text) in cases {
-        let words = ["cops", command, "--help"];
-        let mut source = Source::new(b"begin\n".as_slice());
-        let mut sink = Sink::new(Vec::new(rt.alloc()));
-        let fault = answer(&rt, rt.alloc(), &words, &mut source, &mut sink).expect_err(
-            &rt, "a fault",
-        );
-        let help = fault.to_string(rt.alloc())?;
-        assert!(rt; help.as_str().trim_end().ends_with(text));
-        assert_eq!(rt; fault.status(), 2);
-        assert!(rt; sink.into_inner().is_empty());
-    }
-    Ok(())
+fn words_that_ask_for_help(rt: HostRuntime) {
+    let alloc = rt.alloc();
+    assert_help(&rt, alloc, "run", RUN_HELP);
+    assert_help(&rt, alloc, "solo", SOLO_HELP);
+    assert_help(&rt, alloc, "audit", AUDIT_HELP);
+    assert_help(&rt, alloc, "replay", REPLAY_HELP);
+    assert_help(&rt, alloc, "migrate", MIGRATE_HELP);
+    assert_help(&rt, alloc, "serve", SERVE_HELP);
 }
 
 const SCRIPT: &[u8] = b"cluster 1 1 5000 1
@@ -173,23 +191,25 @@ zeta
 acme ctx a
 ";
 
+/// Asserts what words write of some input.
+fn assert_written<T>(rt: &T, alloc: Global, words: &[&str], input: &[u8], text: &[u8])
+where
+    T: Net<Listener = TcpListener, Stream = TcpStream> + Threads + Wait + Clock + Sync + Abort,
+{
+    let mut source = Source::new(input);
+    let mut sink = Sink::new(Vec::new(alloc));
+    answer(rt, alloc, words, &mut source, &mut sink).expect(rt, "an answer");
+    assert!(rt; sink.into_inner().as_slice() == text);
+}
+
 #[test]
-fn words_that_are_answered(rt: HostRuntime) -> Result<(), Fail> {
-    let cases: [(&[&str], &[u8]); 3] = [
-        (
-            &["cops", "run"],
-            b"acme opened\nbeta E01\n- E02\nacme context 1\n",
-        ),
-        (&["cops", "solo", "acme"], b"acme opened\nacme context 1\n"),
-        (&["cops", "solo", "beta"], b"beta E01\n"),
-    ];
-    for (words, text) in cases {
-        let mut source = Source::new(SCRIPT);
-        let mut sink = Sink::new(Vec::new(rt.alloc()));
-        answer(&rt, rt.alloc(), words, &mut source, &mut sink).expect(&rt, "an answer");
-        assert!(rt; sink.into_inner().as_slice() == text);
-    }
-    Ok(())
+fn words_that_are_answered(rt: HostRuntime) {
+    let alloc = rt.alloc();
+    let all = b"acme opened\nbeta E01\n- E02\nacme context 1\n";
+    assert_written(&rt, alloc, &["cops", "run"], SCRIPT, all);
+    let acme = b"acme opened\nacme context 1\n";
+    assert_written(&rt, alloc, &["cops", "solo", "acme"], SCRIPT, acme);
+    assert_written(&rt, alloc, &["cops", "solo", "beta"], SCRIPT, b"beta E01\n");
 }
 
 const AUDITED: &[u8] = b"cluster 1 1 5000 1
@@ -211,96 +231,52 @@ acme 0.0 0 put x 3130 - - = stored 1.0
 acme 0.0 1 get x latest = found 1.0 3130 -
 ";
 
-/// Asserts what words write of some input.
-fn assert_written<T>(
-    rt: &T,
-    alloc: Global,
-    words: &[&str],
-    input: &[u8],
-    text: &[u8],
-) -> Result<(), Fail>
-where
-    T: Net<Listener = TcpListener, Stream = TcpStream> + Threads + Wait + Clock + Sync + Abort,
-{
-    let mut source = Source::new(input);
-    let mut sink = Sink::new(Vec::new(alloc));
-    answer(rt, alloc, words, &mut source, &mut sink).expect(rt, "an answer");
-    assert!(rt; sink.into_inner().as_slice() == text);
-    Ok(())
-}
-
 #[test]
-fn an_audit_that_replays(rt: HostRuntime) -> Result<(), Fail> {
-    assert_written(&rt, rt.alloc(), &["cops", "audit"], AUDITED, AUDIT)?;
-    assert_written(
-        &rt,
-        rt.alloc(),
-        &["cops", "replay", "acme"],
-        AUDIT,
-        b"same 2\n",
-    )?;
+fn an_audit_that_replays(rt: HostRuntime) {
+    let alloc = rt.alloc();
+    assert_written(&rt, alloc, &["cops", "audit"], AUDITED, AUDIT);
+    let words = ["cops", "replay", "acme"];
+    assert_written(&rt, alloc, &words, AUDIT, b"same 2\n");
     // The same file as one of layout 1.
     let (_first, old) = AUDIT.split_at(9);
-    assert_written(
-        &rt,
-        rt.alloc(),
-        &["cops", "replay", "acme"],
-        old,
-        b"same 2\n",
-    )
+    assert_written(&rt, alloc, &words, old, b"same 2\n");
 }
 
-#[test]
-fn an_audit_with_a_clock_that_is_too_great(rt: HostRuntime) -> Result<(), Fail> {
-    let input = b"cluster 1 1 5000 1
+const GREAT: &[u8] = b"cluster 1 1 5000 1
 tenant acme 00000000-0000-0000-0000-000000000001 281474976710655 100 10000 10 4 20 8 1000
 begin
 ";
-    let mut source = Source::new(input.as_slice());
-    let mut sink = Sink::new(Vec::new(rt.alloc()));
+
+#[test]
+fn an_audit_with_a_clock_that_is_too_great(rt: HostRuntime) {
     let words = ["cops", "replay", "acme"];
-    let fault = answer(&rt, rt.alloc(), &words, &mut source, &mut sink).expect_err(&rt, "a fault");
-    assert_eq!(rt; fault.to_string(rt.alloc())?.as_str(), "cops: E29\n");
-    assert_eq!(rt; fault.status(), 2);
-    assert!(rt; sink.into_inner().is_empty());
-    Ok(())
+    assert_told(&rt, rt.alloc(), &words, GREAT, "cops: E29\n");
 }
 
 #[test]
-fn an_audit_that_is_migrated(rt: HostRuntime) -> Result<(), Fail> {
+fn an_audit_that_is_migrated(rt: HostRuntime) {
     // The same file as one of layout 1.
     let (_first, old) = AUDIT.split_at(9);
-    assert_written(&rt, rt.alloc(), &["cops", "migrate"], old, AUDIT)
+    assert_written(&rt, rt.alloc(), &["cops", "migrate"], old, AUDIT);
 }
 
 /// An audit of layout 2 is none of layout 1.
 #[test]
-fn an_audit_that_was_migrated(rt: HostRuntime) -> Result<(), Fail> {
-    let mut source = Source::new(b"layout 2\ncluster 1 1 5000 1\n".as_slice());
-    let mut sink = Sink::new(Vec::new(rt.alloc()));
-    let words = ["cops", "migrate"];
-    let fault = answer(&rt, rt.alloc(), &words, &mut source, &mut sink).expect_err(&rt, "a fault");
-    assert_eq!(rt;
-        fault.to_string(rt.alloc())?.as_str(),
-        "cops: configuration line 1\n"
-    );
-    assert_eq!(rt; fault.status(), 2);
-    assert!(rt; sink.into_inner().is_empty());
-    Ok(())
+fn an_audit_that_was_migrated(rt: HostRuntime) {
+    let migrated = b"layout 2\ncluster 1 1 5000 1\n";
+    let text = "cops: configuration line 1\n";
+    assert_told(&rt, rt.alloc(), &["cops", "migrate"], migrated, text);
 }
 
 #[test]
-fn a_tenant_that_is_not_there(rt: HostRuntime) -> Result<(), Fail> {
-    for command in ["solo", "replay"] {
-        let words = ["cops", command, "zeta"];
-        let mut source = Source::new(SCRIPT);
-        let mut sink = Sink::new(Vec::new(rt.alloc()));
-        let fault = answer(&rt, rt.alloc(), &words, &mut source, &mut sink).expect_err(
-            &rt, "a fault",
-        );
-        assert_eq!(rt; fault.to_string(rt.alloc())?.as_str(), "cops: E02\n");
-        assert_eq!(rt; fault.status(), 2);
-        assert!(rt; sink.into_inner().is_empty());
-    }
-    Ok(())
+fn a_tenant_that_is_not_there(rt: HostRuntime) {
+    let alloc = rt.alloc();
+    assert_told(&rt, alloc, &["cops", "solo", "zeta"], SCRIPT, "cops: E02\n");
+    assert_told(
+        &rt,
+        alloc,
+        &["cops", "replay", "zeta"],
+        SCRIPT,
+        "cops: E02\n",
+    );
 }

@@ -4,14 +4,13 @@ use cops_types::{Fault, RunFault, Sink, Source};
 use cops_world::BadConfig;
 use std::alloc::Global;
 use std::process::Abort;
-use std::test::Fail;
 
 /// Asserts what a migration writes.
 fn assert_migrated(rt: &impl Abort, alloc: Global, text: &str, wanted: &str, records: u64) {
     let mut source = Source::new(text.as_bytes());
     let mut sink = Sink::new(Vec::new(alloc));
     let migrated = migrate_text(alloc, &mut source, &mut sink).expect(rt, "an audit of layout 1");
-    assert_eq!(rt; migrated.records, records);
+    assert!(rt; migrated.records == records);
     assert!(rt; sink.into_inner().as_slice() == wanted.as_bytes());
 }
 
@@ -40,17 +39,19 @@ fn assert_refused(rt: &impl Abort, alloc: Global, text: &str, refusal: Migration
     assert!(rt; fault == RunFault::Refused(refusal));
 }
 
+/// Asserts at which line a head is bad.
+fn assert_no_head(rt: &impl Abort, alloc: Global, text: &str, line: u64) {
+    let bad = BadConfig { line };
+    assert_refused(rt, alloc, text, MigrationRefusal::BadConfig(bad));
+}
+
 #[test]
 fn lines_of_no_head_are_refused(rt: HostRuntime) {
-    for (text, line) in [
-        ("layout 2\ncluster 1 1 5000 1\n", 1),
-        ("cluster 1 17 5000 1\n", 1),
-        ("cluster 1 1 5000 1\n", 2),
-        ("", 1),
-    ] {
-        let refusal = MigrationRefusal::BadConfig(BadConfig { line });
-        assert_refused(&rt, rt.alloc(), text, refusal);
-    }
+    let alloc = rt.alloc();
+    assert_no_head(&rt, alloc, "layout 2\ncluster 1 1 5000 1\n", 1);
+    assert_no_head(&rt, alloc, "cluster 1 17 5000 1\n", 1);
+    assert_no_head(&rt, alloc, "cluster 1 1 5000 1\n", 2);
+    assert_no_head(&rt, alloc, "", 1);
 }
 
 #[test]
@@ -65,26 +66,25 @@ fn a_great_first_clock_is_refused(rt: HostRuntime) {
     assert_refused(&rt, rt.alloc(), text, MigrationRefusal::BadLine(bad));
 }
 
+/// A head and a first record.
+const FRONT: &str = "cluster 1 1 5000 1
+tenant acme 00000000-0000-0000-0000-000000000001 0 1 1 1 1 1 1 1
+begin
+acme 0.0 0 collect = removed 0";
+
+/// Asserts why the second record is refused.
+fn assert_bad_record(rt: &impl Abort, alloc: Global, record: &str, fault: Fault) {
+    let text = format!(in alloc; "{FRONT}\n{record}\n").expect(rt, "memory");
+    let bad = BadLine { line: 5, fault };
+    assert_refused(rt, alloc, text.as_str(), MigrationRefusal::BadLine(bad));
+}
+
 #[test]
-fn bad_records_are_refused(rt: HostRuntime) -> Result<(), Fail> {
-    for (record, fault) in [
-        (
-            "acme 0.0 0 put x 3130 - - = stored 281474976710655.0",
-            Fault::ClockTooGreat,
-        ),
-        ("acme 0.0 1 get x newest = absent", Fault::Syntax),
-        ("acme 0.0 0 check x 1.256 = no", Fault::Syntax),
-    ] {
-        let text = format!(in rt.alloc();
-            "cluster 1 1 5000 1\ntenant acme 00000000-0000-0000-0000-000000000001 0 1 1 1 1 1 1 1\nbegin\nacme 0.0 0 collect = removed 0\n{record}\n"
-        )?;
-        let bad = BadLine { line: 5, fault };
-        assert_refused(
-            &rt,
-            rt.alloc(),
-            text.as_str(),
-            MigrationRefusal::BadLine(bad),
-        );
-    }
-    Ok(())
+fn bad_records_are_refused(rt: HostRuntime) {
+    let alloc = rt.alloc();
+    let great = "acme 0.0 0 put x 3130 - - = stored 281474976710655.0";
+    assert_bad_record(&rt, alloc, great, Fault::ClockTooGreat);
+    let unformed = "acme 0.0 1 get x newest = absent";
+    assert_bad_record(&rt, alloc, unformed, Fault::Syntax);
+    assert_bad_record(&rt, alloc, "acme 0.0 0 check x 1.256 = no", Fault::Syntax);
 }
