@@ -82,9 +82,14 @@ class Outcome:
         return next((it for it in reversed(self.text.splitlines()) if it.startswith(starts)), "")
 
 
-def call(words, folder, given=subprocess.DEVNULL, errors=subprocess.STDOUT):
-    started = subprocess.Popen(words, cwd=folder, stdin=given, stdout=subprocess.PIPE, stderr=errors)
+def call(words, folder, given=subprocess.DEVNULL, errors=subprocess.STDOUT, seconds=None):
+    """Runs a command to its end; with a number of seconds, it and all that it started are killed once these have passed."""
+    started = subprocess.Popen(words, cwd=folder, stdin=given, stdout=subprocess.PIPE, stderr=errors, start_new_session=seconds is not None)
+    ending = threading.Timer(seconds or 0, os.killpg, (started.pid, signal.SIGKILL))
+    if seconds is not None:
+        ending.start()
     text = started.stdout.read().decode(errors="replace")
+    ending.cancel()
     _, status, used = os.wait4(started.pid, 0)
     started.returncode = os.waitstatus_to_exitcode(status)
     return Outcome(started.returncode, text, used.ru_utime + used.ru_stime)
