@@ -38,6 +38,10 @@ def main() -> int:
         print("usage: run PROGRAM [WORD ..]", file=sys.stderr)
         return 2
     program = pathlib.Path(words[0])
+    # (its sockets would wait long for a service that never comes)
+    if not os.access(program, os.X_OK):
+        print(f"{program} is no program\n0 passed, 1 failed")
+        return 1
     pair.PROGRAM[:] = service.PROGRAM[:] = [str(program.resolve()), *words[1:]]
     pair.PLAIN[:] = programs.build_plain(ROOT)
     names = os.environ.get("TESTS", "test_*.py")
