@@ -379,6 +379,9 @@ def wrong_head(numbers: Random, head: list[str]) -> list[str]:
     draw = numbers.random()
     if draw < 0.2:
         del head[place:]
+    elif draw < 0.25:
+        # No tenant, which is no fault of a head.
+        del head[1:-1]
     elif draw < 0.35:
         head.insert(place, numbers.choice([*head, "", "begin ", "tenant", "cluster 1 1 1 1", "layout 2", "x" * 9_000]))
     elif draw < 0.45:

@@ -95,6 +95,18 @@ class Lines(unittest.TestCase):
         for words in commands():
             self.assertEqual(both(words, text_of([*AUDIT_HEAD, *FRONT])), bad)
 
+    def test_a_head_without_tenants(self):
+        """Each line then names none. In layout 1 there is no such head."""
+        head = [HEAD[0], HEAD[-1]]
+        lines = [line for _, line in event_lines()]
+        self.check(both(["run"], text_of([*head, *lines])), [b"- E02"] * len(lines))
+        self.check(both(["audit"], text_of([*head, *lines])), [AUDIT_HEAD[0], *head])
+        unknown = Outcome(2, b"", b"cops: E02\n")
+        for text in (["solo", "acme"], text_of(head)), (["replay", "acme"], text_of([AUDIT_HEAD[0], *head])):
+            self.assertEqual(both(*text), unknown)
+        for words in ["replay", "acme"], ["migrate"]:
+            self.assertEqual(both(words, text_of(head)), Outcome(2, b"", b"cops: configuration line 2\n"))
+
     def test_heads_cut_at_every_byte(self):
         head = text_of(HEAD)
         for cut in range(len(head)):

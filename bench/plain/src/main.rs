@@ -100,7 +100,7 @@ fn execute(command: Command, options: &Options) -> Result<(), Stop> {
         Command::Solo(tenant) => solo_script(input, output, &tenant, options),
         Command::Audit => audit_text(input, output, options),
         Command::Replay(tenant) => replay_text(input, output, &tenant, options),
-        Command::Migrate => migrate_text(input, output, options).map(drop),
+        Command::Migrate => migrate_text(input, output).map(drop),
         Command::Serve(address, limits) => {
             let config = read_head(&mut Lines::new(input, LONGEST_LINE), options)?;
             let nodes = serve_at(&config, &address, &limits)?;

@@ -211,7 +211,7 @@ follows_again (Within config) line next again (inl joins) =
     (subst (λ lines. LeadsTo (cluster_line config ∷ lines) (Within (with_tenant config tenant))) (sym (map-append written_tenant config.tenants (tenant ∷ []))) more)
 follows_again (Within config) line next again (inr ends) =
     subst LeadsAgain (sym ends.after)
-    (one_more (lines_within config) (Within config) begin_line (Begun config) again (inr (record { said = refl; some = ends.some; after = refl })) (lacks_from_test newline begin_line refl))
+    (one_more (lines_within config) (Within config) begin_line (Begun config) again (inr (record { said = refl; after = refl })) (lacks_from_test newline begin_line refl))
 follows_again (Begun config) line next again follows = absurd follows
 
 leads_again : (front : Front) (lines : List (List ℕ)) (last : Front) → LeadsAgain front → Leads front lines last → LeadsAgain last

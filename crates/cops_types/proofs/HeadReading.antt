@@ -11,7 +11,7 @@ use Rattle.cops_types.specs.declared.configs.Tenant.{Tenant}
 use Rattle.cops_types.specs.declared.quotas.Quota.{Quota}
 use Rattle.cops_types.specs.Head.{Front, Within, JoinsOrStays}
 use Rattle.cops_types.specs.HeadReader.{front_with}
-use Rattle.cops_types.specs.HeadLines.{begin_line, IsClusterLine, IsTenantLine, are_sizes, cluster_in, is_between, most_shards, greatest_quota, is_quota, is_tenant, tenant_in, IsTenantLineTo, is_tenant_to, tenant_in_to}
+use Rattle.cops_types.specs.HeadLines.{begin_line, IsClusterLine, are_sizes, cluster_in, is_between, most_shards, greatest_quota, is_quota, tenant_in, IsTenantLineTo, is_tenant_to, tenant_in_to}
 use Rattle.cops_types.specs.HeadWords.{cluster_words, tenant_words}
 use Rattle.cops_types.specs.Key.{is_name}
 use Rattle.cops_types.specs.OldHead.{old_front_with, old_tenant_in}

@@ -1,4 +1,4 @@
--- The head of an audit file of layout 1: at most 16 shards, and clocks of 56 bits. All else is as in a head of today.
+-- The head of an audit file of layout 1: at most 16 shards, clocks of 56 bits, and a tenant at least. All else is as in a head of today.
 use Rattle.std.specs.Prelude.{ℕ, Bool, true, ◌+◌, ◌-◌, ◌^◌, nat_lt, nat_le, if◌then◌else◌, List, [], ◌∷◌, length, Option, Some, None}
 use Rattle.std.specs.List.{list_all}
 use Rattle.std.specs.Option.{option_map, option_and_then}

@@ -99,7 +99,7 @@ cluster 1 65 5000 1
 2 a head that ends early
 cluster 1 1 5000 1
 
-2 no tenant
+0 no tenant
 cluster 1 1 5000 1
 begin
 

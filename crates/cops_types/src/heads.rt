@@ -1,7 +1,6 @@
 //! Reading the head of a script, line by line.
 ghost use Rattle.std.specs.Prelude.{◌≡◌, Some, OnErr, OnOk, IfOk};
-ghost use Rattle.cops_types.specs.Head.{AtStart, front_after, next_within};
-ghost use Rattle.cops_types.specs.HeadLines.{begin_line};
+ghost use Rattle.cops_types.specs.Head.{AtStart, front_after};
 ghost use Rattle.cops_types.specs.HeadProgress.{front_of};
 ghost use Rattle.cops_types.specs.HeadReader.{front_with, said_at, still_open};
 
@@ -18,7 +17,7 @@ use std::mem;
 pub enum HeadLine {
     /// The head goes on.
     More,
-    /// The head is whole, and this is what it says.
+    /// The head is whole, and this is what it says. It may have no tenant.
     Begin(Config),
     /// The line may not stand here, or the head is over.
     BadLine,
@@ -60,16 +59,6 @@ fn start(alloc: Global, line: &[u8]) -> (Progress, HeadLine)
     }
 }
 
-/// What the line `begin` says where the head has come to this configuration.
-pub(crate) fn begin(config: Config) -> HeadLine
-    ensures { result ≡ said_at (next_within config begin_line) }
-{
-    if config.tenants.len() == 0 {
-        return HeadLine::BadLine;
-    }
-    HeadLine::Begin(config)
-}
-
 impl ConfigReader {
     /// A reader that has read no line.
     pub fn new() -> Self
@@ -103,7 +92,7 @@ impl ConfigReader {
         let (progress, said) = match mem::replace(&mut self.progress, Progress::Over) {
             Progress::Start => start(alloc, line),
             Progress::Within(config) if line == b"begin".as_slice() => {
-                (Progress::Over, begin(config))
+                (Progress::Over, HeadLine::Begin(config))
             }
             _ => (Progress::Over, HeadLine::BadLine),
         };

@@ -3,12 +3,13 @@ ghost use Rattle.std.specs.Prelude.{◌≡◌, Some, OnErr, OnOk, IfOk, nat_le};
 ghost use Rattle.std.specs.List.{list_all};
 ghost use Rattle.cops_types.specs.Head.{AtStart};
 ghost use Rattle.cops_types.specs.HeadProgress.{front_of};
+ghost use Rattle.cops_types.specs.HeadLines.{begin_line};
 ghost use Rattle.cops_types.specs.HeadReader.{said_at, still_open};
-ghost use Rattle.cops_types.specs.OldHead.{has_clocks_to, old_cluster_in, old_front_after, old_front_with};
+ghost use Rattle.cops_types.specs.OldHead.{has_clocks_to, old_cluster_in, old_front_after, old_front_with, old_next_within};
 
 use crate::configs::{Config, Tenant};
 use crate::head_lines::{join, read_cluster};
-use crate::heads::{HeadLine, Progress, begin};
+use crate::heads::{HeadLine, Progress};
 use std::alloc::{AllocError, Global};
 use std::marker::Model;
 use std::mem;
@@ -64,6 +65,16 @@ fn start(alloc: Global, line: &[u8]) -> (Progress, HeadLine)
         Some(config) => (Progress::Within(config), HeadLine::More),
         None => (Progress::Over, HeadLine::BadLine),
     }
+}
+
+/// What the line `begin` says where the head has come to this configuration: it has a tenant at least.
+fn begin(config: Config) -> HeadLine
+    ensures { result ≡ said_at (old_next_within config begin_line) }
+{
+    if config.tenants.len() == 0 {
+        return HeadLine::BadLine;
+    }
+    HeadLine::Begin(config)
 }
 
 impl OldConfigReader {

@@ -30,6 +30,12 @@ tenant beta 00000000-0000-0000-0000-000000000002 0 100 10000 10 4 20 8 1000
     assert!(rt; tenants.len() == 1 && tenants[0].first_clock == 7);
 }
 
+#[test]
+fn a_head_may_have_no_tenant(rt: HostRuntime) {
+    let config = read_whole(&rt, rt.alloc(), b"cluster 1 1 5000 1\nbegin\n");
+    assert!(rt; config.tenants.len() == 0);
+}
+
 // The line at which a head is bad.
 fn bad_line(rt: &impl Abort, alloc: Global, head: &[u8]) -> u64 {
     match read(alloc, head) {
@@ -42,7 +48,6 @@ fn bad_line(rt: &impl Abort, alloc: Global, head: &[u8]) -> u64 {
 fn a_head_is_bad_at_a_line(rt: HostRuntime) {
     let alloc = rt.alloc();
     assert!(rt; bad_line(&rt, alloc, b"cluster 1 65 5000 1\nbegin\n") == 1);
-    assert!(rt; bad_line(&rt, alloc, b"cluster 1 1 5000 1\nbegin\n") == 2);
     assert!(rt; bad_line(&rt, alloc, b"cluster 1 1 5000 1\n") == 2);
     assert!(rt; bad_line(&rt, alloc, b"") == 1);
 }
