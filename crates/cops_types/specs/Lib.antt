@@ -19,6 +19,7 @@ pub mod LineRuns
 pub mod Lines
 pub mod OldHead
 pub mod OnLiterals
+pub mod OpenSlots
 pub mod Packed
 pub mod PackedRows
 pub mod Padding

@@ -24,6 +24,9 @@ mod names;
 mod near;
 mod near_builder;
 mod old_heads;
+#[cfg(test)]
+mod open_tenant_tests;
+mod open_tenants;
 mod packed;
 mod pair_lists;
 #[cfg(test)]
@@ -63,6 +66,7 @@ pub use names::Name;
 pub use near::Near;
 pub use near_builder::NearBuilder;
 pub use old_heads::OldConfigReader;
+pub use open_tenants::OpenTenants;
 pub use pairs::Pair;
 pub use quotas::Quota;
 pub use records::{Dated, Entry, EntryParts, Record};

@@ -1,0 +1,240 @@
+//! The tenants that are open now.
+ghost use Rattle.std.specs.Prelude.{◌≡◌, ℕ, ◌⊎◌, cond, count_by, is_none, is_some, take, List, position, replicate, slice_set, IfErr, IfNone, IfOk, IfSome, IsOk, None, OnErr, OnOk, Some, Err};
+ghost use Rattle.std.specs.Option.{option_copied};
+ghost use Rattle.cops_types.specs.declared.faults.Fault.TheVariants.{OutOfMemory, UnknownTenant};
+ghost use Rattle.cops_types.specs.HeadLines.{most_tenants};
+ghost use Rattle.cops_types.specs.Key.{IsName, key_eq};
+ghost use Rattle.indexmap.specs.IndexMap.{get};
+ghost use Rattle.cops_types.specs.OpenSlots.{admission_refusal, is_free, is_new, open_at, open_slot_of_name, open_slot_of_token};
+
+use crate::configs::Tenant;
+use crate::faults::Fault;
+use crate::names::Name;
+use indexmap::IndexMap;
+use std::alloc::{AllocError, Global};
+use std::marker::Model;
+use uuid::Uuid;
+
+/// How many tenants may be open at once.
+const MOST_OPEN: usize = 64;
+
+/// The tenants that are open, by slot: they come and go. Contracts see a list with the tenant of each slot, if it has one.
+#[derive(Debug, Drop)]
+pub struct OpenTenants {
+    slots: Vec<Option<Tenant>>,
+    /// The slot of each name.
+    names: IndexMap<Name, usize>,
+    /// The slot of each token.
+    tokens: IndexMap<[u8; 16], usize>,
+}
+
+impl Model for OpenTenants {
+    ghost use Rattle.std.specs.Prelude.{List, Option};
+    ghost use Rattle.cops_types.specs.declared.configs.Tenant.{Tenant};
+
+    ghost Value = { List (Option Tenant) };
+
+    ghost use Rattle.cops_types.specs.OpenSlots.{AreOpen};
+
+    ghost view = { λ t. t.slots.items };
+
+    ghost invariant = { λ t. AreOpen t.slots.items t.names t.tokens };
+}
+
+/// That many slots without a tenant.
+fn free_slots(alloc: Global) -> Result<Vec<Option<Tenant>>, AllocError>
+    ensures { IfOk result (λ slots. slots.items ≡ replicate most_tenants None) }
+{
+    let mut slots = Vec::with_capacity(alloc, MOST_OPEN)?;
+    for _slot in 0..MOST_OPEN {
+        slots.push(None)?;
+    }
+    Ok(slots)
+}
+
+/// The place of the first slot without a tenant.
+fn first_free(slots: &[Option<Tenant>]) -> Option<usize>
+    ensures { result ≡ position is_none slots.now }
+{
+    slots.iter().position(|tenant| tenant.is_none())
+}
+
+/// The name, which is one.
+fn name_of(tenant: &Tenant) -> Name
+    ensures value { result ≡ tenant.now.name }
+    ensures name { IsName tenant.now.name }
+{
+    let name = tenant.name;
+    let _bytes = name.bytes();
+    name
+}
+
+/// Notes the slot of a tenant under the name and the token. Refused, nothing is noted.
+fn note(
+    names: &mut IndexMap<Name, usize>,
+    tokens: &mut IndexMap<[u8; 16], usize>,
+    tenant: &Tenant,
+    slot: usize,
+) -> Result<(), AllocError>
+    ensures name { IsName tenant.now.name }
+    ensures names { OnOk result ((name : List ℕ) → get key_eq names.new name ≡ cond (key_eq tenant.now.name name) (Some slot) (get key_eq names.old name)) }
+    ensures tokens { OnOk result ((token : List ℕ) → get key_eq tokens.new token ≡ cond (key_eq tenant.now.token token) (Some slot) (get key_eq tokens.old token)) }
+    ensures same_names { OnErr result ((name : List ℕ) → get key_eq names.new name ≡ get key_eq names.old name) }
+    ensures same_tokens { OnErr result ((token : List ℕ) → get key_eq tokens.new token ≡ get key_eq tokens.old token) }
+{
+    let name = name_of(tenant);
+    names.reserve(1)?;
+    tokens.reserve(1)?;
+    let token = tenant.token.into_bytes();
+    match (names.insert(name, slot), tokens.insert(token, slot)) {
+        (Ok(_), Ok(_)) => Ok(()),
+        _ => unreachable!(),
+    }
+}
+
+/// Forgets the slot of a tenant.
+fn forget(
+    names: &mut IndexMap<Name, usize>,
+    tokens: &mut IndexMap<[u8; 16], usize>,
+    tenant: &Tenant,
+)
+    ensures names { (name : List ℕ) → get key_eq names.new name ≡ cond (key_eq tenant.now.name name) None (get key_eq names.old name) }
+    ensures tokens { (token : List ℕ) → get key_eq tokens.new token ≡ cond (key_eq tenant.now.token token) None (get key_eq tokens.old token) }
+{
+    let _slot = names.swap_remove(&tenant.name);
+    let _same = tokens.swap_remove(tenant.token.as_bytes());
+}
+
+impl OpenTenants {
+    /// No open tenant.
+    pub fn new(alloc: Global) -> Result<Self, AllocError>
+        ensures { IfOk result (λ tenants. tenants ≡ replicate most_tenants None) }
+    {
+        Ok(OpenTenants {
+            slots: free_slots(alloc)?,
+            names: IndexMap::new(alloc),
+            tokens: IndexMap::new(alloc),
+        })
+    }
+
+    /// The tenant of each slot.
+    pub fn as_slice(&self) -> &[Option<Tenant>]
+        ensures { result.now ≡ self.now }
+    {
+        self.slots.as_slice()
+    }
+
+    /// How many are open.
+    pub fn len(&self) -> usize
+        ensures { result ≡ count_by is_some self.now }
+    {
+        self.slots.iter().filter(|tenant| tenant.is_some()).count()
+    }
+
+    /// The tenant of a slot, if it has one.
+    pub fn tenant(&self, slot: u64) -> Option<&Tenant>
+        ensures { option_copied result ≡ open_at slot self.now }
+    {
+        match self.slots.get(slot as usize) {
+            Some(Some(tenant)) => Some(tenant),
+            _ => None,
+        }
+    }
+
+    /// The slot of the open tenant with this name.
+    pub fn slot_of_name(&self, name: &[u8]) -> Option<u64>
+        ensures { result ≡ open_slot_of_name self.now name.now }
+    {
+        let names = &self.names;
+        let Ok(name) = Name::new(name) else {
+            return None;
+        };
+        match names.get(&name) {
+            Some(slot) => Some(*slot as u64),
+            None => None,
+        }
+    }
+
+    /// The slot of the open tenant with this token.
+    pub fn slot_of_token(&self, token: &Uuid) -> Option<u64>
+        ensures { result ≡ open_slot_of_token self.now token.now }
+    {
+        match self.tokens.get(token.as_bytes()) {
+            Some(slot) => Some(*slot as u64),
+            None => None,
+        }
+    }
+
+    /// The least slot that may be given to a tenant.
+    pub fn least_free(&self) -> Option<u64>
+        ensures { result ≡ position is_none (take most_tenants self.now) }
+    {
+        match first_free(&self.slots[..MOST_OPEN]) {
+            Some(slot) => Some(slot as u64),
+            None => None,
+        }
+    }
+
+    /// Whether no open tenant has this one's name or token.
+    pub fn is_new(&self, tenant: &Tenant) -> bool
+        ensures { result ≡ is_new self.now tenant.now }
+    {
+        !self.names.contains_key(&tenant.name) && !self.tokens.contains_key(tenant.token.as_bytes())
+    }
+
+    /// Whether the slot may be given to a tenant.
+    pub fn is_free(&self, slot: u64) -> bool
+        ensures { result ≡ is_free slot self.now }
+    {
+        match self.tenant(slot) {
+            Some(_) => false,
+            None => slot < MOST_OPEN as u64,
+        }
+    }
+
+    /// Why the tenant is not admitted to the slot, apart from want of memory.
+    fn refusal(&self, slot: u64, tenant: &Tenant) -> Option<Fault>
+        ensures { result ≡ admission_refusal self.now slot tenant.now }
+    {
+        if !self.is_new(tenant) {
+            return Some(Fault::NameTaken);
+        }
+        if !self.is_free(slot) {
+            return Some(Fault::NoSlot);
+        }
+        None
+    }
+
+    /// Gives the slot to the tenant. `NameTaken` where an open tenant has that name or token, `NoSlot` where the slot has a
+    /// tenant or is none of the 64, in this order.
+    pub fn admit_at(&mut self, slot: u64, tenant: Tenant) -> Result<(), Fault>
+        ensures ok { OnOk result (self.new ≡ slice_set self.old slot (Some tenant)) }
+        ensures refused { IfSome (admission_refusal self.old slot tenant) (λ fault. result ≡ Err fault) }
+        ensures faults { IfErr result (λ fault. (admission_refusal self.old slot tenant ≡ Some fault) ⊎ (fault ≡ OutOfMemory)) }
+        ensures err { OnErr result (self.new ≡ self.old) }
+    {
+        if let Some(fault) = self.refusal(slot, &tenant) {
+            return Err(fault);
+        }
+        let place = slot as usize;
+        note(&mut self.names, &mut self.tokens, &tenant, place)?;
+        self.slots[place] = Some(tenant);
+        Ok(())
+    }
+
+    /// Takes the slot from its tenant. It asks for no memory.
+    pub fn close(&mut self, slot: u64) -> Result<(), Fault>
+        ensures closed { OnOk result (self.new ≡ slice_set self.old slot None) }
+        ensures there { IfSome (open_at slot self.old) (λ _. IsOk result) }
+        ensures absent { IfNone (open_at slot self.old) (result ≡ Err UnknownTenant) }
+        ensures err { OnErr result (self.new ≡ self.old) }
+    {
+        let tenant = match self.tenant(slot) {
+            Some(tenant) => *tenant,
+            None => return Err(Fault::UnknownTenant),
+        };
+        forget(&mut self.names, &mut self.tokens, &tenant);
+        self.slots[slot as usize] = None;
+        Ok(())
+    }
+}
