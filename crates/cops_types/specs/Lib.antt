@@ -23,6 +23,7 @@ pub mod OpenSlots
 pub mod Packed
 pub mod PackedRows
 pub mod Padding
+pub mod PairForms
 pub mod Pairs
 pub mod Records
 pub mod Refusal

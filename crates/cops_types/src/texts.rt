@@ -1,6 +1,8 @@
 //! Texts of numbers, versions, pairs and faults, put at the end of a vector.
-ghost use Rattle.std.specs.Prelude.{◌≡◌, ◌<◌, ◌++◌, length, drop, decimal, OnOk, OnErr};
+ghost use Rattle.std.specs.Prelude.{◌≡◌, ◌<◌, ◌++◌, length, drop, decimal, IsTrue, OnOk, OnErr};
+ghost use Rattle.std.specs.List.{list_all};
 ghost use Rattle.cops_types.specs.FaultText.{fault_text};
+ghost use Rattle.cops_types.specs.PairForms.{are_deps, are_near, is_pair, is_version};
 ghost use Rattle.cops_types.specs.Words.{StartsWith, list_text, more_text, pair_text, version_text};
 
 use crate::deps::Deps;
@@ -25,10 +27,11 @@ pub fn push_number(out: &mut Vec<u8>, number: u64) -> Result<(), AllocError>
 pub fn push_version(out: &mut Vec<u8>, version: Version) -> Result<(), AllocError>
     ensures ok { OnOk result (out.new.items ≡ out.old.items ++ version_text version) }
     ensures front { StartsWith out.new.items out.old.items }
+    ensures formed { OnOk result (IsTrue (is_version version)) }
 {
     push_number(out, version.clock())?;
     out.push(b'.')?;
-    push_number(out, version.node())?;
+    push_number(out, version.place() as u64)?;
     Ok(())
 }
 
@@ -36,6 +39,7 @@ pub fn push_version(out: &mut Vec<u8>, version: Version) -> Result<(), AllocErro
 pub fn push_pair(out: &mut Vec<u8>, pair: &Pair) -> Result<(), AllocError>
     ensures ok { OnOk result (out.new.items ≡ out.old.items ++ pair_text pair.now) }
     ensures front { StartsWith out.new.items out.old.items }
+    ensures formed { OnOk result (IsTrue (is_pair pair.now)) }
 {
     out.extend_from_slice(pair.key.bytes())?;
     out.push(b':')?;
@@ -48,6 +52,7 @@ pub fn push_pair(out: &mut Vec<u8>, pair: &Pair) -> Result<(), AllocError>
 pub fn push_deps(out: &mut Vec<u8>, deps: &Deps) -> Result<(), AllocError>
     ensures ok { OnOk result (out.new.items ≡ out.old.items ++ list_text deps.now) }
     ensures front { StartsWith out.new.items out.old.items }
+    ensures formed { OnOk result (IsTrue (are_deps deps.now)) }
 {
     push_list(out, deps.packed())
 }
@@ -57,6 +62,7 @@ pub fn push_deps(out: &mut Vec<u8>, deps: &Deps) -> Result<(), AllocError>
 pub fn push_near(out: &mut Vec<u8>, near: &Near) -> Result<(), AllocError>
     ensures ok { OnOk result (out.new.items ≡ out.old.items ++ list_text near.now) }
     ensures front { StartsWith out.new.items out.old.items }
+    ensures formed { OnOk result (IsTrue (are_near near.now)) }
 {
     push_list(out, near.packed())
 }
@@ -65,6 +71,7 @@ pub fn push_near(out: &mut Vec<u8>, near: &Near) -> Result<(), AllocError>
 fn push_list(out: &mut Vec<u8>, pairs: &PackedPairs) -> Result<(), AllocError>
     ensures ok { OnOk result (out.new.items ≡ out.old.items ++ list_text pairs.now) }
     ensures front { StartsWith out.new.items out.old.items }
+    ensures formed { OnOk result (IsTrue (list_all is_pair pairs.now)) }
 {
     if pairs.len() == 0 {
         out.push(b'-')?;
@@ -79,6 +86,7 @@ fn push_more(out: &mut Vec<u8>, pairs: &PackedPairs) -> Result<(), AllocError>
     requires { 0 < length pairs.now }
     ensures ok { OnOk result (out.new.items ≡ out.old.items ++ more_text (drop 1 pairs.now)) }
     ensures front { StartsWith out.new.items out.old.items }
+    ensures formed { OnOk result (IsTrue (list_all is_pair (drop 1 pairs.now))) }
 {
     for place in 1..pairs.len() {
         out.push(b',')?;
