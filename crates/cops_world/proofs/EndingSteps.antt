@@ -178,7 +178,7 @@ module _ (config : TenantConfig) (some : 0 < config.shards) (c : SoloCluster) (t
     where
       by_replies : (rs : List NodeReply) → Zipped (Delivered config c k.stream) (stream_calls config.shards k.stream rs) rs → length (near_in rs) ≤ config.quota.deps
       by_replies [] z = omega arith
-      by_replies (Pulled e ∷ rs) z = offered_few config some c ts inv limits k.stream e z.0
+      by_replies (Pulled e ∷ rs) z = (offered_few config some c ts inv limits k.stream e z.0).0
       by_replies (r ∷ rs) z = omega arith
 
 -- one more reply leaves one call fewer

@@ -1,20 +1,21 @@
--- Near lists are within the limit of the tenant's lists, and transactions have at most 32 keys: each move keeps that.
-use Rattle.std.proofs.Common.{◌≡◌, ℕ, ◌*◌, ◌≤◌, ◌<◌, Bool, true, false, cond, not, List, [], ◌∷◌, ◌++◌, length, ◌⊎◌, inl, inr, refl, sym, ◌∙◌, ap, subst, arith, append-nil, append_assoc}
+-- Lists are within the limit of the tenant's lists, and transactions have at most 32 keys: each move keeps that.
+use Rattle.std.proofs.Common.{◌≡◌, ℕ, ◌*◌, ◌≤◌, ◌<◌, Bool, true, false, cond, not, List, [], ◌∷◌, ◌++◌, length, inl, inr, refl, sym, ◌∙◌, ap, subst, arith, append-nil, append_assoc}
 use Rattle.std.specs.Prelude.{Option, Some, None, nat_lt, nat_le, ◌==◌, unwrap_or}
 use Rattle.std.specs.Option.{option_map}
-use Rattle.std.specs.List.{AllByRecursion, flat_map}
+use Rattle.std.specs.List.{AllByRecursion}
 use Rattle.std.proofs.lemmas.Bool.Decides.{nat_tests, eqb_tells}
-use Rattle.cops_types.specs.declared.faults.Fault.TheVariants.{Syntax, Busy, NoContext, DependenciesFull, TooManyKeys, RepeatedKey, IdsSpent}
+use Rattle.cops_types.specs.declared.faults.Fault.TheVariants.{Syntax, Busy, NoContext, DependenciesFull, TooManyKeys, RepeatedKey, IdsSpent, Torn}
 use Rattle.cops_types.specs.declared.pairs.Pair.{Pair}
 use Rattle.cops_types.specs.declared.records.EntryParts.{EntryParts as Entry}
-use Rattle.cops_types.specs.Context.{Observation, Put, pair_of, deps_of_observation, all_of, near_of, observations_of, is_within, can_observe, can_put}
-use Rattle.cops_types.specs.Pairs.{has_key, version_of}
+use Rattle.cops_types.specs.Context.{Observation, Put, all_of, near_of, observations_of, is_within, can_observe, can_put}
+use Rattle.cops_types.specs.Pairs.{has_key}
 use Rattle.cops_types.specs.TenantConfig.{TenantConfig}
-use Rattle.cops_types.proofs.ContextRule.{near_of-put}
-use Rattle.cops_types.proofs.Elements.{Among, Among-cases, Among-right, Among-filter, Every-append, Every-at, Every-filter, and_left, and_right, or_cases, map-Among, slice_get-Among}
-use Rattle.cops_types.proofs.PairSets.{at, greatest-has}
+use Rattle.cops_types.proofs.ContextRule.{IsDeps-all_of, all_of-push, near_of-put}
+use Rattle.cops_types.proofs.Elements.{Among, Among-cases, Among-filter, Every-append, Every-at, Every-filter, and_left, and_right, or_cases, map-Among, slice_get-Among}
+use Rattle.cops_types.proofs.PairSets.{at}
 use Rattle.cops_node.specs.declared.NodeCall.TheVariants as node_call
 use Rattle.cops_node.specs.declared.NodeReply.{NodeReply}
+use Rattle.cops_node.specs.declared.NodeReply.TheVariants as node_reply
 use Rattle.cops_node.specs.Log.{LogStep, Outcome, Late, Replied, Directed, Call}
 use Rattle.cops_node.specs.Place.{node_number, place_of}
 use Rattle.cops_node.specs.SoloNode.{new_node}
@@ -29,18 +30,19 @@ use Rattle.cops_session.specs.declared.Answer.TheVariants as answer_is
 use Rattle.cops_session.specs.declared.Progress.{Progress}
 use Rattle.cops_session.specs.declared.Progress.TheVariants as session_progress
 use Rattle.cops_session.specs.Request.{Action, Fetch, Write, answer, key_home, next}
-use Rattle.cops_session.specs.Session.{OpenContext, Running, Session, context_created, context_deleted, context_extended, find_context, get_refusal, has_repeats, is_busy, is_open, new_session, obs_of, request_begun, request_of, seen_in, session_after, session_put_refusal}
+use Rattle.cops_session.specs.Session.{OpenContext, Running, Session, context_created, context_deleted, context_extended, get_refusal, has_repeats, is_busy, is_open, new_session, obs_of, request_begun, request_of, seen_in, session_after, session_put_refusal}
 use Rattle.cops_session.specs.Session as session
-use Rattle.cops_session.proofs.RequestReplies.{put-next, put-ends, put-late, get-next, get-answer}
+use Rattle.cops_session.proofs.RequestReplies.{put_request, put-next, put-ends, put-late, put-refused, put-stored, get-next, get-answer}
 use Rattle.cops_world.specs.Causal.{Traced}
 use Rattle.cops_world.specs.Cluster.{SoloCluster, Actor, OfSession, OfCarrier, new_cluster, find_session, with_actor, with_new_actor, call_node, session_stepped, carrier_stepped, has_node}
+use Rattle.cops_world.specs.ListLimits.{HasFewPairs}
 use Rattle.cops_world.proofs.ActorsKeep.{EachActor, actor_found, session_actor, each-with_actor, each-with_new, each-without}
-use Rattle.cops_world.proofs.Histories.{Among-flat_map}
 use Rattle.cops_world.proofs.Moves.{Leads, Both, head_passes, flipped}
 use Rattle.cops_world.proofs.NodeEffects.{node_of, call_changes, entries_keep}
 use Rattle.cops_world.proofs.Offers.{IsOffered, origin_of}
 use Rattle.cops_world.proofs.Past.{new_nodes}
 use Rattle.cops_world.proofs.Provenance.{IsRunning, IsContext}
+use Rattle.cops_world.proofs.PutLengths.{put_within, some_pair}
 use Rattle.cops_world.proofs.Readiness.{session_ready, carrier_served}
 use Rattle.cops_world.proofs.Sound.{IsSound}
 use Rattle.cops_world.proofs.StreamMoves.{stage_now, stream_is}
@@ -49,53 +51,72 @@ use Rattle.cops_world.proofs.TracedIdle.{session_of}
 use Rattle.cops_world.proofs.TracedSteps.{context_of}
 use Rattle.cops_handles.specs.Rows.{is_spent}
 
+never_less : (n : ℕ) → nat_lt n 0 ≡ false
+never_less n = grind (arith, nat_tests)
+
+-- a put that is answered stored its key
+put_key : (config : TenantConfig) (dc : ℕ) (obs : List Observation) (key value : List ℕ) (moment : ℕ) (outcome : Outcome) (pair : Pair) →
+    answer config (put_request dc obs key value) (record { moment = moment; outcome = outcome } ∷ []) ≡ Some (answer_is.Stored pair) → pair.key ≡ key
+put_key config dc obs key value moment (Replied reply) pair e = by_reply reply e
+  where
+    by_reply : (reply : NodeReply) → answer config (put_request dc obs key value) (record { moment = moment; outcome = Replied reply } ∷ []) ≡ Some (answer_is.Stored pair) → pair.key ≡ key
+    by_reply (node_reply.Stored version) e =
+        let both : Some (answer_is.Stored (at key version)) ≡ Some (answer_is.Stored pair) = sym (put-stored config dc obs key value moment version) ∙ e in
+        let same : at key version ≡ pair = cc in
+        ap (λ (p : Pair). p.key) (sym same)
+    by_reply (node_reply.Refused fault) e =
+        let both : Some (answer_is.Refused fault) ≡ Some (answer_is.Stored pair) = sym (put-refused config dc obs key value moment fault) ∙ e in cc
+    by_reply other e =
+        let is : answer config (put_request dc obs key value) (record { moment = moment; outcome = Replied other } ∷ []) ≡ Some (answer_is.Refused Torn) = rw (never_less config.restarts) refl in
+        let both : Some (answer_is.Refused Torn) ≡ Some (answer_is.Stored pair) = sym is ∙ e in cc
+put_key config dc obs key value moment Late pair e = absurd (put-late config dc obs key value moment (answer_is.Stored pair) e)
+
 -- ---- the words
 
 module _ (config : TenantConfig) where
-  -- the near pairs are within the limit, and what has seen something has a limit above 0
+  -- both lists are within the limit
   abbrev pub IsRoomy : List Observation → Type 0
-  IsRoomy obs = (length (near_of obs) ≤ config.quota.deps) × ((obs ≡ []) ⊎ (0 < config.quota.deps))
+  IsRoomy obs = (length (near_of obs) ≤ config.quota.deps) × (length (all_of obs) ≤ config.quota.deps)
 
-  abbrev pub IsLimited : Action → Type 0
-  IsLimited (Write key value) = 0 < config.quota.deps
-  IsLimited (Fetch keys) = length keys ≤ 32
+  -- of what runs in a context that has seen this: there is room for the put, or the keys are few
+  abbrev pub IsLimited : List Observation → Action → Type 0
+  IsLimited obs (Write key value) = can_put config.quota.deps obs key ≡ true
+  IsLimited obs (Fetch keys) = length keys ≤ 32
 
   pub record HasRoom (s : Session) : Type 0 where
     pub contexts : AllByRecursion (λ (x : OpenContext). IsRoomy x.obs) s.contexts
     pub alike : (x y : OpenContext) → Among x s.contexts → Among y s.contexts → x.number ≡ y.number → x.obs ≡ y.obs
-    pub running : (r : Running) → s.running ≡ Some r → IsLimited r.action
+    pub running : (r : Running) → s.running ≡ Some r → IsLimited (obs_of r.context s) r.action
 
   abbrev pub IsActorLimited : List ℕ → Actor → Type 0
   IsActorLimited name (OfSession s) = HasRoom s
   IsActorLimited name (OfCarrier k) = Unit {0}
 
-  abbrev pub HasFewNear : Entry → Type 0
-  HasFewNear e = length e.near ≤ config.quota.deps
-
   pub record IsWithinLimits (c : SoloCluster) (ts : List Traced) : Type 0 where
-    pub entries_are : (n : ℕ) → AllByRecursion HasFewNear (entries (node_of config c n))
+    pub entries_are : (n : ℕ) → AllByRecursion (HasFewPairs config) (entries (node_of config c n))
     pub actors : EachActor IsActorLimited c
 
   -- ---- contexts
 
   roomy_first : IsRoomy []
-  roomy_first = (omega arith, inl refl)
+  roomy_first = (omega arith, omega arith)
 
-  some_length : {A : Type 0} (x : A) (xs : List A) → Among x xs → 0 < length xs
-  some_length x [] there = absurd there
-  some_length x (y ∷ xs) there = omega arith
+  -- where a put may be, the limit is above 0
+  putting : (obs : List Observation) (key : List ℕ) → IsRoomy obs → can_put config.quota.deps obs key ≡ true → 0 < config.quota.deps
+  putting obs key is can = elim (or_cases (has_key (all_of obs) key) (nat_lt (length (all_of obs)) config.quota.deps) can) [
+    | inl has ↦ (let some = some_pair (all_of obs) key has in let within = is.1 in omega arith)
+    | inr less ↦ as_number (length (all_of obs)) less
+  ]
+    where
+      as_number : (n : ℕ) → nat_lt n config.quota.deps ≡ true → 0 < config.quota.deps
+      as_number n e = let less : n < config.quota.deps = grind (arith, nat_tests) in omega arith
 
-  roomy_put : 0 < config.quota.deps → (obs : List Observation) (p : Pair) → IsRoomy (obs ++ Put p ∷ [])
-  roomy_put some obs p = (subst (λ near. length near ≤ config.quota.deps) (sym (near_of-put obs p)) (omega arith), inr some)
-
-  -- a limit that holds of what was seen is above 0
-  some_limit : (obs : List Observation) (o : Observation) → length (all_of (obs ++ o ∷ [])) ≤ config.quota.deps → 0 < config.quota.deps
-  some_limit obs o within =
-      let pairs = flat_map (λ o. pair_of o ∷ deps_of_observation o) (obs ++ o ∷ []) in
-      let p = pair_of o in
-      let there = Among-flat_map (λ o. pair_of o ∷ deps_of_observation o) (obs ++ o ∷ []) p o (Among-right o obs (o ∷ []) (inl refl)) (inl refl) in
-      let some = some_length (at p.key (version_of p.key pairs)) (all_of (obs ++ o ∷ [])) (greatest-has pairs p there) in
-      omega arith
+  roomy_put : (obs : List Observation) (p : Pair) → IsRoomy obs → can_put config.quota.deps obs p.key ≡ true → IsRoomy (obs ++ Put p ∷ [])
+  roomy_put obs p is can =
+      let some = putting obs p.key is can in (
+        subst (λ near. length near ≤ config.quota.deps) (sym (near_of-put obs p)) (omega arith),
+        subst (λ all. length all ≤ config.quota.deps) (sym (all_of-push obs (Put p))) (put_within config.quota.deps (all_of obs) p (IsDeps-all_of obs) is.1 can),
+      )
 
   roomy_seen : (more obs : List Observation) → IsRoomy obs → can_observe config.quota.deps obs more ≡ true → IsRoomy (obs ++ more)
   roomy_seen [] obs is room = subst IsRoomy (sym (append-nil obs)) is
@@ -104,25 +125,11 @@ module _ (config : TenantConfig) where
       let all : nat_le (length (all_of (obs ++ o ∷ []))) config.quota.deps ≡ true = and_left (nat_le (length (all_of (obs ++ o ∷ []))) config.quota.deps) (nat_le (length (near_of (obs ++ o ∷ []))) config.quota.deps) within in
       let near : nat_le (length (near_of (obs ++ o ∷ []))) config.quota.deps ≡ true = and_right (nat_le (length (all_of (obs ++ o ∷ []))) config.quota.deps) (nat_le (length (near_of (obs ++ o ∷ []))) config.quota.deps) within in
       subst IsRoomy (append_assoc obs (o ∷ []) more)
-      (roomy_seen more (obs ++ o ∷ []) (as_number (length (near_of (obs ++ o ∷ []))) near, inr (some_limit obs o (as_number (length (all_of (obs ++ o ∷ []))) all)))
+      (roomy_seen more (obs ++ o ∷ []) (as_number (length (near_of (obs ++ o ∷ []))) near, as_number (length (all_of (obs ++ o ∷ []))) all)
       (and_right (is_within config.quota.deps (obs ++ o ∷ [])) (can_observe config.quota.deps (obs ++ o ∷ []) more) room))
     where
       as_number : (n : ℕ) → nat_le n config.quota.deps ≡ true → n ≤ config.quota.deps
       as_number n e = grind (arith, nat_tests)
-
-  -- where a put may be, the limit is above 0
-  putting : (obs : List Observation) (key : List ℕ) → IsRoomy obs → can_put config.quota.deps obs key ≡ true → 0 < config.quota.deps
-  putting obs key is can =
-      elim (or_cases (has_key (all_of obs) key) (nat_lt (length (all_of obs)) config.quota.deps) can) [
-        | inl has ↦ elim is.1 [
-          | inl none ↦ (let never : false ≡ true = subst (λ os. has_key (all_of os) key ≡ true) none has in cc)
-          | inr some ↦ some
-        ]
-        | inr less ↦ as_number (length (all_of obs)) less
-      ]
-    where
-      as_number : (n : ℕ) → nat_lt n config.quota.deps ≡ true → 0 < config.quota.deps
-      as_number n e = let less : n < config.quota.deps = grind (arith, nat_tests) in omega arith
 
   -- what is seen in a context of a session
   pub seen_roomy : (s : Session) → HasRoom s → (number : ℕ) → is_open number s ≡ true → IsRoomy (obs_of number s)
@@ -155,7 +162,7 @@ module _ (config : TenantConfig) where
       record {
         contexts = room.contexts;
         alike = room.alike;
-        running = λ r is. let more : Running = record running { log = log } in let same : more ≡ r = (let both : Some more ≡ Some r = is in cc) in subst (λ (x : Running). IsLimited x.action) same (room.running running runs);
+        running = λ r is. let more : Running = record running { log = log } in let same : more ≡ r = (let both : Some more ≡ Some r = is in cc) in subst (λ (x : Running). IsLimited (obs_of x.context s) x.action) same (room.running running runs);
       }
 
   -- after a step: what was seen, or what the answer lets its context see
@@ -204,17 +211,17 @@ module _ (config : TenantConfig) where
   module _ (some : 0 < config.shards) (c : SoloCluster) (ts : List Traced) (inv : IsSound config c ts) (limits : IsWithinLimits c ts) where
     -- a call whose stored entry has few near pairs
     limits-called : (moment : ℕ) (directed : Directed) → has_node config directed.node.dc directed.node.shard ≡ true →
-        ((reply : NodeReply) (e : Entry) → Stores (place_of config directed.node) directed.call (node_of config c (node_number config.shards directed.node)) reply e → HasFewNear e) →
+        ((reply : NodeReply) (e : Entry) → Stores (place_of config directed.node) directed.call (node_of config c (node_number config.shards directed.node)) reply e → HasFewPairs config e) →
         IsWithinLimits (call_node config directed.node moment directed.call c).after ts
     limits-called moment directed there few =
         let call = call_node config directed.node moment directed.call c in
-        record { entries_are = entries_keep (call_changes config c directed.node moment directed.call there inv.traced.sized) HasFewNear (few call.reply) limits.entries_are; actors = limits.actors }
+        record { entries_are = entries_keep (call_changes config c directed.node moment directed.call there inv.traced.sized) (HasFewPairs config) (few call.reply) limits.entries_are; actors = limits.actors }
 
     -- what is offered has few
-    pub offered_few : (stream : Stream) (e : Entry) → IsOffered config c stream e → HasFewNear e
+    pub offered_few : (stream : Stream) (e : Entry) → IsOffered config c stream e → HasFewPairs config e
     offered_few stream e offered =
         let origin = origin_of config stream in
-        Every-at HasFewNear e (entries (node_of config c origin)) (limits.entries_are origin)
+        Every-at (HasFewPairs config) e (entries (node_of config c origin)) (limits.entries_are origin)
         (Among-filter (λ (g : Entry). g.version.node == origin) e (entries (node_of config c origin)) (slice_get-Among (of_origin origin (entries (node_of config c origin))) offered.place e offered.at)).0
 
     module _ (name : List ℕ) (s : Session) (found : find_session name c ≡ Some s) where
@@ -229,22 +236,25 @@ module _ (config : TenantConfig) where
 
       -- what a session has stored has the near pairs of its context
       stored_few : (number context : ℕ) (action : Action) (log : List LogStep) (moment : ℕ) (directed : Directed) → IsRunning config ts s (run number context action log) →
-          next config (request_of s (run number context action log)) log moment ≡ Call directed → (reply : NodeReply) (e : Entry) → Stores (place_of config directed.node) directed.call (node_of config c (node_number config.shards directed.node)) reply e → HasFewNear e
+          next config (request_of s (run number context action log)) log moment ≡ Call directed → (reply : NodeReply) (e : Entry) → Stores (place_of config directed.node) directed.call (node_of config c (node_number config.shards directed.node)) reply e → HasFewPairs config e
       stored_few number context (Write key value) log moment directed is e reply f =
           let sent : Directed = record { node = key_home config s.dc key; call = node_call.Put key value (all_of (obs_of context s)) (near_of (obs_of context s)) } in
           let at_start = subst (λ l. next config (request_of s (run number context (Write key value) l)) l moment ≡ Call directed) is.replies_are e in
           let same : sent ≡ directed = (let both : Call sent ≡ Call directed = sym (put-next config s.dc (obs_of context s) key value moment) ∙ at_start in cc) in
-          subst (λ (d : Directed). Stores (place_of config d.node) d.call (node_of config c (node_number config.shards d.node)) reply f → HasFewNear f) same
-          (λ stores. subst HasFewNear (sym stores.3) (seen_roomy s room context is.in_open).0)
+          subst (λ (d : Directed). Stores (place_of config d.node) d.call (node_of config c (node_number config.shards d.node)) reply f → HasFewPairs config f) same
+          (λ stores. subst (HasFewPairs config) (sym stores.3) (seen_roomy s room context is.in_open))
       stored_few number context (Fetch keys) log moment directed is e reply f =
           let chosen = get-next config s.dc (obs_of context s) keys log moment directed e in
-          subst (λ (d : Directed). Stores (place_of config d.node) d.call (node_of config c (node_number config.shards d.node)) reply f → HasFewNear f) (sym chosen.call) (λ stores. absurd stores)
+          subst (λ (d : Directed). Stores (place_of config d.node) d.call (node_of config c (node_number config.shards d.node)) reply f → HasFewPairs config f) (sym chosen.call) (λ stores. absurd stores)
 
       -- what an answer lets the context see
-      answer_roomy : (number context : ℕ) (action : Action) (log : List LogStep) (step : LogStep) → IsLimited action → IsRunning config ts s (run number context action log) →
+      answer_roomy : (number context : ℕ) (action : Action) (log : List LogStep) (step : LogStep) → IsLimited (obs_of context s) action → IsRunning config ts s (run number context action log) →
           (a : Answer) → answer config (request_of s (run number context action log)) (log ++ step ∷ []) ≡ Some a → IsRoomy (obs_of context s) → IsRoomy (obs_of context s ++ seen_in a)
       answer_roomy number context action log step limited is (answer_is.Refused fault) e roomy = subst IsRoomy (sym (append-nil (obs_of context s))) roomy
-      answer_roomy number context (Write key value) log step limited is (answer_is.Stored pair) e roomy = roomy_put limited (obs_of context s) pair
+      answer_roomy number context (Write key value) log step limited is (answer_is.Stored pair) e roomy =
+          let started = subst (λ l. answer config (request_of s (run number context (Write key value) l)) (l ++ step ∷ []) ≡ Some (answer_is.Stored pair)) is.replies_are e in
+          let same = put_key config s.dc (obs_of context s) key value step.moment step.outcome pair started in
+          roomy_put (obs_of context s) pair roomy (subst (λ k. can_put config.quota.deps (obs_of context s) k ≡ true) (sym same) limited)
       answer_roomy number context (Write key value) log step limited is (answer_is.Values reads) e roomy =
           absurd (never_values step.moment step.outcome (subst (λ l. answer config (request_of s (run number context (Write key value) l)) (l ++ step ∷ []) ≡ Some (answer_is.Values reads)) is.replies_are e))
         where
@@ -274,8 +284,8 @@ module _ (config : TenantConfig) where
           limits-session call.after ts (limits-called moment directed ready.there (stored_few running.number running.context running.action running.log moment directed (running_is running runs) e)) name
           (session_after s running step (session.progress config (request_of s running) running.log step)) us (room_stepped running step runs)
 
-      room_created : HasRoom (context_created s)
-      room_created =
+      room_created : s.running ≡ None → HasRoom (context_created s)
+      room_created idle =
           let is = session_of config c ts inv.traced name s found in
           let fresh : OpenContext = record { number = s.next_context; obs = [] } in
           record {
@@ -290,7 +300,7 @@ module _ (config : TenantConfig) where
                 | inr new_y ↦ obs_of_new x new_x ∙ sym (obs_of_new y new_y)
               ]
             ];
-            running = room.running;
+            running = λ r is. absurd (let never : None ≡ Some r = sym idle ∙ is in cc);
           }
         where
           number_of_new : (x : OpenContext) → Among x (record { number = s.next_context; obs = [] } ∷ []) → x.number ≡ s.next_context
@@ -302,33 +312,33 @@ module _ (config : TenantConfig) where
           apart : (x : OpenContext) → nat_lt x.number s.next_context ≡ true → x.number ≡ s.next_context → ⊥
           apart x less same = let l : x.number < s.next_context = grind (arith, nat_tests) in omega arith
 
-      room_deleted : (number : ℕ) → HasRoom (context_deleted number s)
-      room_deleted number =
+      room_deleted : (number : ℕ) → s.running ≡ None → HasRoom (context_deleted number s)
+      room_deleted number idle =
           let test = λ (x : OpenContext). not (x.number == number) in
           record {
             contexts = Every-filter (λ (x : OpenContext). IsRoomy x.obs) test s.contexts room.contexts;
             alike = λ x y at_x at_y same. room.alike x y (Among-filter test x s.contexts at_x).0 (Among-filter test y s.contexts at_y).0 same;
-            running = room.running;
+            running = λ r is. absurd (let never : None ≡ Some r = sym idle ∙ is in cc);
           }
 
-      room_begun : (number : ℕ) (action : Action) → IsLimited action → HasRoom (request_begun number action s)
+      room_begun : (number : ℕ) (action : Action) → IsLimited (obs_of number s) action → HasRoom (request_begun number action s)
       room_begun number action limited =
           let first : Running = record { number = s.next_request; context = number; action = action; log = [] } in
           record {
             contexts = room.contexts;
             alike = room.alike;
-            running = λ r is. let same : first ≡ r = (let both : Some first ≡ Some r = is in cc) in subst (λ (x : Running). IsLimited x.action) same limited;
+            running = λ r is. let same : first ≡ r = (let both : Some first ≡ Some r = is in cc) in subst (λ (x : Running). IsLimited (obs_of x.context s) x.action) same limited;
           }
 
-      put_limited : (number : ℕ) (key value : List ℕ) → session_put_refusal config number key s ≡ None → IsLimited (Write key value)
+      put_limited : (number : ℕ) (key value : List ℕ) → session_put_refusal config number key s ≡ None → IsLimited (obs_of number s) (Write key value)
       put_limited number key value ok =
           let third = (not (can_put config.quota.deps (obs_of number s) key), DependenciesFull) ∷ (is_spent s.next_request, IdsSpent) ∷ [] in
           let first = head_passes (is_busy s) Busy ((not (is_open number s), NoContext) ∷ third) ok in
           let second = head_passes (not (is_open number s)) NoContext third first.1 in
           let can = head_passes (not (can_put config.quota.deps (obs_of number s) key)) DependenciesFull ((is_spent s.next_request, IdsSpent) ∷ []) second.1 in
-          putting (obs_of number s) key (seen_roomy s room number (flipped (is_open number s) second.0)) (flipped (can_put config.quota.deps (obs_of number s) key) can.0)
+          flipped (can_put config.quota.deps (obs_of number s) key) can.0
 
-      get_limited : (number : ℕ) (keys : List (List ℕ)) → get_refusal config number keys s ≡ None → IsLimited (Fetch keys)
+      get_limited : (number : ℕ) (keys : List (List ℕ)) → get_refusal config number keys s ≡ None → IsLimited (obs_of number s) (Fetch keys)
       get_limited number keys ok =
           let fifth = (has_repeats keys, RepeatedKey) ∷ (is_spent s.next_request, IdsSpent) ∷ [] in
           let fourth = (nat_lt 32 (length keys), TooManyKeys) ∷ fifth in
@@ -346,12 +356,12 @@ module _ (config : TenantConfig) where
     module _ (stream : Stream) where
       by_delivery : (moment : ℕ) (e : Entry) (directed : Directed) → has_node config directed.node.dc directed.node.shard ≡ true → IsOffered config c stream e → InDelivery (Delivered config c stream) config.shards stream e directed →
           IsWithinLimits (call_node config directed.node moment directed.call c).after ts
-      by_delivery moment e directed there offered (Checking near among same) = limits-called moment directed there (λ reply f. subst (λ (d : Directed). Stores (place_of config d.node) d.call (node_of config c (node_number config.shards d.node)) reply f → HasFewNear f) (sym same) (λ stores. absurd stores))
-      by_delivery moment e directed there offered (Committing near same) = limits-called moment directed there (λ reply f. subst (λ (d : Directed). Stores (place_of config d.node) d.call (node_of config c (node_number config.shards d.node)) reply f → HasFewNear f) (sym same) (λ stores. subst HasFewNear (sym stores.1) (offered_few stream e offered)))
-      by_delivery moment e directed there offered (Acking r brought kind same) = limits-called moment directed there (λ reply f. subst (λ (d : Directed). Stores (place_of config d.node) d.call (node_of config c (node_number config.shards d.node)) reply f → HasFewNear f) (sym same) (λ stores. absurd stores))
+      by_delivery moment e directed there offered (Checking near among same) = limits-called moment directed there (λ reply f. subst (λ (d : Directed). Stores (place_of config d.node) d.call (node_of config c (node_number config.shards d.node)) reply f → HasFewPairs config f) (sym same) (λ stores. absurd stores))
+      by_delivery moment e directed there offered (Committing near same) = limits-called moment directed there (λ reply f. subst (λ (d : Directed). Stores (place_of config d.node) d.call (node_of config c (node_number config.shards d.node)) reply f → HasFewPairs config f) (sym same) (λ stores. subst (HasFewPairs config) (sym stores.1) (offered_few stream e offered)))
+      by_delivery moment e directed there offered (Acking r brought kind same) = limits-called moment directed there (λ reply f. subst (λ (d : Directed). Stores (place_of config d.node) d.call (node_of config c (node_number config.shards d.node)) reply f → HasFewPairs config f) (sym same) (λ stores. absurd stores))
 
       by_stage : (moment : ℕ) (directed : Directed) → has_node config directed.node.dc directed.node.shard ≡ true → Stage (Delivered config c stream) config.shards stream directed → IsWithinLimits (call_node config directed.node moment directed.call c).after ts
-      by_stage moment directed there (Pulling same) = limits-called moment directed there (λ reply f. subst (λ (d : Directed). Stores (place_of config d.node) d.call (node_of config c (node_number config.shards d.node)) reply f → HasFewNear f) (sym same) (λ stores. absurd stores))
+      by_stage moment directed there (Pulling same) = limits-called moment directed there (λ reply f. subst (λ (d : Directed). Stores (place_of config d.node) d.call (node_of config c (node_number config.shards d.node)) reply f → HasFewPairs config f) (sym same) (λ stores. absurd stores))
       by_stage moment directed there (Delivering e offered now) = by_delivery moment e directed there offered now
 
 pub limits_kept : (config : TenantConfig) → 0 < config.shards → Leads config (Both (IsSound config) (IsWithinLimits config)) (IsWithinLimits config)
@@ -359,8 +369,8 @@ limits_kept config some =
     record {
       opened = λ c ts name dc free exists inv. limits-new config c ts inv.1 name (OfSession (new_session dc 1)) (record { contexts = tt; alike = λ x y at_x. absurd at_x; running = λ r is. absurd (let never : None ≡ Some r = is in cc) });
       carrier_begun = λ c ts name stream free is inv. limits-new config c ts inv.1 name (OfCarrier (new_carrier stream)) tt;
-      context_created = λ c ts name s found idle inv. limits-session config c ts inv.1 name (context_created s) ts (room_created config some c ts inv.0 inv.1 name s found);
-      context_deleted = λ c ts name s number found idle inv. limits-session config c ts inv.1 name (context_deleted number s) ts (room_deleted config some c ts inv.0 inv.1 name s found number);
+      context_created = λ c ts name s found idle inv. limits-session config c ts inv.1 name (context_created s) ts (room_created config some c ts inv.0 inv.1 name s found idle);
+      context_deleted = λ c ts name s number found idle inv. limits-session config c ts inv.1 name (context_deleted number s) ts (room_deleted config some c ts inv.0 inv.1 name s found number idle);
       put_begun = λ c ts name s number key value found ok is inv.
           limits-session config c ts inv.1 name (request_begun number (Write key value) s) ts (room_begun config some c ts inv.0 inv.1 name s found number (Write key value) (put_limited config some c ts inv.0 inv.1 name s found number key value ok));
       get_begun = λ c ts name s number keys found ok are inv.
@@ -381,6 +391,6 @@ limits_kept config some =
 pub limits_at_first : (config : TenantConfig) → IsWithinLimits config (new_cluster config) []
 limits_at_first config =
     record {
-      entries_are = λ n. subst (λ solo. AllByRecursion (HasFewNear config) (entries solo)) (sym (new_nodes (config.data_centres * config.shards) n (new_node config.data_centres))) tt;
+      entries_are = λ n. subst (λ solo. AllByRecursion (HasFewPairs config) (entries solo)) (sym (new_nodes (config.data_centres * config.shards) n (new_node config.data_centres))) tt;
       actors = tt;
     }

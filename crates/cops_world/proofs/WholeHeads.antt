@@ -66,6 +66,9 @@ whole_good (line ∷ lines) number (Within old) config rest good e = by (front_w
     by None h on e = cc
     by (Some next) h on e = on next h e
 
+pub good_of : (lines : List (List ℕ)) (config : Config) (rest : List (List ℕ)) → head_of lines ≡ Whole config rest → IsTrue (is_good config)
+good_of lines config rest head = whole_good lines 1 AtStart config rest refl head
+
 -- so it has a shard
 pub shards_of : (lines : List (List ℕ)) (config : Config) (rest : List (List ℕ)) → head_of lines ≡ Whole config rest → 0 < config.shards
-shards_of lines config rest head = some_shard config (whole_good lines 1 AtStart config rest refl head)
+shards_of lines config rest head = some_shard config (good_of lines config rest head)
