@@ -19,6 +19,7 @@ ghost use Rattle.cops_world.specs.declared.replies.Reply.TheVariants.{Refused};
 
 use crate::Reply;
 use crate::actors::{Actor, ActorId, Deed, Stepped};
+use crate::guesses::Guesses;
 use cops_node::Nodes;
 use cops_types::{Fault, Seeds};
 use indexmap::IndexMap;
@@ -41,11 +42,11 @@ pub(crate) fn place_of(
     }
 }
 
-/// Has the actor do what is asked. It is looked for first where `last` says, which may be any number, and its place is left
-/// there.
+/// Has the actor do what is asked. It is looked for first where its guess says, and its place is
+/// noted there.
 pub(crate) fn act_at(
     actors: &mut IndexMap<ActorId, Actor, Seeds>,
-    last: &mut usize,
+    guesses: &mut Guesses,
     id: ActorId,
     alloc: Global,
     deed: Deed,
@@ -58,9 +59,10 @@ pub(crate) fn act_at(
     ensures lack { IsTrue (is_out_of_memory result) → (q : Id) → actor_at actors.new q ≡ actor_at actors.old q }
     ensures unique { IsDistinct same_actor (keys actors.new) }
 {
-    match place_of(actors, *last, &id) {
+    let cell = Guesses::cell_of(&id);
+    match place_of(actors, guesses.guess(cell), &id) {
         Some(place) => {
-            *last = place;
+            guesses.note(cell, place);
             let actor = &mut actors[place];
             actor.act(alloc, deed)
         }

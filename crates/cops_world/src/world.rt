@@ -26,6 +26,7 @@ ghost use Rattle.cops_world.specs.declared.replies.Reply.TheVariants.{Refused};
 
 use crate::actor_table::{act_at, place_of, put_new, step_at, take_out};
 use crate::actors::{Actor, ActorId, Deed, Keys, Stepped};
+use crate::guesses::Guesses;
 use crate::{Act, ByteSlice, ByteSlices, Event, Reply, Tenancy};
 use cops_node::{AuditRow, Cluster0, Node, NodeCall, NodeId, NodeReply, Nodes};
 use cops_repl::Carrier;
@@ -42,8 +43,7 @@ pub struct World {
     config: Config,
     nodes: Cluster0,
     actors: IndexMap<ActorId, Actor, Seeds>,
-    /// Where the last actor was found: a guess for the next look-up, which may be any number.
-    last: usize,
+    guesses: Guesses,
     counts: Vec<u64>,
 }
 
@@ -124,7 +124,7 @@ impl World {
         ensures lack { Leaves Stays (world_of self.old) slot result (world_of self.new) }
     {
         let id = ActorId { slot, name };
-        act_at(&mut self.actors, &mut self.last, id, self.alloc, deed)
+        act_at(&mut self.actors, &mut self.guesses, id, self.alloc, deed)
     }
 
     /// Whether a tenant has as many actors as he may.
@@ -247,10 +247,11 @@ impl World {
         ensures lack { Leaves (λ config. StepStops config name moment) (world_of self.old) slot result (world_of self.new) }
     {
         let id = ActorId { slot, name };
-        let Some(place) = place_of(&self.actors, self.last, &id) else {
+        let cell = Guesses::cell_of(&id);
+        let Some(place) = place_of(&self.actors, self.guesses.guess(cell), &id) else {
             return Reply::Refused(Fault::UnknownName);
         };
-        self.last = place;
+        self.guesses.note(cell, place);
         let Stepped { reply, is_over } = step_at(
             &mut self.actors,
             place,
@@ -389,13 +390,14 @@ impl World {
         let nodes = Cluster0::new(alloc, &config)?;
         let tenants = config.tenants.len();
         let counts = vec![in alloc; 0; tenants]?;
+        let guesses = Guesses::new(alloc)?;
         let seeds = Seeds::of_tokens(config.tenants.as_slice());
         Ok(World {
             alloc,
             config,
             nodes,
             actors: IndexMap::with_hasher(alloc, seeds),
-            last: 0,
+            guesses,
             counts,
         })
     }
