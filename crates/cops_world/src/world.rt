@@ -127,6 +127,33 @@ impl World {
         act_at(&mut self.actors, &mut self.guesses, id, self.alloc, deed)
     }
 
+    /// Creates a context of a session.
+    #[inline(never)]
+    fn create(&mut self, slot: u64, name: Name) -> Reply
+        ensures moves { Moves (λ config. cluster_step config (acts.Create name)) (world_of self.old) slot result (world_of self.new) }
+        ensures lack { Leaves Stays (world_of self.old) slot result (world_of self.new) }
+    {
+        self.act(slot, name, Deed::Create)
+    }
+
+    /// Deletes a context of a session.
+    #[inline(never)]
+    fn delete(&mut self, slot: u64, name: Name, number: u64) -> Reply
+        ensures moves { Moves (λ config. cluster_step config (acts.Delete name number)) (world_of self.old) slot result (world_of self.new) }
+        ensures lack { Leaves Stays (world_of self.old) slot result (world_of self.new) }
+    {
+        self.act(slot, name, Deed::Delete(number))
+    }
+
+    /// Shows the two lists of a context of a session.
+    #[inline(never)]
+    fn show(&mut self, slot: u64, name: Name, number: u64) -> Reply
+        ensures moves { Moves (λ config. cluster_step config (acts.Show name number)) (world_of self.old) slot result (world_of self.new) }
+        ensures lack { Leaves Stays (world_of self.old) slot result (world_of self.new) }
+    {
+        self.act(slot, name, Deed::Show(number))
+    }
+
     /// Whether a tenant has as many actors as he may.
     fn is_full(&self, slot: u64) -> bool
         requires { slot < length self.now.setup.tenants }
@@ -171,6 +198,7 @@ impl World {
     }
 
     /// Opens a session of a tenant at a data centre.
+    #[inline(never)]
     fn open(&mut self, slot: u64, name: Name, dc: u64) -> Reply
         requires { slot < length self.old.setup.tenants }
         ensures moves { Moves (λ config. cluster_step config (acts.Open name dc)) (world_of self.old) slot result (world_of self.new) }
@@ -207,6 +235,7 @@ impl World {
     }
 
     /// Begins a carrier of a tenant from a node to another data centre.
+    #[inline(never)]
     fn carry(&mut self, slot: u64, name: Name, origin: NodeId, to_dc: u64) -> Reply
         requires { slot < length self.old.setup.tenants }
         ensures moves { Moves (λ config. cluster_step config (acts.Carry name origin.dc origin.shard to_dc)) (world_of self.old) slot result (world_of self.new) }
@@ -281,6 +310,7 @@ impl World {
     }
 
     /// Collects at a node.
+    #[inline(never)]
     fn collect(&mut self, slot: u64, id: NodeId, moment: u64) -> Reply
         requires { slot < length self.old.setup.tenants }
         ensures moves { Moves (λ config. cluster_step config (acts.Collect id.dc id.shard moment)) (world_of self.old) slot result (world_of self.new) }
@@ -344,7 +374,7 @@ impl World {
         requires { event.now.slot < length self.old.setup.tenants }
         ensures { HasActed setup_of HasCluster self.old event.now result self.new }
     {
-        self.act_for(event.slot, &event.act)
+        Tenancy::apply(self, event)
     }
 
     /// One act of the tenant in a slot.
@@ -355,11 +385,11 @@ impl World {
     {
         match act {
             Act::Open(name, dc) => self.open(slot, *name, *dc),
-            Act::Create(name) => self.act(slot, *name, Deed::Create),
-            Act::Delete(name, number) => self.act(slot, *name, Deed::Delete(*number)),
+            Act::Create(name) => self.create(slot, *name),
+            Act::Delete(name, number) => self.delete(slot, *name, *number),
             Act::Put(name, number, key, value) => self.put(slot, *name, *number, key, value),
             Act::Get(name, number, keys) => self.get(slot, *name, *number, keys),
-            Act::Show(name, number) => self.act(slot, *name, Deed::Show(*number)),
+            Act::Show(name, number) => self.show(slot, *name, *number),
             Act::Carry(name, dc, shard, to_dc) => {
                 let origin = NodeId {
                     dc: *dc,
@@ -448,6 +478,6 @@ impl Tenancy for World {
     }
 
     fn apply(&mut self, event: &Event) -> Reply {
-        World::apply(self, event)
+        self.act_for(event.slot, &event.act)
     }
 }

@@ -13,10 +13,10 @@ pub returns-in-Open-clause-moves : goal.returns-in-Open-clause-moves
 returns-in-Open-clause-moves c = acted (world_of c.args.self.now) c.args.slot c.args.act.now _ c.in-Open.is c.open.result (world_of c.open.new.self) c.open.ensures.moves
 
 pub returns-in-Create-clause-moves : goal.returns-in-Create-clause-moves
-returns-in-Create-clause-moves c = acted (world_of c.args.self.now) c.args.slot c.args.act.now _ c.in-Create.is c.act.result (world_of c.act.new.self) c.act.ensures.moves
+returns-in-Create-clause-moves c = acted (world_of c.args.self.now) c.args.slot c.args.act.now _ c.in-Create.is c.create.result (world_of c.create.new.self) c.create.ensures.moves
 
 pub returns-in-Delete-clause-moves : goal.returns-in-Delete-clause-moves
-returns-in-Delete-clause-moves c = acted (world_of c.args.self.now) c.args.slot c.args.act.now _ c.in-Delete.is c.act-in-Delete.result (world_of c.act-in-Delete.new.self) c.act-in-Delete.ensures.moves
+returns-in-Delete-clause-moves c = acted (world_of c.args.self.now) c.args.slot c.args.act.now _ c.in-Delete.is c.delete.result (world_of c.delete.new.self) c.delete.ensures.moves
 
 pub returns-in-Put-clause-moves : goal.returns-in-Put-clause-moves
 returns-in-Put-clause-moves c = acted (world_of c.args.self.now) c.args.slot c.args.act.now _ c.in-Put.is c.put.result (world_of c.put.new.self) c.put.ensures.moves
@@ -25,7 +25,7 @@ pub returns-in-Get-clause-moves : goal.returns-in-Get-clause-moves
 returns-in-Get-clause-moves c = acted (world_of c.args.self.now) c.args.slot c.args.act.now _ c.in-Get.is c.get.result (world_of c.get.new.self) c.get.ensures.moves
 
 pub returns-in-Show-clause-moves : goal.returns-in-Show-clause-moves
-returns-in-Show-clause-moves c = acted (world_of c.args.self.now) c.args.slot c.args.act.now _ c.in-Show.is c.act-in-Show.result (world_of c.act-in-Show.new.self) c.act-in-Show.ensures.moves
+returns-in-Show-clause-moves c = acted (world_of c.args.self.now) c.args.slot c.args.act.now _ c.in-Show.is c.show.result (world_of c.show.new.self) c.show.ensures.moves
 
 pub returns-in-Carry-clause-moves : goal.returns-in-Carry-clause-moves
 returns-in-Carry-clause-moves c = acted (world_of c.args.self.now) c.args.slot c.args.act.now _ c.in-Carry.is c.carry.result (world_of c.carry.new.self) c.carry.ensures.moves
@@ -46,10 +46,10 @@ pub returns-in-Open-clause-lack : goal.returns-in-Open-clause-lack
 returns-in-Open-clause-lack c = acted_leaves (world_of c.args.self.now) c.args.slot c.args.act.now _ c.in-Open.is c.open.result (world_of c.open.new.self) c.open.ensures.lack
 
 pub returns-in-Create-clause-lack : goal.returns-in-Create-clause-lack
-returns-in-Create-clause-lack c = acted_leaves (world_of c.args.self.now) c.args.slot c.args.act.now _ c.in-Create.is c.act.result (world_of c.act.new.self) c.act.ensures.lack
+returns-in-Create-clause-lack c = acted_leaves (world_of c.args.self.now) c.args.slot c.args.act.now _ c.in-Create.is c.create.result (world_of c.create.new.self) c.create.ensures.lack
 
 pub returns-in-Delete-clause-lack : goal.returns-in-Delete-clause-lack
-returns-in-Delete-clause-lack c = acted_leaves (world_of c.args.self.now) c.args.slot c.args.act.now _ c.in-Delete.is c.act-in-Delete.result (world_of c.act-in-Delete.new.self) c.act-in-Delete.ensures.lack
+returns-in-Delete-clause-lack c = acted_leaves (world_of c.args.self.now) c.args.slot c.args.act.now _ c.in-Delete.is c.delete.result (world_of c.delete.new.self) c.delete.ensures.lack
 
 pub returns-in-Put-clause-lack : goal.returns-in-Put-clause-lack
 returns-in-Put-clause-lack c = acted_leaves (world_of c.args.self.now) c.args.slot c.args.act.now _ c.in-Put.is c.put.result (world_of c.put.new.self) c.put.ensures.lack
@@ -58,7 +58,7 @@ pub returns-in-Get-clause-lack : goal.returns-in-Get-clause-lack
 returns-in-Get-clause-lack c = acted_leaves (world_of c.args.self.now) c.args.slot c.args.act.now _ c.in-Get.is c.get.result (world_of c.get.new.self) c.get.ensures.lack
 
 pub returns-in-Show-clause-lack : goal.returns-in-Show-clause-lack
-returns-in-Show-clause-lack c = acted_leaves (world_of c.args.self.now) c.args.slot c.args.act.now _ c.in-Show.is c.act-in-Show.result (world_of c.act-in-Show.new.self) c.act-in-Show.ensures.lack
+returns-in-Show-clause-lack c = acted_leaves (world_of c.args.self.now) c.args.slot c.args.act.now _ c.in-Show.is c.show.result (world_of c.show.new.self) c.show.ensures.lack
 
 pub returns-in-Carry-clause-lack : goal.returns-in-Carry-clause-lack
 returns-in-Carry-clause-lack c = acted_leaves (world_of c.args.self.now) c.args.slot c.args.act.now _ c.in-Carry.is c.carry.result (world_of c.carry.new.self) c.carry.ensures.lack
