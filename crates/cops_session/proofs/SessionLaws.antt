@@ -185,10 +185,16 @@ module _ (config : TenantConfig) (kept : KeptSession) (session : Session) (stand
 pub answered : {A : Type 0} (a b : Option Fault) (r : Result A Fault) → a ≡ b → IsAnswer b r → IsAnswer a r
 answered a b r same h = subst (λ (o : Option Fault). IsAnswer o r) (sym same) h
 
-pub only_memory : (can : Bool) (fault : Fault) → can ≡ true → (fault ≡ OutOfMemory) ⊎ (refused_if (not can) DependenciesFull ≡ Some fault) → fault ≡ OutOfMemory
-only_memory true fault is (inl memory) = memory
-only_memory true fault is (inr h) = cc
-only_memory false fault is h = cc
+pub is_allowed : (can : Bool) → refused_if (not can) DependenciesFull ≡ None → can ≡ true
+is_allowed true is = refl
+is_allowed false is = cc
+
+-- where the one refusal that is left is at hand, it is that or want of memory
+pub memory_or_full : (can : Bool) (fault : Fault) (refusal : Option Fault) → (can ≡ false → refusal ≡ Some DependenciesFull) →
+    (fault ≡ OutOfMemory) ⊎ (refused_if (not can) DependenciesFull ≡ Some fault) → (fault ≡ OutOfMemory) ⊎ (refusal ≡ Some fault)
+memory_or_full can fault refusal full (inl memory) = inl memory
+memory_or_full true fault refusal full (inr is) = cc
+memory_or_full false fault refusal full (inr is) = inr (full refl ∙ is)
 
 -- ---- the running request
 

@@ -182,11 +182,13 @@ impl Session {
         if self.running.is_some() {
             return Err(Fault::Busy);
         }
-        if !self.contexts.get(handle)?.can_put(&key, self.setting.deps) {
-            return Err(Fault::DependenciesFull);
-        }
+        let seen = self.contexts.get(handle)?;
+        // Whether the put is within the limit is told by what prepares it, if there is a number.
         if self.next_request == u64::MAX {
-            return Err(Fault::IdsSpent);
+            if seen.can_put(&key, self.setting.deps) {
+                return Err(Fault::IdsSpent);
+            }
+            return Err(Fault::DependenciesFull);
         }
         let (deps, near) = prepare_put(&mut self.contexts, same, &key, self.setting.deps)?;
         let writing = PendingPut {
