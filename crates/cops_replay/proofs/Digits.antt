@@ -1,13 +1,15 @@
 -- The digits that the library `hex` writes for bytes are those of a record's text.
 use Rattle.std.proofs.Common.{◌≡◌, ℕ, zero, suc, ◌+◌, ◌-◌, ◌<◌, ◌/◌, ◌%◌, ◌==◌, ◌&&◌, Bool, true, false, inl, inr, List, [], ◌∷◌, ◌++◌, length, take, drop, slice_index, refl, subst, ap, sym, ◌∙◌, arith, append-nil}
-use Rattle.std.specs.Prelude.{Result, Ok, Err, is_err}
+use Rattle.std.specs.Prelude.{IsTrue, Result, Ok, Err, is_err, nat_lt}
+use Rattle.std.specs.List.{list_all}
 use Rattle.std.specs.Result.{IsOk}
 use Rattle.std.proofs.Math.ListN.{drop_of_length-le}
 use Rattle.std.proofs.Math.Seq.{take-append_seam}
 use Rattle.std.proofs.lemmas.Bool.{cases_lt, eqb-true}
+use Rattle.std.proofs.lemmas.Bool.Decides.{nat_tests}
 use Rattle.std.proofs.lemmas.List.{length-append, length-drop}
 use Rattle.hex.specs.Hex.{IsBytes, encode_lower, encode_with, lower_digits}
-use Rattle.cops_types.proofs.WordLemmas.{both}
+use Rattle.cops_types.proofs.WordLemmas.{and, both}
 use Rattle.cops_replay.specs.RecordText.{bytes_text, digit_text}
 
 pub not_refused : {T E : Type 0} (r : Result T E) → IsOk r → is_err r ≡ false
@@ -54,3 +56,11 @@ over_the_rest count before items text held rest size front long is =
     let joined = length-append items text in
     let total : count ≡ length (items ++ text) = omega (arith, joined, size, long, is) in
     (λ i. take (total i) (whole i ++ rest)) ∙ take-append_seam (items ++ text) rest
+
+-- they are bytes
+pub bytes_small : (bytes : List ℕ) → IsBytes bytes → IsTrue (list_all (λ byte. nat_lt byte 256) bytes)
+bytes_small [] small = refl
+bytes_small (byte ∷ bytes) small = and (nat_lt byte 256) (list_all (λ b. nat_lt b 256) bytes) (fits byte (small 0)) (bytes_small bytes (λ i. small (suc i)))
+  where
+    fits : (b : ℕ) → b < 256 → IsTrue (nat_lt b 256)
+    fits b h = grind (arith, nat_tests)

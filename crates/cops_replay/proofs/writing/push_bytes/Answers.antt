@@ -2,7 +2,7 @@ use Rattle.std.proofs.Common.{◌≡◌, ◌+◌, ◌++◌, List, ℕ, length, t
 use Rattle.std.proofs.lemmas.List.{length-append, length-replicate}
 use Rattle.std.proofs.Math.Seq.{take-append_seam}
 use Rattle.cops_replay.specs.RecordText.{bytes_text}
-use Rattle.cops_replay.proofs.Digits.{length-bytes_text, over_the_rest}
+use Rattle.cops_replay.proofs.Digits.{bytes_small, length-bytes_text, over_the_rest}
 use Rattle.cops_replay.proofs.writing.push_bytes.Goals as goal
 
 pub returns-clause-ok : goal.returns-clause-ok
@@ -24,3 +24,6 @@ returns-clause-ok c =
 
 pub returns-clause-front : goal.returns-clause-front
 returns-clause-front c = (bytes_text c.args.bytes.now, returns-clause-ok c)
+
+pub returns-clause-formed : goal.returns-clause-formed
+returns-clause-formed c = bytes_small c.args.bytes.now (λ i. let f = c.type_inv.bytes i in omega arith)
