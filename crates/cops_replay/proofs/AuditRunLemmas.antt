@@ -1,6 +1,7 @@
 -- The audit of a script's world is that of its text.
 use Rattle.std.proofs.Common.{◌≡◌, ℕ, suc, ◌+◌, ◌<◌, List, [], ◌∷◌, ◌++◌, length, refl, sym, subst, ap, ◌∙◌, arith}
-use Rattle.std.specs.Prelude.{Option, Some, None, IfErr, IfSome, OnErr, OnOk, Result, Ok, Err, option_map, slice_get}
+use Rattle.std.specs.Prelude.{Option, Some, None, IfErr, IfSome, OnErr, OnOk, Result, Ok, Err, IsTrue, option_map, slice_get}
+use Rattle.std.specs.List.{AllByRecursion}
 use Rattle.std.specs.Io.KnownBytes.{Appends}
 use Rattle.std.proofs.lemmas.Option.{slice_get-map, slice_get_within}
 use Rattle.cops_types.specs.declared.configs.Config.{Config}
@@ -21,10 +22,12 @@ use Rattle.cops_world.specs.ScriptRuns.{text_in}
 use Rattle.cops_world.specs.ScriptWorlds.{IsLeftBy, IsLeftByRead, cluster_left}
 use Rattle.cops_world.specs.Worlds.{HasCluster, KeptWorld, setup_of}
 use Rattle.cops_world.proofs.AnswersTo.{config_at-found}
+use Rattle.cops_replay.specs.declared.Record.{Record}
 use Rattle.cops_replay.specs.Audits.{HasShape, ReplaysSame, records_of}
 use Rattle.cops_replay.specs.AuditRuns.{HasItsTenants, IsOfWriting, ReplaysSameFor, WritesAudit, WritesAuditFront, audit_after, audit_out}
 use Rattle.cops_replay.specs.AuditText.{audit_of, audit_text, head_text, his_nodes, records_text, tenants_text}
-use Rattle.cops_replay.specs.WrittenAudits.{HaveLinesFor, SaysSameFor}
+use Rattle.cops_replay.specs.RecordText.{is_record}
+use Rattle.cops_replay.specs.WrittenAudits.{AreFormed, AreFormedFor, SaysSameFor, his_records, nodes_left}
 use Rattle.cops_replay.proofs.PageLemmas.{front_of_none}
 use Rattle.cops_replay.proofs.WrittenAudits.{script_says_same}
 
@@ -83,6 +86,17 @@ module _ (world : KeptWorld) (bytes : List ℕ) (left : IsLeftBy setup_of HasClu
           subst (λ (c : TenantConfig). nodes_of c slot world.nodes ≡ (cluster_left setup left.lines c slot).nodes) (his_config slot tenant e) nodes in
           subst (ReplaysSame (tenant_config setup tenant)) his (same (tenant_config setup tenant) slot (record { data_centres = refl; shards = refl }))
 
+  -- each record that was written has a form
+  pub formed_for : AreFormed setup (his_nodes setup world.nodes.nodes) → AreFormedFor (head_of (lines_of bytes))
+  formed_for formed = subst AreFormedFor (sym left.head) (subst (λ (c : Config). AreFormedFor (Whole c left.lines)) left.setup_is (λ slot tenant e. each slot tenant e))
+    where
+      each : (slot : ℕ) (tenant : Tenant) → slice_get setup.tenants slot ≡ Some tenant → AllByRecursion (λ (told : Record). IsTrue (is_record told)) (his_records setup (nodes_left setup left.lines) slot tenant)
+      each slot tenant e =
+          let nodes : nodes_of (config_at setup slot) slot world.nodes ≡ (cluster_left setup left.lines (config_at setup slot) slot).nodes = (stands slot (slice_get_within setup.tenants slot tenant e)).nodes_are in
+          let his : nodes_of (tenant_config setup tenant) slot world.nodes ≡ (cluster_left setup left.lines (tenant_config setup tenant) slot).nodes =
+          subst (λ (c : TenantConfig). nodes_of c slot world.nodes ≡ (cluster_left setup left.lines c slot).nodes) (his_config slot tenant e) nodes in
+          subst (λ (ns : List SoloNode). AllByRecursion (λ (told : Record). IsTrue (is_record told)) (records_of (tenant_config setup tenant) ns)) his (formed slot tenant e)
+
 -- the same, where the bytes of the reader may be known
 pub tenants_read : (world : KeptWorld) (old_remaining new_remaining : Option (List ℕ)) → IsLeftByRead setup_of HasCluster old_remaining new_remaining world → HasItsTenants world
 tenants_read world old_remaining new_remaining read = world_tenants world read.bytes read.left
@@ -104,9 +118,10 @@ all_replay_same world (Some bytes) left same = replays_same_for world bytes left
 
 pub all_say_same : (world : KeptWorld) (known : Option (List ℕ)) → IfSome known (λ bytes. IsLeftBy setup_of HasCluster bytes world) →
     ((config : TenantConfig) (slot : ℕ) → HasShape config (shape_of (setup_of world)) → ReplaysSame config (nodes_of config slot world.nodes)) →
-    IfSome known (λ bytes. (text : List ℕ) → audit_out bytes ≡ Written text → HaveLinesFor (head_of (lines_of bytes)) → SaysSameFor (head_of (lines_of bytes)) text)
-all_say_same world None left same = tt
-all_say_same world (Some bytes) left same = λ text is all. script_says_same bytes text is all (replays_same_for world bytes left same)
+    AreFormed (setup_of world) (his_nodes (setup_of world) world.nodes.nodes) →
+    IfSome known (λ bytes. (text : List ℕ) → audit_out bytes ≡ Written text → SaysSameFor (head_of (lines_of bytes)) text)
+all_say_same world None left same formed = tt
+all_say_same world (Some bytes) left same formed = λ text is. script_says_same bytes text is (formed_for world bytes left formed) (replays_same_for world bytes left same)
 
 pub none_audited : (known contents : Option (List ℕ)) → IfSome known (λ bytes. WritesAuditFront bytes contents contents)
 none_audited None contents = tt

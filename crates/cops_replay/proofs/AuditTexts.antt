@@ -136,6 +136,18 @@ nodes_text_one_more name shards nodes i node e =
     ∙ records_text-append name (records_from shards 0 (take i nodes)) (his ++ [])
     ∙ ap (λ l. records_text name (records_from shards 0 (take i nodes)) ++ records_text name l) (append-nil his)
 
+-- their records, with those of one node more
+pub nodes_records_one_more : (shards : ℕ) (nodes : List SoloNode) (i : ℕ) (node : SoloNode) → slice_get nodes i ≡ Some node →
+    records_from shards 0 (take (i + 1) nodes) ≡ records_from shards 0 (take i nodes) ++ map (record_of (id_of shards i)) node.trail
+nodes_records_one_more shards nodes i node e =
+    let within = slice_get_within nodes i node e in
+    let here : 0 + length (take i nodes) ≡ i = omega (arith, length_taken nodes i within) in
+    let his = map (record_of (id_of shards i)) node.trail in
+    ap (records_from shards 0) (take_one_more nodes i node e)
+    ∙ records_from-append shards 0 (take i nodes) (node ∷ [])
+    ∙ ap (λ n. records_from shards 0 (take i nodes) ++ records_from shards n (node ∷ [])) here
+    ∙ ap (λ l. records_from shards 0 (take i nodes) ++ l) (append-nil his)
+
 -- a tenant's node among those that tenants share
 pub his_node : (config : Config) (tenant : TenantConfig) (slot : ℕ) (nodes : List Shared) (i : ℕ) (node : Shared) → AreNodesOf config nodes → i < length nodes → node ≡ get_or nodes i node →
     slice_get (his_nodes config nodes tenant slot) i ≡ Some (solo_of slot (place_of tenant (id_of config.shards i)) node)

@@ -16,11 +16,12 @@ use Rattle.cops_replay.specs.AuditText.{audit_text, tenants_text}
 use Rattle.cops_replay.specs.RecordText.{record_line}
 use Rattle.cops_replay.specs.Replaying.{fresh_nodes}
 use Rattle.cops_replay.specs.ReplayText.{FindsBy, IsReplayBy, IsReplayOf, replayed_text}
-use Rattle.cops_replay.specs.WrittenAudits.{AreFormed, HaveLines, HaveLinesFor, SaysSame, SaysSameFor, his_records, nodes_left}
+use Rattle.cops_replay.specs.WrittenAudits.{AreFormed, AreFormedFor, HaveLines, SaysSame, SaysSameFor, his_records, nodes_left}
 use Rattle.cops_replay.proofs.AuditLines.{head_known, lines_his, name_at, named_at}
 use Rattle.cops_replay.proofs.EarlyRecords.{none_great_today}
 use Rattle.cops_replay.proofs.HeadTexts.{text_is_todays, text_reads_back}
 use Rattle.cops_replay.proofs.LineReplays.{all_formed, found_in}
+use Rattle.cops_replay.proofs.ShortLines.{script_lines}
 
 pub formed : (config : Config) (nodes : TenantConfig → ℕ → List SoloNode) → HaveLines config nodes → AreFormed config nodes
 formed config nodes all slot tenant e = all_formed tenant.name (his_records config nodes slot tenant) (all slot tenant e)
@@ -59,11 +60,11 @@ says_same lines rest config nodes slot tenant head all e same =
 same_text : (text other : List ℕ) → Written text ≡ Written other → text ≡ other
 same_text text other e = cc
 
-by_head : (lines : List (List ℕ)) (reading : HeadReading) (text : List ℕ) → head_of lines ≡ reading → audit_after reading ≡ Written text → HaveLinesFor reading → ReplaysSameFor reading → SaysSameFor reading text
-by_head lines (Whole config rest) text head is all same =
+by_head : (lines : List (List ℕ)) (reading : HeadReading) (text : List ℕ) → head_of lines ≡ reading → audit_after reading ≡ Written text → AreFormedFor reading → ReplaysSameFor reading → SaysSameFor reading text
+by_head lines (Whole config rest) text head is formed same =
     subst (SaysSame config (nodes_left config rest)) (same_text (audit_text config (nodes_left config rest)) text is)
-    (λ slot tenant e. says_same lines rest config (nodes_left config rest) slot tenant head all e (same slot tenant e))
-by_head lines (BadAt number) text head is all same = tt
+    (λ slot tenant e. says_same lines rest config (nodes_left config rest) slot tenant head (script_lines lines rest config head formed) e (same slot tenant e))
+by_head lines (BadAt number) text head is formed same = tt
 
-pub script_says_same : (bytes text : List ℕ) → audit_out bytes ≡ Written text → HaveLinesFor (head_of (lines_of bytes)) → ReplaysSameFor (head_of (lines_of bytes)) → SaysSameFor (head_of (lines_of bytes)) text
-script_says_same bytes text is all same = by_head (lines_of bytes) (head_of (lines_of bytes)) text refl is all same
+pub script_says_same : (bytes text : List ℕ) → audit_out bytes ≡ Written text → AreFormedFor (head_of (lines_of bytes)) → ReplaysSameFor (head_of (lines_of bytes)) → SaysSameFor (head_of (lines_of bytes)) text
+script_says_same bytes text is formed same = by_head (lines_of bytes) (head_of (lines_of bytes)) text refl is formed same

@@ -38,9 +38,9 @@ SaysSame config nodes text =
 abbrev pub nodes_left : Config → List (List ℕ) → TenantConfig → ℕ → List SoloNode
 nodes_left config lines tenant slot = (cluster_left config lines tenant slot).nodes
 
-abbrev pub HaveLinesFor : HeadReading → Type 0
-HaveLinesFor (Whole config lines) = HaveLines config (nodes_left config lines)
-HaveLinesFor (BadAt number) = ⊤
+abbrev pub AreFormedFor : HeadReading → Type 0
+AreFormedFor (Whole config lines) = AreFormed config (nodes_left config lines)
+AreFormedFor (BadAt number) = ⊤
 
 abbrev pub SaysSameFor : HeadReading → List ℕ → Type 0
 SaysSameFor (Whole config lines) text = SaysSame config (nodes_left config lines) text

@@ -13,7 +13,7 @@ ghost use Rattle.cops_replay.specs.AuditRuns.{ReplaysSameFor, audit_out};
 ghost use Rattle.cops_replay.specs.AuditText.{audit_text, tenants_text};
 ghost use Rattle.cops_replay.specs.RecordText.{record_line};
 ghost use Rattle.cops_replay.specs.ReplayText.{IsReplayOf, replayed_text};
-ghost use Rattle.cops_replay.specs.WrittenAudits.{AreFormed, HaveLines, HaveLinesFor, SaysSameFor, his_records};
+ghost use Rattle.cops_replay.specs.WrittenAudits.{AreFormed, AreFormedFor, HaveLines, SaysSameFor, his_records};
 
 /// Of the lines of an audit's records, those that begin with a tenant's name are the lines of that
 /// tenant's records, in their order.
@@ -32,7 +32,7 @@ pub fn audits_replay_as_they_were_written()
         ReplaysSame (tenant_config config tenant) (nodes (tenant_config config tenant) slot) →
         IsReplayOf tenant.name (audit_text config nodes) (replayed_text (Same (length (his_records config nodes slot tenant)))) }
 
-    // Of the audit of a script, for each tenant.
+    // Of the audit of a script, for each tenant. No record's line is too long there.
     ensures script { (bytes text : List ℕ) → audit_out bytes ≡ Written text →
-        HaveLinesFor (head_of (lines_of bytes)) → ReplaysSameFor (head_of (lines_of bytes)) → SaysSameFor (head_of (lines_of bytes)) text }
+        AreFormedFor (head_of (lines_of bytes)) → ReplaysSameFor (head_of (lines_of bytes)) → SaysSameFor (head_of (lines_of bytes)) text }
 {}

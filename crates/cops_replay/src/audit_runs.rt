@@ -12,9 +12,9 @@ ghost use Rattle.cops_node.specs.Clusters.{nodes_of, shape_of};
 ghost use Rattle.cops_world.specs.Script.{Written};
 ghost use Rattle.cops_world.specs.Worlds.{setup_of};
 ghost use Rattle.cops_replay.specs.Audits.{HasShape, ReplaysSame};
-ghost use Rattle.cops_replay.specs.AuditText.{audit_of};
+ghost use Rattle.cops_replay.specs.AuditText.{audit_of, his_nodes};
 ghost use Rattle.cops_replay.specs.AuditRuns.{HasItsTenants, IsOfWriting, ReplaysSameFor, WritesAudit, WritesAuditFront, audit_out};
-ghost use Rattle.cops_replay.specs.WrittenAudits.{HaveLinesFor, SaysSameFor};
+ghost use Rattle.cops_replay.specs.WrittenAudits.{AreFormed, SaysSameFor};
 
 use crate::audits::write_audit;
 use cops_types::{Fault, RunFault, Sink, Source};
@@ -33,6 +33,7 @@ fn write_world<O: Write>(
     ensures ok { OnOk result (Appends (O.contents (sink_writer sink.old)) (O.contents (sink_writer sink.new)) (audit_of (setup_of world.now) world.now.nodes.nodes)) }
     ensures front { AppendsFront (O.contents (sink_writer sink.old)) (O.contents (sink_writer sink.new)) (audit_of (setup_of world.now) world.now.nodes.nodes) }
     ensures replays { (config : TenantConfig) (slot : ℕ) → HasShape config (shape_of (setup_of world.now)) → ReplaysSame config (nodes_of config slot world.now.nodes) }
+    ensures formed { OnOk result (AreFormed (setup_of world.now) (his_nodes (setup_of world.now) world.now.nodes.nodes)) }
     ensures fault { IfErr result IsOfWriting }
     ensures write_fault { IsErrOf result RunFault.WriteFault → HasRisen (sink_failures sink.old) (sink_failures sink.new) }
 {
@@ -65,9 +66,9 @@ pub fn audit_text<R: Read, O: Write>(
     // A replay of any tenant's records in it finds that all are the same.
     ensures replays { OnOk result (IfSome (R.remaining (source_reader source.old)) (λ bytes. ReplaysSameFor (head_of (lines_of bytes)))) }
 
-    // Where each record of the audit has a line, so does a replay of the text for any tenant.
+    // So does a replay of the text for any tenant.
     ensures says_same { OnOk result (IfSome (R.remaining (source_reader source.old)) (λ bytes.
-        (text : List ℕ) → audit_out bytes ≡ Written text → HaveLinesFor (head_of (lines_of bytes)) → SaysSameFor (head_of (lines_of bytes)) text)) }
+        (text : List ℕ) → audit_out bytes ≡ Written text → SaysSameFor (head_of (lines_of bytes)) text)) }
 
     // A head is refused where it is bad, and nothing is written then.
     ensures bad_head { IfErr result (λ fault. IfRunRefused fault (λ bad.

@@ -1,5 +1,6 @@
 //! Audits as text.
 ghost use Rattle.std.specs.Prelude.{◌≡◌, ◌<◌, ◌++◌, ◌⊎◌, map, slice_get, flat_map, OnOk, IfErr, IsErrOf, IsTrue, Some};
+ghost use Rattle.std.specs.List.{AllByRecursion};
 ghost use Rattle.std.specs.Io.KnownBytes.{Appends};
 ghost use Rattle.cops_types.specs.declared.faults.Fault.TheVariants.{OutOfMemory, WriteFault};
 ghost use Rattle.cops_types.specs.Counts.{HasRisen};
@@ -8,10 +9,12 @@ ghost use Rattle.cops_types.specs.Sink.{AppendsFront, sink_failures, sink_writer
 ghost use Rattle.cops_types.specs.TenantConfig.{tenant_config};
 ghost use Rattle.cops_node.specs.Parts.{place_at, solo_of};
 ghost use Rattle.cops_node.specs.Place.{place_of};
+ghost use Rattle.cops_replay.specs.declared.Record.{Record};
 ghost use Rattle.cops_replay.specs.Audits.{record_of, records_of};
 ghost use Rattle.cops_replay.specs.AuditText.{AreNodesOf, audit_of, config_text, ended, head_text, his_nodes, records_text, tenants_text, tenant_text};
 ghost use Rattle.cops_replay.specs.Pages.{PutsText, page};
-ghost use Rattle.cops_replay.specs.RecordText.{record_line};
+ghost use Rattle.cops_replay.specs.RecordText.{has_form, is_record, record_line};
+ghost use Rattle.cops_replay.specs.WrittenAudits.{AreFormed};
 
 use crate::heads::{push_begin, push_cluster, push_layout, push_tenant};
 use crate::pages::{drain, drain_full};
@@ -28,7 +31,8 @@ fn push_entry(
     id: NodeId,
     entry: &AuditEntry,
 ) -> Result<(), AllocError>
-    ensures { OnOk result (out.new.items ≡ out.old.items ++ ended (record_line name.now (record_of id entry.now))) }
+    ensures line { OnOk result (out.new.items ≡ out.old.items ++ ended (record_line name.now (record_of id entry.now))) }
+    ensures formed { OnOk result (IsTrue (has_form entry.now.reply) → IsTrue (is_record (record_of id entry.now))) }
 {
     push_told(out, name, id, entry.moment, &entry.call, &entry.reply)?;
     out.push(b'\n')?;
@@ -43,9 +47,10 @@ fn put_row<W: Write>(
     id: NodeId,
     row: &AuditRow,
 ) -> Result<(), Fault>
-    ensures { PutsText (ended (record_line name.now (record_of id row.now)))
+    ensures text { PutsText (ended (record_line name.now (record_of id row.now)))
         (page out.old.items (W.contents (sink_writer sink.old)) (sink_failures sink.old)) result
         (page out.new.items (W.contents (sink_writer sink.new)) (sink_failures sink.new)) }
+    ensures formed { OnOk result (IsTrue (has_form row.now.reply) → IsTrue (is_record (record_of id row.now))) }
 {
     let entry = row.entry(*out.allocator())?;
     push_entry(out, name, id, &entry)?;
@@ -63,9 +68,10 @@ fn put_node<W: Write>(
     node: &Node,
 ) -> Result<(), Fault>
     requires { place_at slot node.now ≡ Some (place_of (tenant_config config.now tenant.now) id) }
-    ensures { PutsText (records_text tenant.now.name (map (record_of id) (solo_of slot (place_of (tenant_config config.now tenant.now) id) node.now).trail))
+    ensures text { PutsText (records_text tenant.now.name (map (record_of id) (solo_of slot (place_of (tenant_config config.now tenant.now) id) node.now).trail))
         (page out.old.items (W.contents (sink_writer sink.old)) (sink_failures sink.old)) result
         (page out.new.items (W.contents (sink_writer sink.new)) (sink_failures sink.new)) }
+    ensures formed { OnOk result (AllByRecursion (λ (told : Record). IsTrue (is_record told)) (map (record_of id) (solo_of slot (place_of (tenant_config config.now tenant.now) id) node.now).trail)) }
 {
     let name = tenant.name;
     for place in 0..node.audit_len(slot) {
@@ -91,9 +97,10 @@ fn put_tenant<W: Write>(
     requires sizes { IsTrue (are_sizes config.now) }
     requires tenant { slice_get config.now.tenants slot ≡ Some tenant.now }
     requires nodes { AreNodesOf config.now nodes.now }
-    ensures { PutsText (records_text tenant.now.name (records_of (tenant_config config.now tenant.now) (his_nodes config.now nodes.now (tenant_config config.now tenant.now) slot)))
+    ensures text { PutsText (records_text tenant.now.name (records_of (tenant_config config.now tenant.now) (his_nodes config.now nodes.now (tenant_config config.now tenant.now) slot)))
         (page out.old.items (W.contents (sink_writer sink.old)) (sink_failures sink.old)) result
         (page out.new.items (W.contents (sink_writer sink.new)) (sink_failures sink.new)) }
+    ensures formed { OnOk result (AllByRecursion (λ (told : Record). IsTrue (is_record told)) (records_of (tenant_config config.now tenant.now) (his_nodes config.now nodes.now (tenant_config config.now tenant.now) slot))) }
 {
     let shards = config.shards;
     for place in 0..nodes.len() {
@@ -119,9 +126,10 @@ fn put_records<W: Write>(
 ) -> Result<(), Fault>
     requires sizes { IsTrue (are_sizes config.now) }
     requires nodes { AreNodesOf config.now nodes.now }
-    ensures { PutsText (tenants_text config.now (his_nodes config.now nodes.now) 0 config.now.tenants)
+    ensures text { PutsText (tenants_text config.now (his_nodes config.now nodes.now) 0 config.now.tenants)
         (page out.old.items (W.contents (sink_writer sink.old)) (sink_failures sink.old)) result
         (page out.new.items (W.contents (sink_writer sink.new)) (sink_failures sink.new)) }
+    ensures formed { OnOk result (AreFormed config.now (his_nodes config.now nodes.now)) }
 {
     let tenants = config.tenants.as_slice();
     for slot in 0..tenants.len() {
@@ -206,6 +214,9 @@ pub fn write_audit<W: Write>(
     // All is written, or a front of it.
     ensures ok { OnOk result (Appends (W.contents (sink_writer sink.old)) (W.contents (sink_writer sink.new)) (audit_of config.now nodes.now)) }
     ensures front { AppendsFront (W.contents (sink_writer sink.old)) (W.contents (sink_writer sink.new)) (audit_of config.now nodes.now) }
+
+    // Each record that is written has the form of a line.
+    ensures formed { OnOk result (AreFormed config.now (his_nodes config.now nodes.now)) }
 
     // Memory was refused, or the writer failed in this call.
     ensures fault { IfErr result (λ fault. (fault ≡ OutOfMemory) ⊎ (fault ≡ WriteFault)) }

@@ -27,4 +27,4 @@ pub returns-clause-replays : goal.returns-clause-replays
 returns-clause-replays g c = on_ok_any _ c.write_world-result.result (all_replay_same c.in-Ok.world _ c.in-Ok.ensures.ok c.write_world-result.ensures.replays)
 
 pub returns-clause-says_same : goal.returns-clause-says_same
-returns-clause-says_same g c = on_ok_any _ c.write_world-result.result (all_say_same c.in-Ok.world _ c.in-Ok.ensures.ok c.write_world-result.ensures.replays)
+returns-clause-says_same g c = on_ok_weaker c.write_world-result.result (all_say_same c.in-Ok.world _ c.in-Ok.ensures.ok c.write_world-result.ensures.replays) c.write_world-result.ensures.formed

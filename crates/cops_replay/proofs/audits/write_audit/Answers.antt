@@ -25,7 +25,7 @@ returns-in-Err-put_records-clause-front g c =
     let old = page c.new-out.result.items contents failures in
     let headed = page c.put_head.new.out.items (g.W.Write.contents (sink_writer c.put_head.new.sink)) (sink_failures c.put_head.new.sink) in
     let told = page c.put_records.new.out.items (g.W.Write.contents (sink_writer c.put_records.new.sink)) (sink_failures c.put_records.new.sink) in
-    let all = Puts-then head records old headed tt (Err c.in-Err-put_records.fault) told c.in_default.ensures c.in-Err-put_records.ensures in
+    let all = Puts-then head records old headed tt (Err c.in-Err-put_records.fault) told c.in_default.ensures c.in-Err-put_records.ensures.text in
     subst (AppendsFront contents told.contents) (append-nil (head ++ records)) (front_of_put (head ++ records) [] c.new-out.result.items contents failures c.in-Err-put_records.fault told c.new-out.ensures.items all)
 
 pub returns-clause-ok : goal.returns-clause-ok
@@ -37,7 +37,7 @@ returns-clause-ok g c =
     let old = page c.new-out.result.items contents failures in
     let headed = page c.put_head.new.out.items (g.W.Write.contents (sink_writer c.put_head.new.sink)) (sink_failures c.put_head.new.sink) in
     let told = page c.put_records.new.out.items (g.W.Write.contents (sink_writer c.put_records.new.sink)) (sink_failures c.put_records.new.sink) in
-    let all = Puts-then head records old headed tt (Ok tt) told c.in_default.ensures c.in_default-put_records.ensures in
+    let all = Puts-then head records old headed tt (Ok tt) told c.in_default.ensures c.in_default-put_records.ensures.text in
     on_ok_weaker c.drain.result (whole_put (head ++ records) c.new-out.result.items contents (g.W.Write.contents (sink_writer c.drain.new.sink)) failures tt told c.new-out.ensures.items all) c.drain.ensures.written
 
 pub returns-clause-front : goal.returns-clause-front
@@ -49,5 +49,8 @@ returns-clause-front g c =
     let old = page c.new-out.result.items contents failures in
     let headed = page c.put_head.new.out.items (g.W.Write.contents (sink_writer c.put_head.new.sink)) (sink_failures c.put_head.new.sink) in
     let told = page c.put_records.new.out.items (g.W.Write.contents (sink_writer c.put_records.new.sink)) (sink_failures c.put_records.new.sink) in
-    let all = Puts-then head records old headed tt (Ok tt) told c.in_default.ensures c.in_default-put_records.ensures in
+    let all = Puts-then head records old headed tt (Ok tt) told c.in_default.ensures c.in_default-put_records.ensures.text in
     front_put (head ++ records) c.new-out.result.items contents (g.W.Write.contents (sink_writer c.drain.new.sink)) failures tt told c.new-out.ensures.items all c.drain.ensures.front
+
+pub returns-clause-formed : goal.returns-clause-formed
+returns-clause-formed g c = on_ok_weaker c.drain.result (λ written. c.in_default-put_records.ensures.formed) c.drain.ensures.written

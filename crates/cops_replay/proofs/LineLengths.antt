@@ -1,0 +1,253 @@
+-- No line of a record is too long whose lists have at most 1,024 pairs.
+use Rattle.std.proofs.Common.{◌≡◌, ℕ, suc, ◌+◌, ◌*◌, ◌^◌, ◌<◌, ◌≤◌, true, false, ◌&&◌, List, [], ◌∷◌, ◌++◌, length, map, refl, arith, length-append}
+use Rattle.std.specs.Prelude.{IsTrue, codes, decimal, nat_le, nat_lt}
+use Rattle.std.specs.List.{join_with_byte, list_all}
+use Rattle.std.specs.Ordering.{on}
+use Rattle.std.proofs.lemmas.Bool.Decides.{nat_tests}
+use Rattle.std.proofs.lemmas.Fmt.{length-decimal-le}
+use Rattle.cops_types.specs.declared.faults.Fault.{Fault}
+use Rattle.cops_types.specs.declared.faults.Fault.TheVariants.{VersionQuota, ByteQuota, OutboxFull, ClockFull}
+use Rattle.cops_types.specs.declared.pairs.Pair.{Pair}
+use Rattle.cops_types.specs.declared.records.EntryParts.{EntryParts as Entry}
+use Rattle.cops_types.specs.FaultText.{fault_text}
+use Rattle.cops_types.specs.Key.{is_key, is_key_byte, is_name, key_cmp}
+use Rattle.cops_types.specs.Layout.{NODES}
+use Rattle.cops_types.specs.Pairs.{pair_cmp}
+use Rattle.cops_types.specs.Search.{is_rising}
+use Rattle.cops_types.specs.TenantConfig.{TenantConfig}
+use Rattle.cops_types.specs.Value.{is_value}
+use Rattle.cops_types.specs.Version.{Timestamp, last_clock}
+use Rattle.cops_types.specs.Words.{is_u64, list_text, pair_text, spaced, version_text}
+use Rattle.cops_types.proofs.WordLemmas.{both}
+use Rattle.cops_node.specs.declared.NodeCall.{NodeCall}
+use Rattle.cops_node.specs.declared.NodeCall.TheVariants.{Get, Put, DepCheck, Pull, Commit, Ack, Collect}
+use Rattle.cops_node.specs.declared.NodeId.{NodeId}
+use Rattle.cops_node.specs.declared.NodeReply.{NodeReply}
+use Rattle.cops_node.specs.declared.NodeReply.TheVariants.{Found, Absent, Gone, NotYet, Stored, Checked, Pulled, Nothing, Committed, Already, OutOfOrder, Acked, NotFront, Removed, Refused}
+use Rattle.cops_node.specs.declared.Wanted.{Wanted}
+use Rattle.cops_node.specs.declared.Wanted.TheVariants.{Latest, Exactly}
+use Rattle.cops_world.specs.ListLimits.{HasFewInCall, HasFewInReply, HasFewPairs}
+use Rattle.cops_replay.specs.declared.Record.{Record}
+use Rattle.cops_replay.specs.RecordText.{are_deps, are_near, call_words, entry_words, is_audited, is_bytes, is_call, is_entry, is_pair, is_record, is_reply, is_version, is_wanted, node_text, record_line, record_value, record_words, reply_words, wanted_text}
+use Rattle.cops_replay.proofs.Digits.{length-bytes_text}
+use Rattle.cops_replay.proofs.WordsLack.{entry_holds, record_holds}
+
+-- ---- words
+
+-- the bytes of the words, and one more for each
+abbrev long : List (List ℕ) → ℕ
+long [] = 0
+long (word ∷ words) = length word + 1 + long words
+
+spaced_long : (words : List (List ℕ)) → length (spaced words) ≤ long words
+spaced_long [] = omega arith
+spaced_long (word ∷ []) = omega arith
+spaced_long (word ∷ next ∷ words) =
+    let later = spaced_long (next ∷ words) in
+    let whole : length (spaced (word ∷ next ∷ words)) ≡ length word + suc (length (spaced (next ∷ words))) = length-append word (32 ∷ spaced (next ∷ words)) in
+    omega (arith, later, whole)
+
+long-append : (words more : List (List ℕ)) → long (words ++ more) ≡ long words + long more
+long-append [] more = omega arith
+long-append (word ∷ words) more = let later = long-append words more in omega (arith, later)
+
+-- ---- parts
+
+at_most : (n m : ℕ) → IsTrue (nat_le n m) → n ≤ m
+at_most n m h = grind (arith, nat_tests)
+
+number_short : (n : ℕ) → IsTrue (is_u64 n) → length (decimal n) ≤ 20
+number_short n h = let small : n < 2 ^ 64 = grind (arith, nat_tests) in length-decimal-le 20 n (omega arith) (omega arith) small
+
+node_short : (id : NodeId) → IsTrue (is_u64 id.dc) → IsTrue (is_u64 id.shard) → length (node_text id) ≤ 41
+node_short id dc shard =
+    let first = number_short id.dc dc in
+    let second = number_short id.shard shard in
+    let whole : length (node_text id) ≡ length (decimal id.dc) + suc (length (decimal id.shard)) = length-append (decimal id.dc) (46 ∷ decimal id.shard) in
+    omega (arith, first, second, whole)
+
+clock_short : (n : ℕ) → IsTrue (nat_le n last_clock) → length (decimal n) ≤ 15
+clock_short n h = let small : n ≤ last_clock = at_most n last_clock h in length-decimal-le 15 n (omega arith) (omega arith) (omega arith)
+
+number_of_node_short : (n : ℕ) → IsTrue (nat_lt n NODES) → length (decimal n) ≤ 5
+number_of_node_short n h = let small : n < NODES = grind (arith, nat_tests) in length-decimal-le 5 n (omega arith) (omega arith) (omega arith)
+
+version_short : (version : Timestamp) → IsTrue (is_version version) → length (version_text version) ≤ 21
+version_short version h =
+    let parts = both (nat_le version.clock last_clock) (nat_lt version.node NODES) h in
+    let first = clock_short version.clock parts.0 in
+    let second = number_of_node_short version.node parts.1 in
+    let whole : length (version_text version) ≡ length (decimal version.clock) + suc (length (decimal version.node)) = length-append (decimal version.clock) (46 ∷ decimal version.node) in
+    omega (arith, first, second, whole)
+
+key_short : (key : List ℕ) → IsTrue (is_key key) → length key ≤ 64
+key_short key h =
+    let parts = both (nat_le 1 (length key) && nat_le (length key) 64) (list_all is_key_byte key) h in
+    at_most (length key) 64 (both (nat_le 1 (length key)) (nat_le (length key) 64) parts.0).1
+
+name_short : (name : List ℕ) → IsTrue (is_name name) → length name ≤ 16
+name_short name h = at_most (length name) 16 (both (is_key name) (nat_le (length name) 16) h).1
+
+value_short : (value : List ℕ) → IsTrue (is_bytes value) → length (record_value value) ≤ 8193
+value_short [] h = omega arith
+value_short (byte ∷ bytes) h =
+    let few = at_most (length (byte ∷ bytes)) 4096 (both (list_all (λ b. nat_lt b 256) (byte ∷ bytes)) (is_value (byte ∷ bytes)) h).1 in
+    let twice = length-bytes_text (byte ∷ bytes) in
+    omega (arith, few, twice)
+
+pair_short : (pair : Pair) → IsTrue (is_pair pair) → length (pair_text pair) ≤ 86
+pair_short pair h =
+    let parts = both (is_key pair.key) (is_version pair.version) h in
+    let first = key_short pair.key parts.0 in
+    let second = version_short pair.version parts.1 in
+    let whole : length (pair_text pair) ≡ length pair.key + suc (length (version_text pair.version)) = length-append pair.key (58 ∷ version_text pair.version) in
+    omega (arith, first, second, whole)
+
+pairs_short : (pair : Pair) (pairs : List Pair) → IsTrue (list_all is_pair (pair ∷ pairs)) → length (join_with_byte 44 (map pair_text (pair ∷ pairs))) ≤ 87 * suc (length pairs)
+pairs_short pair [] h = let one = pair_short pair (both (is_pair pair) true h).0 in omega (arith, one)
+pairs_short pair (next ∷ pairs) h =
+    let parts = both (is_pair pair) (list_all is_pair (next ∷ pairs)) h in
+    let one = pair_short pair parts.0 in
+    let more = pairs_short next pairs parts.1 in
+    let rest = join_with_byte 44 (map pair_text (next ∷ pairs)) in
+    let whole : length (join_with_byte 44 (map pair_text (pair ∷ next ∷ pairs))) ≡ length (pair_text pair) + suc (length rest) = length-append (pair_text pair) (44 ∷ rest) in
+    omega (arith, one, more, whole)
+
+list_short : (pairs : List Pair) → IsTrue (list_all is_pair pairs) → length pairs ≤ 1024 → length (list_text pairs) ≤ 89088
+list_short [] h few = omega arith
+list_short (pair ∷ pairs) h few = let all = pairs_short pair pairs h in omega (arith, all, few)
+
+deps_short : (pairs : List Pair) → IsTrue (are_deps pairs) → length pairs ≤ 1024 → length (list_text pairs) ≤ 89088
+deps_short pairs h few = list_short pairs (both (list_all is_pair pairs) (is_rising (on (λ (p : Pair). p.key) key_cmp) pairs) h).0 few
+
+near_short : (pairs : List Pair) → IsTrue (are_near pairs) → length pairs ≤ 1024 → length (list_text pairs) ≤ 89088
+near_short pairs h few = list_short pairs (both (list_all is_pair pairs) (is_rising pair_cmp pairs) h).0 few
+
+wanted_short : (wanted : Wanted) → IsTrue (is_wanted wanted) → length (wanted_text wanted) ≤ 21
+wanted_short Latest h = omega arith
+wanted_short (Exactly version) h = version_short version h
+
+fault_short : (fault : Fault) → IsTrue (is_audited fault) → length (fault_text fault) ≤ 3
+fault_short VersionQuota h = let three : length (fault_text VersionQuota) ≡ 3 = refl in omega (arith, three)
+fault_short ByteQuota h = let three : length (fault_text ByteQuota) ≡ 3 = refl in omega (arith, three)
+fault_short OutboxFull h = let three : length (fault_text OutboxFull) ≡ 3 = refl in omega (arith, three)
+fault_short ClockFull h = let three : length (fault_text ClockFull) ≡ 3 = refl in omega (arith, three)
+fault_short fault h = absurd cc
+
+-- ---- calls and replies
+
+module _ (config : TenantConfig) (limit : config.quota.deps ≤ 1024) where
+  entry_short : (entry : Entry) → IsTrue (is_entry entry) → HasFewPairs config entry → long (entry_words entry) ≤ 186483
+  entry_short entry h few =
+      let holds = entry_holds entry h in
+      let a = key_short entry.key holds.key in
+      let b = version_short entry.version holds.version in
+      let c = value_short entry.value holds.value in
+      let m = few.0 in
+      let n = few.1 in
+      let d = deps_short entry.deps holds.deps (omega (arith, n, limit)) in
+      let e = near_short entry.near holds.near (omega (arith, m, limit)) in
+      let f = version_short entry.prev holds.prev in
+      omega (arith, a, b, c, d, e, f)
+
+  -- so long may a call be
+  abbrev most : NodeCall → ℕ
+  most (Put key value deps near) = 187000
+  most (Commit entry) = 187000
+  most call = 200
+
+  call_short : (call : NodeCall) → IsTrue (is_call call) → HasFewInCall config call → long (call_words call) ≤ most call
+  call_short (Get key wanted) h few =
+      let parts = both (is_key key) (is_wanted wanted) h in
+      let a = key_short key parts.0 in
+      let b = wanted_short wanted parts.1 in
+      omega (arith, a, b)
+  call_short (Put key value deps near) h few =
+      let p = both (is_key key && is_bytes value && are_deps deps) (are_near near) h in
+      let q = both (is_key key && is_bytes value) (are_deps deps) p.0 in
+      let r = both (is_key key) (is_bytes value) q.0 in
+      let m = few.0 in
+      let n = few.1 in
+      let a = key_short key r.0 in
+      let b = value_short value r.1 in
+      let c = deps_short deps q.1 (omega (arith, n, limit)) in
+      let d = near_short near p.1 (omega (arith, m, limit)) in
+      omega (arith, a, b, c, d)
+  call_short (DepCheck key version) h few =
+      let parts = both (is_key key) (is_version version) h in
+      let a = key_short key parts.0 in
+      let b = version_short version parts.1 in
+      omega (arith, a, b)
+  call_short (Pull dc) h few = let a = number_short dc h in omega (arith, a)
+  call_short (Commit entry) h few = let a = entry_short entry h few in omega (arith, a)
+  call_short (Ack dc version) h few =
+      let parts = both (is_u64 dc) (is_version version) h in
+      let a = number_short dc parts.0 in
+      let b = version_short version parts.1 in
+      omega (arith, a, b)
+  call_short Collect h few = omega arith
+
+  found_short : (version : Timestamp) (value : List ℕ) (deps : List Pair) → IsTrue (is_version version && is_bytes value && are_deps deps) → length deps ≤ config.quota.deps → long (reply_words (Found version value deps)) ≤ 98000
+  found_short version value deps h few =
+      let p = both (is_version version && is_bytes value) (are_deps deps) h in
+      let q = both (is_version version) (is_bytes value) p.0 in
+      let a = version_short version q.0 in
+      let b = value_short value q.1 in
+      let c = deps_short deps p.1 (omega (arith, few, limit)) in
+      omega (arith, a, b, c)
+
+  most_small : (call : NodeCall) → most call ≤ 187000
+  most_small (Put key value deps near) = omega arith
+  most_small (Commit entry) = omega arith
+  most_small (Get key wanted) = omega arith
+  most_small (DepCheck key version) = omega arith
+  most_small (Pull dc) = omega arith
+  most_small (Ack dc version) = omega arith
+  most_small Collect = omega arith
+
+  -- with its reply
+  small_reply : (call : NodeCall) (words : List (List ℕ)) → long words ≤ 100 → most call + long words ≤ 187300
+  small_reply call words h = let a = most_small call in omega (arith, a, h)
+
+  reply_short : (reply : NodeReply) (call : NodeCall) → IsTrue (is_reply reply) → HasFewInReply config reply call → most call + long (reply_words reply) ≤ 187300
+  reply_short (Found version value deps) (Get key wanted) h few = let a = found_short version value deps h few in omega (arith, a)
+  reply_short (Found version value deps) (Put k v d n) h few = absurd few
+  reply_short (Found version value deps) (DepCheck k v) h few = absurd few
+  reply_short (Found version value deps) (Pull dc) h few = absurd few
+  reply_short (Found version value deps) (Commit e) h few = absurd few
+  reply_short (Found version value deps) (Ack dc v) h few = absurd few
+  reply_short (Found version value deps) Collect h few = absurd few
+  reply_short (Pulled entry) (Pull dc) h few = let a = entry_short entry h few in omega (arith, a)
+  reply_short (Pulled entry) (Get k w) h few = absurd few
+  reply_short (Pulled entry) (Put k v d n) h few = absurd few
+  reply_short (Pulled entry) (DepCheck k v) h few = absurd few
+  reply_short (Pulled entry) (Commit e) h few = absurd few
+  reply_short (Pulled entry) (Ack dc v) h few = absurd few
+  reply_short (Pulled entry) Collect h few = absurd few
+  reply_short Absent call h few = small_reply call (reply_words Absent) (omega arith)
+  reply_short (Gone now) call h few = small_reply call (reply_words (Gone now)) (let a = number_short now h in omega (arith, a))
+  reply_short NotYet call h few = small_reply call (reply_words NotYet) (omega arith)
+  reply_short (Stored version) call h few = small_reply call (reply_words (Stored version)) (let a = version_short version h in omega (arith, a))
+  reply_short (Checked true) call h few = small_reply call (reply_words (Checked true)) (omega arith)
+  reply_short (Checked false) call h few = small_reply call (reply_words (Checked false)) (omega arith)
+  reply_short Nothing call h few = small_reply call (reply_words Nothing) (omega arith)
+  reply_short Committed call h few = small_reply call (reply_words Committed) (omega arith)
+  reply_short Already call h few = small_reply call (reply_words Already) (omega arith)
+  reply_short (OutOfOrder mark) call h few = small_reply call (reply_words (OutOfOrder mark)) (let a = version_short mark h in omega (arith, a))
+  reply_short Acked call h few = small_reply call (reply_words Acked) (omega arith)
+  reply_short NotFront call h few = small_reply call (reply_words NotFront) (omega arith)
+  reply_short (Removed count) call h few = small_reply call (reply_words (Removed count)) (let a = number_short count h in omega (arith, a))
+  reply_short (Refused fault) call h few = small_reply call (reply_words (Refused fault)) (let a = fault_short fault h in omega (arith, a))
+
+  pub line_short : (tenant : List ℕ) (told : Record) → IsTrue (is_name tenant) → IsTrue (is_record told) → HasFewInCall config told.call → HasFewInReply config told.reply told.call →
+      length (record_line tenant told) ≤ 200000
+  line_short tenant told named h asked answered =
+      let holds = record_holds told h in
+      let a = name_short tenant named in
+      let b = node_short told.node holds.dc holds.shard in
+      let c = number_short told.moment holds.moment in
+      let d = call_short told.call holds.call asked in
+      let e = reply_short told.reply told.call holds.reply answered in
+      let split = long-append (call_words told.call) (codes "=" ∷ reply_words told.reply) in
+      let whole = spaced_long (record_words tenant told) in
+      omega (arith, a, b, c, d, e, split, whole)

@@ -1,0 +1,80 @@
+-- No line in the audit of a script is too long.
+use Rattle.std.proofs.Common.{◌≡◌, ℕ, ◌+◌, ◌≤◌, List, [], ◌∷◌, ◌++◌, length, map, arith}
+use Rattle.std.specs.Prelude.{IsTrue, Some, nat_le, slice_get}
+use Rattle.std.specs.List.{AllByRecursion}
+use Rattle.std.proofs.lemmas.Bool.Decides.{nat_tests}
+use Rattle.cops_types.specs.declared.configs.Config.{Config}
+use Rattle.cops_types.specs.declared.configs.Tenant.{Tenant}
+use Rattle.cops_types.specs.Head.{Whole, head_of}
+use Rattle.cops_types.specs.Key.{is_name}
+use Rattle.cops_types.specs.TenantConfig.{TenantConfig, tenant_config}
+use Rattle.cops_node.specs.declared.AuditEntry.{AuditEntry}
+use Rattle.cops_node.specs.declared.NodeId.{NodeId}
+use Rattle.cops_node.specs.Clusters.{id_of}
+use Rattle.cops_node.specs.SoloNode.{SoloNode}
+use Rattle.cops_world.specs.Events.{own}
+use Rattle.cops_world.specs.Script.{events_in, said_in}
+use Rattle.cops_world.specs.ListLimits.{HasFew, HasFewInAudit}
+use Rattle.cops_world.proofs.AuditLists.{audits_few, few_deps}
+use Rattle.cops_world.proofs.WholeHeads.{shards_of}
+use Rattle.cops_replay.specs.declared.Record.{Record}
+use Rattle.cops_replay.specs.Audits.{record_of, records_from}
+use Rattle.cops_replay.specs.RecordText.{is_record, record_line}
+use Rattle.cops_replay.specs.ReplayText.{HasLine, longest_record}
+use Rattle.cops_replay.specs.WrittenAudits.{AreFormed, HaveLines, his_records, nodes_left}
+use Rattle.cops_replay.proofs.AuditLines.{head_known, name_at}
+use Rattle.cops_replay.proofs.LineLengths.{line_short}
+use Rattle.cops_replay.proofs.WrittenForms.{AllFormed}
+
+halves : {A : Type 0} (P : A → Type 0) (xs ys : List A) → AllByRecursion P (xs ++ ys) → AllByRecursion P xs × AllByRecursion P ys
+halves P [] ys all = (tt, all)
+halves P (x ∷ xs) ys all = let rest = halves P xs ys all.1 in ((all.0, rest.0), rest.1)
+
+to_test : (n m : ℕ) → n ≤ m → IsTrue (nat_le n m)
+to_test n m h = grind (arith, nat_tests)
+
+module _ (config : TenantConfig) (limit : config.quota.deps ≤ 1024) (name : List ℕ) (named : IsTrue (is_name name)) where
+  abbrev IsShort : Record → Type 0
+  IsShort told = IsTrue (nat_le (length (record_line name told)) longest_record)
+
+  one_node_short : (id : NodeId) (trail : List AuditEntry) → AllFormed (map (record_of id) trail) → AllByRecursion (HasFew config) trail → AllByRecursion IsShort (map (record_of id) trail)
+  one_node_short id [] formed few = tt
+  one_node_short id (entry ∷ trail) formed few = (
+    to_test (length (record_line name (record_of id entry))) longest_record (line_short config limit name (record_of id entry) named formed.0 few.0.asked few.0.told),
+    one_node_short id trail formed.1 few.1,
+  )
+
+  nodes_short : (shards number : ℕ) (nodes : List SoloNode) → AllFormed (records_from shards number nodes) → AllByRecursion (HasFewInAudit config) nodes → AllByRecursion IsShort (records_from shards number nodes)
+  nodes_short shards number [] formed few = tt
+  nodes_short shards number (node ∷ nodes) formed few =
+      let its = map (record_of (id_of shards number)) node.trail in
+      let more = records_from shards (number + 1) nodes in
+      let parts = halves (λ (told : Record). IsTrue (is_record told)) its more formed in
+      joined its more (one_node_short (id_of shards number) node.trail parts.0 few.0) (nodes_short shards (number + 1) nodes parts.1 few.1)
+    where
+      joined : (xs ys : List Record) → AllByRecursion IsShort xs → AllByRecursion IsShort ys → AllByRecursion IsShort (xs ++ ys)
+      joined [] ys h k = k
+      joined (x ∷ xs) ys h k = (h.0, joined xs ys h.1 k)
+
+-- no record's line is too long
+abbrev AreShort : Config → (TenantConfig → ℕ → List SoloNode) → Type 0
+AreShort config nodes =
+    (slot : ℕ) (tenant : Tenant) → slice_get config.tenants slot ≡ Some tenant → AllByRecursion (λ (told : Record). IsTrue (nat_le (length (record_line tenant.name told)) longest_record)) (his_records config nodes slot tenant)
+
+script_short : (lines rest : List (List ℕ)) (config : Config) → head_of lines ≡ Whole config rest → AreFormed config (nodes_left config rest) → AreShort config (nodes_left config rest)
+script_short lines rest config head formed slot tenant e =
+    let his = tenant_config config tenant in
+    let named = name_at config.tenants slot tenant (head_known lines rest config head).named e in
+    nodes_short his (few_deps lines config rest slot tenant head e) tenant.name named his.shards 0 (nodes_left config rest his slot) (formed slot tenant e)
+    (audits_few his (shards_of lines config rest head) (own slot (events_in (map (said_in config.tenants) rest))))
+
+-- each record has a line where it has a form and its line is not too long
+lines_of_both : (tenant : List ℕ) (records : List Record) → AllByRecursion (λ (told : Record). IsTrue (is_record told)) records →
+    AllByRecursion (λ (told : Record). IsTrue (nat_le (length (record_line tenant told)) longest_record)) records → AllByRecursion (HasLine tenant) records
+lines_of_both tenant [] formed short = tt
+lines_of_both tenant (told ∷ records) formed short = (record { formed = formed.0; short = short.0 }, lines_of_both tenant records formed.1 short.1)
+
+-- so each record has a line
+pub script_lines : (lines rest : List (List ℕ)) (config : Config) → head_of lines ≡ Whole config rest → AreFormed config (nodes_left config rest) → HaveLines config (nodes_left config rest)
+script_lines lines rest config head formed slot tenant e =
+    lines_of_both tenant.name (his_records config (nodes_left config rest) slot tenant) (formed slot tenant e) (script_short lines rest config head formed slot tenant e)
