@@ -28,7 +28,8 @@ use Rattle.cops_node.specs.declared.Wanted.{Wanted}
 use Rattle.cops_node.specs.declared.Wanted.TheVariants.{Latest, Exactly}
 use Rattle.cops_world.specs.ListLimits.{HasFewInCall, HasFewInReply, HasFewPairs}
 use Rattle.cops_replay.specs.declared.Record.{Record}
-use Rattle.cops_replay.specs.RecordText.{are_deps, are_near, call_words, entry_words, is_audited, is_bytes, is_call, is_entry, is_pair, is_record, is_reply, is_version, is_wanted, node_text, record_line, record_value, record_words, reply_words, wanted_text}
+use Rattle.cops_types.specs.PairForms.{are_deps, are_near, is_pair, is_version}
+use Rattle.cops_replay.specs.RecordText.{call_words, entry_words, is_audited, is_bytes, is_call, is_entry, is_record, is_reply, is_wanted, node_text, record_line, record_value, record_words, reply_words, wanted_text}
 use Rattle.cops_replay.proofs.Digits.{length-bytes_text}
 use Rattle.cops_replay.proofs.WordsLack.{entry_holds, record_holds}
 

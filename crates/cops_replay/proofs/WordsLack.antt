@@ -22,7 +22,8 @@ use Rattle.cops_node.specs.declared.NodeReply.TheVariants.{Found, Absent, Gone, 
 use Rattle.cops_node.specs.declared.Wanted.{Wanted}
 use Rattle.cops_node.specs.declared.Wanted.TheVariants.{Latest, Exactly}
 use Rattle.cops_replay.specs.declared.Record.{Record}
-use Rattle.cops_replay.specs.RecordText.{are_deps, are_near, bytes_text, call_words, digit_text, entry_words, is_audited, is_bytes, is_call, is_entry, is_pair, is_record, is_reply, is_version, is_wanted, node_text, record_value, reply_words, wanted_text}
+use Rattle.cops_types.specs.PairForms.{are_deps, are_near, is_pair, is_version}
+use Rattle.cops_replay.specs.RecordText.{bytes_text, call_words, digit_text, entry_words, is_audited, is_bytes, is_call, is_entry, is_record, is_reply, is_wanted, node_text, record_value, reply_words, wanted_text}
 use Rattle.cops_replay.proofs.ReadBack.{lacks_both, version_numbers}
 
 -- ---- what holds of the parts of a record
