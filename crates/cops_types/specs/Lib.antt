@@ -10,6 +10,7 @@ pub mod HeadReader
 pub mod HeadWords
 pub mod KeptEntry
 pub mod Key
+pub mod BytesForms
 pub mod KeyForms
 pub mod KeyHashes
 pub mod Layout
