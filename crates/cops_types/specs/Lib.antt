@@ -1,4 +1,5 @@
 pub mod BigEndian
+pub mod BytesForms
 pub mod Context
 pub mod Counts
 pub mod FaultText
@@ -10,7 +11,6 @@ pub mod HeadReader
 pub mod HeadWords
 pub mod KeptEntry
 pub mod Key
-pub mod BytesForms
 pub mod KeyForms
 pub mod KeyHashes
 pub mod Layout
