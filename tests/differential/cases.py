@@ -109,8 +109,20 @@ def compare_script(pair: Pair, numbers: Random, text: bytes, names: list[str]) -
     return kinds(run.output) if run is not None else Counter()
 
 
+def compare_files_of_nobody(pair: Pair, audit: bytes) -> None:
+    """An audit whose head has no tenant, and the same as a file of layout 1, whose heads have one at least."""
+    for file in audit, audit.split(b"\n", 1)[1]:
+        pair.both(["replay", "zeta"], file)
+        if "migrate" in pair.commands:
+            pair.both(["migrate"], file)
+
+
 def compare_replays(pair: Pair, numbers: Random, audit: bytes) -> None:
-    name = numbers.choice([line.split(b" ")[1] for line in audit.splitlines() if line.startswith(b"tenant ")]).decode()
+    names = [line.split(b" ")[1].decode() for line in audit.splitlines() if line.startswith(b"tenant ")]
+    if not names:
+        compare_files_of_nobody(pair, audit)
+        return
+    name = numbers.choice(names)
     count = sum(line.startswith(name.encode() + b" ") for line in audit.splitlines())
     replayed = pair.both(["replay", name], audit)
     if replayed != Outcome(0, b"same %d\n" % count, b""):
