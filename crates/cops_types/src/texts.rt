@@ -14,10 +14,16 @@ use crate::versions::Version;
 use std::alloc::AllocError;
 
 /// Puts the decimal digits of a number at the end. After an `Err` nothing is put.
+///
+/// Most numbers of a script have one digit: nodes, lengths of lists, first clocks.
 pub fn push_number(out: &mut Vec<u8>, number: u64) -> Result<(), AllocError>
     ensures ok { OnOk result (out.new.items ≡ out.old.items ++ decimal number) }
     ensures err { OnErr result (out.new.items ≡ out.old.items) }
 {
+    if number < 10 {
+        out.push(b'0' + number as u8)?;
+        return Ok(());
+    }
     let mut buffer = itoa::Buffer::new();
     out.extend_from_slice(buffer.format(number).as_bytes())?;
     Ok(())

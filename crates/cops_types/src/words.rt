@@ -10,6 +10,10 @@ use std::marker::Model;
 /// How many bytes are looked at one by one.
 const FEW: usize = 8;
 
+/// A number below this stays below 2 to the 64 with one more digit, so that only the last digits of
+/// the longest numbers are looked at with care.
+const ROOM_FOR_A_DIGIT: u64 = 1_000_000_000_000_000_000;
+
 /// The words of a line that are still to come, between single spaces. Contracts see the list.
 #[derive(Debug, Drop)]
 pub struct Words<'a> {
@@ -108,7 +112,11 @@ fn with_digit(value: u64, byte: u8) -> Option<u64>
     if !byte.is_ascii_digit() {
         return None;
     }
-    value.checked_mul(10)?.checked_add(u64::from(byte - b'0'))
+    let digit = u64::from(byte - b'0');
+    if value < ROOM_FOR_A_DIGIT {
+        return Some(value * 10 + digit);
+    }
+    value.checked_mul(10)?.checked_add(digit)
 }
 
 /// The number that the word writes: decimal, without a leading zero, and below 2 to the 64.
