@@ -18,6 +18,7 @@ pub mod Padded
 pub mod PairLists
 pub mod PairPlaces
 pub mod Rising
+pub mod BegunSlots
 pub mod OpenSlotLemmas
 pub mod SlotLemmas
 pub mod SortedSet

@@ -17,20 +17,20 @@ use Rattle.cops_types.specs.OpenSlots.{admission_refusal, AreApart, AreOpen, fir
 use Rattle.cops_types.specs.Search.{first_refusal}
 use Rattle.cops_types.proofs.WordLemmas.{bytes_from_test}
 
-swapped : (xs ys : List ℕ) → bytes_eq xs ys ≡ bytes_eq ys xs
+pub swapped : (xs ys : List ℕ) → bytes_eq xs ys ≡ bytes_eq ys xs
 swapped xs ys = (partial_equiv_from_equiv nat_list_eq_equiv).symm xs ys
 
 -- ---- a test at the slots
 
-left_fails : (a b : Bool) → (a || b) ≡ false → a ≡ false
+pub left_fails : (a b : Bool) → (a || b) ≡ false → a ≡ false
 left_fails true b e = absurd cc
 left_fails false b e = refl
 
-right_fails : (a b : Bool) → (a || b) ≡ false → b ≡ false
+pub right_fails : (a b : Bool) → (a || b) ≡ false → b ≡ false
 right_fails true b e = absurd cc
 right_fails false b e = e
 
-both_fail : (a b : Bool) → a ≡ false → b ≡ false → (a || b) ≡ false
+pub both_fail : (a b : Bool) → a ≡ false → b ≡ false → (a || b) ≡ false
 both_fail true b e f = absurd cc
 both_fail false b e f = f
 
@@ -40,7 +40,7 @@ none_passes test n [] e = refl
 none_passes test n (x ∷ slots) e =
     ap (λ t. cond t (Some n) (first_from test (n + 1) slots)) (left_fails (test x) (list_any test slots) e) ∙ none_passes test (n + 1) slots (right_fails (test x) (list_any test slots) e)
 
-one_fails : (test : Option Tenant → Bool) (slots : List (Option Tenant)) (at : ℕ) (x : Option Tenant) → slice_get slots at ≡ Some x → list_any test slots ≡ false → test x ≡ false
+pub one_fails : (test : Option Tenant → Bool) (slots : List (Option Tenant)) (at : ℕ) (x : Option Tenant) → slice_get slots at ≡ Some x → list_any test slots ≡ false → test x ≡ false
 one_fails test [] at x there e = absurd cc
 one_fails test (y ∷ slots) zero x there e = let same : y ≡ x = cc in ap test (sym same) ∙ left_fails (test y) (list_any test slots) e
 one_fails test (y ∷ slots) (suc at) x there e = one_fails test slots at x there (right_fails (test y) (list_any test slots) e)

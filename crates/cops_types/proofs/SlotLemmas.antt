@@ -13,6 +13,7 @@ use Rattle.cops_types.specs.declared.faults.Fault.{Fault}
 use Rattle.cops_types.specs.HeadLines.{is_distinct}
 use Rattle.cops_types.specs.Key.{IsName, is_name}
 use Rattle.cops_types.specs.Slots.{AreIndexed, AreNamed}
+use Rattle.cops_types.proofs.BegunSlots.{apart_more}
 use Rattle.cops_types.proofs.WordLemmas.{bytes_from_test}
 
 swapped : (xs ys : List ℕ) → bytes_eq xs ys ≡ bytes_eq ys xs
@@ -83,6 +84,10 @@ indexed_more tenants tenant names tokens are named distinct =
     let fresh = neither (list_any (λ (other : Tenant). bytes_eq other.name tenant.name) tenants) (list_any (λ (other : Tenant). bytes_eq other.token tenant.token) tenants) distinct in
     record {
       named = named_more tenants tenant are.named named;
+      distinct = record {
+        names_apart = apart_more (λ t. t.name) tenants tenant are.distinct.names_apart fresh.0;
+        tokens_apart = apart_more (λ t. t.token) tenants tenant are.distinct.tokens_apart fresh.1;
+      };
       names_are = one_more (λ t. t.name) tenants tenant names are.names_are fresh.0;
       tokens_are = one_more (λ t. t.token) tenants tenant tokens are.tokens_are fresh.1;
     }

@@ -21,6 +21,7 @@ pub mod Lines
 pub mod OldHead
 pub mod OnLiterals
 pub mod OpenSlots
+pub mod TenantTexts
 pub mod Packed
 pub mod PackedRows
 pub mod Padding

@@ -1,8 +1,8 @@
 -- The tenants that are open, by slot, and how they are found.
-use Rattle.std.specs.Prelude.{◌≡◌, ℕ, ◌+◌, ◌≤◌, Bool, false, not, ◌&&◌, nat_lt, if◌then◌else◌, List, [], ◌∷◌, length, slice_get, IsTrue, is_none, Option, Some, None}
+pub use Rattle.cops_types.specs.TenantTexts.{AreApart, has_text}
+use Rattle.std.specs.Prelude.{◌≡◌, ℕ, ◌+◌, ◌-◌, ◌≤◌, Bool, not, ◌&&◌, nat_lt, if◌then◌else◌, List, [], ◌∷◌, ◌++◌, length, map, replicate, slice_get, IsTrue, is_none, Option, Some, None}
 use Rattle.std.specs.List.{AllByRecursion, list_any}
 use Rattle.std.specs.Option.{option_and_then}
-use Rattle.std.specs.Str.{bytes_eq}
 use Rattle.indexmap.specs.IndexMap.{IndexMap, get}
 use Rattle.cops_types.specs.declared.configs.Tenant.{Tenant}
 use Rattle.cops_types.specs.declared.faults.Fault.{Fault}
@@ -12,11 +12,6 @@ use Rattle.cops_types.specs.Key.{is_name, key_eq}
 use Rattle.cops_types.specs.Search.{first_refusal}
 
 -- ---- how they are found
-
--- the slot has a tenant with this text
-abbrev pub has_text : (Tenant → List ℕ) → List ℕ → Option Tenant → Bool
-has_text text_of text None = false
-has_text text_of text (Some tenant) = bytes_eq (text_of tenant) text
 
 abbrev pub has_name : List ℕ → Option Tenant → Bool
 has_name name slot = has_text (λ tenant. tenant.name) name slot
@@ -40,6 +35,10 @@ open_slot_of_token slots token = first_from (has_token token) 0 slots
 abbrev pub open_at : ℕ → List (Option Tenant) → Option Tenant
 open_at slot slots = option_and_then (λ tenant. tenant) (slice_get slots slot)
 
+-- these tenants at the first slots, and as many free slots behind them as may still be given
+abbrev pub begun_with : List Tenant → List (Option Tenant)
+begun_with tenants = map Some tenants ++ replicate (most_tenants - length tenants) None
+
 -- ---- why a tenant is not admitted
 
 -- another name and another token than each open tenant has
@@ -60,12 +59,6 @@ abbrev pub IsNamed : Option Tenant → Type 0
 IsNamed None = Unit {0}
 IsNamed (Some tenant) = IsTrue (is_name tenant.name)
 
--- no two tenants have one text
-abbrev pub AreApart : (Tenant → List ℕ) → List (Option Tenant) → Type 0
-AreApart text_of [] = Unit {0}
-AreApart text_of (None ∷ slots) = AreApart text_of slots
-AreApart text_of (Some tenant ∷ slots) = (list_any (has_text text_of (text_of tenant)) slots ≡ false) × AreApart text_of slots
-
 -- the tables find the open tenants by name and by token
 pub record AreOpen {S T : Type 0} (slots : List (Option Tenant)) (names : IndexMap (List ℕ) ℕ S) (tokens : IndexMap (List ℕ) ℕ T) : Type 0 where
   pub enough : most_tenants ≤ length slots
@@ -74,3 +67,8 @@ pub record AreOpen {S T : Type 0} (slots : List (Option Tenant)) (names : IndexM
   pub tokens_apart : AreApart (λ tenant. tenant.token) slots
   pub names_are : (name : List ℕ) → get key_eq names name ≡ open_slot_of_name slots name
   pub tokens_are : (token : List ℕ) → get key_eq tokens token ≡ open_slot_of_token slots token
+
+-- the tables find each of these tenants at the slot of his place
+pub record AreFoundAt {S T : Type 0} (tenants : List Tenant) (names : IndexMap (List ℕ) ℕ S) (tokens : IndexMap (List ℕ) ℕ T) : Type 0 where
+  pub names_are : (name : List ℕ) → get key_eq names name ≡ open_slot_of_name (map Some tenants) name
+  pub tokens_are : (token : List ℕ) → get key_eq tokens token ≡ open_slot_of_token (map Some tenants) token

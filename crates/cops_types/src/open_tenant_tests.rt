@@ -1,4 +1,4 @@
-use crate::{Fault, Name, OpenTenants, Quota, Tenant};
+use crate::{Fault, Name, OpenTenants, Quota, Tenant, Tenants};
 use std::alloc::Global;
 use std::process::Abort;
 use uuid::Uuid;
@@ -88,5 +88,17 @@ fn a_closed_slot_is_given_again(rt: HostRuntime) {
     assert!(&rt; tenants.slot_of_name(b"acme").is_none());
     admit(&rt, &mut tenants, 0, b"acme", 1);
     assert!(&rt; tenants.slot_of_name(b"acme") == Some(0));
+    drop(tenants);
+}
+
+#[test]
+fn the_tenants_of_a_head_are_open(rt: HostRuntime) {
+    let mut head = Tenants::new(rt.alloc());
+    assert!(&rt; head.push(tenant(&rt, b"acme", 1)).is_ok());
+    assert!(&rt; head.is_distinct(&tenant(&rt, b"beta", 2)));
+    let mut tenants = OpenTenants::of(rt.alloc(), &head).expect(&rt, "memory");
+    assert!(&rt; tenants.slot_of_name(b"acme") == Some(0));
+    assert!(&rt; tenants.least_free() == Some(1));
+    admit(&rt, &mut tenants, 1, b"beta", 2);
     drop(tenants);
 }

@@ -1,15 +1,17 @@
 //! The tenants that are open now.
-ghost use Rattle.std.specs.Prelude.{◌≡◌, ℕ, ◌⊎◌, cond, count_by, is_none, is_some, take, List, position, replicate, slice_set, IfErr, IfNone, IfOk, IfSome, IsOk, None, OnErr, OnOk, Some, Err};
+ghost use Rattle.std.specs.Prelude.{◌≡◌, ℕ, ◌≤◌, ◌⊎◌, [], cond, count_by, is_none, is_some, length, take, List, position, replicate, slice_set, IfErr, IfNone, IfOk, IfSome, IsOk, None, OnErr, OnOk, Some, Err};
 ghost use Rattle.std.specs.Option.{option_copied};
 ghost use Rattle.cops_types.specs.declared.faults.Fault.TheVariants.{OutOfMemory, UnknownTenant};
 ghost use Rattle.cops_types.specs.HeadLines.{most_tenants};
 ghost use Rattle.cops_types.specs.Key.{IsName, key_eq};
 ghost use Rattle.indexmap.specs.IndexMap.{get};
-ghost use Rattle.cops_types.specs.OpenSlots.{admission_refusal, is_free, is_new, open_at, open_slot_of_name, open_slot_of_token};
+ghost use Rattle.cops_types.specs.OpenSlots.{AreFoundAt, admission_refusal, begun_with, is_free, is_new, open_at, open_slot_of_name, open_slot_of_token};
+ghost use Rattle.cops_types.specs.Slots.{AreDistinct};
 
 use crate::configs::Tenant;
 use crate::faults::Fault;
 use crate::names::Name;
+use crate::tenants::Tenants;
 use indexmap::IndexMap;
 use std::alloc::{AllocError, Global};
 use std::marker::Model;
@@ -47,6 +49,21 @@ fn free_slots(alloc: Global) -> Result<Vec<Option<Tenant>>, AllocError>
 {
     let mut slots = Vec::with_capacity(alloc, MOST_OPEN)?;
     for _slot in 0..MOST_OPEN {
+        slots.push(None)?;
+    }
+    Ok(slots)
+}
+
+/// These tenants at the first slots, and free slots behind them.
+fn slots_of(alloc: Global, tenants: &[Tenant]) -> Result<Vec<Option<Tenant>>, AllocError>
+    ensures { IfOk result (λ slots. slots.items ≡ begun_with tenants.now) }
+{
+    let mut slots = Vec::new(alloc);
+    for tenant in tenants {
+        slots.push(Some(*tenant))?;
+    }
+    let free = MOST_OPEN.saturating_sub(tenants.len());
+    for _slot in 0..free {
         slots.push(None)?;
     }
     Ok(slots)
@@ -92,6 +109,23 @@ fn note(
     }
 }
 
+/// Notes the slot of each of these tenants under its name and its token.
+fn note_all(
+    names: &mut IndexMap<Name, usize>,
+    tokens: &mut IndexMap<[u8; 16], usize>,
+    tenants: &[Tenant],
+) -> Result<(), AllocError>
+    requires distinct { AreDistinct tenants.now }
+    requires names { names.old.entries ≡ [] }
+    requires tokens { tokens.old.entries ≡ [] }
+    ensures { OnOk result (AreFoundAt tenants.now names.new tokens.new) }
+{
+    for slot in 0..tenants.len() {
+        note(names, tokens, &tenants[slot], slot)?;
+    }
+    Ok(())
+}
+
 /// Forgets the slot of a tenant.
 fn forget(
     names: &mut IndexMap<Name, usize>,
@@ -117,9 +151,25 @@ impl OpenTenants {
         })
     }
 
+    /// The tenants of a head, each at its slot.
+    pub fn of(alloc: Global, tenants: &Tenants) -> Result<Self, AllocError>
+        ensures { IfOk result (λ begun. begun ≡ begun_with tenants.now) }
+    {
+        let tenants = tenants.as_slice();
+        let mut names = IndexMap::new(alloc);
+        let mut tokens = IndexMap::new(alloc);
+        note_all(&mut names, &mut tokens, tenants)?;
+        Ok(OpenTenants {
+            slots: slots_of(alloc, tenants)?,
+            names,
+            tokens,
+        })
+    }
+
     /// The tenant of each slot.
     pub fn as_slice(&self) -> &[Option<Tenant>]
-        ensures { result.now ≡ self.now }
+        ensures value { result.now ≡ self.now }
+        ensures enough { most_tenants ≤ length self.now }
     {
         self.slots.as_slice()
     }

@@ -2,7 +2,7 @@ ghost use Rattle.std.specs.Prelude.{◌≡◌, ◌<◌, [], ◌∷◌, ◌++◌,
 ghost use Rattle.std.specs.List.{AllByRecursion};
 ghost use Rattle.cops_types.specs.HeadLines.{is_distinct};
 ghost use Rattle.cops_types.specs.Key.{IsName, key_eq};
-ghost use Rattle.cops_types.specs.Slots.{AreNamed, slot_of_name, slot_of_token};
+ghost use Rattle.cops_types.specs.Slots.{AreDistinct, AreNamed, slot_of_name, slot_of_token};
 
 use crate::configs::Tenant;
 use crate::names::Name;
@@ -76,6 +76,7 @@ impl Tenants {
     pub fn as_slice(&self) -> &[Tenant]
         ensures value { result.now ≡ self.now }
         ensures named { AreNamed self.now }
+        ensures distinct { AreDistinct self.now }
     {
         self.tenants.as_slice()
     }

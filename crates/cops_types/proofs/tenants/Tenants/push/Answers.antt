@@ -4,7 +4,7 @@ use Rattle.std.specs.Str.{bytes_eq}
 use Rattle.indexmap.specs.IndexSet.{insert_key}
 use Rattle.cops_types.specs.declared.configs.Tenant.{Tenant}
 use Rattle.cops_types.specs.HeadLines.{is_distinct}
-use Rattle.cops_types.specs.Slots.{AreNamed}
+use Rattle.cops_types.specs.Slots.{AreDistinct, AreNamed}
 use Rattle.cops_types.proofs.SlotLemmas.{indexed_more}
 use Rattle.cops_types.proofs.tenants.Tenants.push.Goals as goal
 
@@ -22,6 +22,7 @@ invariant_of-self-2 c =
     let more = indexed_more tenants c.args.tenant names tokens c.self.invariant c.name_of-name.ensures.name distinct in
     record {
       named = subst AreNamed (sym tenants_are) more.named;
+      distinct = subst AreDistinct (sym tenants_are) more.distinct;
       names_are = names_are ∙ more.names_are ∙ ap (map (λ (t : Tenant). t.name)) (sym tenants_are);
       tokens_are = tokens_are ∙ more.tokens_are ∙ ap (map (λ (t : Tenant). t.token)) (sym tenants_are);
     }
