@@ -17,10 +17,11 @@ use Rattle.cops_store.proofs.History.{AreLeft, left_of, kept_among, latest, exac
 use Rattle.cops_types.specs.Version.{Timestamp}
 use Rattle.cops_store.specs.Contents.{use_of, LacksVersion}
 use Rattle.cops_store.specs.Chains.{ChainLacks, IsChain, find_version, last_commit}
-use Rattle.cops_store.specs.Tables.{Chains, chains_of, all_rows, IsTable, with_key, with_record, AreNoted, IsShelf}
+use Rattle.cops_store.specs.Tables.{Chains, chains_of, all_rows, IsTable, with_key, with_record, AreNoted, AreFounded, IsShelf}
 use Rattle.cops_store.proofs.Lists.{each_append, each_weaker, each_right}
 use Rattle.cops_store.proofs.Versions.{key_eq-refl, key_eq_is, with_next}
 use Rattle.cops_store.proofs.Chains.{missing_version}
+use Rattle.cops_store.proofs.Founded.{AreFounded-with_key}
 use Rattle.cops_store.proofs.Tables.{a_key, found_by_lookup, absent, lack_before, lack_after, lack_chains, chains_of-split, Around, rows_elsewhere, around, latest_of_chain, exact_of_chain, latest_missing, exact_missing, all_rows-with_record, all_rows-with_key, IsTable-with_record, IsTable-with_key, AreNoted-with_key, chain_lacks, use_of-next}
 
 module _ {Z : Type 0} (p : List ℕ) (entries : List (List ℕ × Vec Dated Z)) (table : IsTable (chains_of entries)) (rows : List Dated) (shown : all_rows (chains_of entries) ≡ rows)
@@ -106,12 +107,13 @@ pub roomy_shelf : (used : InUse) (due : List Due) (p : List ℕ) (chains next : 
 roomy_shelf used due p chains next h is unique = subst (IsShelf used due) (sym is) (record {
   table = IsTable-with_key p chains (subst (λ cs. IsDistinct key_eq (map (λ (e : List ℕ × List Dated). e.0) cs)) is unique) h.table;
   noted = AreNoted-with_key due p chains h.noted;
+  founded = AreFounded-with_key due p chains h.founded;
   counted = h.counted ∙ ap use_of (sym (all_rows-with_key p chains));
 })
 
 module _ (used : InUse) (due later : List Due) (p : List ℕ) (n : Record) (chains middle next : Chains) (shelf : IsShelf used due chains)
     (made : middle ≡ with_key p chains) (unique : IsDistinct key_eq (map (λ (e : List ℕ × List Dated). e.0) middle)) (own : n.entry.key ≡ p)
-    (put : next ≡ with_record p n middle) (noted : AreNoted due middle → AreNoted later next) (rows : List Dated) (shown : all_rows chains ≡ rows) (lacks : LacksVersion n.entry.key n.entry.version rows) where
+    (put : next ≡ with_record p n middle) (noted : AreNoted due middle → AreNoted later next) (founded : AreFounded due middle → AreFounded later next) (rows : List Dated) (shown : all_rows chains ≡ rows) (lacks : LacksVersion n.entry.key n.entry.version rows) where
   roomy : IsShelf used due middle
   roomy = roomy_shelf used due p chains middle shelf made unique
 
@@ -129,6 +131,7 @@ module _ (used : InUse) (due later : List Due) (p : List ℕ) (n : Record) (chai
   next_shelf = record {
     table = subst IsTable (sym put) (IsTable-with_record p n middle own (chain_lacks p n middle own roomy.table.chained lacking) roomy.table);
     noted = noted roomy.noted;
+    founded = founded roomy.founded;
     counted = (λ i. record { records = (counts i).records + 1; bytes = (counts i).bytes + size_of n.entry }) ∙ sym (use_of-next n rows (all_rows next) next_rows);
   }
     where

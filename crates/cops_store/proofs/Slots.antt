@@ -9,50 +9,61 @@ use Rattle.cops_types.specs.declared.records.Dated.{Dated}
 use Rattle.cops_types.specs.declared.records.Record.{Record}
 use Rattle.cops_types.specs.Records.{Tracked, StandsFor, ever, latest as latest_record, exact as exact_record}
 use Rattle.cops_types.specs.Version.{Timestamp}
-use Rattle.cops_store.specs.Contents.{Contents, HasRoom, NoneLater, rows_in, rows_of}
-use Rattle.cops_store.specs.Shelves.{Kept, nothing, rows_from, ready_from}
+use Rattle.cops_store.specs.Contents.{Contents, HasRoom, NoneLater, of_slot, rows_in, rows_of}
+use Rattle.cops_store.specs.Shelves.{Kept, nothing, part_from, rows_from, ready_from}
 use Rattle.cops_store.proofs.Meaning.{StandsFor-none, flags, to_left, latest_is, exact_is}
 use Rattle.cops_store.proofs.Tables.{fails, latest_missing, exact_missing}
 use Rattle.cops_store.proofs.Versions.{Among, Among-map, Among-from_Contains, Contains-from_Among}
 
--- ---- the rows of one slot
-own_rows : (first slot : ℕ) (rows : List Dated) → rows_in slot (map (λ row. (first, row)) rows) ≡ (if nat_eq first slot then rows else [])
-own_rows first slot rows = by (nat_eq first slot) refl rows
+-- ---- a part of one slot
+own_part : {A : Type 0} (first slot : ℕ) (xs : List A) → of_slot slot (map (λ x. (first, x)) xs) ≡ (if nat_eq first slot then xs else [])
+own_part {A} first slot xs = by (nat_eq first slot) refl xs
   where
-    by : (b : Bool) → nat_eq first slot ≡ b → (rows : List Dated) → rows_in slot (map (λ row. (first, row)) rows) ≡ (if b then rows else [])
+    by : (b : Bool) → nat_eq first slot ≡ b → (xs : List A) → of_slot slot (map (λ x. (first, x)) xs) ≡ (if b then xs else [])
     by true is [] = refl
     by false is [] = refl
-    by true is (k ∷ rows) = rw is (ap (λ xs. k ∷ xs) (by true is rows))
-    by false is (k ∷ rows) = rw is (by false is rows)
-
-rows_split : (first slot : ℕ) (k : Kept) (shelves : List Kept) → rows_in slot (rows_from first (k ∷ shelves)) ≡ (if nat_eq first slot then k.rows else []) ++ rows_in slot (rows_from (suc first) shelves)
-rows_split first slot k shelves =
-    filter_map-append (λ (row : ℕ × Dated). if nat_eq row.0 slot then Some row.1 else None) (map (λ row. (first, row)) k.rows) (rows_from (suc first) shelves)
-    ∙ ap (λ xs. xs ++ rows_in slot (rows_from (suc first) shelves)) (own_rows first slot k.rows)
+    by true is (x ∷ xs) = rw is (ap (λ ys. x ∷ ys) (by true is xs))
+    by false is (x ∷ xs) = rw is (by false is xs)
 
 differs : (a b : ℕ) → (a ≡ b → ⊥) → nat_eq a b ≡ false
 differs a b differ = fails (nat_eq a b) (λ same. differ ((Decides-eqb a b).0 same))
-
--- later slots have none of its rows
-rows_later : (first slot : ℕ) (shelves : List Kept) → slot < first → rows_in slot (rows_from first shelves) ≡ []
-rows_later first slot [] lt = refl
-rows_later first slot (k ∷ shelves) lt =
-    rows_split first slot k shelves ∙ ap (λ b. (if b then k.rows else []) ++ rows_in slot (rows_from (suc first) shelves)) (differs first slot (λ same. absurd (omega arith)))
-    ∙ rows_later (suc first) slot shelves (omega arith)
 
 append_none : {A : Type 0} (xs ys : List A) → ys ≡ [] → xs ++ ys ≡ xs
 append_none [] ys none = none
 append_none (x ∷ xs) ys none = ap (λ zs. x ∷ zs) (append_none xs ys none)
 
-rows_at : (first slot n : ℕ) (shelves : List Kept) → slot ≡ first + n → rows_in slot (rows_from first shelves) ≡ (get_or shelves n nothing).rows
-rows_at first slot n [] at = refl
-rows_at first slot zero (k ∷ shelves) at =
-    let here : first ≡ slot = omega arith in
-    rows_split first slot k shelves ∙ ap (λ b. (if b then k.rows else []) ++ rows_in slot (rows_from (suc first) shelves)) ((Decides-eqb first slot).1 here)
-    ∙ append_none k.rows (rows_in slot (rows_from (suc first) shelves)) (rows_later (suc first) slot shelves (omega arith))
-rows_at first slot (suc n) (k ∷ shelves) at =
-    rows_split first slot k shelves ∙ ap (λ b. (if b then k.rows else []) ++ rows_in slot (rows_from (suc first) shelves)) (differs first slot (λ same. absurd (omega arith)))
-    ∙ rows_at (suc first) slot n shelves (omega arith)
+module _ {A : Type 0} (part : Kept → List A) where
+  part_split : (first slot : ℕ) (k : Kept) (shelves : List Kept) → of_slot slot (part_from part first (k ∷ shelves)) ≡ (if nat_eq first slot then part k else []) ++ of_slot slot (part_from part (suc first) shelves)
+  part_split first slot k shelves =
+      filter_map-append (λ (x : ℕ × A). if nat_eq x.0 slot then Some x.1 else None) (map (λ x. (first, x)) (part k)) (part_from part (suc first) shelves)
+      ∙ ap (λ xs. xs ++ of_slot slot (part_from part (suc first) shelves)) (own_part first slot (part k))
+
+  -- later slots have nothing of it
+  part_later : (first slot : ℕ) (shelves : List Kept) → slot < first → of_slot slot (part_from part first shelves) ≡ []
+  part_later first slot [] lt = refl
+  part_later first slot (k ∷ shelves) lt =
+      part_split first slot k shelves ∙ ap (λ b. (if b then part k else []) ++ of_slot slot (part_from part (suc first) shelves)) (differs first slot (λ same. absurd (omega arith)))
+      ∙ part_later (suc first) slot shelves (omega arith)
+
+  part_at : (first slot n : ℕ) (shelves : List Kept) → part nothing ≡ [] → slot ≡ first + n → of_slot slot (part_from part first shelves) ≡ part (get_or shelves n nothing)
+  part_at first slot n [] none at = sym none
+  part_at first slot zero (k ∷ shelves) none at =
+      let here : first ≡ slot = omega arith in
+      part_split first slot k shelves ∙ ap (λ b. (if b then part k else []) ++ of_slot slot (part_from part (suc first) shelves)) ((Decides-eqb first slot).1 here)
+      ∙ append_none (part k) (of_slot slot (part_from part (suc first) shelves)) (part_later (suc first) slot shelves (omega arith))
+  part_at first slot (suc n) (k ∷ shelves) none at =
+      part_split first slot k shelves ∙ ap (λ b. (if b then part k else []) ++ of_slot slot (part_from part (suc first) shelves)) (differs first slot (λ same. absurd (omega arith)))
+      ∙ part_at (suc first) slot n shelves none (omega arith)
+
+  pub part_set : (shelves : List Kept) (slot : ℕ) (s : Kept) → part nothing ≡ [] → slot < length shelves → of_slot slot (part_from part 0 (set shelves slot s)) ≡ part s
+  part_set shelves slot s none lt = part_at 0 slot slot (set shelves slot s) none (omega arith) ∙ ap part (get_or-set_same shelves slot s nothing lt)
+
+  pub part_set_other : (shelves : List Kept) (slot other : ℕ) (s : Kept) → part nothing ≡ [] → other ≢ slot → of_slot other (part_from part 0 (set shelves slot s)) ≡ of_slot other (part_from part 0 shelves)
+  part_set_other shelves slot other s none differ =
+      part_at 0 other other (set shelves slot s) none (omega arith) ∙ ap part (get_or-set_other shelves slot other s nothing differ) ∙ sym (part_at 0 other other shelves none (omega arith))
+
+rows_at : (slot : ℕ) (shelves : List Kept) → rows_in slot (rows_from 0 shelves) ≡ (get_or shelves slot nothing).rows
+rows_at slot shelves = part_at (λ (k : Kept). k.rows) 0 slot slot shelves refl (omega arith)
 
 -- where a slot is there, no default is taken
 same_default : (shelves : List Kept) (n : ℕ) (d e : Kept) → n < length shelves → get_or shelves n d ≡ get_or shelves n e
@@ -66,10 +77,10 @@ no_shelf (k ∷ shelves) zero le = absurd (omega arith)
 no_shelf (k ∷ shelves) (suc n) le = no_shelf shelves n (omega arith)
 
 pub rows_read : (shelves : List Kept) (slot : ℕ) (s : Kept) → slot < length shelves → s ≡ get_or shelves slot s → rows_in slot (rows_from 0 shelves) ≡ s.rows
-rows_read shelves slot s lt read = rows_at 0 slot slot shelves (omega arith) ∙ ap (λ (k : Kept). k.rows) (same_default shelves slot nothing s lt ∙ sym read)
+rows_read shelves slot s lt read = rows_at slot shelves ∙ ap (λ (k : Kept). k.rows) (same_default shelves slot nothing s lt ∙ sym read)
 
 pub rows_missing : (shelves : List Kept) (slot : ℕ) → length shelves ≤ slot → rows_in slot (rows_from 0 shelves) ≡ []
-rows_missing shelves slot le = rows_at 0 slot slot shelves (omega arith) ∙ ap (λ (k : Kept). k.rows) (no_shelf shelves slot le)
+rows_missing shelves slot le = rows_at slot shelves ∙ ap (λ (k : Kept). k.rows) (no_shelf shelves slot le)
 
 -- ---- one slot is changed
 pub length-set : (shelves : List Kept) (slot : ℕ) (s : Kept) → length (set shelves slot s) ≡ length shelves
@@ -78,11 +89,16 @@ length-set (k ∷ shelves) zero s = refl
 length-set (k ∷ shelves) (suc slot) s = ap suc (length-set shelves slot s)
 
 pub rows_set : (shelves : List Kept) (slot : ℕ) (s : Kept) → slot < length shelves → rows_in slot (rows_from 0 (set shelves slot s)) ≡ s.rows
-rows_set shelves slot s lt = rows_at 0 slot slot (set shelves slot s) (omega arith) ∙ ap (λ (k : Kept). k.rows) (get_or-set_same shelves slot s nothing lt)
+rows_set shelves slot s = part_set (λ (k : Kept). k.rows) shelves slot s refl
 
 pub rows_set_other : (shelves : List Kept) (slot other : ℕ) (s : Kept) → other ≢ slot → rows_in other (rows_from 0 (set shelves slot s)) ≡ rows_in other (rows_from 0 shelves)
-rows_set_other shelves slot other s differ =
-    rows_at 0 other other (set shelves slot s) (omega arith) ∙ ap (λ (k : Kept). k.rows) (get_or-set_other shelves slot other s nothing differ) ∙ sym (rows_at 0 other other shelves (omega arith))
+rows_set_other shelves slot other s = part_set_other (λ (k : Kept). k.rows) shelves slot other s refl
+
+pub ready_set_whole : (shelves : List Kept) (slot : ℕ) (s : Kept) → slot < length shelves → of_slot slot (ready_from 0 (set shelves slot s)) ≡ s.ready
+ready_set_whole shelves slot s = part_set (λ (k : Kept). k.ready) shelves slot s refl
+
+pub ready_set_other : (shelves : List Kept) (slot other : ℕ) (s : Kept) → other ≢ slot → of_slot other (ready_from 0 (set shelves slot s)) ≡ of_slot other (ready_from 0 shelves)
+ready_set_other shelves slot other s = part_set_other (λ (k : Kept). k.ready) shelves slot other s refl
 
 same_rows_from : (first : ℕ) (shelves : List Kept) (slot : ℕ) (s s' : Kept) → slot < length shelves → s ≡ get_or shelves slot s → s'.rows ≡ s.rows → rows_from first (set shelves slot s') ≡ rows_from first shelves
 same_rows_from first [] slot s s' lt read same = absurd (omega arith)
@@ -136,14 +152,14 @@ ready_not_before first slot key (k ∷ shelves) h = by (ready_not_before (suc fi
     by rest (inl here) = let found = Among-map (slotted first) (slotted slot key) k.ready here in let same : first ≡ slot = ap (λ p. p.0) found.2 in omega arith
     by rest (inr later) = let past = rest later in omega arith
 
-ready_of : (first slot n : ℕ) (key : List ℕ) (shelves : List Kept) → slot ≡ first + n → Among (slotted slot key) (ready_from first shelves) → Among key (get_or shelves n nothing).ready
-ready_of first slot n key [] at h = absurd h
-ready_of first slot zero key (k ∷ shelves) at h = by (Among-either (slotted slot key) (map (slotted first) k.ready) (ready_from (suc first) shelves) h)
+ready_back : (first slot n : ℕ) (key : List ℕ) (shelves : List Kept) → slot ≡ first + n → Among (slotted slot key) (ready_from first shelves) → Among key (get_or shelves n nothing).ready
+ready_back first slot n key [] at h = absurd h
+ready_back first slot zero key (k ∷ shelves) at h = by (Among-either (slotted slot key) (map (slotted first) k.ready) (ready_from (suc first) shelves) h)
   where
     by : Among (slotted slot key) (map (slotted first) k.ready) ⊎ Among (slotted slot key) (ready_from (suc first) shelves) → Among key k.ready
     by (inl here) = let found = Among-map (slotted first) (slotted slot key) k.ready here in subst (λ x. Among x k.ready) (ap (λ p. p.1) found.2) found.1
     by (inr later) = let past = ready_not_before (suc first) slot key shelves later in absurd (omega arith)
-ready_of first slot (suc n) key (k ∷ shelves) at h = by (ready_of (suc first) slot n key shelves (omega arith)) (Among-either (slotted slot key) (map (slotted first) k.ready) (ready_from (suc first) shelves) h)
+ready_back first slot (suc n) key (k ∷ shelves) at h = by (ready_back (suc first) slot n key shelves (omega arith)) (Among-either (slotted slot key) (map (slotted first) k.ready) (ready_from (suc first) shelves) h)
   where
     by : (Among (slotted slot key) (ready_from (suc first) shelves) → Among key (get_or shelves n nothing).ready) → Among (slotted slot key) (map (slotted first) k.ready) ⊎ Among (slotted slot key) (ready_from (suc first) shelves) → Among key (get_or shelves n nothing).ready
     by rest (inl here) = let found = Among-map (slotted first) (slotted slot key) k.ready here in let same : first ≡ slot = ap (λ p. p.0) found.2 in absurd (omega arith)
@@ -151,7 +167,7 @@ ready_of first slot (suc n) key (k ∷ shelves) at h = by (ready_of (suc first) 
 
 pub ready_read : (shelves : List Kept) (slot : ℕ) (key : List ℕ) (s : Kept) → slot < length shelves → s ≡ get_or shelves slot s → Contains (ready_from 0 shelves) (slotted slot key) → Contains s.ready key
 ready_read shelves slot key s lt read h =
-    Contains-from_Among _ _ (subst (λ (k : Kept). Among key k.ready) (same_default shelves slot nothing s lt ∙ sym read) (ready_of 0 slot slot key shelves (omega arith) (Among-from_Contains _ _ h)))
+    Contains-from_Among _ _ (subst (λ (k : Kept). Among key k.ready) (same_default shelves slot nothing s lt ∙ sym read) (ready_back 0 slot slot key shelves (omega arith) (Among-from_Contains _ _ h)))
 
 pub ready_set : (shelves : List Kept) (slot : ℕ) (key : List ℕ) (s : Kept) → slot < length shelves → Contains s.ready key → Contains (ready_from 0 (set shelves slot s)) (slotted slot key)
 ready_set shelves slot key s lt h =

@@ -17,12 +17,20 @@ pub record Contents : Type 0 where
   pub rows : List (ℕ × Dated)
   pub ready : List (ℕ × List ℕ)
 
+-- what is of one slot
+abbrev pub of_slot : {A : Type 0} → ℕ → List (ℕ × A) → List A
+of_slot slot all = filter_map (λ x. if nat_eq x.0 slot then Some x.1 else None) all
+
 -- the rows of one slot
 abbrev pub rows_in : ℕ → List (ℕ × Dated) → List Dated
-rows_in slot rows = filter_map (λ row. if nat_eq row.0 slot then Some row.1 else None) rows
+rows_in slot rows = of_slot slot rows
 
 abbrev pub rows_of : ℕ → Contents → List Dated
 rows_of slot store = rows_in slot store.rows
+
+-- the keys of one slot for which an `insert` needs no memory
+abbrev pub ready_of : ℕ → Contents → List (List ℕ)
+ready_of slot store = of_slot slot store.ready
 
 -- an `insert` of the slot and key needs no memory
 abbrev pub HasRoom : ℕ → List ℕ → Contents → Type 0

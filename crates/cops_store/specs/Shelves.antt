@@ -11,12 +11,15 @@ pub record Kept : Type 0 where
 abbrev pub nothing : Kept
 nothing = record { rows = []; ready = [] }
 
--- the rows with their slots; the first slot is `slot`
+-- a part of what is kept, with the slots; the first slot is `slot`
+abbrev pub part_from : {A : Type 0} → (Kept → List A) → ℕ → List Kept → List (ℕ × A)
+part_from part slot [] = []
+part_from part slot (k ∷ shelves) = map (λ x. (slot, x)) (part k) ++ part_from part (suc slot) shelves
+
+-- the rows with their slots
 abbrev pub rows_from : ℕ → List Kept → List (ℕ × Dated)
-rows_from slot [] = []
-rows_from slot (k ∷ shelves) = map (λ row. (slot, row)) k.rows ++ rows_from (suc slot) shelves
+rows_from slot shelves = part_from (λ k. k.rows) slot shelves
 
 -- the keys with their slots
 abbrev pub ready_from : ℕ → List Kept → List (ℕ × List ℕ)
-ready_from slot [] = []
-ready_from slot (k ∷ shelves) = map (λ key. (slot, key)) k.ready ++ ready_from (suc slot) shelves
+ready_from slot shelves = part_from (λ k. k.ready) slot shelves

@@ -56,6 +56,13 @@ impl Shelf {
         }
     }
 
+    // Drops all that is kept, notes and counts too, and gives its memory back. It asks for none.
+    pub(crate) fn clear(&mut self, alloc: Global, seeds: Seeds)
+        ensures { self.new ≡ nothing }
+    {
+        *self = Shelf::new(alloc, seeds);
+    }
+
     // The record of the key with the greatest version.
     pub(crate) fn latest(&self, key: &Key) -> Option<&Record>
         ensures { (tracked : List Tracked) → StandsFor self.now.rows tracked → option_copied result ≡ latest_record key.now tracked }

@@ -9,7 +9,8 @@ use Rattle.cops_store.specs.Tables.{chains_of, all_rows, staying, collect_chains
 use Rattle.cops_store.proofs.Lists.{IsPermutation-same}
 use Rattle.cops_store.proofs.Versions.{AreLeft-collected, has_top}
 use Rattle.cops_store.proofs.Tables.{keys_of_chains, tops_of_all}
-use Rattle.cops_store.proofs.Collections.{cleaned_by_all, all_stay, rows_cleaned, shelf_cleaned, freed_is_ripe}
+use Rattle.cops_store.proofs.Collections.{cleaned_by_all, all_stay, rows_cleaned, freed_is_ripe}
+use Rattle.cops_store.proofs.Founded.{shelf_cleaned}
 use Rattle.cops_store.proofs.shelf.Shelf.collect.Goals as goal
 
 pub clean-freed-requires-clause-unique : goal.clean-freed-requires-clause-unique

@@ -5,7 +5,7 @@ use Rattle.cops_types.specs.Key.{key_eq}
 use Rattle.cops_types.specs.Records.{ever}
 use Rattle.cops_store.specs.Contents.{use_of, refusal, size_of}
 use Rattle.cops_store.proofs.Meaning.{flags, to_left, from_next}
-use Rattle.cops_store.specs.Tables.{with_record, IsShelf, AreNoted, chains_of}
+use Rattle.cops_store.specs.Tables.{with_record, IsShelf, AreNoted, AreFounded, chains_of}
 use Rattle.cops_store.proofs.Versions.{AreLeft-next}
 use Rattle.cops_store.proofs.Tables.{keys_of_chains}
 use Rattle.cops_store.proofs.Shelves.{next_rows, next_shelf, refused_is, not_refused}
@@ -24,7 +24,7 @@ invariant_of-self-2 c =
     let unique = subst (IsDistinct key_eq) (sym (keys_of_chains c.make_room.new.table.entries)) c.make_room.ensures.unique in
     subst (λ m. IsShelf (record { records = c.self.inside.used.records + 1; bytes = c.self.inside.used.bytes + m }) c.put.new.due.items (chains_of c.put.new.table.entries)) (sym c.size-size.ensures)
     (next_shelf c.self.inside.used c.self.inside.due.items c.put.new.due.items c.key-key.result n (chains_of c.self.inside.table.entries) (chains_of c.make_room.new.table.entries) (chains_of c.put.new.table.entries)
-    c.self.invariant c.in_ok-i.ensures.chains unique (sym c.key-key.ensures) (c.put.ensures.chains ∙ ap (λ (r : Record). with_record c.key-key.result r (chains_of c.make_room.new.table.entries)) c.committed-kept.ensures) (λ h. c.put.ensures.noted (subst (λ d. AreNoted d (chains_of c.make_room.new.table.entries)) (sym c.make_room.ensures.due) h)) c.args.self.now.rows (ap (λ v. v.rows) c.self.view_is) c.requires.new_version)
+    c.self.invariant c.in_ok-i.ensures.chains unique (sym c.key-key.ensures) (c.put.ensures.chains ∙ ap (λ (r : Record). with_record c.key-key.result r (chains_of c.make_room.new.table.entries)) c.committed-kept.ensures) (λ h. c.put.ensures.noted (subst (λ d. AreNoted d (chains_of c.make_room.new.table.entries)) (sym c.make_room.ensures.due) h)) (λ h. c.put.ensures.founded (subst (λ d. AreFounded d (chains_of c.make_room.new.table.entries)) (sym c.make_room.ensures.due) h)) c.args.self.now.rows (ap (λ v. v.rows) c.self.view_is) c.requires.new_version)
 
 pub returns-clause-stands_for : goal.returns-clause-stands_for
 returns-clause-stands_for c = λ tracked stands late.
@@ -32,7 +32,7 @@ returns-clause-stands_for c = λ tracked stands late.
     let unique = subst (IsDistinct key_eq) (sym (keys_of_chains c.make_room.new.table.entries)) c.make_room.ensures.unique in
     from_next _ tracked n (AreLeft-next c.args.self.now.rows _ (ever tracked) (flags tracked) n (to_left _ tracked stands) late
     (next_rows c.self.inside.used c.self.inside.due.items c.put.new.due.items c.key-key.result n (chains_of c.self.inside.table.entries) (chains_of c.make_room.new.table.entries) (chains_of c.put.new.table.entries)
-    c.self.invariant c.in_ok-i.ensures.chains unique (sym c.key-key.ensures) (c.put.ensures.chains ∙ ap (λ (r : Record). with_record c.key-key.result r (chains_of c.make_room.new.table.entries)) c.committed-kept.ensures) (λ h. c.put.ensures.noted (subst (λ d. AreNoted d (chains_of c.make_room.new.table.entries)) (sym c.make_room.ensures.due) h)) c.args.self.now.rows (ap (λ v. v.rows) c.self.view_is) c.requires.new_version))
+    c.self.invariant c.in_ok-i.ensures.chains unique (sym c.key-key.ensures) (c.put.ensures.chains ∙ ap (λ (r : Record). with_record c.key-key.result r (chains_of c.make_room.new.table.entries)) c.committed-kept.ensures) (λ h. c.put.ensures.noted (subst (λ d. AreNoted d (chains_of c.make_room.new.table.entries)) (sym c.make_room.ensures.due) h)) (λ h. c.put.ensures.founded (subst (λ d. AreFounded d (chains_of c.make_room.new.table.entries)) (sym c.make_room.ensures.due) h)) c.args.self.now.rows (ap (λ v. v.rows) c.self.view_is) c.requires.new_version))
 
 pub returns-in-Some-clause-refused : goal.returns-in-Some-clause-refused
 returns-in-Some-clause-refused c =
