@@ -3,6 +3,7 @@ use Rattle.std.specs.Prelude.{◌≡◌, ℕ, Bool, false, ◌<◌, ◌==◌, Li
 use Rattle.cops_context.specs.Lists.{Lists}
 use Rattle.cops_handles.specs.Rows.{Rows, row_at}
 use Rattle.cops_handles.specs.declared.tables.Open.{Open}
+use Rattle.cops_node.specs.Shape.{Shape}
 use Rattle.cops_session.specs.declared.ongoing.Ongoing.{Ongoing}
 use Rattle.cops_session.specs.declared.ongoing.Work.{Work}
 use Rattle.cops_session.specs.declared.ongoing.Work.TheVariants.{Put, Get}
@@ -19,6 +20,12 @@ pub record KeptSession : Type 0 where
 -- the data centre exists, and so do shards
 pub record IsPlaced (setting : Setting) : Type 0 where
   pub dc_exists : setting.dc < setting.data_centres
+  pub some_shard : 0 < setting.shards
+
+-- the session's data centre is one of the nodes', and its shards are theirs
+pub record IsAmong (shape : Shape) (setting : Setting) : Type 0 where
+  pub dc_exists : setting.dc < shape.data_centres
+  pub shards_are : setting.shards ≡ shape.shards
   pub some_shard : 0 < setting.shards
 
 -- the context is open

@@ -6,6 +6,7 @@ ghost use Rattle.cops_node.specs.declared.NodeCall.{NodeCall};
 ghost use Rattle.cops_node.specs.declared.NodeId.{NodeId};
 ghost use Rattle.cops_node.specs.declared.NodeReply.{NodeReply};
 ghost use Rattle.cops_node.specs.Log.{LogStep};
+ghost use Rattle.cops_session.specs.Kept.{IsAmong};
 ghost use Rattle.cops_session.specs.Reading.{IsReading, RoundStandsFor, is_past};
 ghost use Rattle.cops_session.specs.Stands.{IsFirstOf};
 ghost use Rattle.cops_session.specs.Request.{Fetch, next};
@@ -77,9 +78,7 @@ fn read_first<N: Nodes>(
     start: Option<u64>,
     moment: u64,
 ) -> ReadStep
-    requires dc { setting.dc < (N.shape nodes.old).data_centres }
-    requires shards { setting.shards ≡ (N.shape nodes.old).shards }
-    requires some_shard { 0 < setting.shards }
+    requires among { IsAmong (N.shape nodes.old) setting }
     requires in_time { is_past setting.trans_time start moment ≡ false }
     ensures turned { (config : TenantConfig) (obs : List Observation) (keys : List (List ℕ)) (log : List LogStep) → IsSettingOf config setting →
         IsReading config (record { dc = setting.dc; obs = obs; action = Fetch keys }) keys log (record { restarts = restarts; start = start; round = First round }) →
@@ -126,9 +125,7 @@ fn read_second<N: Nodes>(
     start: Option<u64>,
     moment: u64,
 ) -> ReadStep
-    requires dc { setting.dc < (N.shape nodes.old).data_centres }
-    requires shards { setting.shards ≡ (N.shape nodes.old).shards }
-    requires some_shard { 0 < setting.shards }
+    requires among { IsAmong (N.shape nodes.old) setting }
     requires in_time { is_past setting.trans_time start moment ≡ false }
     ensures turned { (config : TenantConfig) (obs : List Observation) (keys : List (List ℕ)) (log : List LogStep) → IsSettingOf config setting →
         IsReading config (record { dc = setting.dc; obs = obs; action = Fetch keys }) keys log (record { restarts = restarts; start = start; round = Second round }) →
@@ -182,9 +179,7 @@ pub(crate) fn read_step<N: Nodes>(
     reading: Reading,
     moment: u64,
 ) -> ReadStep
-    requires dc { setting.dc < (N.shape nodes.old).data_centres }
-    requires shards { setting.shards ≡ (N.shape nodes.old).shards }
-    requires some_shard { 0 < setting.shards }
+    requires among { IsAmong (N.shape nodes.old) setting }
     ensures turned { (config : TenantConfig) (obs : List Observation) (keys : List (List ℕ)) (log : List LogStep) → IsSettingOf config setting →
         IsReading config (record { dc = setting.dc; obs = obs; action = Fetch keys }) keys log reading →
         TurnsNext (λ id call reply. N.Answers nodes.old id setting.slot moment call reply nodes.new) (nodes.new ≡ nodes.old)

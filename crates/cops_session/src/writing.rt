@@ -2,6 +2,7 @@ ghost use Rattle.std.specs.Prelude.{◌≡◌, ◌<◌};
 ghost use Rattle.cops_types.specs.Key.{shard_of};
 ghost use Rattle.cops_node.specs.declared.NodeCall.TheVariants.{Put};
 ghost use Rattle.cops_node.specs.declared.NodeReply.{NodeReply};
+ghost use Rattle.cops_session.specs.Kept.{IsAmong};
 ghost use Rattle.cops_session.specs.Writing.{answer_to_put};
 
 use crate::Answer;
@@ -28,9 +29,7 @@ pub(crate) fn write_step<N: Nodes>(
     writing: PendingPut,
     moment: u64,
 ) -> Answer
-    requires dc { setting.dc < (N.shape nodes.old).data_centres }
-    requires shards { setting.shards ≡ (N.shape nodes.old).shards }
-    requires some_shard { 0 < setting.shards }
+    requires among { IsAmong (N.shape nodes.old) setting }
     ensures called { (reply : NodeReply)
         × N.Answers nodes.old (record { dc = setting.dc; shard = shard_of writing.key setting.shards }) setting.slot moment (Put writing.key writing.value writing.deps writing.near) reply nodes.new
         × (result ≡ answer_to_put writing.key reply) }
