@@ -1,15 +1,21 @@
 -- What tells whether a line says a record, where none is made of it.
-use Rattle.std.specs.Prelude.{ℕ, Bool, true, false, ◌&&◌, ◌%◌, ◌==◌, nat_lt, nat_le, length, if◌then◌else◌, List, [], ◌∷◌, codes, Option, Some, None}
+use Rattle.std.specs.Prelude.{◌≡◌, ◌⊎◌, ◌<◌, ℕ, Bool, true, false, ◌&&◌, ◌+◌, ◌*◌, ◌^◌, ◌%◌, ◌==◌, nat_lt, nat_le, length, if◌then◌else◌, List, [], ◌∷◌, ◌++◌, codes, decimal, Option, Some, None}
 use Rattle.std.specs.List.{list_all}
 use Rattle.std.specs.Option.{is_some, option_and_then, option_map}
 use Rattle.std.specs.Ordering.{is_lt}
 use Rattle.std.specs.declared.cmp.Ordering.{Ordering}
 use Rattle.std.specs.Str.{bytes_eq}
 use Rattle.cops_types.specs.declared.pairs.Pair.{Pair}
-use Rattle.cops_types.specs.Key.{key_cmp}
+use Rattle.cops_types.specs.Key.{is_key, key_cmp}
+use Rattle.cops_types.specs.Layout.{version_of_number}
+use Rattle.cops_types.specs.OldHead.{last_old_clock}
+use Rattle.cops_types.specs.PairForms.{is_version}
 use Rattle.cops_types.specs.Search.{is_rising}
 use Rattle.cops_types.specs.Version.{Timestamp}
-use Rattle.cops_types.specs.Words.{number_of}
+use Rattle.cops_types.specs.Words.{is_u64, number_of, parts_at}
+use Rattle.cops_replay.specs.declared.layouts.Layout.{Layout}
+use Rattle.cops_replay.specs.declared.layouts.Layout.TheVariants.{Today, Early, Old}
+use Rattle.cops_replay.specs.OldRecords.{is_early, old_nodes}
 use Rattle.cops_replay.specs.RecordLines.{bare_reply, sign_of}
 use Rattle.cops_replay.specs.RecordWords.{Read, Versions, deps_of, digit_of, done_with, kept_if, key_in, name_of, near_of, next_as, node_of, pair_of, then_read, value_in, wanted_of}
 
@@ -25,9 +31,48 @@ has_count word = nat_lt 0 (length word) && (length word % 2 == 0) && nat_le (len
 abbrev pub both_numbers : Option ℕ → Option ℕ → Option (ℕ × ℕ)
 both_numbers first second = option_and_then (λ n. option_map (λ m. (n, m)) second) first
 
+-- the version of two numbers today
+abbrev pub todays_version : ℕ × ℕ → Option Timestamp
+todays_version both = let version : Timestamp = record { clock = both.0; node = both.1 } in kept_if (is_version version) version
+
+-- the version of two numbers, in a layout
+abbrev pub version_by : Layout → ℕ × ℕ → Option Timestamp
+version_by Today both = todays_version both
+version_by Early both = option_and_then (λ (version : Timestamp). kept_if (is_early version) version) (todays_version both)
+version_by Old both = kept_if (nat_le both.0 last_old_clock && nat_lt both.1 old_nodes) (version_of_number (both.0 * old_nodes + both.1))
+
 -- the pair of a key and a version
 abbrev pub pair_told : List ℕ → Timestamp → Pair
 pair_told key version = record { key = key; version = version }
+
+-- the bytes begin with this number, and these stand behind it
+abbrev pub StartsWithNumber : List ℕ → ℕ → List ℕ → Type 0
+StartsWithNumber bytes n rest = (is_u64 n ≡ true) × (bytes ≡ decimal n ++ rest)
+
+-- the bytes begin with these two numbers and a dot between, and these stand behind them
+abbrev pub StartsWithNumbers : List ℕ → ℕ → ℕ → List ℕ → Type 0
+StartsWithNumbers bytes n m rest = (is_u64 n ≡ true) × (is_u64 m ≡ true) × (bytes ≡ decimal n ++ (46 ∷ (decimal m ++ rest)))
+
+-- the bytes begin with a number below this power of ten, and these stand behind it
+abbrev pub StartsWithShortNumber : ℕ → List ℕ → List ℕ → Type 0
+StartsWithShortNumber most bytes rest = (n : ℕ) × (n < 10 ^ most) × StartsWithNumber bytes n rest
+
+-- the bytes begin with two numbers and a dot between, the first below a hundred million millions and the second below a hundred
+abbrev pub StartsWithShortVersion : List ℕ → List ℕ → Type 0
+StartsWithShortVersion bytes rest = (n : ℕ) × (m : ℕ) × (n < 10 ^ 14) × (m < 10 ^ 2) × StartsWithNumbers bytes n m rest
+
+-- a part is over before these bytes, and these parts come after it
+abbrev pub PartIsOver : ℕ → List ℕ → List (List ℕ) → Type 0
+PartIsOver separator bytes more = ((bytes ≡ []) × (more ≡ [])) ⊎ (rest : List ℕ) × (bytes ≡ separator ∷ rest) × (more ≡ parts_at separator rest)
+
+-- the first part of a list says this pair, and these are the parts after it
+abbrev pub StartsWithPair : Versions → List ℕ → Pair → List (List ℕ) → Type 0
+StartsWithPair versions list pair more = (part : List ℕ) × (parts_at 44 list ≡ part ∷ more) × (pair_of versions part ≡ Some pair)
+
+-- the first part of a list says a pair whose key is this one and above the last, and these are the parts after it
+abbrev pub StartsWithKeyAbove : Versions → List ℕ → List ℕ → List ℕ → List (List ℕ) → Type 0
+StartsWithKeyAbove versions last list key more =
+    (version : Timestamp) × StartsWithPair versions list (pair_told key version) more × (is_key key ≡ true) × (is_lt (key_cmp last key) ≡ true)
 
 -- the pairs, where each is below the next
 abbrev pub kept_pairs : (Pair → Pair → Ordering) → Option (List Pair) → Option (List Pair)
@@ -62,6 +107,10 @@ Checked = Read (Unit {0})
 -- the first word says something
 abbrev pub checked_as : {A : Type 0} → (List ℕ → Option A) → List (List ℕ) → Checked
 checked_as said words = next_as (λ word. kept_if (is_some (said word)) tt) words
+
+-- the first word says something, and these are the words after it
+abbrev pub HasPassed : {A : Type 0} → (List ℕ → Option A) → List (List ℕ) → List (List ℕ) → Type 0
+HasPassed said words rest = checked_as said words ≡ Some (tt, rest)
 
 -- and then more
 abbrev pub then_checked : (List (List ℕ) → Checked) → Checked → Checked

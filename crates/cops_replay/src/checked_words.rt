@@ -1,8 +1,8 @@
 //! Whether single words of a record line say what they are to, where nothing is made of it.
-ghost use Rattle.std.specs.Prelude.{◌≡◌, Some, None, IfSome, IfNone};
-ghost use Rattle.std.specs.Option.{is_some};
+ghost use Rattle.std.specs.Prelude.{◌≡◌, ◌<◌, true, [], Some, None, IfSome, IfNone, length};
+ghost use Rattle.std.specs.Option.{is_some, option_map_or};
 ghost use Rattle.std.specs.Ordering.{is_lt, on};
-ghost use Rattle.cops_types.specs.Key.{key_cmp};
+ghost use Rattle.cops_types.specs.Key.{is_key as is_key_text, key_cmp};
 ghost use Rattle.cops_types.specs.Pairs.{pair_cmp};
 ghost use Rattle.cops_types.specs.Words.{number_of, parts_at};
 ghost use Rattle.cops_replay.specs.OldRecords.{versions_in};
@@ -12,6 +12,7 @@ ghost use Rattle.cops_replay.specs.RecordWords.{all_pairs_of, deps_of, digit_of,
 use crate::layouts::Layout;
 use crate::parts::Parts;
 use crate::said;
+use crate::scanning::{FrontKey, FrontPair, are_keys_rising, front_pair, key_above};
 use cops_types::Version;
 use cops_types::words::parse_number;
 use std::cmp::Ordering;
@@ -124,13 +125,6 @@ fn pair_parts<'a>(layout: Layout, part: &'a [u8]) -> Option<(&'a [u8], Version)>
     Some((key, version))
 }
 
-/// Whether the first key is below the second.
-fn are_keys_rising(key: &[u8], next: &[u8]) -> bool
-    ensures { result ≡ is_lt (key_cmp key.now next.now) }
-{
-    key.cmp(next).is_lt()
-}
-
 /// Whether the first pair is below the second.
 fn are_pairs_rising(key: &[u8], version: Version, next: &[u8], later: Version) -> bool
     ensures { result ≡ is_lt (pair_cmp (pair_told key.now version) (pair_told next.now later)) }
@@ -209,20 +203,121 @@ fn are_rising(layout: Layout, parts: &mut Parts) -> bool
     go_on_with_pairs(layout, key, version, parts)
 }
 
+/// The pair at the front of a list, where it is seen in one pass and its key is above this one.
+#[inline(always)]
+fn front_key_above<'a>(layout: Layout, last: &[u8], bytes: &'a [u8]) -> Option<FrontKey<'a>>
+    requires { is_key_text last.now ≡ true }
+    ensures key { IfSome result (λ found. is_key_text found.key.now ≡ true) }
+    ensures same { IfSome result (λ found. keys_rise_from (versions_in layout) last.now (parts_at 44 bytes.now)
+        ≡ keys_rise_from (versions_in layout) found.key.now (option_map_or (λ rest. parts_at 44 rest.now) found.rest [])) }
+    ensures fewer { IfSome result (λ found. length (option_map_or (λ rest. parts_at 44 rest.now) found.rest []) < length (parts_at 44 bytes.now)) }
+{
+    let found = key_above(layout, last, bytes)?;
+    Some(found)
+}
+
+/// The pair at the front of a list, where it is seen in one pass and above this one.
+#[inline(always)]
+fn front_pair_above<'a>(
+    layout: Layout,
+    last: &[u8],
+    latest: Version,
+    bytes: &'a [u8],
+) -> Option<FrontPair<'a>>
+    ensures same { IfSome result (λ found. rise_from (versions_in layout) pair_cmp (pair_told last.now latest) (parts_at 44 bytes.now)
+        ≡ rise_from (versions_in layout) pair_cmp (pair_told found.key.now found.version) (option_map_or (λ rest. parts_at 44 rest.now) found.rest [])) }
+    ensures fewer { IfSome result (λ found. length (option_map_or (λ rest. parts_at 44 rest.now) found.rest []) < length (parts_at 44 bytes.now)) }
+{
+    let Some(found) = front_pair(layout, bytes) else {
+        return None;
+    };
+    if are_pairs_rising(last, latest, found.key, found.version) {
+        Some(found)
+    } else {
+        None
+    }
+}
+
+/// Whether what stands here are pairs with rising keys, the first above this one.
+fn keys_rise_in<'a>(layout: Layout, last: &'a [u8], bytes: &'a [u8]) -> bool
+    ensures { result ≡ keys_rise_from (versions_in layout) last.now (parts_at 44 bytes.now) }
+{
+    let mut parts = Parts::of(b',', bytes);
+    go_on_with_keys(layout, last, &mut parts)
+}
+
+/// Whether what stands here are rising pairs, the first above this one.
+fn pairs_rise_in<'a>(layout: Layout, last: &'a [u8], latest: Version, bytes: &'a [u8]) -> bool
+    ensures { result ≡ rise_from (versions_in layout) pair_cmp (pair_told last.now latest) (parts_at 44 bytes.now) }
+{
+    let mut parts = Parts::of(b',', bytes);
+    go_on_with_pairs(layout, last, latest, &mut parts)
+}
+
+/// Whether what stands here are pairs with rising keys, the first above this one.
+fn go_on_with_front_keys<'a>(layout: Layout, key: &'a [u8], rest: Option<&'a [u8]>) -> bool
+    requires { is_key_text key.now ≡ true }
+    ensures { result ≡ keys_rise_from (versions_in layout) key.now (option_map_or (λ bytes. parts_at 44 bytes.now) rest.entry []) }
+{
+    let mut last = key;
+    let mut left = rest;
+    while let Some(bytes) = left {
+        let Some(found) = front_key_above(layout, last, bytes) else {
+            return keys_rise_in(layout, last, bytes);
+        };
+        last = found.key;
+        left = found.rest;
+    }
+    true
+}
+
+/// Whether what stands here are rising pairs, the first above this one.
+fn go_on_with_front_pairs<'a>(
+    layout: Layout,
+    key: &'a [u8],
+    version: Version,
+    rest: Option<&'a [u8]>,
+) -> bool
+    ensures { result ≡ rise_from (versions_in layout) pair_cmp (pair_told key.now version) (option_map_or (λ bytes. parts_at 44 bytes.now) rest.entry []) }
+{
+    let mut last = key;
+    let mut latest = version;
+    let mut left = rest;
+    while let Some(bytes) = left {
+        let Some(found) = front_pair_above(layout, last, latest, bytes) else {
+            return pairs_rise_in(layout, last, latest, bytes);
+        };
+        last = found.key;
+        latest = found.version;
+        left = found.rest;
+    }
+    true
+}
+
 /// Whether the word is a list of one pair and more, with rising keys.
 fn are_some_deps(layout: Layout, word: &[u8]) -> bool
     ensures { result ≡ is_some (kept_pairs (on (λ p. p.key) key_cmp) (all_pairs_of (versions_in layout) (parts_at 44 word.now))) }
 {
-    let mut parts = Parts::of(b',', word);
-    have_rising_keys(layout, &mut parts)
+    match front_pair(layout, word) {
+        Some(found) => go_on_with_front_keys(layout, found.key, found.rest),
+        None => {
+            let mut parts = Parts::of(b',', word);
+            have_rising_keys(layout, &mut parts)
+        }
+    }
 }
 
 /// Whether the word is a list of one pair and more, which rise.
 fn are_some_near(layout: Layout, word: &[u8]) -> bool
     ensures { result ≡ is_some (kept_pairs pair_cmp (all_pairs_of (versions_in layout) (parts_at 44 word.now))) }
 {
-    let mut parts = Parts::of(b',', word);
-    are_rising(layout, &mut parts)
+    match front_pair(layout, word) {
+        Some(found) => go_on_with_front_pairs(layout, found.key, found.version, found.rest),
+        None => {
+            let mut parts = Parts::of(b',', word);
+            are_rising(layout, &mut parts)
+        }
+    }
 }
 
 /// Whether the word is a list of pairs with rising keys.

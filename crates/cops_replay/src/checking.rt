@@ -9,13 +9,17 @@ ghost use Rattle.cops_types.specs.Words.{number_of};
 
 use crate::checked_words as word;
 use crate::layouts::Layout;
+use crate::line_words::LineWords;
 use crate::reading::bare_reply;
-use cops_types::words::Words;
 
 /// The next word, as a key.
-fn next_key(words: &mut Words) -> Option<()>
+#[inline(always)]
+fn next_key(words: &mut LineWords) -> Option<()>
     ensures { HasRead (checked_as key_in) words.old result words.new }
 {
+    if words.pass_key() {
+        return Some(());
+    }
     if word::is_key(words.next_word()?) {
         Some(())
     } else {
@@ -24,9 +28,13 @@ fn next_key(words: &mut Words) -> Option<()>
 }
 
 /// The next word, as a name.
-fn next_name(words: &mut Words) -> Option<()>
+#[inline(always)]
+fn next_name(words: &mut LineWords) -> Option<()>
     ensures { HasRead (checked_as name_of) words.old result words.new }
 {
+    if words.pass_name() {
+        return Some(());
+    }
     if word::is_name(words.next_word()?) {
         Some(())
     } else {
@@ -35,9 +43,13 @@ fn next_name(words: &mut Words) -> Option<()>
 }
 
 /// The next word, as a number.
-fn next_number(words: &mut Words) -> Option<()>
+#[inline(always)]
+fn next_number(words: &mut LineWords) -> Option<()>
     ensures { HasRead (checked_as number_of) words.old result words.new }
 {
+    if words.pass_number() {
+        return Some(());
+    }
     if word::is_number(words.next_word()?) {
         Some(())
     } else {
@@ -46,9 +58,13 @@ fn next_number(words: &mut Words) -> Option<()>
 }
 
 /// The next word, as a node.
-fn next_node(words: &mut Words) -> Option<()>
+#[inline(always)]
+fn next_node(words: &mut LineWords) -> Option<()>
     ensures { HasRead (checked_as node_of) words.old result words.new }
 {
+    if words.pass_node() {
+        return Some(());
+    }
     if word::is_node(words.next_word()?) {
         Some(())
     } else {
@@ -57,9 +73,13 @@ fn next_node(words: &mut Words) -> Option<()>
 }
 
 /// The next word, as a version.
-fn next_version(layout: Layout, words: &mut Words) -> Option<()>
+#[inline(always)]
+fn next_version(layout: Layout, words: &mut LineWords) -> Option<()>
     ensures { HasRead (checked_as (versions_in layout)) words.old result words.new }
 {
+    if words.pass_version(layout) {
+        return Some(());
+    }
     if word::is_version(layout, words.next_word()?) {
         Some(())
     } else {
@@ -68,7 +88,7 @@ fn next_version(layout: Layout, words: &mut Words) -> Option<()>
 }
 
 /// The next word, as which version is asked for.
-fn next_wanted(layout: Layout, words: &mut Words) -> Option<()>
+fn next_wanted(layout: Layout, words: &mut LineWords) -> Option<()>
     ensures { HasRead (checked_as (wanted_of (versions_in layout))) words.old result words.new }
 {
     if word::is_wanted(layout, words.next_word()?) {
@@ -79,7 +99,7 @@ fn next_wanted(layout: Layout, words: &mut Words) -> Option<()>
 }
 
 /// The next word, as a value.
-fn next_value(words: &mut Words) -> Option<()>
+fn next_value(words: &mut LineWords) -> Option<()>
     ensures { HasRead (checked_as value_in) words.old result words.new }
 {
     if word::is_value(words.next_word()?) {
@@ -90,7 +110,7 @@ fn next_value(words: &mut Words) -> Option<()>
 }
 
 /// The next word, as dependencies.
-fn next_deps(layout: Layout, words: &mut Words) -> Option<()>
+fn next_deps(layout: Layout, words: &mut LineWords) -> Option<()>
     ensures { HasRead (checked_as (deps_of (versions_in layout))) words.old result words.new }
 {
     if word::are_deps(layout, words.next_word()?) {
@@ -101,7 +121,7 @@ fn next_deps(layout: Layout, words: &mut Words) -> Option<()>
 }
 
 /// The next word, as nearest dependencies.
-fn next_near(layout: Layout, words: &mut Words) -> Option<()>
+fn next_near(layout: Layout, words: &mut LineWords) -> Option<()>
     ensures { HasRead (checked_as (near_of (versions_in layout))) words.old result words.new }
 {
     if word::are_near(layout, words.next_word()?) {
@@ -112,7 +132,7 @@ fn next_near(layout: Layout, words: &mut Words) -> Option<()>
 }
 
 /// The parts of an entry.
-fn next_entry(layout: Layout, words: &mut Words) -> Option<()>
+fn next_entry(layout: Layout, words: &mut LineWords) -> Option<()>
     ensures { HasRead (entry_checked (versions_in layout)) words.old result words.new }
 {
     next_key(words)?;
@@ -124,7 +144,7 @@ fn next_entry(layout: Layout, words: &mut Words) -> Option<()>
 }
 
 /// What follows `get`.
-fn get_after(layout: Layout, words: &mut Words) -> Option<()>
+fn get_after(layout: Layout, words: &mut LineWords) -> Option<()>
     ensures { HasRead (get_checked (versions_in layout)) words.old result words.new }
 {
     next_key(words)?;
@@ -132,7 +152,7 @@ fn get_after(layout: Layout, words: &mut Words) -> Option<()>
 }
 
 /// What follows `put`.
-fn put_after(layout: Layout, words: &mut Words) -> Option<()>
+fn put_after(layout: Layout, words: &mut LineWords) -> Option<()>
     ensures { HasRead (put_checked (versions_in layout)) words.old result words.new }
 {
     next_key(words)?;
@@ -142,7 +162,7 @@ fn put_after(layout: Layout, words: &mut Words) -> Option<()>
 }
 
 /// What follows `check`.
-fn check_after(layout: Layout, words: &mut Words) -> Option<()>
+fn check_after(layout: Layout, words: &mut LineWords) -> Option<()>
     ensures { HasRead (check_checked (versions_in layout)) words.old result words.new }
 {
     next_key(words)?;
@@ -150,7 +170,7 @@ fn check_after(layout: Layout, words: &mut Words) -> Option<()>
 }
 
 /// What follows `ack`.
-fn ack_after(layout: Layout, words: &mut Words) -> Option<()>
+fn ack_after(layout: Layout, words: &mut LineWords) -> Option<()>
     ensures { HasRead (ack_checked (versions_in layout)) words.old result words.new }
 {
     next_number(words)?;
@@ -158,7 +178,7 @@ fn ack_after(layout: Layout, words: &mut Words) -> Option<()>
 }
 
 /// The call of a verb and the words after it.
-fn call_after(layout: Layout, verb: &[u8], words: &mut Words) -> Option<()>
+fn call_after(layout: Layout, verb: &[u8], words: &mut LineWords) -> Option<()>
     ensures { HasRead (call_of_verb_checked (versions_in layout) verb.now) words.old result words.new }
 {
     if verb == b"get".as_slice() {
@@ -186,7 +206,7 @@ fn call_after(layout: Layout, verb: &[u8], words: &mut Words) -> Option<()>
 }
 
 /// A call.
-fn next_call(layout: Layout, words: &mut Words) -> Option<()>
+fn next_call(layout: Layout, words: &mut LineWords) -> Option<()>
     ensures { HasRead (call_checked (versions_in layout)) words.old result words.new }
 {
     let verb = words.next_word()?;
@@ -194,7 +214,7 @@ fn next_call(layout: Layout, words: &mut Words) -> Option<()>
 }
 
 /// What follows `found`.
-fn found_after(layout: Layout, words: &mut Words) -> Option<()>
+fn found_after(layout: Layout, words: &mut LineWords) -> Option<()>
     ensures { HasRead (found_checked (versions_in layout)) words.old result words.new }
 {
     next_version(layout, words)?;
@@ -203,7 +223,7 @@ fn found_after(layout: Layout, words: &mut Words) -> Option<()>
 }
 
 /// The reply of a first word and the words after it.
-fn reply_after(layout: Layout, verb: &[u8], words: &mut Words) -> Option<()>
+fn reply_after(layout: Layout, verb: &[u8], words: &mut LineWords) -> Option<()>
     ensures { HasRead (reply_of_verb_checked (versions_in layout) verb.now) words.old result words.new }
 {
     if verb == b"found".as_slice() {
@@ -232,7 +252,7 @@ fn reply_after(layout: Layout, verb: &[u8], words: &mut Words) -> Option<()>
 }
 
 /// A reply.
-fn next_reply(layout: Layout, words: &mut Words) -> Option<()>
+fn next_reply(layout: Layout, words: &mut LineWords) -> Option<()>
     ensures { HasRead (reply_checked (versions_in layout)) words.old result words.new }
 {
     let verb = words.next_word()?;
@@ -240,7 +260,7 @@ fn next_reply(layout: Layout, words: &mut Words) -> Option<()>
 }
 
 /// The next word, as the sign between call and reply.
-fn next_sign(words: &mut Words) -> Option<()>
+fn next_sign(words: &mut LineWords) -> Option<()>
     ensures { HasRead (checked_as sign_of) words.old result words.new }
 {
     if words.next_word()? == b"=".as_slice() {
@@ -251,7 +271,7 @@ fn next_sign(words: &mut Words) -> Option<()>
 }
 
 /// All words after the tenant's name.
-fn next_told(layout: Layout, words: &mut Words) -> Option<()>
+fn next_told(layout: Layout, words: &mut LineWords) -> Option<()>
     ensures { HasRead (told_checked (versions_in layout)) words.old result words.new }
 {
     next_node(words)?;
@@ -262,7 +282,7 @@ fn next_told(layout: Layout, words: &mut Words) -> Option<()>
 }
 
 /// All words.
-fn next_line(layout: Layout, words: &mut Words) -> Option<()>
+fn next_line(layout: Layout, words: &mut LineWords) -> Option<()>
     ensures { HasRead (line_checked (versions_in layout)) words.old result words.new }
 {
     next_name(words)?;
@@ -273,7 +293,7 @@ fn next_line(layout: Layout, words: &mut Words) -> Option<()>
 pub(crate) fn is_record(layout: Layout, line: &[u8]) -> bool
     ensures { result ≡ is_some (record_by (versions_in layout) line.now) }
 {
-    let mut words = Words::of(line);
+    let mut words = LineWords::of(line);
     match next_line(layout, &mut words) {
         Some(()) => words.is_empty(),
         None => false,

@@ -4,6 +4,7 @@ ghost use Rattle.cops_types.specs.Head.{AtStart};
 ghost use Rattle.cops_types.specs.LineAnswers.{Answers, IfRefused};
 ghost use Rattle.cops_replay.specs.AuditText.{ended, head_text, tenant_text};
 ghost use Rattle.cops_replay.specs.declared.migration_machine.OldPart.TheVariants.{Head};
+ghost use Rattle.cops_replay.specs.MigratedHeads.{MigratedHeadAnswers};
 ghost use Rattle.cops_replay.specs.MigratedText.{record_fault};
 ghost use Rattle.cops_replay.specs.MigrationRules.{OldHeadEnds, OldHeadGoesOn, OldHeadIsRefused, RecordRefuses, part_answers, part_refuses};
 
@@ -134,6 +135,28 @@ fn move_record(line: &[u8], number: u64, out: &mut Vec<u8>) -> Result<(), Stop<M
     }
 }
 
+/// Answers the line of this number in a head at the end of `out`, and tells whether it ends the head. It is
+/// apart, so that a record's line needs no room for a configuration.
+#[inline(never)]
+fn answer_head(
+    reader: &mut OldConfigReader,
+    alloc: Global,
+    line: &[u8],
+    number: u64,
+    out: &mut Vec<u8>,
+) -> Result<bool, Stop<MigrationRefusal>>
+    ensures ok { IfOk result (λ ends. MigratedHeadAnswers ends reader.old line.now reader.new out.old.items out.new.items) }
+    ensures err { IfErr result (λ stop. IfRefused stop (OldHeadIsRefused reader.old line.now number)) }
+{
+    match read_old_head(alloc, reader, line, number)? {
+        None => Ok(false),
+        Some(config) => {
+            push_head(out, &config)?;
+            Ok(true)
+        }
+    }
+}
+
 /// Answers the line of this number at the end of `out`.
 fn answer_line(
     part: &mut OldPart,
@@ -146,14 +169,14 @@ fn answer_line(
     ensures err { IfErr result (λ stop. IfRefused stop (part_refuses part.old line.now number)) }
 {
     match part {
-        OldPart::Head(reader) => match read_old_head(alloc, reader, line, number)? {
-            None => Ok(()),
-            Some(config) => {
-                push_head(out, &config)?;
-                *part = OldPart::Records(0);
-                Ok(())
+        OldPart::Head(reader) => {
+            let ends = answer_head(reader, alloc, line, number, out)?;
+            if !ends {
+                return Ok(());
             }
-        },
+            *part = OldPart::Records(0);
+            Ok(())
+        }
         OldPart::Records(count) => {
             move_record(line, number, out)?;
             *count = count.saturating_add(1);

@@ -1,14 +1,21 @@
-use Rattle.std.proofs.Common.{sym, subst, refl, append-nil, []}
+use Rattle.std.proofs.Common.{sym, subst}
+use Rattle.cops_types.specs.LineAnswers.{Answers}
 use Rattle.cops_replay.specs.declared.migration_machine.OldPart.{OldPart}
-use Rattle.cops_replay.specs.declared.migration_machine.OldPart.TheVariants.{Head}
+use Rattle.cops_replay.specs.declared.migration_machine.OldPart.TheVariants.{Head, Records}
 use Rattle.cops_replay.specs.MigrationRules.{part_answers}
+use Rattle.cops_replay.proofs.HeadSteps.{head_ends, head_goes_on}
 use Rattle.cops_replay.proofs.migration_machine.answer_line.Goals as goal
 
-pub returns-in-None-clause-ok : goal.returns-in-None-clause-ok
-returns-in-None-clause-ok c =
-    let more = (rw c.in-None.is at c.in_ok-read_old_head-in-Head.ensures.more) in
-    record {
-      text = [];
-      answered = subst (λ (p : OldPart). part_answers p c.args.line.now [] (Head c.read_old_head.new.reader)) (sym c.in-Head.is) (more, refl);
-      appended = sym (append-nil c.args.out.now.items);
-    }
+pub returns-then-not-ends-clause-ok : goal.returns-then-not-ends-clause-ok
+returns-then-not-ends-clause-ok c =
+    let reader = c.answer_head.new.reader in
+    let after = c.answer_head.new.out.items in
+    subst (λ (p : OldPart). Answers (part_answers p c.args.line.now) (Head reader) c.args.out.now.items after) (sym c.in-Head.is)
+    (head_goes_on _ c.args.line.now reader c.args.out.now.items after c.in_ok-ends-in-Head.ends c.if-not-ends.true c.in_ok-ends-in-Head.ensures.ok)
+
+pub returns-else-not-ends-clause-ok : goal.returns-else-not-ends-clause-ok
+returns-else-not-ends-clause-ok c =
+    let reader = c.answer_head.new.reader in
+    let after = c.answer_head.new.out.items in
+    subst (λ (p : OldPart). Answers (part_answers p c.args.line.now) (Records 0) c.args.out.now.items after) (sym c.in-Head.is)
+    (head_ends _ c.args.line.now reader c.args.out.now.items after c.in_ok-ends-in-Head.ends c.if-not-ends.false c.in_ok-ends-in-Head.ensures.ok)

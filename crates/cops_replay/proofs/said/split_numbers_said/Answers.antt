@@ -1,6 +1,6 @@
 use Rattle.std.proofs.Common.{◌∙◌, sym}
 use Rattle.cops_replay.proofs.DottedNumbers.{no_dot, numbers_split}
-use Rattle.cops_replay.proofs.said.numbers_said.Goals as goal
+use Rattle.cops_replay.proofs.said.split_numbers_said.Goals as goal
 
 pub returns-in-Some : goal.returns-in-Some
 returns-in-Some c =

@@ -1,0 +1,214 @@
+//! The words of a record line that are still to come. A word that says a number, a version, a key or a
+//! name is mostly passed as it is read, and not split off first.
+ghost use Rattle.std.specs.Prelude.{◌≡◌, [], ◌∷◌, IfSome, MatchOption, false, true};
+ghost use Rattle.std.specs.Option.{option_map_or};
+ghost use Rattle.cops_types.specs.Words.{no_words, number_of, parts_at, space};
+ghost use Rattle.cops_replay.specs.OldRecords.{versions_in};
+ghost use Rattle.cops_replay.specs.RecordChecks.{HasPassed};
+ghost use Rattle.cops_replay.specs.RecordWords.{key_in, name_of, node_of};
+
+use crate::layouts::Layout;
+use crate::said::version_of;
+use crate::scanning::{after_short_version, behind_part, front_key, front_number, front_numbers};
+use cops_types::words::split_word;
+use std::marker::Model;
+
+/// The most bytes of a name.
+const LONGEST_NAME: usize = 16;
+
+/// The words of a line that are still to come, between single spaces. Contracts see the list.
+#[derive(Debug, Drop)]
+pub(crate) struct LineWords<'a> {
+    rest: Option<&'a [u8]>,
+}
+
+impl<'a> Model for LineWords<'a> {
+    ghost use Rattle.std.specs.Prelude.{List, ℕ, []};
+    ghost use Rattle.std.specs.Option.{option_map_or};
+    ghost use Rattle.cops_types.specs.Words.{parts_at, space};
+
+    ghost Value = { List (List ℕ) };
+
+    ghost view = { λ w. option_map_or (λ rest. parts_at space rest.now) w.rest [] };
+}
+
+/// What stands behind the number at the front.
+#[inline(always)]
+fn after_number(bytes: &[u8]) -> Option<Option<&[u8]>>
+    ensures { IfSome result (λ rest. HasPassed number_of (parts_at space bytes.now) (option_map_or (λ more. parts_at space more.now) rest [])) }
+{
+    let found = front_number(bytes)?;
+    let rest = behind_part(b' ', found.rest)?;
+    Some(rest)
+}
+
+/// What stands behind the node at the front.
+#[inline(always)]
+fn after_node(bytes: &[u8]) -> Option<Option<&[u8]>>
+    ensures { IfSome result (λ rest. HasPassed node_of (parts_at space bytes.now) (option_map_or (λ more. parts_at space more.now) rest [])) }
+{
+    let found = front_numbers(bytes)?;
+    let rest = behind_part(b' ', found.rest)?;
+    Some(rest)
+}
+
+/// What stands behind the version at the front, where it is a short one.
+#[inline(always)]
+fn behind_short_version(layout: Layout, bytes: &[u8]) -> Option<Option<&[u8]>>
+    ensures { IfSome result (λ rest. HasPassed (versions_in layout) (parts_at space bytes.now) (option_map_or (λ more. parts_at space more.now) rest [])) }
+{
+    let _layout = layout;
+    let behind = after_short_version(bytes)?;
+    let rest = behind_part(b' ', behind)?;
+    Some(rest)
+}
+
+/// What stands behind the version at the front, where it is any.
+#[inline(never)]
+fn behind_any_version(layout: Layout, bytes: &[u8]) -> Option<Option<&[u8]>>
+    ensures { IfSome result (λ rest. HasPassed (versions_in layout) (parts_at space bytes.now) (option_map_or (λ more. parts_at space more.now) rest [])) }
+{
+    let found = front_numbers(bytes)?;
+    let _version = version_of(layout, found.first, found.second)?;
+    let rest = behind_part(b' ', found.rest)?;
+    Some(rest)
+}
+
+/// What stands behind the version at the front.
+#[inline(always)]
+fn after_version(layout: Layout, bytes: &[u8]) -> Option<Option<&[u8]>>
+    ensures { IfSome result (λ rest. HasPassed (versions_in layout) (parts_at space bytes.now) (option_map_or (λ more. parts_at space more.now) rest [])) }
+{
+    match behind_short_version(layout, bytes) {
+        Some(rest) => Some(rest),
+        None => behind_any_version(layout, bytes),
+    }
+}
+
+/// What stands behind the key at the front.
+#[inline(always)]
+fn after_key(bytes: &[u8]) -> Option<Option<&[u8]>>
+    ensures { IfSome result (λ rest. HasPassed key_in (parts_at space bytes.now) (option_map_or (λ more. parts_at space more.now) rest [])) }
+{
+    let size = front_key(bytes)?;
+    let rest = behind_part(b' ', &bytes[size..])?;
+    Some(rest)
+}
+
+/// What stands behind the name at the front.
+#[inline(always)]
+fn after_name(bytes: &[u8]) -> Option<Option<&[u8]>>
+    ensures { IfSome result (λ rest. HasPassed name_of (parts_at space bytes.now) (option_map_or (λ more. parts_at space more.now) rest [])) }
+{
+    let size = front_key(bytes)?;
+    if LONGEST_NAME < size {
+        return None;
+    }
+    let rest = behind_part(b' ', &bytes[size..])?;
+    Some(rest)
+}
+
+impl<'a> LineWords<'a> {
+    /// The words of a line.
+    pub(crate) fn of(line: &'a [u8]) -> Self
+        ensures { result ≡ parts_at space line.now }
+    {
+        LineWords { rest: Some(line) }
+    }
+
+    /// The next word.
+    pub(crate) fn next_word(&mut self) -> Option<&'a [u8]>
+        ensures { MatchOption result ((self.old ≡ []) × (self.new ≡ [])) (λ word. self.old ≡ word.now ∷ self.new) }
+    {
+        let (word, rest) = split_word(self.rest?);
+        self.rest = rest;
+        Some(word)
+    }
+
+    /// Whether no word is to come.
+    pub(crate) fn is_empty(&self) -> bool
+        ensures { result ≡ no_words self.now }
+    {
+        self.rest.is_none()
+    }
+
+    /// Passes the next word where it is seen to be a number. Where it isn't seen, it may be one all the same.
+    #[inline(always)]
+    pub(crate) fn pass_number(&mut self) -> bool
+        ensures passed { result ≡ true → HasPassed number_of self.old self.new }
+        ensures same { result ≡ false → self.new ≡ self.old }
+    {
+        let Some(bytes) = self.rest else {
+            return false;
+        };
+        let Some(rest) = after_number(bytes) else {
+            return false;
+        };
+        self.rest = rest;
+        true
+    }
+
+    /// Passes the next word where it is seen to be a node.
+    #[inline(always)]
+    pub(crate) fn pass_node(&mut self) -> bool
+        ensures passed { result ≡ true → HasPassed node_of self.old self.new }
+        ensures same { result ≡ false → self.new ≡ self.old }
+    {
+        let Some(bytes) = self.rest else {
+            return false;
+        };
+        let Some(rest) = after_node(bytes) else {
+            return false;
+        };
+        self.rest = rest;
+        true
+    }
+
+    /// Passes the next word where it is seen to be a version.
+    #[inline(always)]
+    pub(crate) fn pass_version(&mut self, layout: Layout) -> bool
+        ensures passed { result ≡ true → HasPassed (versions_in layout) self.old self.new }
+        ensures same { result ≡ false → self.new ≡ self.old }
+    {
+        let Some(bytes) = self.rest else {
+            return false;
+        };
+        let Some(rest) = after_version(layout, bytes) else {
+            return false;
+        };
+        self.rest = rest;
+        true
+    }
+
+    /// Passes the next word where it is seen to be a key.
+    #[inline(always)]
+    pub(crate) fn pass_key(&mut self) -> bool
+        ensures passed { result ≡ true → HasPassed key_in self.old self.new }
+        ensures same { result ≡ false → self.new ≡ self.old }
+    {
+        let Some(bytes) = self.rest else {
+            return false;
+        };
+        let Some(rest) = after_key(bytes) else {
+            return false;
+        };
+        self.rest = rest;
+        true
+    }
+
+    /// Passes the next word where it is seen to be a name.
+    #[inline(always)]
+    pub(crate) fn pass_name(&mut self) -> bool
+        ensures passed { result ≡ true → HasPassed name_of self.old self.new }
+        ensures same { result ≡ false → self.new ≡ self.old }
+    {
+        let Some(bytes) = self.rest else {
+            return false;
+        };
+        let Some(rest) = after_name(bytes) else {
+            return false;
+        };
+        self.rest = rest;
+        true
+    }
+}
