@@ -2,7 +2,7 @@
 ghost use Rattle.std.specs.Prelude.{◌≡◌, ◌≢◌, ◌+◌, ◌^◌, length, ◌≤◌, ◌⊎◌, [], true, ◌∷◌, Some, None, Err, IfOk, IfErr, IfSome};
 ghost use Rattle.cops_types.specs.declared.faults.Fault.TheVariants.{GateSpent, OutOfMemory};
 ghost use Rattle.cops_gate.specs.declared.board.Stage.TheVariants.{Idle};
-ghost use Rattle.cops_gate.specs.History.{entry, turns_of, StartsWith, IsLegal};
+ghost use Rattle.cops_gate.specs.History.{entry, turns_of, StartsWith, IsLegal, LeavesLacking};
 ghost use Rattle.cops_gate.specs.Seats.{ClosesWith, Extends, Known, Origin, first_seat, gate_home};
 
 use crate::board::{Beginning, Board, BoardSeat};
@@ -97,6 +97,7 @@ impl<M: Machine> Gate<M> {
         ensures reply { IfOk result (λ r. Extends M.turns self.now.opening seat.old (Some (entry slot moment call r)) seat.new) }
         ensures refused { IfErr result (λ f. (f ≡ OutOfMemory) ⊎ (f ≡ GateSpent)) }
         ensures blank { result ≡ Err OutOfMemory → Extends M.turns self.now.opening seat.old None seat.new }
+        ensures lacks { result ≡ Err OutOfMemory → LeavesLacking M.turns M.may_lack self.now.opening seat.old.number slot call seat.new.history }
         ensures spent { result ≡ Err GateSpent → (seat.new.history ≡ seat.old.history) × (seat.new.spent ≡ true) }
         ensures unspent { result ≢ Err GateSpent → seat.new.spent ≡ seat.old.spent }
         ensures room { self.now.ticket + length seat.new.history ≤ 2 ^ 62 }

@@ -1,4 +1,4 @@
-ghost use Rattle.std.specs.Prelude.{◌≡◌, ◌+◌, ℕ, IfSome};
+ghost use Rattle.std.specs.Prelude.{◌≡◌, ◌+◌, ◌^◌, ◌≤◌, ◌⊎◌, ℕ, IfSome};
 ghost use Rattle.cops_gate.specs.Seats.{gate_home};
 
 use crate::{Gate, GateSeat};
@@ -31,11 +31,15 @@ impl Machine for Counter {
 
     type Place = ();
 
+    ghost use Rattle.cops_gate.specs.declared.tests.Ask.TheVariants.{Refuse};
+
     ghost place = { λ _. tt };
 
     ghost fits = { λ _ _ _. Unit {0} };
 
     ghost turns = { λ before _ _ _ reply after. (after.count ≡ before.count + 1) × (reply ≡ after.count) };
+
+    ghost may_lack = { λ before _ call. (call ≡ Refuse) ⊎ (2 ^ 64 ≤ before.count + 1) };
 
     fn turn(&mut self, _slot: u64, _moment: u64, call: Ask) -> Result<u64, Fault> {
         if let Ask::Linger = call {

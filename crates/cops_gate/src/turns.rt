@@ -1,8 +1,8 @@
 //! The parts of one turn: a ticket is drawn, waited for, and published.
-ghost use Rattle.std.specs.Prelude.{◌≡◌, ◌+◌, ◌^◌, ◌<◌, true, [], ◌∷◌, ◌++◌, ◌≤◌, length, Some, None, IfSome, IfNone, IfOk, IfErr};
+ghost use Rattle.std.specs.Prelude.{◌≡◌, ◌+◌, ◌^◌, ◌<◌, true, [], ◌∷◌, ◌++◌, ◌≤◌, length, Some, None, OnErr, IfSome, IfNone, IfOk, IfErr};
 ghost use Rattle.cops_types.specs.declared.faults.Fault.TheVariants.{OutOfMemory};
 ghost use Rattle.cops_gate.specs.declared.board.Stage.TheVariants.{Idle, Waits, Holds};
-ghost use Rattle.cops_gate.specs.History.{entry, turn, Leads, Grows};
+ghost use Rattle.cops_gate.specs.History.{entry, turn, Leads, Grows, LeavesLacking};
 ghost use Rattle.cops_gate.specs.Notes.{entry_of};
 ghost use Rattle.cops_gate.specs.Plays.{at_stage, spent_view, published_view, HasRoom, Serves, Gets, IsIdle, IsSeatOf};
 
@@ -144,6 +144,7 @@ pub(crate) fn serve<M: Machine, R: Wait>(
     ensures room { board.now.shared.key.value.ticket + length place.new.me.0.seen ≤ 2 ^ 62 }
     ensures reply { IfOk result (λ r. Grows M.turns board.now.shared.key.value.state place.old.me.0.number place.old.me.0.seen (Some (entry request.slot request.moment request.call r)) place.new.me.0.seen) }
     ensures refused { IfErr result (λ f. (f ≡ OutOfMemory) × Grows M.turns board.now.shared.key.value.state place.old.me.0.number place.old.me.0.seen None place.new.me.0.seen) }
+    ensures lacks { OnErr result (LeavesLacking M.turns M.may_lack board.now.shared.key.value.state place.old.me.0.number request.slot request.call place.new.me.0.seen) }
 {
     let mut machine = take(rt, board, sleepers, place, ticket);
     let Request { slot, moment, call } = request;

@@ -26,7 +26,8 @@ use Rattle.cops_node.specs.declared.NodeReply.TheVariants.{Refused, Stored, Comm
 use Rattle.cops_node.specs.declared.Place.{Place}
 use Rattle.cops_node.specs.declared.parts.Counters.{Counters}
 use Rattle.cops_node.specs.declared.parts.Part.{Part}
-use Rattle.cops_node.specs.Parts.{AllFit, HasPartRoom, IsNode, IsPart, IsPartTurn, IsSoloTurn, IsUnused, JoinsCalls, JoinsTrail, OthersStay, Shared, StandsAt, StandsForTrail, has_audit_room, left_by, noted, places_of, trail_in, trail_of, trails_of}
+use Rattle.cops_node.specs.Lacking.{MayLack}
+use Rattle.cops_node.specs.Parts.{AllFit, HasPartRoom, IsNode, IsPart, IsPartTurn, IsSoloTurn, IsUnused, JoinsCalls, JoinsTrail, OthersStay, Shared, StandsAt, StandsForTrail, has_audit_room, left_by, noted, place_at, places_of, trail_in, trail_of, trails_of}
 use Rattle.cops_node.specs.Place.{fits}
 use Rattle.cops_node.specs.Run.{calls_in_trail, node_after}
 use Rattle.cops_node.specs.Shape.{place_in}
@@ -153,6 +154,10 @@ some_same a b is = ap (held a) is
 
 abbrev pub place_in_part : Part → Place
 place_in_part part = part.place
+
+-- where memory may lack, the audit has room
+pub has_room : (place : Place) (slot : ℕ) (node : Shared) (call : NodeCall) → place_at slot node ≡ Some place → MayLack node slot call → IsTrue (has_audit_room slot place node)
+has_room place slot node call is may = subst (λ p. IsTrue (has_audit_room slot p node)) (some_same may.0 place (sym may.1 ∙ is)) may.2
 
 pub place_shown : (parts : List (Option Part)) (slot : ℕ) (part : Part) → get_or parts slot None ≡ Some part → get_or (places_of parts) slot None ≡ Some part.place
 place_shown parts slot part read = map_read (option_map place_in_part) parts slot None ∙ ap (option_map place_in_part) read

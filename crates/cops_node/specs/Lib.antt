@@ -21,3 +21,4 @@ pub mod Taken
 pub mod Trails
 pub use Rattle.cops_outbox.specs.Queues
 pub mod Hosting
+pub mod Lacking

@@ -301,10 +301,6 @@ pub record IsMachineTurn (old : Shared) (slot moment : ℕ) (call : NodeCall) (r
   pub others : (other : ℕ) → other ≢ slot → trail_of other new.audit ≡ trail_of other old.audit
   pub home : new.home ≡ old.home
 
--- the node before any call
-abbrev pub before_calls : Shared → Shared
-before_calls node = record { home = node.home; audit = no_calls (length node.home.places) }
-
 -- the call may come to this node, for whatever slot
 abbrev pub FitsNode : Shared → ℕ → NodeCall → Type 0
 FitsNode node slot call = IsTrue (fits (place_in node.home.shape node.home.id) call)

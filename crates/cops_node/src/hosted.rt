@@ -69,6 +69,7 @@ impl HostedNode {
 
 impl Machine for HostedNode {
     ghost use Rattle.cops_node.specs.Hosting.{FitsSlot, IsSlotTurn, without_tenants};
+    ghost use Rattle.cops_node.specs.Lacking.{MayLackAtSlot};
 
     type Call = SlotCall;
 
@@ -82,6 +83,8 @@ impl Machine for HostedNode {
     ghost fits = { FitsSlot };
 
     ghost turns = { IsSlotTurn };
+
+    ghost may_lack = { MayLackAtSlot };
 
     fn turn(&mut self, slot: u64, moment: u64, call: SlotCall) -> Result<SlotReply, Fault> {
         match call {

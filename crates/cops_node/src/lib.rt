@@ -4,11 +4,15 @@
 mod answered;
 mod calls;
 mod cluster;
+#[cfg(test)]
+mod cluster_tests;
 mod commits;
 mod comparing;
 mod copies;
 mod gets;
 mod hosted;
+#[cfg(test)]
+mod hosted_tests;
 mod laws;
 mod limits;
 mod lives;

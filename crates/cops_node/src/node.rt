@@ -6,6 +6,7 @@ ghost use Rattle.cops_types.specs.HeadLines.{are_sizes};
 ghost use Rattle.cops_types.specs.Version.{last_clock};
 ghost use Rattle.cops_node.specs.declared.Place.{Place};
 ghost use Rattle.cops_types.specs.Refusal.{IsAnswer};
+ghost use Rattle.cops_node.specs.Lacking.{MayLack};
 ghost use Rattle.cops_node.specs.Parts.{AuditFits, IsAudited, IsSameNode, IsSlotKept, IsSoloTurn, IsTurn, JoinsTrail, admit_refusal, are_clocks, has_audit_room, home_of, is_opened_as, is_taken, no_calls, place_at, place_for, solo_of, trail_of};
 ghost use Rattle.cops_node.specs.Place.{is_home, is_other_dc, is_other_equivalent, fits};
 ghost use Rattle.cops_node.specs.Shape.{place_in};
@@ -232,7 +233,7 @@ impl Node {
         ensures others { (other : ℕ) → other ≢ slot → trail_of other self.new.audit ≡ trail_of other self.old.audit }
         ensures home { self.new.home ≡ self.old.home }
         ensures err { OnErr result (self.new ≡ self.old) }
-        ensures room { OnErr result ((place : Place) → place_at slot self.old ≡ Some place → IsTrue (has_audit_room slot place self.old)) }
+        ensures lacks { OnErr result (MayLack self.old slot call) }
     {
         if slot >= self.parts.len() as u64 {
             return Ok(NodeReply::Refused(Fault::UnknownTenant));
@@ -275,20 +276,24 @@ impl Node {
 }
 
 impl Machine for Node {
-    ghost use Rattle.cops_node.specs.Parts.{FitsNode, IsMachineTurn, before_calls};
+    ghost use Rattle.cops_node.specs.Lacking.{MayLack};
+    ghost use Rattle.cops_node.specs.Hosting.{without_tenants};
+    ghost use Rattle.cops_node.specs.Parts.{FitsNode, IsMachineTurn};
 
     type Call = NodeCall;
 
     type Reply = NodeReply;
 
-    /// The node before any call.
+    /// The node without tenants.
     type Place = Node;
 
-    ghost place = { before_calls };
+    ghost place = { without_tenants };
 
     ghost fits = { FitsNode };
 
     ghost turns = { IsMachineTurn };
+
+    ghost may_lack = { MayLack };
 
     fn turn(&mut self, slot: u64, moment: u64, call: NodeCall) -> Result<NodeReply, Fault> {
         match self.try_step(slot, moment, call) {

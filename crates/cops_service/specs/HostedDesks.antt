@@ -2,7 +2,7 @@
 use Rattle.std.specs.Prelude.{◌≡◌, ℕ, ◌+◌, ◌^◌, ◌≤◌, ◌⊎◌, true, IsTrue, List, length, Some, None}
 use Rattle.cops_types.specs.declared.faults.Fault.TheVariants.{OutOfMemory, GateSpent, Torn}
 use Rattle.cops_types.specs.Version.{last_clock}
-use Rattle.cops_gate.specs.History.{entry}
+use Rattle.cops_gate.specs.History.{LeavesLacking, entry}
 use Rattle.cops_gate.specs.Seats.{Origin, Known, Extends}
 use Rattle.cops_node.specs.declared.NodeCall.{NodeCall}
 use Rattle.cops_node.specs.declared.NodeId.{NodeId}
@@ -13,6 +13,7 @@ use Rattle.cops_node.specs.declared.hosted.SlotCall.TheVariants.{Own, Admit, Clo
 use Rattle.cops_node.specs.declared.hosted.SlotReply.{SlotReply}
 use Rattle.cops_node.specs.declared.hosted.SlotReply.TheVariants as told
 use Rattle.cops_node.specs.Hosting.{IsSlotTurn}
+use Rattle.cops_node.specs.Lacking.{MayLackAtSlot}
 use Rattle.cops_node.specs.Parts.{Shared}
 use Rattle.cops_node.specs.Place.{fits}
 use Rattle.cops_node.specs.Shape.{Shape, place_in}
@@ -27,11 +28,11 @@ FitsThere shape id (Own call) = IsTrue (fits (place_in shape id) call)
 FitsThere shape id (Admit tenant) = tenant.first_clock ≤ last_clock
 FitsThere shape id Close = Unit {0}
 
--- The seat's history at a node has grown by this call and reply. Or memory was refused and it has grown by a blank turn, or the node's tickets are spent and it stays
+-- The seat's history at a node has grown by this call and reply. Or memory was refused, where that may be, and it has grown by a blank turn, or the node's tickets are spent and it stays
 pub record IsToldAtSlot (slot moment : ℕ) (call : SlotCall) (reply : SlotReply) (gate : Origin Shared) (before after : HostedSeat) : Type 0 where
   pub grows :
       Extends IsSlotTurn gate.opening before (Some (entry slot moment call reply)) after
-      ⊎ (reply ≡ told.Refused OutOfMemory) × Extends IsSlotTurn gate.opening before None after
+      ⊎ (reply ≡ told.Refused OutOfMemory) × Extends IsSlotTurn gate.opening before None after × LeavesLacking IsSlotTurn MayLackAtSlot gate.opening before.number slot call after.history
       ⊎ (reply ≡ told.Refused GateSpent) × (after.history ≡ before.history) × (after.spent ≡ true)
   pub same : (after.gate ≡ before.gate) × (after.number ≡ before.number)
   pub room : gate.ticket + length after.history ≤ 2 ^ 62

@@ -1,5 +1,5 @@
 //! What a gate stands in front of.
-ghost use Rattle.std.specs.Prelude.{◌≡◌, ℕ, IfOk, IfErr};
+ghost use Rattle.std.specs.Prelude.{◌≡◌, ℕ, OnErr, IfOk, IfErr};
 ghost use Rattle.cops_types.specs.declared.faults.Fault.TheVariants.{OutOfMemory};
 
 use crate::faults::Fault;
@@ -21,10 +21,14 @@ pub trait Machine {
     /// One turn: the state before, the slot, the moment, the call, the reply and the state after.
     ghost turns: { Self → ℕ → ℕ → Self.Call → Self.Reply → Self → Type 0 };
 
-    /// Makes one turn. It is refused only for want of memory, and then nothing has changed.
+    /// Whether a turn of this slot and call may be refused for want of memory in this state.
+    ghost may_lack: { Self → ℕ → Self.Call → Type 0 };
+
+    /// Makes one turn. It is refused only for want of memory, where the state lets that be, and then nothing has changed.
     fn turn(&mut self, slot: u64, moment: u64, call: Self::Call) -> Result<Self::Reply, Fault>
         requires { fits (place self.old) slot call }
         ensures reply { IfOk result (λ r. turns self.old slot moment call r self.new) }
         ensures refused { IfErr result (λ f. (f ≡ OutOfMemory) × (self.new ≡ self.old)) }
+        ensures lacks { OnErr result (may_lack self.old slot call) }
         ensures place { place self.new ≡ place self.old };
 }

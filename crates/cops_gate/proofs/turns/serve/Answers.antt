@@ -1,6 +1,6 @@
 use Rattle.std.proofs.Common.{ap, sym, refl, Some, None}
 use Rattle.cops_gate.specs.History.{entry}
-use Rattle.cops_gate.proofs.Serving.{noted, serves_on, grows}
+use Rattle.cops_gate.proofs.Serving.{noted, serves_on, grows, lacking}
 use Rattle.cops_gate.proofs.turns.serve.Goals as goal
 
 pub publish-requires-clause-turn : goal.publish-requires-clause-turn
@@ -39,3 +39,10 @@ returns-in-Err-clause-refused g c =
           refl
           (ap (λ m. m.0.seen) c.publish-in-Err.ensures.me),
     )
+
+pub returns-in-Err-clause-lacks : goal.returns-in-Err-clause-lacks
+returns-in-Err-clause-lacks g c =
+    let turns = g.M.Machine.turns in
+    let taken = c.take-machine.new.place.me.0 in
+    lacking turns g.M.Machine.place g.M.Machine.may_lack c.args.board.now.shared.key.value.state c.args.place.now.me.0 taken c.args.ticket c.take-machine.result c.args.request.slot c.args.request.call c.publish-in-Err.new.place.me.0.seen c.take-machine.ensures.serves c.in-Err.ensures.lacks
+    (ap (λ m. m.0.seen) c.publish-in-Err.ensures.me)

@@ -16,9 +16,9 @@ returns-in-Ok-clause-told g c =
 pub returns-in-Err-clause-told : goal.returns-in-Err-clause-told
 returns-in-Err-clause-told g c =
     elim c.in-Err.ensures.refused [
-      | inl is ↦ at_weaker c.args.self.now.cluster.now c.args.id c.args.self.now.seat.now c.step.new.self _ _ (λ gate before after h. record { grows = inr (inl (ap Refused is, h.0.0)); same = h.0.1; room = h.1 })
+      | inl is ↦ at_weaker c.args.self.now.cluster.now c.args.id c.args.self.now.seat.now c.step.new.self _ _ (λ gate before after h. record { grows = inr (inl (ap Refused is, h.0.0.0, h.0.0.1)); same = h.0.1; room = h.1 })
           (at_both c.args.self.now.cluster.now c.args.id c.args.self.now.seat.now c.step.new.self _ _
-          (at_both c.args.self.now.cluster.now c.args.id c.args.self.now.seat.now c.step.new.self _ _ (c.in-Err.ensures.blank (ap Err is)) c.in-Err.ensures.same) c.in-Err.ensures.room)
+          (at_both c.args.self.now.cluster.now c.args.id c.args.self.now.seat.now c.step.new.self _ _ (at_both c.args.self.now.cluster.now c.args.id c.args.self.now.seat.now c.step.new.self _ _ (c.in-Err.ensures.blank (ap Err is)) (c.in-Err.ensures.lacks (ap Err is))) c.in-Err.ensures.same) c.in-Err.ensures.room)
       | inr is ↦ at_weaker c.args.self.now.cluster.now c.args.id c.args.self.now.seat.now c.step.new.self _ _ (λ gate before after h. record { grows = inr (inr (ap Refused is, h.0.0.0, h.0.0.1)); same = h.0.1; room = h.1 })
           (at_both c.args.self.now.cluster.now c.args.id c.args.self.now.seat.now c.step.new.self _ _
           (at_both c.args.self.now.cluster.now c.args.id c.args.self.now.seat.now c.step.new.self _ _ (c.in-Err.ensures.spent (ap Err is)) c.in-Err.ensures.same) c.in-Err.ensures.room)
