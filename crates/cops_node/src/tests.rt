@@ -3,10 +3,9 @@ use crate::test_nodes::{
     put, refused, says, says_at,
 };
 use crate::{Node, NodeCall};
-use cops_types::{Fault, Machine, Quota};
+use cops_types::{Fault, Quota};
 use std::alloc::Global;
 use std::process::Abort;
-use std::test::Fail;
 
 #[test]
 fn a_commit_at_the_last_clock(rt: HostRuntime) {
@@ -177,20 +176,6 @@ fn a_full_audit_under_want_of_memory(rt: HostRuntime) {
     says(&rt, &mut node, 0, check(&rt, 1), full);
     says(&rt, &mut node, 0, put(&rt, alloc, b"x"), full);
     assert_eq!(rt; audit_len(&rt, &node, 0), 1);
-}
-
-#[test]
-fn turns_of_a_machine(rt: HostRuntime) -> Result<(), Fail> {
-    let alloc = rt.alloc();
-    let mut node = one_of_two(&rt, alloc, 0, 0, QUOTA);
-    for clock in 1..3 {
-        let call = put(&rt, alloc, b"x");
-        assert!(rt; 0 < node.slots() && node.fits(&call));
-        let reply = node.turn(0, 0, call).expect(&rt, "memory");
-        assert_eq!(rt; in_short(&reply), ("stored", clock * 65536));
-    }
-    assert_eq!(rt; audit_len(&rt, &node, 0), 2);
-    Ok(())
 }
 
 /// A node to which x was sent twice, the second entry first.

@@ -42,13 +42,3 @@ fn calls_keep_their_places_over_blocks(rt: HostRuntime) {
     assert!(rt; trail.get(100).is_none());
     assert!(rt; trail.get(u64::MAX).is_none());
 }
-
-#[test]
-fn a_cleared_trail_begins_again(rt: HostRuntime) {
-    let mut trail = trail_of(&rt, rt.alloc(), 40);
-    trail.clear();
-    assert_eq!(rt; trail.len(), 0);
-    assert!(rt; trail.get(0).is_none());
-    note(&rt, &mut trail, 7);
-    assert_eq!(rt; moment_at(&rt, &trail, 0), 7);
-}

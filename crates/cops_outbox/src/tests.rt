@@ -189,25 +189,6 @@ fn entries_come_to_an_empty_queue(rt: HostRuntime) {
 }
 
 #[test]
-fn a_dropped_slot_has_no_entries(rt: HostRuntime) {
-    let mut outbox = with_five(&rt, rt.alloc());
-    ack(&rt, &mut outbox, 0, 1, 1, Ack::Acked);
-    outbox.drop_slot(0);
-    assert_eq!(rt; seen(&outbox, 1), ((0, 0), (1, 2)));
-    assert_eq!(rt; seen(&outbox, 2), ((0, 0), (1, 2)));
-}
-
-#[test]
-fn entries_come_to_a_dropped_slot(rt: HostRuntime) {
-    let alloc = rt.alloc();
-    let mut outbox = with_one_each(&rt, alloc);
-    outbox.drop_slot(0);
-    push_within(&rt, alloc, &mut outbox, 0, 7, 1);
-    assert_eq!(rt; seen(&outbox, 1), ((7, 1), (2, 1)));
-    assert_eq!(rt; seen(&outbox, 2), ((7, 1), (2, 1)));
-}
-
-#[test]
 fn one_data_centre_sends_nothing(rt: HostRuntime) {
     let alloc = rt.alloc();
     let mut outbox = outbox(&rt, alloc, 1);

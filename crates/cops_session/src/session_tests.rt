@@ -268,12 +268,6 @@ fn the_last_request(rt: HostRuntime) {
     );
 }
 
-#[test]
-fn a_get_of_no_keys_has_no_form(rt: HostRuntime) {
-    let mut session = session(rt.alloc(), 1, 1);
-    assert_no_get(&rt, &mut session, Handle::of_number(7), &[], Fault::Syntax);
-}
-
 /// The first handle of a context in bytes.
 const FIRST_CONTEXT: [u8; 9] = [0x43, 0, 0, 0, 0, 0, 0, 0, 1];
 

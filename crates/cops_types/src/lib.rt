@@ -29,8 +29,6 @@ mod open_tenant_tests;
 mod open_tenants;
 mod packed;
 mod pair_lists;
-#[cfg(test)]
-mod pair_tests;
 mod pairs;
 mod quotas;
 mod records;

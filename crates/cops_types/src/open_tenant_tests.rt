@@ -1,4 +1,4 @@
-use crate::{Fault, Name, OpenTenants, Quota, Tenant, Tenants};
+use crate::{Name, OpenTenants, Quota, Tenant, Tenants};
 use std::alloc::Global;
 use std::process::Abort;
 use uuid::Uuid;
@@ -29,55 +29,12 @@ fn admit(rt: &impl Abort, tenants: &mut OpenTenants, slot: u64, name: &[u8], las
     assert!(rt; tenants.admit_at(slot, tenant(rt, name, last)).is_ok());
 }
 
-fn assert_refused(
-    rt: &impl Abort,
-    tenants: &mut OpenTenants,
-    slot: u64,
-    name: &[u8],
-    last: u8,
-    fault: Fault,
-) {
-    match tenants.admit_at(slot, tenant(rt, name, last)) {
-        Ok(()) => panic!(rt; "it is refused"),
-        Err(told) => assert!(rt; told == fault),
-    }
-}
-
 /// Two tenants, at slots 0 and 2.
 fn two(rt: &impl Abort, alloc: Global) -> OpenTenants {
     let mut tenants = OpenTenants::new(alloc).expect(rt, "memory");
     admit(rt, &mut tenants, 0, b"acme", 1);
     admit(rt, &mut tenants, 2, b"beta", 2);
     tenants
-}
-
-#[test]
-fn open_tenants_are_found(rt: HostRuntime) {
-    let tenants = two(&rt, rt.alloc());
-    assert!(&rt; tenants.len() == 2);
-    assert!(&rt; tenants.slot_of_name(b"beta") == Some(2));
-    assert!(&rt; tenants.slot_of_name(b"gama").is_none());
-    assert!(&rt; tenants.least_free() == Some(1));
-    assert!(&rt; tenants.tenant(2).is_some());
-    drop(tenants);
-}
-
-#[test]
-fn open_tenants_are_found_by_token(rt: HostRuntime) {
-    let tenants = two(&rt, rt.alloc());
-    let beta = tenant(&rt, b"x", 2);
-    assert!(&rt; tenants.slot_of_token(&beta.token) == Some(2));
-    drop(tenants);
-}
-
-#[test]
-fn names_and_tokens_of_open_tenants_are_taken(rt: HostRuntime) {
-    let mut tenants = two(&rt, rt.alloc());
-    assert_refused(&rt, &mut tenants, 0, b"beta", 3, Fault::NameTaken);
-    assert_refused(&rt, &mut tenants, 64, b"gama", 2, Fault::NameTaken);
-    assert_refused(&rt, &mut tenants, 0, b"gama", 3, Fault::NoSlot);
-    assert_refused(&rt, &mut tenants, 64, b"gama", 3, Fault::NoSlot);
-    drop(tenants);
 }
 
 #[test]

@@ -1,5 +1,5 @@
 use crate::test_pairs::{assert_deps, assert_near, deps, near, pair};
-use crate::{Deps, DepsBuilder, Entry, EntryParts, Fault, NearBuilder, Value, Version};
+use crate::{Deps, Entry, EntryParts, Fault, NearBuilder, Value, Version};
 use std::alloc::Global;
 use std::process::Abort;
 use std::thread;
@@ -7,30 +7,11 @@ use std::thread::Threads;
 
 #[test]
 fn versions(rt: HostRuntime) {
+    assert!(rt; Version::of(1, 0).to_u64() == 65536);
     assert!(rt; matches!(Version::next(0, 1, 1), Ok(version) if version.to_u64() == 2 * 65536 + 1));
     assert!(rt; matches!(Version::next(5, 3, 2), Ok(version) if version.to_u64() == 6 * 65536 + 2));
     let last = Version::next(281474976710655, 0, 0);
     assert!(rt; matches!(last, Err(Fault::ClockFull)));
-}
-
-#[test]
-fn numbers_of_versions(rt: HostRuntime) {
-    assert!(rt; Version::of(1, 0).to_u64() == 65536);
-    assert!(rt; Version::from_u64(131073).clock() == 2);
-    assert!(rt; Version::from_u64(131073).node() == 1);
-}
-
-#[test]
-fn values(rt: HostRuntime) {
-    let value = Value::new(rt.alloc(), b"10").expect(&rt, "a value");
-    let copy = value.copy(rt.alloc()).expect(&rt, "memory");
-    assert!(rt; copy.bytes() == b"10".as_slice());
-}
-
-#[test]
-fn values_have_at_most_4096_bytes(rt: HostRuntime) {
-    assert!(rt; Value::new(rt.alloc(), &[0; 4096]).is_ok());
-    assert!(rt; matches!(Value::new(rt.alloc(), &[0; 4097]), Err(Fault::ValueTooLong)));
 }
 
 /// Versions 2.1 of x and 1.0 of y.
@@ -56,63 +37,10 @@ fn a_join_keeps_the_greatest_versions(rt: HostRuntime) {
 }
 
 #[test]
-fn a_copy_has_the_same_pairs(rt: HostRuntime) {
-    let list = newer_x_and_y(&rt, rt.alloc());
-    let copy = list.copy(rt.alloc()).expect(&rt, "memory");
-    assert_deps(&rt, &copy, &[pair(&rt, b"x", 2, 1), pair(&rt, b"y", 1, 0)]);
-}
-
-#[test]
 fn a_newer_version_takes_the_place_of_the_older(rt: HostRuntime) {
     let mut list = deps(&rt, rt.alloc(), &[pair(&rt, b"x", 1, 0)]);
     list.add(pair(&rt, b"x", 2, 0), 1).expect(&rt, "room");
     assert_deps(&rt, &list, &[pair(&rt, b"x", 2, 0)]);
-}
-
-#[test]
-fn a_growing_join_over_the_limit_changes_nothing(rt: HostRuntime) {
-    let x = pair(&rt, b"x", 1, 0);
-    let more = newer_x_and_y(&rt, rt.alloc());
-    let mut list = DepsBuilder::empty(rt.alloc());
-    list.add(x).expect(&rt, "memory");
-    assert!(rt; matches!(list.join(&more, 1), Err(Fault::DependenciesFull)));
-    assert!(rt; list.pairs() == [x].as_slice());
-}
-
-/// A growing list of x, after the other pairs came to it.
-fn joined(rt: &impl Abort, alloc: Global) -> DepsBuilder {
-    let mut list = DepsBuilder::empty(alloc);
-    list.add(pair(rt, b"x", 1, 0)).expect(rt, "memory");
-    list.join(&newer_x_and_y(rt, alloc), 2).expect(rt, "room");
-    list
-}
-
-#[test]
-fn growing_lists_join(rt: HostRuntime) {
-    let list = joined(&rt, rt.alloc());
-    let (x, y) = (pair(&rt, b"x", 2, 1), pair(&rt, b"y", 1, 0));
-    assert!(rt; list.pairs() == [x, y].as_slice());
-    assert!(rt; list.len() == 2);
-}
-
-#[test]
-fn growing_lists_hold_the_greatest_version(rt: HostRuntime) {
-    let list = joined(&rt, rt.alloc());
-    let (older, newer) = (pair(&rt, b"x", 1, 0), pair(&rt, b"x", 2, 1));
-    assert!(rt; list.has_key(&older.key));
-    assert!(rt; list.holds(&newer));
-    assert!(rt; !list.holds(&older));
-}
-
-#[test]
-fn a_growing_list_with_room(rt: HostRuntime) {
-    let mut list = DepsBuilder::empty(rt.alloc())
-        .with_room(1)
-        .expect(&rt, "memory");
-    list.add_reserved(pair(&rt, b"x", 1, 0));
-    list.add(pair(&rt, b"x", 1, 0)).expect(&rt, "memory");
-    let kept = list.to_deps().expect(&rt, "memory");
-    assert_deps(&rt, &kept, &[pair(&rt, b"x", 1, 0)]);
 }
 
 /// The nearest pairs: versions 1.0 and 2.0 of x.
@@ -138,15 +66,6 @@ fn nearest_pairs_have_a_limit(rt: HostRuntime) {
     let refused = near.add(pair(&rt, b"y", 1, 0), 2);
     assert!(rt; matches!(refused, Err(Fault::DependenciesFull)));
     assert!(rt; near.len() == 2);
-}
-
-#[test]
-fn a_copy_with_room(rt: HostRuntime) {
-    let near = two_nearest(&rt, rt.alloc());
-    let mut copy = near.with_room(1).expect(&rt, "memory");
-    assert!(rt; copy.pairs() == near.pairs());
-    copy.add(pair(&rt, b"y", 1, 0), 3).expect(&rt, "room");
-    assert!(rt; copy.len() == 3);
 }
 
 /// A thing of this type may be sent to a thread, and be read by several at once.

@@ -1,6 +1,6 @@
 use crate::test_pairs::{deps, near, pair};
-use crate::texts::{push_deps, push_fault, push_near, push_number, push_pair, push_version};
-use crate::{ByteLists, Bytes, Deps, Fault, Near, Pair, Version};
+use crate::texts::{push_deps, push_fault, push_near};
+use crate::{Deps, Fault, Near, Pair, Version};
 use std::alloc::Global;
 use std::process::Abort;
 
@@ -30,32 +30,10 @@ fn texts_of_faults(rt: HostRuntime) {
 }
 
 #[test]
-fn texts_of_numbers(rt: HostRuntime) {
-    let mut out = Vec::new(rt.alloc());
-    push_number(&mut out, 0).expect(&rt, "memory");
-    push_number(&mut out, 18446744073709551615).expect(&rt, "memory");
-    assert!(rt; out.as_slice() == b"018446744073709551615".as_slice());
-}
-
-#[test]
 fn a_version_displayed(rt: HostRuntime) {
     let version = Version::from_u64(131073);
     let shown = format!(in rt.alloc(); "{version}").expect(&rt, "memory");
     assert!(rt; shown.as_str() == "2.1");
-}
-
-#[test]
-fn texts_of_versions(rt: HostRuntime) {
-    let mut out = Vec::new(rt.alloc());
-    push_version(&mut out, Version::from_u64(131073)).expect(&rt, "memory");
-    assert!(rt; out.as_slice() == b"2.1".as_slice());
-}
-
-#[test]
-fn texts_of_pairs(rt: HostRuntime) {
-    let mut out = Vec::new(rt.alloc());
-    push_pair(&mut out, &pair(&rt, b"x", 2, 1)).expect(&rt, "memory");
-    assert!(rt; out.as_slice() == b"x:2.1".as_slice());
 }
 
 /// Asserts how a list is written.
@@ -79,33 +57,9 @@ fn assert_written(rt: &impl Abort, alloc: Global, pairs: &[Pair], text: &[u8]) {
 }
 
 #[test]
-fn short_lists_as_words(rt: HostRuntime) {
-    assert_written(&rt, rt.alloc(), &[], b"-");
-    assert_written(&rt, rt.alloc(), &[pair(&rt, b"x", 2, 1)], b"x:2.1");
-}
-
-#[test]
 fn lists_as_words(rt: HostRuntime) {
     let two = [pair(&rt, b"y", 3, 0), pair(&rt, b"x", 2, 1)];
     assert_written(&rt, rt.alloc(), &two, b"x:2.1,y:3.0");
     let long = [pair(&rt, b"z", 3, 0), pair(&rt, b"sixteen_letters_", 4, 5)];
     assert_written(&rt, rt.alloc(), &long, b"sixteen_letters_:4.5,z:3.0");
-}
-
-#[test]
-fn bytes_are_kept(rt: HostRuntime) {
-    let bytes = Bytes::new(rt.alloc(), b"\x00\xff").expect(&rt, "memory");
-    assert!(rt; bytes.as_slice() == b"\x00\xff".as_slice());
-    assert!(rt; bytes.len() == 2);
-}
-
-#[test]
-fn lists_of_bytes(rt: HostRuntime) {
-    let mut lists = ByteLists::new(rt.alloc());
-    lists.push(rt.alloc(), b"x").expect(&rt, "memory");
-    lists.push(rt.alloc(), b"").expect(&rt, "memory");
-    assert!(rt; lists.len() == 2);
-    assert!(rt; lists.bytes(0) == b"x".as_slice());
-    assert!(rt; lists.bytes(1) == b"".as_slice());
-    assert!(rt; lists.as_slice().len() == 2);
 }

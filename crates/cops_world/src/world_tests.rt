@@ -1,9 +1,8 @@
 //! Worlds act by act: that calls succeed, that replies are those of the worked examples, and that
 //! refused memory is as if the act had not been. Run with the Nth request refused, for each N.
+use crate::World;
 use crate::test_worlds::{check, new_world};
-use crate::{Act, ByteSlice, ByteSlices, Event, Reply, World};
 use cops_node::Node;
-use cops_types::{Fault, Name};
 use std::alloc::Global;
 use std::process::Abort;
 
@@ -69,42 +68,6 @@ fn tenants_act_in_one_world(rt: HostRuntime) {
         }
         _ => panic!(&rt; "four nodes"),
     }
-}
-
-/// One context, two dependencies and two actors.
-const NARROW: &str = "cluster 2 1 5000 1
-tenant acme 00000000-0000-0000-0000-000000000001 0 100 10000 10 1 2 2 1000
-tenant beta 00000000-0000-0000-0000-000000000002 0 100 10000 10 1 2 2 1000
-begin";
-
-/// Why a world refuses an event.
-fn refusal(rt: &impl Abort, world: &mut World, event: &Event) -> Fault {
-    assert!(rt; event.slot < world.config().tenants.len() as u64);
-    match world.apply(event) {
-        Reply::Refused(fault) => fault,
-        _ => panic!(rt; "a refusal"),
-    }
-}
-
-/// Why beta's get of these keys is refused.
-fn refusal_of_get(rt: &impl Abort, alloc: Global, keys: ByteSlices) -> Fault {
-    let mut world = new_world(rt, alloc, NARROW);
-    let name = Name::new(b"z").expect(rt, "a name");
-    let act = Act::Get(name, 9, keys);
-    refusal(rt, &mut world, &Event { slot: 1, act })
-}
-
-#[test]
-fn a_get_of_no_keys_has_no_form(rt: HostRuntime) {
-    let fault = refusal_of_get(&rt, rt.alloc(), ByteSlices::of(&[]));
-    assert!(rt; fault == Fault::Syntax);
-}
-
-#[test]
-fn keys_come_without_a_line(rt: HostRuntime) {
-    let keys = [ByteSlice::of(b"x"), ByteSlice::of(b"no key")];
-    let fault = refusal_of_get(&rt, rt.alloc(), ByteSlices::of(&keys));
-    assert!(rt; fault == Fault::BadKey);
 }
 
 /// Each part may be begun anew: a request or a carrier that met refused memory has ended.
