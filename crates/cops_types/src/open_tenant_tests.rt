@@ -1,4 +1,4 @@
-use crate::{Name, OpenTenants, Quota, Tenant, Tenants};
+use crate::{Fault, Name, OpenTenants, Quota, Tenant, Tenants};
 use std::alloc::Global;
 use std::process::Abort;
 use uuid::Uuid;
@@ -57,5 +57,46 @@ fn the_tenants_of_a_head_are_open(rt: HostRuntime) {
     assert!(&rt; tenants.slot_of_name(b"acme") == Some(0));
     assert!(&rt; tenants.least_free() == Some(1));
     admit(&rt, &mut tenants, 1, b"beta", 2);
+    drop(tenants);
+}
+
+/// Asserts that the slot, the name and the token are nobody's.
+fn assert_nobodys(rt: &impl Abort, tenants: &OpenTenants, slot: u64, name: &[u8], last: u8) {
+    let nobody = tenant(rt, name, last);
+    assert!(rt; tenants.tenant(slot).is_none());
+    assert!(rt; tenants.slot_of_name(name).is_none());
+    assert!(rt; tenants.slot_of_token(&nobody.token).is_none());
+}
+
+/// Each request for memory of an admission may be refused. Then nothing is noted of the tenant, and
+/// he can be admitted again.
+#[test]
+fn admissions_under_want_of_memory(rt: HostRuntime) {
+    let mut tenants = OpenTenants::new(rt.alloc()).expect(&rt, "memory");
+    for last in 0u8..20 {
+        let slot = last as u64;
+        let name = [b'a' + last];
+        if let Err(fault) = tenants.admit_at(slot, tenant(&rt, &name, last)) {
+            assert!(&rt; fault == Fault::OutOfMemory);
+            assert!(&rt; tenants.len() as u64 == slot);
+            assert_nobodys(&rt, &tenants, slot, &name, last);
+            admit(&rt, &mut tenants, slot, &name, last);
+        }
+        assert!(&rt; tenants.slot_of_name(&name) == Some(slot));
+        assert!(&rt; tenants.len() as u64 == slot + 1);
+    }
+    drop(tenants);
+}
+
+/// Each request for memory may be refused. Then nothing is made, and it can be made again.
+#[test]
+fn a_heads_tenants_under_want_of_memory(rt: HostRuntime) {
+    let mut head = Tenants::new(rt.alloc());
+    head.push(tenant(&rt, b"acme", 1)).expect(&rt, "memory");
+    let tenants = match OpenTenants::of(rt.alloc(), &head) {
+        Ok(tenants) => tenants,
+        Err(_) => OpenTenants::of(rt.alloc(), &head).expect(&rt, "memory"),
+    };
+    assert!(&rt; tenants.slot_of_name(b"acme") == Some(0));
     drop(tenants);
 }
