@@ -11,8 +11,6 @@ mod faults;
 mod help_texts;
 mod program;
 mod serve;
-#[cfg(test)]
-mod tests;
 
 use cops_types::{Sink, Source};
 use faults::CliFault;

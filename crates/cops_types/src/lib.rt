@@ -9,23 +9,15 @@ mod deps_builder;
 mod faults;
 mod fronts;
 mod head_lines;
-#[cfg(test)]
-mod head_tests;
 mod heads;
 mod keys;
 mod laws;
-#[cfg(test)]
-mod line_run_tests;
 mod line_runs;
 mod machines;
-#[cfg(test)]
-mod memory_tests;
 mod names;
 mod near;
 mod near_builder;
 mod old_heads;
-#[cfg(test)]
-mod open_tenant_tests;
 mod open_tenants;
 mod packed;
 mod pair_lists;
@@ -38,12 +30,6 @@ mod short_keys;
 mod sinks;
 mod sources;
 mod tenants;
-#[cfg(test)]
-mod test_pairs;
-#[cfg(test)]
-mod tests;
-#[cfg(test)]
-mod text_tests;
 pub mod texts;
 mod values;
 mod versions;

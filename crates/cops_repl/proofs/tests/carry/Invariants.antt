@@ -1,5 +1,0 @@
-use Rattle.cops_repl.specs.Stands.{RunsIn}
-use Rattle.cops_repl.proofs.tests.carry.Given as goal
-
-abbrev pub invariant-loop : goal.invariant-loop
-invariant-loop g l = RunsIn (record { data_centres = 2; shards = 2 }) l.carrier.shards l.carrier.stream

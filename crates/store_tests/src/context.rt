@@ -1,0 +1,4 @@
+//! The two lists of a context.
+
+pub(crate) mod lists;
+mod memory;

@@ -1,0 +1,135 @@
+//! Each request for memory may be refused: the context is then as it was, and the same call again
+//! is answered. Run with the Nth request refused, for each N.
+
+use super::lists::{assert_lists, x, y, z};
+use crate::entries::value;
+use cops_context::Context;
+use cops_types::{Deps, Fault, Pair, Read};
+use std::alloc::Global;
+use std::process::Abort;
+
+/// The dependencies that have x alone.
+fn deps_on_x(rt: &impl Abort, alloc: Global) -> Deps {
+    let mut deps = Deps::empty(alloc);
+    if deps.add(x(rt), 20).is_err() {
+        deps.add(x(rt), 20).expect(rt, "memory");
+    }
+    deps
+}
+
+fn read(rt: &impl Abort, alloc: Global, pair: Pair) -> Read {
+    Read {
+        key: pair.key,
+        value: Some(value(rt, alloc)),
+        version: pair.version,
+        deps: Deps::empty(alloc),
+    }
+}
+
+#[test]
+fn refused_memory_leaves_a_new_context(rt: HostRuntime) {
+    let alloc = rt.alloc();
+    let on_x = deps_on_x(&rt, alloc);
+    let mut context = Context::new(alloc);
+    match context.observe(y(&rt), &on_x, 20) {
+        Ok(()) => {}
+        Err(fault) => {
+            assert!(rt; fault == Fault::OutOfMemory);
+            assert_lists(&rt, &context, &[], &[]);
+            context.observe(y(&rt), &on_x, 20).expect(&rt, "memory");
+        }
+    }
+    assert_lists(&rt, &context, &[x(&rt), y(&rt)], &[y(&rt)]);
+}
+
+/// Observes a pair in a context that has these lists, again where memory was refused.
+fn observe(
+    rt: &impl Abort,
+    context: &mut Context,
+    pair: &Pair,
+    deps: &Deps,
+    all: &[Pair],
+    near: &[Pair],
+) {
+    if let Err(fault) = context.observe(*pair, deps, 20) {
+        assert!(rt; fault == Fault::OutOfMemory);
+        assert_lists(rt, context, all, near);
+        context.observe(*pair, deps, 20).expect(rt, "a second try");
+    }
+}
+
+#[test]
+fn refused_memory_leaves_what_was_observed(rt: HostRuntime) {
+    let on_x = deps_on_x(&rt, rt.alloc());
+    let mut context = Context::new(rt.alloc());
+    observe(
+        &rt,
+        &mut context,
+        &x(&rt),
+        &Deps::empty(rt.alloc()),
+        &[],
+        &[],
+    );
+    observe(&rt, &mut context, &y(&rt), &on_x, &[x(&rt)], &[x(&rt)]);
+    assert_lists(&rt, &context, &[x(&rt), y(&rt)], &[y(&rt)]);
+}
+
+#[test]
+fn refused_memory_keeps_what_a_put_would_send(rt: HostRuntime) {
+    let key = z(&rt).key;
+    let mut context = Context::new(rt.alloc());
+    observe(
+        &rt,
+        &mut context,
+        &x(&rt),
+        &Deps::empty(rt.alloc()),
+        &[],
+        &[],
+    );
+    let sent = match context.put_args(&key, 20) {
+        Ok((deps, _near)) => deps.len(),
+        Err(fault) => {
+            assert!(rt; fault == Fault::OutOfMemory);
+            assert_lists(&rt, &context, &[x(&rt)], &[x(&rt)]);
+            match context.put_args(&key, 20) {
+                Ok((deps, _near)) => deps.len(),
+                Err(_) => panic!(rt; "a second try"),
+            }
+        }
+    };
+    assert_eq!(rt; sent, 1);
+}
+
+#[test]
+fn refused_memory_observes_no_half(rt: HostRuntime) {
+    let alloc = rt.alloc();
+    let reads = [read(&rt, alloc, x(&rt)), read(&rt, alloc, y(&rt))];
+    let mut context = Context::new(alloc);
+    match context.observe_all(&reads, 20) {
+        Ok(()) => {}
+        Err(fault) => {
+            assert!(rt; fault == Fault::OutOfMemory);
+            assert_lists(&rt, &context, &[], &[]);
+            context.observe_all(&reads, 20).expect(&rt, "memory");
+        }
+    }
+    assert_lists(&rt, &context, &[x(&rt), y(&rt)], &[x(&rt), y(&rt)]);
+}
+
+#[test]
+fn refused_memory_sends_no_put(rt: HostRuntime) {
+    let put = z(&rt);
+    let key = put.key;
+    let mut context = Context::new(rt.alloc());
+    let is_ready = match context.put_args(&key, 20) {
+        Ok(_) => true,
+        Err(fault) => {
+            assert!(rt; fault == Fault::OutOfMemory);
+            assert_lists(&rt, &context, &[], &[]);
+            context.put_args(&key, 20).is_ok()
+        }
+    };
+    assert!(rt; is_ready);
+    context.after_put(put);
+    assert_lists(&rt, &context, &[z(&rt)], &[z(&rt)]);
+}

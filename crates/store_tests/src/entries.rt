@@ -1,0 +1,45 @@
+//! Keys, values and entries of few words. Where memory is refused once, they are made all the same.
+use cops_types::{Deps, Entry, EntryParts, Fault, Key, Near, Value, Version};
+use std::alloc::Global;
+use std::process::Abort;
+
+pub(crate) fn key(rt: &impl Abort, bytes: &[u8]) -> Key {
+    Key::new(bytes).expect(rt, "a key")
+}
+
+/// The version of node 0 with this clock.
+pub(crate) fn version(rt: &impl Abort, clock: u64) -> Version {
+    assert!(rt; clock <= Version::LAST_CLOCK);
+    Version::of(clock, 0)
+}
+
+/// The value 10.
+pub(crate) fn value(rt: &impl Abort, alloc: Global) -> Value {
+    match Value::new(alloc, b"10") {
+        Ok(value) => value,
+        Err(fault) => {
+            assert!(rt; fault == Fault::OutOfMemory);
+            Value::new(alloc, b"10").expect(rt, "a value")
+        }
+    }
+}
+
+/// What an entry of the value 10 says, which depends on nothing and is the first of its origin.
+fn parts(rt: &impl Abort, alloc: Global, name: &[u8], clock: u64) -> EntryParts {
+    EntryParts {
+        key: key(rt, name),
+        version: version(rt, clock),
+        value: value(rt, alloc),
+        deps: Deps::empty(alloc),
+        near: Near::empty(alloc),
+        prev: Version::none(),
+    }
+}
+
+/// An entry of the key, whose version has this clock.
+pub(crate) fn entry(rt: &impl Abort, alloc: Global, name: &[u8], clock: u64) -> Entry {
+    match Entry::new(alloc, parts(rt, alloc, name, clock)) {
+        Ok(entry) => entry,
+        Err(_) => Entry::new(alloc, parts(rt, alloc, name, clock)).expect(rt, "memory"),
+    }
+}

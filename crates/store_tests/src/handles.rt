@@ -1,0 +1,3 @@
+//! Tables of rows by number.
+
+mod tables;

@@ -1,0 +1,3 @@
+//! What waits for other data centres.
+
+mod queues;

@@ -1,0 +1,3 @@
+//! Carriers and collections, over nodes that answer what a test wrote down.
+
+mod carriers;

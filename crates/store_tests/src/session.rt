@@ -1,0 +1,5 @@
+//! Sessions and their rounds, over nodes that answer what a test wrote down.
+
+mod memory;
+mod rounds;
+mod sessions;

@@ -1,0 +1,4 @@
+//! The records of a store.
+
+mod memory;
+mod records;
