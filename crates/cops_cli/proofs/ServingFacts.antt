@@ -12,7 +12,7 @@ use Rattle.cops_node.specs.Clusters.{new_nodes}
 use Rattle.cops_node.specs.Parts.{Shared}
 use Rattle.cops_node.proofs.Fresh.{numbers_fit}
 use Rattle.cops_replay.specs.AuditText.{AreNodesOf, audit_of}
-use Rattle.cops_replay.proofs.NodesOf.{nodes_with_homes}
+use Rattle.cops_replay.proofs.NodesOf.{nodes_with_sites}
 use Rattle.cops_service.specs.Left.{AreLeft}
 use Rattle.cops_service.proofs.Told.{left_count, left_in_place}
 use Rattle.cops_cli.specs.Faults.{ended_serving_by}
@@ -23,7 +23,7 @@ use Rattle.cops_cli.specs.declared.faults.CliFault.TheVariants.{CommandLine, NoT
 -- nodes that are left are the configuration's
 pub left_nodes : (config : Config) (nodes : List Shared) → IsTrue (are_sizes config) → AreLeft (new_nodes config).nodes nodes → AreNodesOf config nodes
 left_nodes config nodes sizes left =
-    nodes_with_homes config nodes (numbers_fit config sizes) (left_count config nodes left)
+    nodes_with_sites config nodes (numbers_fit config sizes) (left_count config nodes left)
     (λ number node below is. left_in_place config number nodes node left (slice_get-get_or nodes number node below ∙ ap Some (sym is)))
 
 -- what a service may end with

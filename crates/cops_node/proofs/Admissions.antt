@@ -1,23 +1,23 @@
 -- What is kept of all slots where a tenant comes or goes.
-use Rattle.std.proofs.Common.{◌≡◌, ◌≢◌, ℕ, zero, suc, ◌+◌, ◌-◌, ◌*◌, ◌<◌, ◌≤◌, max, Bor, Bool, true, false, ◌||◌, List, [], ◌∷◌, ◌++◌, length, refl, sym, ap, ◌∙◌, subst, arith, true≢false, get_or, set}
+use Rattle.std.proofs.Common.{◌≡◌, ◌≢◌, ℕ, zero, suc, ◌+◌, ◌-◌, ◌<◌, ◌≤◌, max, Bor, Bool, true, false, ◌||◌, List, [], ◌∷◌, ◌++◌, length, refl, sym, ap, ◌∙◌, subst, arith, true≢false, get_or, set}
 use Rattle.std.specs.Prelude.{Option, None, Some, is_some, replicate}
 use Rattle.std.specs.List.{AllByRecursion}
 use Rattle.std.specs.Option.{option_copied, option_map}
 use Rattle.std.proofs.lemmas.List.{get_or-set_same, map-set}
 use Rattle.std.proofs.lemmas.List.Sorted.{IsPermutation-refl}
 use Rattle.cops_types.specs.declared.quotas.Quota.{Quota}
-use Rattle.cops_types.specs.Layout.{NODES}
 use Rattle.cops_types.specs.Records.{StandsFor}
 use Rattle.cops_types.specs.Version.{last_clock}
 use Rattle.cops_store.specs.Contents.{Contents, rows_of}
 use Rattle.cops_outbox.specs.Queues.{Queues, queue_of}
-use Rattle.cops_node.specs.declared.NodeId.{NodeId}
-use Rattle.cops_node.specs.declared.Place.{Place}
+use Rattle.cops_node.specs.declared.Terms.{Terms}
+use Rattle.cops_node.specs.Place.{Place}
 use Rattle.cops_node.specs.declared.parts.Part.{Part}
-use Rattle.cops_node.specs.Parts.{AllFit, IsFresh, IsNode, IsPart, IsPlace, OthersStay, left_by, places_of, trail_in, trail_of, trails_of}
+use Rattle.cops_node.specs.declared.Home.{Home}
+use Rattle.cops_node.specs.Parts.{AllFit, IsFresh, IsNode, IsSlotKept, OthersStay, StandsForTrail, place_at, place_for, place_under, solo_in, trail_in, trail_of, trails_of}
 use Rattle.cops_node.specs.declared.AuditEntry.{AuditEntry}
 use Rattle.cops_node.proofs.Fresh.{fresh_part}
-use Rattle.cops_node.proofs.Slots.{HomePlace, IsNode-set, map_read, place_elsewhere, place_in_part, place_shown, trail_elsewhere, trail_read}
+use Rattle.cops_node.proofs.Slots.{IsNode-set, PlaceIn, map_read, place_elsewhere, place_shown, terms_in_part, trail_elsewhere, trail_read, view_of}
 
 pub none_from : {A : Type 0} (o : Option A) → is_some o ≡ false → o ≡ None
 none_from None h = refl
@@ -33,8 +33,9 @@ or_right true b h = absurd (true≢false h)
 
 -- ---- what a slot shows is what its part shows
 
-pub same_place_shown : (parts next : List (Option Part)) (slot : ℕ) → get_or next slot None ≡ get_or parts slot None → get_or (places_of next) slot None ≡ get_or (places_of parts) slot None
-same_place_shown parts next slot same = map_read (option_map place_in_part) next slot None ∙ ap (option_map place_in_part) same ∙ sym (map_read (option_map place_in_part) parts slot None)
+pub same_place_shown : (home : Home) (parts next : List (Option Part)) (slot : ℕ) → get_or next slot None ≡ get_or parts slot None → place_at slot (view_of home next) ≡ place_at slot (view_of home parts)
+same_place_shown home parts next slot same =
+    ap (option_map (place_under home)) (map_read (option_map terms_in_part) next slot None ∙ ap (option_map terms_in_part) same ∙ sym (map_read (option_map terms_in_part) parts slot None))
 
 pub same_trail_shown : (parts next : List (Option Part)) (slot : ℕ) → get_or next slot None ≡ get_or parts slot None → trail_of slot (trails_of next) ≡ trail_of slot (trails_of parts)
 same_trail_shown parts next slot same = map_read trail_in next slot None ∙ ap trail_in same ∙ sym (map_read trail_in parts slot None)
@@ -49,16 +50,14 @@ pub record HasMoreRoom (store store' : Contents) (outbox outbox' : Queues) : Typ
   pub own : outbox'.own ≡ outbox.own
   pub data_centres : length outbox'.queues ≡ length outbox.queues
 
-pub IsNode-room : (id : NodeId) (dcs shards : ℕ) (parts : List (Option Part)) (store store' : Contents) (outbox outbox' : Queues) → IsNode id dcs shards parts store outbox → HasMoreRoom store store' outbox outbox' → IsNode id dcs shards parts store' outbox'
-IsNode-room id dcs shards parts store store' outbox outbox' h more = record {
+pub IsNode-room : (home : Home) (parts : List (Option Part)) (store store' : Contents) (outbox outbox' : Queues) → IsNode home parts store outbox → HasMoreRoom store store' outbox outbox' → IsNode home parts store' outbox'
+IsNode-room home parts store store' outbox outbox' h more = record {
   slots =
       let n = h.slots in
       let stored = more.stored in
       let queued = more.queued in
       record {
-        dc_exists = n.dc_exists;
-        shard_exists = n.shard_exists;
-        numbers_fit = n.numbers_fit;
+        home_is = n.home_is;
         stored = (let le = n.stored in omega arith);
         queued = (let le = n.queued in omega arith);
         own_is = more.own ∙ n.own_is;
@@ -66,33 +65,28 @@ IsNode-room id dcs shards parts store store' outbox outbox' h more = record {
       };
   each = λ slot part read.
       let old = h.each slot part read in
-      let s = old.kept.stands in
-      let solo = left_by part.place part.trail.calls in
+      let s = old.stands in
+      let solo = solo_in home part in
       let stored = more.stored in
       let queued = more.queued in
       record {
-        id_is = old.id_is;
-        data_centres_are = old.data_centres_are;
-        shards_are = old.shards_are;
-        kept = record {
-          stands = record {
-            place_is = s.place_is;
-            stored = (let lt = s.stored in omega arith);
-            queued = (let lt = s.queued in omega arith);
-            own_is = more.own ∙ s.own_is;
-            all_queues = more.data_centres ∙ s.all_queues;
-            rows = subst (λ rs. StandsFor rs solo.recs) (sym (rows_stay slot)) s.rows;
-            queues = λ dc is_other. more.queues slot dc ∙ s.queues dc is_other;
-            all_acked = s.all_acked;
-            acked = s.acked;
-            clock_is = s.clock_is;
-            clock_fits = s.clock_fits;
-            marks = s.marks;
-            late = s.late;
-          };
-          moment = old.kept.moment;
-          trail_is = old.kept.trail_is;
+        stands = record {
+          home_is = s.home_is;
+          stored = (let lt = s.stored in omega arith);
+          queued = (let lt = s.queued in omega arith);
+          own_is = more.own ∙ s.own_is;
+          all_queues = more.data_centres ∙ s.all_queues;
+          rows = subst (λ rs. StandsFor rs solo.recs) (sym (rows_stay slot)) s.rows;
+          queues = λ dc is_other. more.queues slot dc ∙ s.queues dc is_other;
+          all_acked = s.all_acked;
+          acked = s.acked;
+          clock_is = s.clock_is;
+          clock_fits = s.clock_fits;
+          marks = s.marks;
+          late = s.late;
         };
+        moment = old.moment;
+        trail_is = old.trail_is;
       };
   vacant = λ slot read. (let old = h.vacant slot read in record {
     rows = rows_stay slot ∙ old.rows;
@@ -112,13 +106,11 @@ padded_read (x ∷ xs) n zero d = refl
 padded_read (x ∷ xs) n (suc i) d = padded_read xs n i d
 
 -- the slots that are new have no tenant
-pub IsNode-padded : (id : NodeId) (dcs shards more : ℕ) (parts : List (Option Part)) (store : Contents) (outbox : Queues) → IsNode id dcs shards parts store outbox
-    → length (parts ++ replicate more None) ≤ store.tenants → length (parts ++ replicate more None) ≤ outbox.tenants → IsNode id dcs shards (parts ++ replicate more None) store outbox
-IsNode-padded id dcs shards more parts store outbox h stored queued = record {
+pub IsNode-padded : (home : Home) (more : ℕ) (parts : List (Option Part)) (store : Contents) (outbox : Queues) → IsNode home parts store outbox
+    → length (parts ++ replicate more None) ≤ store.tenants → length (parts ++ replicate more None) ≤ outbox.tenants → IsNode home (parts ++ replicate more None) store outbox
+IsNode-padded home more parts store outbox h stored queued = record {
   slots = record {
-    dc_exists = h.slots.dc_exists;
-    shard_exists = h.slots.shard_exists;
-    numbers_fit = h.slots.numbers_fit;
+    home_is = h.slots.home_is;
     stored = stored;
     queued = queued;
     own_is = h.slots.own_is;
@@ -129,14 +121,11 @@ IsNode-padded id dcs shards more parts store outbox h stored queued = record {
   fitting = fits parts h.fitting;
 }
   where
-    home : Place
-    home = HomePlace id dcs shards
-
-    none : (n : ℕ) → AllByRecursion (AllFit (HomePlace id dcs shards)) (trails_of (replicate n None))
+    none : (n : ℕ) → AllByRecursion (AllFit (PlaceIn home)) (trails_of (replicate n None))
     none zero = tt
     none (suc n) = (tt, none n)
 
-    fits : (ps : List (Option Part)) → AllByRecursion (AllFit (HomePlace id dcs shards)) (trails_of ps) → AllByRecursion (AllFit (HomePlace id dcs shards)) (trails_of (ps ++ replicate more None))
+    fits : (ps : List (Option Part)) → AllByRecursion (AllFit (PlaceIn home)) (trails_of ps) → AllByRecursion (AllFit (PlaceIn home)) (trails_of (ps ++ replicate more None))
     fits [] all = none more
     fits (p ∷ ps) all = (all.0, fits ps all.1)
 
@@ -161,30 +150,30 @@ no_calls_at place parts slot p all none =
     subst (AllByRecursion (AllFit place)) (sym (map-set trail_in parts slot p)) (all_set_at (AllFit place) (trails_of parts) slot (trail_in p) all (subst (AllFit place) (sym none) tt))
 
 -- a tenant comes: his part is fresh
-pub IsNode-admitted : (id : NodeId) (dcs shards slot : ℕ) (parts : List (Option Part)) (part : Part) (store : Contents) (outbox : Queues) → IsNode id dcs shards parts store outbox → slot < length parts → get_or parts slot None ≡ None
-    → IsFresh part → IsPlace part.place → part.place.id ≡ id → part.place.data_centres ≡ dcs → part.place.shards ≡ shards → IsNode id dcs shards (set parts slot (Some part)) store outbox
-IsNode-admitted id dcs shards slot parts part store outbox h within free fresh place ids sizes shards_are =
+pub IsNode-admitted : (home : Home) (slot : ℕ) (parts : List (Option Part)) (part : Part) (store : Contents) (outbox : Queues) → IsNode home parts store outbox → slot < length parts → get_or parts slot None ≡ None
+    → IsFresh home.shape.data_centres part → part.terms.first_clock ≤ last_clock → IsNode home (set parts slot (Some part)) store outbox
+IsNode-admitted home slot parts part store outbox h within free fresh clock =
     let unused = h.vacant slot free in
     let stored = h.slots.stored in
     let queued = h.slots.queued in
-    let own : IsPart id dcs shards slot part store outbox =
-    fresh_part id dcs shards slot part store outbox fresh place ids sizes shards_are (omega arith) (omega arith) h.slots.own_is h.slots.all_queues
+    let own : StandsForTrail slot home part store outbox =
+    fresh_part home slot part store outbox h.slots.home_is fresh clock (omega arith) (omega arith) h.slots.own_is h.slots.all_queues
     (subst (λ rows. StandsFor rows []) (sym unused.rows) (record { records = IsPermutation-refl []; greatest_kept = λ key. refl })) unused.queues in
-    IsNode-set id dcs shards parts slot (Some part) store store outbox outbox h within
+    IsNode-set home parts slot (Some part) store store outbox outbox h within
     (λ q is. subst (λ (o : Option Part). IsHis o) is own) (λ is. absurd (true≢false (ap is_some is))) (others_same slot store outbox)
-    (no_calls_at (HomePlace id dcs shards) parts slot (Some part) h.fitting fresh.trail)
+    (no_calls_at (PlaceIn home) parts slot (Some part) h.fitting fresh.trail)
   where
     IsHis : Option Part → Type 0
     IsHis None = Unit {0}
-    IsHis (Some q) = IsPart id dcs shards slot q store outbox
+    IsHis (Some q) = StandsForTrail slot home q store outbox
 
 -- a tenant goes: nothing of him is left
-pub IsNode-closed : (id : NodeId) (dcs shards slot : ℕ) (parts : List (Option Part)) (store store' : Contents) (outbox outbox' : Queues) → IsNode id dcs shards parts store outbox → slot < length parts
-    → rows_of slot store' ≡ [] → ((dc : ℕ) → queue_of slot dc outbox' ≡ []) → OthersStay slot store outbox store' outbox' → IsNode id dcs shards (set parts slot None) store' outbox'
-IsNode-closed id dcs shards slot parts store store' outbox outbox' h within rows queues others =
-    IsNode-set id dcs shards parts slot None store store' outbox outbox' h within
+pub IsNode-closed : (home : Home) (slot : ℕ) (parts : List (Option Part)) (store store' : Contents) (outbox outbox' : Queues) → IsNode home parts store outbox → slot < length parts
+    → rows_of slot store' ≡ [] → ((dc : ℕ) → queue_of slot dc outbox' ≡ []) → OthersStay slot store outbox store' outbox' → IsNode home (set parts slot None) store' outbox'
+IsNode-closed home slot parts store store' outbox outbox' h within rows queues others =
+    IsNode-set home parts slot None store store' outbox outbox' h within
     (λ part is. absurd (true≢false (sym (ap is_some is)))) (λ is. record { rows = rows; queues = queues }) others
-    (no_calls_at (HomePlace id dcs shards) parts slot None h.fitting refl)
+    (no_calls_at (PlaceIn home) parts slot None h.fitting refl)
 
 pub padded_length : {A : Type 0} (xs : List A) (n : ℕ) (d : A) → length (xs ++ replicate n d) ≡ length xs + n
 padded_length [] zero d = refl
@@ -201,45 +190,38 @@ pub some_copied : {A : Type 0} (o : Option (Bor A)) → is_some o ≡ true → i
 some_copied None h = absurd (true≢false (sym h))
 some_copied (Some r) h = refl
 
-module _ (id : NodeId) (dcs shards trans_time slot more first_clock : ℕ) (quota : Quota) (parts : List (Option Part)) (part : Part) (store store' : Contents) (outbox outbox' : Queues)
-    (h : IsNode id dcs shards parts store outbox) (room : HasMoreRoom store store' outbox outbox') (stored : store'.tenants ≡ max store.tenants (slot + 1)) (queued : outbox'.tenants ≡ max outbox.tenants (slot + 1))
-    (more_is : more ≡ slot + 1 - length parts) (free : get_or parts slot None ≡ None) (fresh : IsFresh part) (clock : first_clock ≤ last_clock)
-    (place : part.place ≡ record { id = id; data_centres = dcs; shards = shards; trans_time = trans_time; first_clock = first_clock; quota = quota }) where
+module _ (home : Home) (slot more first_clock : ℕ) (quota : Quota) (parts : List (Option Part)) (part : Part) (store store' : Contents) (outbox outbox' : Queues)
+    (h : IsNode home parts store outbox) (room : HasMoreRoom store store' outbox outbox') (stored : store'.tenants ≡ max store.tenants (slot + 1)) (queued : outbox'.tenants ≡ max outbox.tenants (slot + 1))
+    (more_is : more ≡ slot + 1 - length parts) (free : get_or parts slot None ≡ None) (fresh : IsFresh home.shape.data_centres part) (clock : first_clock ≤ last_clock)
+    (terms : part.terms ≡ record { first_clock = first_clock; quota = quota }) where
   abbrev made : List (Option Part)
   made = parts ++ replicate more None
 
   below : slot < length (parts ++ replicate more None)
   below = let long = padded_length parts more None in omega arith
 
-  node_padded : IsNode id dcs shards (parts ++ replicate more None) store' outbox'
+  node_padded : IsNode home (parts ++ replicate more None) store' outbox'
   node_padded =
       let long = padded_length parts more None in
       let s = h.slots.stored in
       let q = h.slots.queued in
-      IsNode-padded id dcs shards more parts store' outbox' (IsNode-room id dcs shards parts store store' outbox outbox' h room) (omega arith) (omega arith)
+      IsNode-padded home more parts store' outbox' (IsNode-room home parts store store' outbox outbox' h room) (omega arith) (omega arith)
 
-  pub node_admitted : IsNode id dcs shards (set (parts ++ replicate more None) slot (Some part)) store' outbox'
+  pub node_admitted : IsNode home (set (parts ++ replicate more None) slot (Some part)) store' outbox'
   node_admitted =
-      let back = sym place in
-      IsNode-admitted id dcs shards slot made part store' outbox' node_padded below (padded_read parts more slot None ∙ free) fresh (record {
-        dc_exists = subst (λ (q : Place). q.id.dc < q.data_centres) back h.slots.dc_exists;
-        shard_exists = subst (λ (q : Place). q.id.shard < q.shards) back h.slots.shard_exists;
-        numbers_fit = subst (λ (q : Place). q.data_centres * q.shards ≤ NODES) back h.slots.numbers_fit;
-        clock_fits = subst (λ (q : Place). q.first_clock ≤ last_clock) back clock;
-      }) (ap (λ (q : Place). q.id) place) (ap (λ (q : Place). q.data_centres) place) (ap (λ (q : Place). q.shards) place)
+      IsNode-admitted home slot made part store' outbox' node_padded below (padded_read parts more slot None ∙ free) fresh (subst (λ (k : Terms). k.first_clock ≤ last_clock) (sym terms) clock)
 
   there : get_or (set (parts ++ replicate more None) slot (Some part)) slot None ≡ Some part
   there = get_or-set_same made slot (Some part) None below
 
-  pub place_admitted : get_or (places_of (set (parts ++ replicate more None) slot (Some part))) slot None ≡ Some (record { id = id; data_centres = dcs; shards = shards; trans_time = trans_time; first_clock = first_clock; quota = quota })
-  place_admitted = place_shown (set made slot (Some part)) slot part there ∙ ap Some place
+  pub place_admitted : place_at slot (view_of home (set (parts ++ replicate more None) slot (Some part))) ≡ Some (place_for home first_clock quota)
+  place_admitted = place_shown home (set made slot (Some part)) slot part there ∙ ap (λ k. Some (place_under home k)) terms
 
   pub trail_admitted : trail_of slot (trails_of (set (parts ++ replicate more None) slot (Some part))) ≡ []
   trail_admitted = trail_read (set made slot (Some part)) slot part there ∙ fresh.trail
 
-  pub others_admitted : (other : ℕ) → other ≢ slot
-      → (get_or (places_of (set (parts ++ replicate more None) slot (Some part))) other None ≡ get_or (places_of parts) other None) × (trail_of other (trails_of (set (parts ++ replicate more None) slot (Some part))) ≡ trail_of other (trails_of parts))
+  pub others_admitted : (other : ℕ) → other ≢ slot → IsSlotKept other (view_of home parts) (view_of home (set (parts ++ replicate more None) slot (Some part)))
   others_admitted other differ = (
-    place_elsewhere made slot other (Some part) differ ∙ same_place_shown parts made other (padded_read parts more other None),
+    place_elsewhere home made slot other (Some part) differ ∙ same_place_shown home parts made other (padded_read parts more other None),
     trail_elsewhere made slot other (Some part) differ ∙ same_trail_shown parts made other (padded_read parts more other None),
   )

@@ -18,11 +18,12 @@ use Rattle.cops_node.specs.declared.NodeCall.{NodeCall}
 use Rattle.cops_node.specs.declared.NodeId.{NodeId}
 use Rattle.cops_node.specs.declared.NodeReply.{NodeReply}
 use Rattle.cops_node.specs.declared.NodeReply.TheVariants.{Refused}
-use Rattle.cops_node.specs.declared.Place.{Place}
 use Rattle.cops_node.specs.Clusters.{Cluster, nodes_of, HasTenant, solo_at, turn_at, IsTurnOf, IsCall, IsCluster, id_of, new_shared, new_nodes, shape_of, HoldsNodes}
-use Rattle.cops_node.specs.Parts.{Home, Shared, home_of, place_at, trail_of, solo_of, left_by, has_audit_room, IsTurn, AllFit, AuditFits, IsAudited}
-use Rattle.cops_node.specs.Place.{fits, node_number, place_of}
-use Rattle.cops_node.specs.Shape.{Shape, place_in}
+use Rattle.cops_node.specs.declared.Home.{Home}
+use Rattle.cops_node.specs.Parts.{Shared, home_of, opening_terms, place_at, place_under, site_in, terms_of, trail_of, solo_of, left_by, has_audit_room, IsTurn, AllFit, AuditFits, IsAudited}
+use Rattle.cops_node.specs.Place.{Place, fits, node_number, place_of}
+use Rattle.cops_node.specs.declared.Shape.{Shape}
+use Rattle.cops_node.specs.Shape.{place_in}
 use Rattle.cops_node.specs.SoloNode.{SoloNode, new_node}
 use Rattle.cops_node.specs.Step.{CallEffect, node_step}
 use Rattle.cops_node.proofs.Slots.{AuditFits-noted, some_same}
@@ -66,7 +67,7 @@ module _ (shape : Shape) (nodes : List Shared) (id : NodeId) (slot moment : ℕ)
     (turn : (place : Place) → place_at slot node ≡ Some place → IsTurn slot moment call reply place node next)
     (full : (place : Place) → place_at slot node ≡ Some place → has_audit_room slot place node ≡ false → reply ≡ Refused AuditFull)
     (stay : (other : ℕ) → other ≢ slot → trail_of other next.audit ≡ trail_of other node.audit)
-    (home : next.home ≡ node.home) where
+    (home : next.home ≡ node.home) (terms : next.terms ≡ node.terms) where
   abbrev number : ℕ
   number = node_number shape.shards id
 
@@ -79,6 +80,12 @@ module _ (shape : Shape) (nodes : List Shared) (id : NodeId) (slot moment : ℕ)
   homes : map (λ (n : Shared). n.home) (set nodes number next) ≡ map (λ (n : Shared). n.home) nodes
   homes = map-set_same (λ (n : Shared). n.home) nodes number next node (home ∙ ap (λ (n : Shared). n.home) read)
 
+  sites : map site_in (set nodes number next) ≡ map site_in nodes
+  sites = map-set_same site_in nodes number next node ((λ i. record { home = home i; terms = terms i }) ∙ ap site_in read)
+
+  same_place : (other : ℕ) → place_at other next ≡ place_at other node
+  same_place other = λ i. place_at other (record { home = home i; terms = terms i; audit = node.audit })
+
   same_solo : (config : TenantConfig) (other : ℕ) → other ≢ slot → solo_of other (place_of config next.home.id) next ≡ solo_of other (place_of config node.home.id) node
   same_solo config other differ = (λ i. left_by (place_of config (home i).id) (stay other differ i))
 
@@ -87,7 +94,7 @@ module _ (shape : Shape) (nodes : List Shared) (id : NodeId) (slot moment : ℕ)
 
   tenants : (config : TenantConfig) (other : ℕ) → HasTenant config other old → HasTenant config other new
   tenants config other h = all_set (λ (n : Shared). place_at other n ≡ Some (place_of config n.home.id)) nodes number node next h
-      (λ k. ap (λ (h : Home). get_or h.places other None) home ∙ k ∙ ap (λ (h : Home). Some (place_of config h.id)) (sym home)) read
+      (λ k. same_place other ∙ k ∙ ap (λ (h : Home). Some (place_of config h.id)) (sym home)) read
 
   same_number : (config : TenantConfig) → config.shards ≡ shape.shards → number ≡ node_number config.shards id
   same_number config same_shards = ap (λ n. id.dc * n + id.shard) (sym same_shards)
@@ -142,7 +149,7 @@ module _ (shape : Shape) (nodes : List Shared) (id : NodeId) (slot moment : ℕ)
     full = λ config same_shards has. refused_full (place_of config node.home.id) (found config has) config same_shards has;
     others = others;
     tenants = tenants;
-    homes = homes;
+    sites = sites;
   }
 
   -- the nodes are still those of the cluster
@@ -203,10 +210,11 @@ HoldsNodes-new config nodes numbers is = record {
     none (n ∷ numbers) = (no_calls_fit (place_in (shape_of config) (id_of config.shards n)) (length config.tenants), none numbers)
 
 -- the place of a tenant of the configuration, at a new node
-pub place_new : (config : Config) (slot : ℕ) (tenant : Tenant) (id : NodeId) → slice_get config.tenants slot ≡ Some tenant → get_or (home_of config id).places slot None ≡ Some (place_of (tenant_config config tenant) id)
-place_new config slot tenant id found =
-    get_or_from_slice_get (home_of config id).places slot (Some (place_of (tenant_config config tenant) id)) None
-    (slice_get-map (λ (t : Tenant). Some (place_of (tenant_config config t) id)) config.tenants slot ∙ ap (option_map (λ (t : Tenant). Some (place_of (tenant_config config t) id))) found)
+pub place_new : (config : Config) (slot : ℕ) (tenant : Tenant) (number : ℕ) → slice_get config.tenants slot ≡ Some tenant → place_at slot (new_shared config number) ≡ Some (place_of (tenant_config config tenant) (id_of config.shards number))
+place_new config slot tenant number found =
+    ap (option_map (place_under (home_of config (id_of config.shards number))))
+    (get_or_from_slice_get (opening_terms config) slot (Some (terms_of tenant)) None
+    (slice_get-map (λ (t : Tenant). Some (terms_of t)) config.tenants slot ∙ ap (option_map (λ (t : Tenant). Some (terms_of t))) found))
 
 -- each tenant of the configuration has his slot
 pub tenant_new : (config : Config) (slot : ℕ) (tenant : Tenant) → slice_get config.tenants slot ≡ Some tenant → HasTenant (tenant_config config tenant) slot (new_nodes config)
@@ -214,7 +222,7 @@ tenant_new config slot tenant found = each (range_with_len 0 (config.data_centre
   where
     each : (numbers : List ℕ) → AllByRecursion (λ (n : Shared). place_at slot n ≡ Some (place_of (tenant_config config tenant) n.home.id)) (map (new_shared config) numbers)
     each [] = tt
-    each (number ∷ numbers) = (place_new config slot tenant (id_of config.shards number) found, each numbers)
+    each (number ∷ numbers) = (place_new config slot tenant number found, each numbers)
 
 -- and his solo nodes are new
 pub solos_new : (config : Config) (slot : ℕ) (tenant : Tenant) → nodes_of (tenant_config config tenant) slot (new_nodes config) ≡ replicate (config.data_centres * config.shards) (new_node config.data_centres)

@@ -18,10 +18,9 @@ use Rattle.cops_store.specs.Contents.{Contents, rows_of, NoneLater}
 use Rattle.cops_outbox.specs.Queues.{Queues, queue_of, is_full, is_front}
 use Rattle.cops_outbox.specs.Queues as outbox_queues
 use Rattle.cops_node.specs.declared.parts.Counters.{Counters}
-use Rattle.cops_node.specs.declared.Place.{Place}
 use Rattle.cops_node.specs.declared.NodeReply.TheVariants.{Acked, NotFront, Refused, Stored}
-use Rattle.cops_node.specs.Parts.{StandsAt, AreMarks, mark_in}
-use Rattle.cops_node.specs.Place.{is_other_dc, own_number}
+use Rattle.cops_node.specs.Parts.{AreMarks, StandsAt, home_at, mark_in}
+use Rattle.cops_node.specs.Place.{Place, is_other_dc, own_number}
 use Rattle.cops_node.specs.SoloNode.{SoloNode, queue, issued}
 use Rattle.cops_node.specs.Step.{CallEffect, acknowledge, committed, entry_of_put, is_outbox_full, node_put_refusal, put, put_with_version, store_unless, unchanged, version_of_put}
 use Rattle.cops_node.proofs.NewRecords.{AreMarks-push, NoneLater-push, NoneLater-raised, clock-push}
@@ -53,7 +52,7 @@ pub StandsAt-committed : (slot : ℕ) (place : Place) (counters counters' : Coun
 StandsAt-committed slot place counters counters' store store' outbox outbox' solo entry h above clock_fits stands tenants clock_is marks_are within shard_is own queued dcs queues =
     let r : Record = record { entry = entry; at = solo.moment } in
     record {
-      place_is = h.place_is;
+      home_is = h.home_is;
       stored = subst (λ n. slot < n) (sym tenants) h.stored;
       queued = subst (λ n. slot < n) (sym queued) h.queued;
       own_is = own ∙ h.own_is;
@@ -67,14 +66,14 @@ StandsAt-committed slot place counters counters' store store' outbox outbox' sol
       acked = λ dc. let more = ap length (issued-push place entry solo) ∙ length-append (issued place solo) (sent place entry) in let low = h.acked dc in omega arith;
       clock_is = clock_is ∙ ap (λ n. max n entry.version.clock) h.clock_is ∙ sym (clock-push place.first_clock solo.recs r);
       clock_fits = let low = h.clock_fits in omega arith;
-      marks = subst (λ ms. AreMarks place ms (solo.recs ++ record { record_of = r; removed = false } ∷ [])) (sym marks_are) (AreMarks-push place counters.marks.items solo.recs r h.marks within shard_is above);
+      marks = subst (λ ms. AreMarks (home_at place) ms (solo.recs ++ record { record_of = r; removed = false } ∷ [])) (sym marks_are) (AreMarks-push (home_at place) counters.marks.items solo.recs r h.marks within shard_is above);
       late = NoneLater-push solo.moment solo.recs r h.late (omega arith);
     }
 
 -- ---- a later moment
 pub StandsAt-raised : (slot : ℕ) (place : Place) (counters : Counters) (store : Contents) (outbox : Queues) (solo : SoloNode) (now : ℕ) → StandsAt slot place counters store outbox solo → solo.moment ≤ now → StandsAt slot place counters store outbox (record solo { moment = now })
 StandsAt-raised slot place counters store outbox solo now h le = record {
-  place_is = h.place_is;
+  home_is = h.home_is;
   stored = h.stored;
   queued = h.queued;
   own_is = h.own_is;
@@ -94,7 +93,7 @@ pub StandsAt-collected : (slot : ℕ) (place : Place) (counters : Counters) (sto
     StandsFor (rows_of slot store') (collected place.trans_time solo.moment solo.recs) → store'.tenants ≡ store.tenants →
     StandsAt slot place counters store' outbox (record solo { recs = collected place.trans_time solo.moment solo.recs })
 StandsAt-collected slot place counters store store' outbox solo h stands tenants = record {
-  place_is = h.place_is;
+  home_is = h.home_is;
   stored = subst (λ n. slot < n) (sym tenants) h.stored;
   queued = h.queued;
   own_is = h.own_is;
@@ -105,7 +104,7 @@ StandsAt-collected slot place counters store store' outbox solo h stands tenants
   acked = λ dc. subst (λ rs. get_or solo.acked dc 0 ≤ length (filter (λ (e : Entry). e.version.node == own_number place) (map (λ (r : Record). r.entry) rs))) (sym same) (h.acked dc);
   clock_is = h.clock_is ∙ ap (λ rs. fold max place.first_clock (map (λ (r : Record). r.entry.version.clock) rs)) (sym same);
   clock_fits = h.clock_fits;
-  marks = record { all = h.marks.all; each = λ node. subst (λ rs. mark_in place counters.marks.items node ≡ mark_among node rs) (sym same) (h.marks.each node) };
+  marks = record { all = h.marks.all; each = λ node. subst (λ rs. mark_in (home_at place) counters.marks.items node ≡ mark_among node rs) (sym same) (h.marks.each node) };
   late = subst (AllByRecursion (λ r. r.at ≤ solo.moment)) (sym same) h.late;
 }
   where
@@ -141,7 +140,7 @@ pub StandsAt-acked : (slot dc : ℕ) (version : Timestamp) (b : Bool) (place : P
     outbox'.own ≡ outbox.own → outbox'.tenants ≡ outbox.tenants → length outbox'.queues ≡ length outbox.queues → dc < place.data_centres →
     StandsAt slot place counters store outbox' (ack_turn b dc solo).after
 StandsAt-acked slot dc version true place counters store outbox outbox' solo h other found entry elsewhere own queued dcs within = record {
-  place_is = h.place_is;
+  home_is = h.home_is;
   stored = h.stored;
   queued = subst (λ n. slot < n) (sym queued) h.queued;
   own_is = own ∙ h.own_is;
@@ -181,7 +180,7 @@ StandsAt-acked slot dc version true place counters store outbox outbox' solo h o
         let differ : at ≢ dc = λ same. true≢false (sym ((Decides-eqb at dc).1 same) ∙ e) in
         subst (λ n. n ≤ length (issued place solo)) (sym (get_or-set_other solo.acked dc at (get_or solo.acked dc 0 + 1) 0 differ)) (h.acked at)
 StandsAt-acked slot dc version false place counters store outbox outbox' solo h other found entry elsewhere own queued dcs within = record {
-  place_is = h.place_is;
+  home_is = h.home_is;
   stored = h.stored;
   queued = subst (λ n. slot < n) (sym queued) h.queued;
   own_is = own ∙ h.own_is;

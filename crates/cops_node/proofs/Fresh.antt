@@ -14,17 +14,16 @@ use Rattle.cops_types.specs.declared.records.EntryParts.{EntryParts as Entry}
 use Rattle.cops_types.specs.HeadLines.{are_sizes}
 use Rattle.cops_types.specs.Layout.{NODES}
 use Rattle.cops_types.specs.Records.{StandsFor}
-use Rattle.cops_types.specs.TenantConfig.{tenant_config}
 use Rattle.cops_types.specs.Version.{Timestamp, no_version, last_clock}
 use Rattle.cops_store.specs.Contents.{Contents, rows_of}
 use Rattle.cops_outbox.specs.Queues.{Queues, queue_of}
 use Rattle.cops_node.specs.declared.NodeId.{NodeId}
-use Rattle.cops_node.specs.declared.Place.{Place}
+use Rattle.cops_node.specs.declared.Terms.{Terms}
 use Rattle.cops_node.specs.declared.parts.Part.{Part}
-use Rattle.cops_node.specs.Parts.{AllFit, IsFresh, IsNode, IsPart, IsPlace, StandsAt, home_of, left_by, mark_in, no_calls, places_of, trails_of}
-use Rattle.cops_node.specs.Place.{place_of}
-use Rattle.cops_node.specs.Shape.{place_in}
-use Rattle.cops_node.proofs.Slots.{place_in_part, place_shown, some_same, some_there, view_of}
+use Rattle.cops_node.specs.declared.Home.{Home}
+use Rattle.cops_node.specs.Parts.{AllFit, IsFresh, IsHome, IsNode, StandsAt, StandsForTrail, home_of, left_by, mark_in, no_calls, opening_terms, place_under, terms_in, terms_of, trails_of}
+use Rattle.cops_node.specs.Place.{Place}
+use Rattle.cops_node.proofs.Slots.{PlaceIn, some_same, some_there, terms_in_part, terms_shown, view_of}
 
 -- a list of copies
 pub copies_are : (clones : Timestamp → Timestamp → Type 0) (x : Timestamp) (ys : List Timestamp) → ((y : Timestamp) → clones x y → y ≡ x) → AllClonesOf clones x ys → ys ≡ replicate (length ys) x
@@ -38,22 +37,22 @@ copies_are clones x (y ∷ ys) f h = let here : y ≡ x = one h.0 in let rest = 
 -- ---- a new node
 
 -- no slot has made a call
-fresh_trails : (parts : List (Option Part)) → AllByRecursion (λ p. IfSome p IsFresh) parts → trails_of parts ≡ no_calls (length parts)
-fresh_trails [] fresh = refl
-fresh_trails (None ∷ parts) fresh = ap (λ ts. [] ∷ ts) (fresh_trails parts fresh.1)
-fresh_trails (Some p ∷ parts) fresh = let first = fresh.0.trail in let rest = fresh_trails parts fresh.1 in (λ i. first i ∷ rest i)
+fresh_trails : (dcs : ℕ) (parts : List (Option Part)) → AllByRecursion (λ p. IfSome p (IsFresh dcs)) parts → trails_of parts ≡ no_calls (length parts)
+fresh_trails dcs [] fresh = refl
+fresh_trails dcs (None ∷ parts) fresh = ap (λ ts. [] ∷ ts) (fresh_trails dcs parts fresh.1)
+fresh_trails dcs (Some p ∷ parts) fresh = let first = fresh.0.trail in let rest = fresh_trails dcs parts fresh.1 in (λ i. first i ∷ rest i)
 
 pub no_calls_fit : (place : Place) (slots : ℕ) → AllByRecursion (AllFit place) (no_calls slots)
 no_calls_fit place zero = tt
 no_calls_fit place (suc slots) = (tt, no_calls_fit place slots)
 
 -- what contracts see of a new node
-pub new_view : (config : Config) (id : NodeId) (parts : List (Option Part)) → AllByRecursion (λ p. IfSome p IsFresh) parts → places_of parts ≡ map (λ (t : Tenant). Some (place_of (tenant_config config t) id)) config.tenants
-    → view_of id config.data_centres config.shards config.trans_time parts ≡ record { home = home_of config id; audit = no_calls (length config.tenants) }
-new_view config id parts fresh places =
-    let long : length parts ≡ length config.tenants = sym (length-map parts (option_map place_in_part)) ∙ ap length places ∙ length-map config.tenants (λ (t : Tenant). Some (place_of (tenant_config config t) id)) in
-    let trails = fresh_trails parts fresh ∙ ap no_calls long in
-    λ i. record { home = record { id = id; shape = record { data_centres = config.data_centres; shards = config.shards }; trans_time = config.trans_time; places = places i }; audit = trails i }
+pub new_view : (config : Config) (id : NodeId) (parts : List (Option Part)) → AllByRecursion (λ p. IfSome p (IsFresh config.data_centres)) parts → terms_in parts ≡ opening_terms config
+    → view_of (home_of config id) parts ≡ record { home = home_of config id; terms = opening_terms config; audit = no_calls (length config.tenants) }
+new_view config id parts fresh terms =
+    let long : length parts ≡ length config.tenants = sym (length-map parts (option_map terms_in_part)) ∙ ap length terms ∙ length-map config.tenants (λ (t : Tenant). Some (terms_of t)) in
+    let trails = fresh_trails config.data_centres parts fresh ∙ ap no_calls long in
+    λ i. record { home = home_of config id; terms = terms i; audit = trails i }
 
 pub replicate_read : {A : Type 0} (n i : ℕ) (x : A) → get_or (replicate n x) i x ≡ x
 replicate_read zero i x = refl
@@ -61,11 +60,11 @@ replicate_read (suc n) zero x = refl
 replicate_read (suc n) (suc i) x = replicate_read n i x
 
 -- no node has a mark yet
-no_mark : (place : Place) (n node : ℕ) → mark_in place (replicate n no_version) node ≡ no_version
-no_mark place n node = by (node % place.shards == place.id.shard)
+no_mark : (home : Home) (n node : ℕ) → mark_in home (replicate n no_version) node ≡ no_version
+no_mark home n node = by (node % home.shape.shards == home.id.shard)
   where
-    by : (b : Bool) → (if b then get_or (replicate n no_version) (node / place.shards) no_version else no_version) ≡ no_version
-    by true = replicate_read n (node / place.shards) no_version
+    by : (b : Bool) → (if b then get_or (replicate n no_version) (node / home.shape.shards) no_version else no_version) ≡ no_version
+    by true = replicate_read n (node / home.shape.shards) no_version
     by false = refl
 
 length_replicate : {A : Type 0} (n : ℕ) (x : A) → length (replicate n x) ≡ n
@@ -76,20 +75,17 @@ drop_nothing : (n : ℕ) → (let none : List Entry = [] in drop n none ≡ none
 drop_nothing zero = refl
 drop_nothing (suc n) = refl
 
-fresh_at : (parts : List (Option Part)) (slot : ℕ) (part : Part) → AllByRecursion (λ p. IfSome p IsFresh) parts → get_or parts slot None ≡ Some part → IsFresh part
-fresh_at [] slot part h is = absurd (true≢false (sym (ap is_some is)))
-fresh_at (p ∷ parts) zero part h is = subst (λ q. IfSome q IsFresh) is h.0
-fresh_at (p ∷ parts) (suc slot) part h is = fresh_at parts slot part h.1 is
+fresh_at : (dcs : ℕ) (parts : List (Option Part)) (slot : ℕ) (part : Part) → AllByRecursion (λ p. IfSome p (IsFresh dcs)) parts → get_or parts slot None ≡ Some part → IsFresh dcs part
+fresh_at dcs [] slot part h is = absurd (true≢false (sym (ap is_some is)))
+fresh_at dcs (p ∷ parts) zero part h is = subst (λ q. IfSome q (IsFresh dcs)) is h.0
+fresh_at dcs (p ∷ parts) (suc slot) part h is = fresh_at dcs parts slot part h.1 is
 
--- a place of the configuration is that of some tenant
-abbrev PlaceOfSome : Config → NodeId → Place → Type 0
-PlaceOfSome config id place = (tenant : Tenant) × (place ≡ place_of (tenant_config config tenant) id) × (tenant.first_clock ≤ last_clock)
-
-tenant_at : (config : Config) (id : NodeId) (tenants : List Tenant) (slot : ℕ) (place : Place) → AllByRecursion (λ (t : Tenant). t.first_clock ≤ last_clock) tenants
-    → get_or (map (λ (t : Tenant). Some (place_of (tenant_config config t) id)) tenants) slot None ≡ Some place → PlaceOfSome config id place
-tenant_at config id [] slot place clocks is = absurd (true≢false (sym (ap is_some is)))
-tenant_at config id (t ∷ tenants) zero place clocks is = (t, some_same place (place_of (tenant_config config t) id) (sym is), clocks.0)
-tenant_at config id (t ∷ tenants) (suc slot) place clocks is = tenant_at config id tenants slot place clocks.1 is
+-- the first clock of each slot's terms is one that a clock has
+clock_at : (tenants : List Tenant) (slot : ℕ) (terms : Terms) → AllByRecursion (λ (t : Tenant). t.first_clock ≤ last_clock) tenants
+    → get_or (map (λ (t : Tenant). Some (terms_of t)) tenants) slot None ≡ Some terms → terms.first_clock ≤ last_clock
+clock_at [] slot terms clocks is = absurd (true≢false (sym (ap is_some is)))
+clock_at (t ∷ tenants) zero terms clocks is = subst (λ (k : Terms). k.first_clock ≤ last_clock) (some_same (terms_of t) terms is) clocks.0
+clock_at (t ∷ tenants) (suc slot) terms clocks is = clock_at tenants slot terms clocks.1 is
 
 nothing_waits : (data_centres slots dc slot : ℕ) → let none : List (List (List Entry)) = replicate data_centres (replicate slots []) in get_or (get_or none dc []) slot [] ≡ []
 nothing_waits zero slots dc slot = refl
@@ -105,73 +101,67 @@ pub no_rows : (rows : List Dated) → StandsFor rows [] → rows ≡ []
 no_rows rows h = none_of rows (sym (length_permutation rows [] h.records))
 
 -- the part of a tenant before any call, where nothing is kept of the slot
-pub fresh_part : (id : NodeId) (dcs shards slot : ℕ) (part : Part) (store : Contents) (outbox : Queues) → IsFresh part → IsPlace part.place → part.place.id ≡ id → part.place.data_centres ≡ dcs → part.place.shards ≡ shards
-    → slot < store.tenants → slot < outbox.tenants → outbox.own ≡ id.dc → length outbox.queues ≡ dcs → StandsFor (rows_of slot store) [] → ((dc : ℕ) → queue_of slot dc outbox ≡ [])
-    → IsPart id dcs shards slot part store outbox
-fresh_part id dcs shards slot part store outbox h place ids sizes shards_are stored queued own all empty waits =
+pub fresh_part : (home : Home) (slot : ℕ) (part : Part) (store : Contents) (outbox : Queues) → IsHome home → IsFresh home.shape.data_centres part → part.terms.first_clock ≤ last_clock
+    → slot < store.tenants → slot < outbox.tenants → outbox.own ≡ home.id.dc → length outbox.queues ≡ home.shape.data_centres → StandsFor (rows_of slot store) [] → ((dc : ℕ) → queue_of slot dc outbox ≡ [])
+    → StandsForTrail slot home part store outbox
+fresh_part home slot part store outbox node h clock stored queued own all empty waits =
     let none : [] ≡ part.trail.calls = sym h.trail in
-    let stands : StandsAt slot part.place part.counters store outbox (left_by part.place []) = record {
-      place_is = place;
+    let place : Place = place_under home part.terms in
+    let stands : StandsAt slot place part.counters store outbox (left_by place []) = record {
+      home_is = node;
       stored = stored;
       queued = queued;
-      own_is = own ∙ ap (λ (i : NodeId). i.dc) (sym ids);
-      all_queues = all ∙ sym sizes;
+      own_is = own;
+      all_queues = all;
       rows = empty;
-      queues = λ dc other. waits dc ∙ sym (drop_nothing (get_or (replicate part.place.data_centres 0) dc 0));
-      all_acked = length_replicate part.place.data_centres 0;
-      acked = λ dc. subst (λ n. n ≤ 0) (sym (replicate_read part.place.data_centres dc 0)) (omega arith);
+      queues = λ dc other. waits dc ∙ sym (drop_nothing (get_or (replicate home.shape.data_centres 0) dc 0));
+      all_acked = length_replicate home.shape.data_centres 0;
+      acked = λ dc. subst (λ n. n ≤ 0) (sym (replicate_read home.shape.data_centres dc 0)) (omega arith);
       clock_is = h.clock_is;
-      clock_fits = subst (λ n. n ≤ last_clock) (sym h.clock_is) place.clock_fits;
+      clock_fits = subst (λ n. n ≤ last_clock) (sym h.clock_is) clock;
       marks = record {
-        all = ap length h.marks ∙ length_replicate part.place.data_centres no_version;
-        each = λ node. ap (λ (ms : List Timestamp). mark_in part.place ms node) h.marks ∙ no_mark part.place part.place.data_centres node;
+        all = ap length h.marks ∙ length_replicate home.shape.data_centres no_version;
+        each = λ node. ap (λ (ms : List Timestamp). mark_in home ms node) h.marks ∙ no_mark home home.shape.data_centres node;
       };
       late = tt;
     } in
     record {
-      id_is = ids;
-      data_centres_are = sizes;
-      shards_are = shards_are;
-      kept = record {
-        stands = subst (λ t. StandsAt slot part.place part.counters store outbox (left_by part.place t)) none stands;
-        moment = subst (λ t. (left_by part.place t).moment ≡ part.moment) none (sym h.moment);
-        trail_is = subst (λ t. (left_by part.place t).trail ≡ t) none refl;
-      };
+      stands = subst (λ t. StandsAt slot place part.counters store outbox (left_by place t)) none stands;
+      moment = subst (λ t. (left_by place t).moment ≡ part.moment) none (sym h.moment);
+      trail_is = subst (λ t. (left_by place t).trail ≡ t) none refl;
     }
 
 pub IsNode-new : (config : Config) (id : NodeId) (parts : List (Option Part)) (store : Contents) (outbox : Queues) → id.dc < config.data_centres → id.shard < config.shards → config.data_centres * config.shards ≤ NODES
-    → AllByRecursion (λ (t : Tenant). t.first_clock ≤ last_clock) config.tenants → AllByRecursion (λ p. IfSome p IsFresh) parts → places_of parts ≡ map (λ (t : Tenant). Some (place_of (tenant_config config t) id)) config.tenants
+    → AllByRecursion (λ (t : Tenant). t.first_clock ≤ last_clock) config.tenants → AllByRecursion (λ p. IfSome p (IsFresh config.data_centres)) parts → terms_in parts ≡ opening_terms config
     → store.tenants ≡ length parts → outbox ≡ record { own = id.dc; tenants = length parts; queues = replicate config.data_centres (replicate (length parts) []) }
-    → ((slot : ℕ) → StandsFor (rows_of slot store) []) → IsNode id config.data_centres config.shards parts store outbox
-IsNode-new config id parts store outbox dc shard numbers clocks fresh places stored outbox_is empty = record {
+    → ((slot : ℕ) → StandsFor (rows_of slot store) []) → IsNode (home_of config id) parts store outbox
+IsNode-new config id parts store outbox dc shard numbers clocks fresh terms stored outbox_is empty = record {
   slots = record {
-    dc_exists = dc;
-    shard_exists = shard;
-    numbers_fit = numbers;
+    home_is = node;
     stored = omega arith;
     queued = (let long = ap (λ (o : Queues). o.tenants) outbox_is in omega arith);
     own_is = own;
     all_queues = all;
   };
   each = λ slot part read.
-      let some : PlaceOfSome config id part.place = tenant_at config id config.tenants slot part.place clocks (sym (ap (λ (ps : List (Option Place)). get_or ps slot None) places) ∙ place_shown parts slot part read) in
-      let is = some.1 in
-      let back = sym is in
       let lt = some_there parts slot part read in
-      fresh_part id config.data_centres config.shards slot part store outbox (fresh_at parts slot part fresh read) (record {
-        dc_exists = subst (λ (q : Place). q.id.dc < q.data_centres) back dc;
-        shard_exists = subst (λ (q : Place). q.id.shard < q.shards) back shard;
-        numbers_fit = subst (λ (q : Place). q.data_centres * q.shards ≤ NODES) back numbers;
-        clock_fits = subst (λ (q : Place). q.first_clock ≤ last_clock) back some.2;
-      }) (ap (λ (q : Place). q.id) is) (ap (λ (q : Place). q.data_centres) is) (ap (λ (q : Place). q.shards) is)
+      let clock = clock_at config.tenants slot part.terms clocks (sym (ap (λ (ts : List (Option Terms)). get_or ts slot None) terms) ∙ terms_shown parts slot part read) in
+      fresh_part (home_of config id) slot part store outbox node (fresh_at config.data_centres parts slot part fresh read) clock
       (omega arith) (let long = ap (λ (o : Queues). o.tenants) outbox_is in omega arith) own all (empty slot) (waits slot);
   vacant = λ slot read. record {
     rows = no_rows (rows_of slot store) (empty slot);
     queues = waits slot;
   };
-  fitting = subst (AllByRecursion (AllFit (place_in (record { data_centres = config.data_centres; shards = config.shards }) id))) (sym (fresh_trails parts fresh)) (no_calls_fit (place_in (record { data_centres = config.data_centres; shards = config.shards }) id) (length parts));
+  fitting = subst (AllByRecursion (AllFit (PlaceIn (home_of config id)))) (sym (fresh_trails config.data_centres parts fresh)) (no_calls_fit (PlaceIn (home_of config id)) (length parts));
 }
   where
+    node : IsHome (home_of config id)
+    node = record {
+      dc_exists = dc;
+      shard_exists = shard;
+      numbers_fit = numbers;
+    }
+
     own : outbox.own ≡ id.dc
     own = ap (λ (o : Queues). o.own) outbox_is
 

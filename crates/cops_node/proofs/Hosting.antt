@@ -9,11 +9,12 @@ use Rattle.cops_types.specs.Refusal.{IsAnswer, refused_if}
 use Rattle.cops_node.specs.declared.AuditEntry.{AuditEntry}
 use Rattle.cops_node.specs.declared.NodeCall.{NodeCall}
 use Rattle.cops_node.specs.declared.NodeReply.{NodeReply}
-use Rattle.cops_node.specs.declared.Place.{Place}
+use Rattle.cops_node.specs.Place.{Place}
 use Rattle.cops_node.specs.declared.hosted.SlotCall.TheVariants.{Own, Admit, Close}
 use Rattle.cops_node.specs.declared.hosted.SlotReply.TheVariants as told
-use Rattle.cops_node.specs.Hosting.{Held, IsSlotTurn, SlotEffect, admit_turn, close_turn, slot_holds, held_in, newly_held, own_turn, without_tenants}
-use Rattle.cops_node.specs.Parts.{Home, IsMachineTurn, IsSameNode, IsSlotKept, MOST_SLOTS, Shared, is_taken, left_by, place_at, place_for, trail_of}
+use Rattle.cops_node.specs.Hosting.{Held, IsSlotTurn, SlotEffect, admit_turn, close_turn, slot_holds, held_in, newly_held, own_turn}
+use Rattle.cops_node.specs.declared.Home.{Home}
+use Rattle.cops_node.specs.Parts.{IsMachineTurn, IsSlotKept, MOST_SLOTS, Shared, is_taken, left_by, place_at, place_for, trail_of}
 use Rattle.cops_node.proofs.Admissions.{none_from, or_left, or_right}
 
 -- ---- what a slot holds
@@ -31,22 +32,14 @@ held_of trail place = option_map (λ (p : Place). record { place = p; solo = lef
 holds_same : (other : ℕ) (old new : Shared) → place_at other new ≡ place_at other old → trail_of other new.audit ≡ trail_of other old.audit → slot_holds other new ≡ slot_holds other old
 holds_same other old new place trail = ap (held_of (trail_of other new.audit)) place ∙ ap (λ t. held_of t (place_at other old)) trail
 
-same_site : (old new : Shared) → IsSameNode old.home new.home → without_tenants new ≡ without_tenants old
-same_site old new same = λ i. record {
-  home = record {
-    id = same.id_is i;
-    shape = record { data_centres = same.data_centres_are i; shards = same.shards_are i };
-    trans_time = same.trans_time_is i;
-    places = [];
-  };
-  audit = [];
-}
-
 -- ---- a call of the tenant
 
 module _ (old : Shared) (slot moment : ℕ) (call : NodeCall) (reply : NodeReply) (new : Shared) (turn : IsMachineTurn old slot moment call reply new) where
   place_stays : (at : ℕ) → place_at at new ≡ place_at at old
-  place_stays at = ap (λ (home : Home). place_at at (record { home = home; audit = new.audit })) turn.home
+  place_stays at =
+      let home = turn.home in
+      let terms = turn.terms in
+      λ i. place_at at (record { home = home i; terms = terms i; audit = new.audit })
 
   -- the turn of what the slot holds
   abbrev IsOwn : Option Held → Type 0
@@ -69,26 +62,26 @@ module _ (old : Shared) (slot moment : ℕ) (call : NodeCall) (reply : NodeReply
     reply_is = own.0;
     after = own.1;
     others = λ other differ. holds_same other old new (place_stays other) (turn.others other differ);
-    home = ap (λ (home : Home). record { home = record home { places = [] }; audit = [] }) turn.home;
+    home = turn.home;
   }
 
 -- ---- a tenant comes
 
 module _ (old : Shared) (slot moment : ℕ) (tenant : Tenant) where
-  abbrev site : Home
-  site = (without_tenants old).home
+  abbrev home : Home
+  home = old.home
 
   -- not where there is one, or no such slot
   refuses : (b : Bool) → nat_le MOST_SLOTS slot ≡ b → (p : Option Place) → place_at slot old ≡ p → (b || is_some p) ≡ true →
-      (told.Refused NoSlot ≡ (admit_turn site slot tenant (slot_holds slot old)).reply) × (slot_holds slot old ≡ (admit_turn site slot tenant (slot_holds slot old)).after)
+      (told.Refused NoSlot ≡ (admit_turn home slot tenant (slot_holds slot old)).reply) × (slot_holds slot old ≡ (admit_turn home slot tenant (slot_holds slot old)).after)
   refuses b past (Some place) is taken =
       let held = holds_some slot old place is in
-      (ap (λ h. (admit_turn site slot tenant h).reply) (sym held), held ∙ ap (λ h. (admit_turn site slot tenant h).after) (sym held))
+      (ap (λ h. (admit_turn home slot tenant h).reply) (sym held), held ∙ ap (λ h. (admit_turn home slot tenant h).after) (sym held))
   refuses true past None is taken =
       let none = holds_none slot old is in
-      let refused : admit_turn site slot tenant None ≡ record { reply = told.Refused NoSlot; after = None } =
-      ap (λ b. cond b (record { reply = told.Refused NoSlot; after = None }) (record { reply = told.Admitted; after = Some (newly_held site tenant) })) past in
-      (ap (λ (e : SlotEffect). e.reply) (sym (ap (admit_turn site slot tenant) none ∙ refused)), none ∙ ap (λ (e : SlotEffect). e.after) (sym (ap (admit_turn site slot tenant) none ∙ refused)))
+      let refused : admit_turn home slot tenant None ≡ record { reply = told.Refused NoSlot; after = None } =
+      ap (λ b. cond b (record { reply = told.Refused NoSlot; after = None }) (record { reply = told.Admitted; after = Some (newly_held home tenant) })) past in
+      (ap (λ (e : SlotEffect). e.reply) (sym (ap (admit_turn home slot tenant) none ∙ refused)), none ∙ ap (λ (e : SlotEffect). e.after) (sym (ap (admit_turn home slot tenant) none ∙ refused)))
   refuses false past None is taken = absurd (true≢false (sym taken))
 
   pub taken_turn : is_taken slot old ≡ true → IsSlotTurn old slot moment (Admit tenant) (told.Refused NoSlot) old
@@ -101,19 +94,19 @@ module _ (old : Shared) (slot moment : ℕ) (tenant : Tenant) where
 
   -- else the slot is his
   pub admitted_turn : (new : Shared) → is_taken slot old ≡ false → place_at slot new ≡ Some (place_for old.home tenant.first_clock tenant.quota) → trail_of slot new.audit ≡ [] →
-      ((other : ℕ) → other ≢ slot → IsSlotKept other old new) → IsSameNode old.home new.home → IsSlotTurn old slot moment (Admit tenant) told.Admitted new
+      ((other : ℕ) → other ≢ slot → IsSlotKept other old new) → new.home ≡ old.home → IsSlotTurn old slot moment (Admit tenant) told.Admitted new
   admitted_turn new free place empty others same =
       let within : nat_le MOST_SLOTS slot ≡ false = or_left (nat_le MOST_SLOTS slot) (is_some (place_at slot old)) free in
       let vacant : slot_holds slot old ≡ None = holds_none slot old (none_from (place_at slot old) (or_right (nat_le MOST_SLOTS slot) (is_some (place_at slot old)) free)) in
-      let came : admit_turn site slot tenant (slot_holds slot old) ≡ record { reply = told.Admitted; after = Some (newly_held site tenant) } =
-      ap (admit_turn site slot tenant) vacant
-      ∙ ap (λ b. cond b (record { reply = told.Refused NoSlot; after = None }) (record { reply = told.Admitted; after = Some (newly_held site tenant) })) within in
+      let came : admit_turn home slot tenant (slot_holds slot old) ≡ record { reply = told.Admitted; after = Some (newly_held home tenant) } =
+      ap (admit_turn home slot tenant) vacant
+      ∙ ap (λ b. cond b (record { reply = told.Refused NoSlot; after = None }) (record { reply = told.Admitted; after = Some (newly_held home tenant) })) within in
       let own = place_for old.home tenant.first_clock tenant.quota in
       record {
         reply_is = ap (λ (e : SlotEffect). e.reply) (sym came);
         after = holds_some slot new own place ∙ ap (λ trail. Some (record { place = own; solo = left_by own trail })) empty ∙ ap (λ (e : SlotEffect). e.after) (sym came);
         others = λ other differ. let kept = others other differ in holds_same other old new kept.0 kept.1;
-        home = same_site old new same;
+        home = same;
       }
 
 -- memory is all that can be refused then
@@ -135,13 +128,13 @@ module _ (old : Shared) (slot moment : ℕ) (new : Shared) where
       let held = holds_some slot old place is in
       (ap (λ h. (close_turn h).reply) (sym held), holds_none slot new vacant ∙ ap (λ h. (close_turn h).after) (sym held))
 
-  pub closed_turn : IsSome (place_at slot old) → place_at slot new ≡ None → ((other : ℕ) → other ≢ slot → IsSlotKept other old new) → IsSameNode old.home new.home →
+  pub closed_turn : IsSome (place_at slot old) → place_at slot new ≡ None → ((other : ℕ) → other ≢ slot → IsSlotKept other old new) → new.home ≡ old.home →
       IsSlotTurn old slot moment Close told.Closed new
   closed_turn there vacant others same = let g = goes (place_at slot old) refl there vacant in record {
     reply_is = g.0;
     after = g.1;
     others = λ other differ. let kept = others other differ in holds_same other old new kept.0 kept.1;
-    home = same_site old new same;
+    home = same;
   }
 
 pub nothing_closed : (old : Shared) (slot moment : ℕ) → place_at slot old ≡ None → IsSlotTurn old slot moment Close (told.Refused UnknownTenant) old

@@ -8,10 +8,12 @@ use Rattle.cops_types.specs.declared.faults.Fault.TheVariants.{NoSlot, OutOfMemo
 use Rattle.cops_types.specs.Refusal.{refused_if}
 use Rattle.cops_types.specs.declared.quotas.Quota.{Quota}
 use Rattle.cops_node.specs.declared.AuditEntry.{AuditEntry}
-use Rattle.cops_node.specs.declared.Place.{Place}
+use Rattle.cops_node.specs.Place.{Place}
 use Rattle.cops_node.specs.Clusters.{HoldsNodes, IsCluster}
-use Rattle.cops_node.specs.Parts.{AllFit, AuditFits, Home, IsSameNode, IsSlotKept, Shared, is_taken, trail_of}
-use Rattle.cops_node.specs.Shape.{Shape, place_in}
+use Rattle.cops_node.specs.declared.Home.{Home}
+use Rattle.cops_node.specs.Parts.{AllFit, AuditFits, IsSlotKept, Shared, is_taken, trail_of}
+use Rattle.cops_node.specs.declared.Shape.{Shape}
+use Rattle.cops_node.specs.Shape.{place_in}
 use Rattle.cops_node.specs.Lives.{AtEach, AtFirst, IsAdmitted, IsClosed}
 
 pub first_none : (Is : Shared → Shared → Type 0) (nodes : List Shared) → AtFirst Is 0 nodes nodes
@@ -47,20 +49,12 @@ still P Is (suc n) (a ∷ old) (b ∷ now) x all h lt is = still P Is n old now 
 kept_twice : (other : ℕ) (old mid new : Shared) → IsSlotKept other old mid → IsSlotKept other mid new → IsSlotKept other old new
 kept_twice other old mid new one two = (two.0 ∙ one.0, two.1 ∙ one.1)
 
-same_twice : (old mid new : Home) → IsSameNode old mid → IsSameNode mid new → IsSameNode old new
-same_twice old mid new one two = record {
-  id_is = two.id_is ∙ one.id_is;
-  data_centres_are = two.data_centres_are ∙ one.data_centres_are;
-  shards_are = two.shards_are ∙ one.shards_are;
-  trans_time_is = two.trans_time_is ∙ one.trans_time_is;
-}
-
 gone_again : (slot first_clock : ℕ) (quota : Quota) (old mid new : Shared) → IsAdmitted slot first_clock quota old mid → IsClosed slot mid new → IsClosed slot old new
 gone_again slot first_clock quota old mid new came went = record {
   vacant = went.vacant;
   empty = went.empty;
   others = λ other differ. kept_twice other old mid new (came.others other differ) (went.others other differ);
-  home = same_twice old.home mid.home new.home came.home went.home;
+  home = went.home ∙ came.home;
 }
 
 pub all_gone_again : (slot first_clock : ℕ) (quota : Quota) (n : ℕ) (old mid new : List Shared) → AtFirst (IsAdmitted slot first_clock quota) n old mid → AtEach (IsClosed slot) mid new → AtEach (IsClosed slot) old new
@@ -118,13 +112,7 @@ each_read Is (a ∷ old) [] number node h lt is = absurd h
 each_read Is (a ∷ old) (b ∷ new) zero node h lt is = (a, refl, subst (Is a) (sym is) h.0)
 each_read Is (a ∷ old) (b ∷ new) (suc number) node h lt is = each_read Is old new number node h.1 (omega arith) is
 
-same_shape : (old new : Home) → IsSameNode old new → new.shape ≡ old.shape
-same_shape old new same =
-    let data_centres = same.data_centres_are in
-    let shards = same.shards_are in
-    λ i. record { data_centres = data_centres i; shards = shards i }
-
-still_cluster : (shape : Shape) (Is : Shared → Shared → Type 0) (old new : List Shared) → ((a b : Shared) → Is a b → IsSameNode a.home b.home) → AtEach Is old new → IsCluster shape old → IsCluster shape new
+still_cluster : (shape : Shape) (Is : Shared → Shared → Type 0) (old new : List Shared) → ((a b : Shared) → Is a b → b.home ≡ a.home) → AtEach Is old new → IsCluster shape old → IsCluster shape new
 still_cluster shape Is old new same h was = record {
   numbers_fit = was.numbers_fit;
   all = each_length Is old new h ∙ was.all;
@@ -132,7 +120,7 @@ still_cluster shape Is old new same h was = record {
       let at = each_read Is old new number node h lt read in
       let home = same at.0 node at.2 in
       let before = was.each number at.0 (subst (λ n. number < n) (each_length Is old new h) lt) at.1 in
-      (home.id_is ∙ before.0, same_shape at.0.home node.home home ∙ before.1);
+      (ap (λ (h : Home). h.id) home ∙ before.0, ap (λ (h : Home). h.shape) home ∙ before.1);
 }
 
 -- ---- the calls in their audits still fit
@@ -146,11 +134,9 @@ read_all : (P : List AuditEntry → Type 0) (trails : List (List AuditEntry)) �
 read_all P [] each = tt
 read_all P (t ∷ trails) each = (each 0, read_all P trails (λ slot. each (suc slot)))
 
-fit_still : (slot : ℕ) (old new : Shared) → IsSameNode old.home new.home → trail_of slot new.audit ≡ [] → ((other : ℕ) → other ≢ slot → IsSlotKept other old new) → AuditFits old → AuditFits new
+fit_still : (slot : ℕ) (old new : Shared) → new.home ≡ old.home → trail_of slot new.audit ≡ [] → ((other : ℕ) → other ≢ slot → IsSlotKept other old new) → AuditFits old → AuditFits new
 fit_still slot old new same empty others fit =
-    let shape = same_shape old.home new.home same in
-    let id = same.id_is in
-    let place : place_in new.home.shape new.home.id ≡ place_in old.home.shape old.home.id = λ i. place_in (shape i) (id i) in
+    let place : place_in new.home.shape new.home.id ≡ place_in old.home.shape old.home.id = ap (λ (h : Home). place_in h.shape h.id) same in
     subst (λ (p : Place). AllByRecursion (AllFit p) new.audit) (sym place) (read_all (AllFit home) new.audit each)
   where
     home : Place

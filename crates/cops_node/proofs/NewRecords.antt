@@ -15,7 +15,7 @@ use Rattle.cops_types.specs.Records.{Tracked, StandsFor, clock, mark, mark_among
 use Rattle.cops_types.specs.Version.{Timestamp, no_version, version_le, version_max, greatest}
 use Rattle.cops_types.proofs.VersionOrder.{version_max-left, version_max-right, version_le-trans, version_le-false, version_lt-le, version_max-no_version_right}
 use Rattle.cops_store.specs.Contents.{LacksVersion, NoneLater}
-use Rattle.cops_node.specs.declared.Place.{Place}
+use Rattle.cops_node.specs.declared.Home.{Home}
 use Rattle.cops_node.specs.Parts.{AreMarks, mark_in}
 use Rattle.cops_node.proofs.MarkLaws.{is_of, mark_among-push}
 
@@ -122,35 +122,35 @@ same_node : (a b shards : ℕ) → a % shards ≡ b % shards → a / shards ≡ 
 same_node a b shards shard dc = sym (div-add-mod a shards) ∙ (λ i. shards * dc i + shard i) ∙ div-add-mod b shards
 
 -- the mark of another node is as before
-other_mark : (place : Place) (marks : List Timestamp) (v : Timestamp) (node : ℕ) → v.node % place.shards ≡ place.id.shard → (v.node == node) ≡ false
-    → mark_in place (set marks (v.node / place.shards) v) node ≡ mark_in place marks node
-other_mark place marks v node shard_is differ = by (node % place.shards == place.id.shard) refl
+other_mark : (home : Home) (marks : List Timestamp) (v : Timestamp) (node : ℕ) → v.node % home.shape.shards ≡ home.id.shard → (v.node == node) ≡ false
+    → mark_in home (set marks (v.node / home.shape.shards) v) node ≡ mark_in home marks node
+other_mark home marks v node shard_is differ = by (node % home.shape.shards == home.id.shard) refl
   where
-    by : (b : Bool) → (node % place.shards == place.id.shard) ≡ b
-        → (if b then get_or (set marks (v.node / place.shards) v) (node / place.shards) no_version else no_version) ≡ (if b then get_or marks (node / place.shards) no_version else no_version)
+    by : (b : Bool) → (node % home.shape.shards == home.id.shard) ≡ b
+        → (if b then get_or (set marks (v.node / home.shape.shards) v) (node / home.shape.shards) no_version else no_version) ≡ (if b then get_or marks (node / home.shape.shards) no_version else no_version)
     by true is =
-        let shard : v.node % place.shards ≡ node % place.shards = shard_is ∙ sym ((Decides-eqb (node % place.shards) place.id.shard).0 is) in
-        get_or-set_other marks (v.node / place.shards) (node / place.shards) v no_version (λ dc. true≢false (sym ((Decides-eqb v.node node).1 (same_node v.node node place.shards shard (sym dc))) ∙ differ))
+        let shard : v.node % home.shape.shards ≡ node % home.shape.shards = shard_is ∙ sym ((Decides-eqb (node % home.shape.shards) home.id.shard).0 is) in
+        get_or-set_other marks (v.node / home.shape.shards) (node / home.shape.shards) v no_version (λ dc. true≢false (sym ((Decides-eqb v.node node).1 (same_node v.node node home.shape.shards shard (sym dc))) ∙ differ))
     by false is = refl
 
-pub AreMarks-push : (place : Place) (marks : List Timestamp) (recs : List Tracked) (r : Record) → AreMarks place marks recs → r.entry.version.node / place.shards < place.data_centres → r.entry.version.node % place.shards ≡ place.id.shard
-    → version_le r.entry.version (mark r.entry.version.node recs) ≡ false → AreMarks place (set marks (r.entry.version.node / place.shards) r.entry.version) (recs ++ record { record_of = r; removed = false } ∷ [])
-AreMarks-push place marks recs r h within shard_is above = record {
-  all = length-set marks (r.entry.version.node / place.shards) r.entry.version ∙ h.all;
+pub AreMarks-push : (home : Home) (marks : List Timestamp) (recs : List Tracked) (r : Record) → AreMarks home marks recs → r.entry.version.node / home.shape.shards < home.shape.data_centres → r.entry.version.node % home.shape.shards ≡ home.id.shard
+    → version_le r.entry.version (mark r.entry.version.node recs) ≡ false → AreMarks home (set marks (r.entry.version.node / home.shape.shards) r.entry.version) (recs ++ record { record_of = r; removed = false } ∷ [])
+AreMarks-push home marks recs r h within shard_is above = record {
+  all = length-set marks (r.entry.version.node / home.shape.shards) r.entry.version ∙ h.all;
   each = λ node. by node (r.entry.version.node == node) refl;
 }
   where
-    own : mark_in place (set marks (r.entry.version.node / place.shards) r.entry.version) r.entry.version.node ≡ mark r.entry.version.node (recs ++ record { record_of = r; removed = false } ∷ [])
+    own : mark_in home (set marks (r.entry.version.node / home.shape.shards) r.entry.version) r.entry.version.node ≡ mark r.entry.version.node (recs ++ record { record_of = r; removed = false } ∷ [])
     own =
-        ap (λ b. if b then get_or (set marks (r.entry.version.node / place.shards) r.entry.version) (r.entry.version.node / place.shards) no_version else no_version) ((Decides-eqb (r.entry.version.node % place.shards) place.id.shard).1 shard_is)
-        ∙ get_or-set_same marks (r.entry.version.node / place.shards) r.entry.version no_version (subst (λ n. r.entry.version.node / place.shards < n) (sym h.all) within)
+        ap (λ b. if b then get_or (set marks (r.entry.version.node / home.shape.shards) r.entry.version) (r.entry.version.node / home.shape.shards) no_version else no_version) ((Decides-eqb (r.entry.version.node % home.shape.shards) home.id.shard).1 shard_is)
+        ∙ get_or-set_same marks (r.entry.version.node / home.shape.shards) r.entry.version no_version (subst (λ n. r.entry.version.node / home.shape.shards < n) (sym h.all) within)
         ∙ sym (mark_own recs r above)
 
     by : (node : ℕ) (b : Bool) → (r.entry.version.node == node) ≡ b
-        → mark_in place (set marks (r.entry.version.node / place.shards) r.entry.version) node ≡ mark node (recs ++ record { record_of = r; removed = false } ∷ [])
+        → mark_in home (set marks (r.entry.version.node / home.shape.shards) r.entry.version) node ≡ mark node (recs ++ record { record_of = r; removed = false } ∷ [])
     by node true is =
-        subst (λ n. mark_in place (set marks (r.entry.version.node / place.shards) r.entry.version) n ≡ mark n (recs ++ record { record_of = r; removed = false } ∷ [])) ((Decides-eqb r.entry.version.node node).0 is) own
-    by node false is = other_mark place marks r.entry.version node shard_is is ∙ h.each node ∙ sym (mark_other node recs r is)
+        subst (λ n. mark_in home (set marks (r.entry.version.node / home.shape.shards) r.entry.version) n ≡ mark n (recs ++ record { record_of = r; removed = false } ∷ [])) ((Decides-eqb r.entry.version.node node).0 is) own
+    by node false is = other_mark home marks r.entry.version node shard_is is ∙ h.each node ∙ sym (mark_other node recs r is)
 
 -- ---- moments
 

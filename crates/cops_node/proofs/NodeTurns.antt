@@ -14,7 +14,7 @@ use Rattle.cops_node.specs.declared.NodeCall.{NodeCall}
 use Rattle.cops_node.specs.declared.NodeCall.TheVariants.{Get, Put, DepCheck, Pull, Commit, Ack, Collect}
 use Rattle.cops_node.specs.declared.NodeReply.{NodeReply}
 use Rattle.cops_node.specs.declared.NodeReply.TheVariants.{Stored, Checked, Committed, Already, OutOfOrder, Acked, NotFront, Removed, Refused}
-use Rattle.cops_node.specs.declared.Place.{Place}
+use Rattle.cops_node.specs.Place.{Place}
 use Rattle.cops_node.specs.declared.Wanted.TheVariants.{Latest, Exactly}
 use Rattle.cops_node.specs.SoloNode.{SoloNode, queue}
 use Rattle.cops_node.specs.Step.{CallEffect, acknowledge, audited, commit_refusal, committed, effect, entry_of_put, is_bytes_full, is_outbox_full, is_versions_full, node_put_refusal, node_step, put_with_version, reply_exact, reply_latest, reply_pull, store_unless, unchanged, version_of_put, was_committed}

@@ -1,6 +1,6 @@
 -- What one call of a slot does to what a node keeps of all slots.
-use Rattle.std.proofs.Common.{◌≡◌, ◌≢◌, ℕ, zero, suc, ◌<◌, Bool, true, false, cond, not, List, [], ◌∷◌, ◌++◌, length, map, refl, sym, ap, ◌∙◌, subst, arith, true≢false, nat_eq, nat_lt, max, get_or, set}
-use Rattle.std.specs.Prelude.{if◌then◌else◌, ◌==◌, ◌&&◌, ◌/◌, ◌%◌, IsTrue, is_some, Option, Some, None, OnErr, Result, Ok, Err}
+use Rattle.std.proofs.Common.{◌≡◌, ◌≢◌, ℕ, zero, suc, ◌<◌, Bool, true, false, cond, List, [], ◌∷◌, ◌++◌, length, map, refl, sym, ap, ◌∙◌, subst, arith, true≢false, nat_eq, nat_lt, max, get_or, set}
+use Rattle.std.specs.Prelude.{if◌then◌else◌, IsTrue, is_some, Option, Some, None, OnErr, Result, Ok, Err}
 use Rattle.std.specs.Option.{option_map}
 use Rattle.std.proofs.Common.{inl, inr}
 use Rattle.std.proofs.lemmas.Bool.Decides.{Decides-eqb}
@@ -12,7 +12,6 @@ use Rattle.cops_types.specs.declared.faults.Fault.{Fault}
 use Rattle.cops_types.specs.declared.faults.Fault.TheVariants.{AuditFull}
 use Rattle.cops_types.specs.declared.pairs.Pair.{Pair}
 use Rattle.cops_types.specs.declared.records.EntryParts.{EntryParts as Entry}
-use Rattle.cops_types.specs.Key.{shard_of}
 use Rattle.cops_types.specs.Records.{StandsFor, mark}
 use Rattle.cops_types.specs.Version.{Timestamp, version_eq}
 use Rattle.cops_store.specs.Contents.{Contents}
@@ -20,15 +19,15 @@ use Rattle.cops_outbox.specs.Queues.{Queues, front}
 use Rattle.cops_node.specs.declared.AuditEntry.{AuditEntry}
 use Rattle.cops_node.specs.declared.NodeCall.{NodeCall}
 use Rattle.cops_node.specs.declared.NodeCall.TheVariants.{Get, Put, DepCheck, Pull, Commit, Ack, Collect}
-use Rattle.cops_node.specs.declared.NodeId.{NodeId}
+use Rattle.cops_node.specs.declared.Terms.{Terms}
 use Rattle.cops_node.specs.declared.NodeReply.{NodeReply}
 use Rattle.cops_node.specs.declared.NodeReply.TheVariants.{Refused, Stored, Committed}
-use Rattle.cops_node.specs.declared.Place.{Place}
 use Rattle.cops_node.specs.declared.parts.Counters.{Counters}
 use Rattle.cops_node.specs.declared.parts.Part.{Part}
 use Rattle.cops_node.specs.Lacking.{MayLack}
-use Rattle.cops_node.specs.Parts.{AllFit, HasPartRoom, IsNode, IsPart, IsPartTurn, IsSoloTurn, IsUnused, JoinsCalls, JoinsTrail, OthersStay, Shared, StandsAt, StandsForTrail, has_audit_room, left_by, noted, place_at, places_of, trail_in, trail_of, trails_of}
-use Rattle.cops_node.specs.Place.{fits}
+use Rattle.cops_node.specs.declared.Home.{Home}
+use Rattle.cops_node.specs.Parts.{AllFit, HasPartRoom, IsNode, IsPartTurn, IsSoloTurn, IsUnused, JoinsCalls, JoinsTrail, OthersStay, Shared, StandsAt, StandsForTrail, has_audit_room, left_by, noted, place_at, place_under, solo_in, terms_in, trail_in, trail_of, trails_of}
+use Rattle.cops_node.specs.Place.{Place, fits}
 use Rattle.cops_node.specs.Run.{calls_in_trail, node_after}
 use Rattle.cops_node.specs.Shape.{place_in}
 use Rattle.cops_node.specs.SoloNode.{SoloNode, new_node, queue}
@@ -100,7 +99,7 @@ moment_of_effect place Collect solo = refl
 -- the audit of the solo node is beside what is kept
 pub StandsAt-audited : (slot : ℕ) (place : Place) (counters : Counters) (store : Contents) (outbox : Queues) (solo : SoloNode) (trail : List AuditEntry) → StandsAt slot place counters store outbox solo → StandsAt slot place counters store outbox (record solo { trail = trail })
 StandsAt-audited slot place counters store outbox solo trail h = record {
-  place_is = h.place_is;
+  home_is = h.home_is;
   stored = h.stored;
   queued = h.queued;
   own_is = h.own_is;
@@ -118,7 +117,7 @@ StandsAt-audited slot place counters store outbox solo trail h = record {
 -- another slot's call
 StandsAt-other : (slot other : ℕ) (place : Place) (counters : Counters) (store store' : Contents) (outbox outbox' : Queues) (solo : SoloNode) → other ≢ slot → OthersStay slot store outbox store' outbox' → StandsAt other place counters store outbox solo → StandsAt other place counters store' outbox' solo
 StandsAt-other slot other place counters store store' outbox outbox' solo differ stay h = record {
-  place_is = h.place_is;
+  home_is = h.home_is;
   stored = subst (λ n. other < n) (sym stay.tenants) h.stored;
   queued = subst (λ n. other < n) (sym stay.queued) h.queued;
   own_is = stay.own ∙ h.own_is;
@@ -152,32 +151,39 @@ held d (Some x) = x
 pub some_same : {A : Type 0} (a b : A) → Some a ≡ Some b → a ≡ b
 some_same a b is = ap (held a) is
 
-abbrev pub place_in_part : Part → Place
-place_in_part part = part.place
+-- what contracts see
+abbrev pub view_of : Home → List (Option Part) → Shared
+view_of home parts = record { home = home; terms = terms_in parts; audit = trails_of parts }
+
+abbrev pub terms_in_part : Part → Terms
+terms_in_part part = part.terms
 
 -- where memory may lack, the audit has room
 pub has_room : (place : Place) (slot : ℕ) (node : Shared) (call : NodeCall) → place_at slot node ≡ Some place → MayLack node slot call → IsTrue (has_audit_room slot place node)
 has_room place slot node call is may = subst (λ p. IsTrue (has_audit_room slot p node)) (some_same may.0 place (sym may.1 ∙ is)) may.2
 
-pub place_shown : (parts : List (Option Part)) (slot : ℕ) (part : Part) → get_or parts slot None ≡ Some part → get_or (places_of parts) slot None ≡ Some part.place
-place_shown parts slot part read = map_read (option_map place_in_part) parts slot None ∙ ap (option_map place_in_part) read
+pub terms_shown : (parts : List (Option Part)) (slot : ℕ) (part : Part) → get_or parts slot None ≡ Some part → get_or (terms_in parts) slot None ≡ Some part.terms
+terms_shown parts slot part read = map_read (option_map terms_in_part) parts slot None ∙ ap (option_map terms_in_part) read
 
-pub none_shown : (parts : List (Option Part)) (slot : ℕ) → get_or parts slot None ≡ None → get_or (places_of parts) slot None ≡ None
-none_shown parts slot read = map_read (option_map place_in_part) parts slot None ∙ ap (option_map place_in_part) read
+pub place_shown : (home : Home) (parts : List (Option Part)) (slot : ℕ) (part : Part) → get_or parts slot None ≡ Some part → place_at slot (view_of home parts) ≡ Some (place_under home part.terms)
+place_shown home parts slot part read = ap (option_map (place_under home)) (terms_shown parts slot part read)
 
-pub place_read : (parts : List (Option Part)) (slot : ℕ) (place : Place) (part : Part) → get_or (places_of parts) slot None ≡ Some place → get_or parts slot None ≡ Some part → place ≡ part.place
-place_read parts slot place part is read = some_same place part.place (sym is ∙ place_shown parts slot part read)
+pub none_shown : (home : Home) (parts : List (Option Part)) (slot : ℕ) → get_or parts slot None ≡ None → place_at slot (view_of home parts) ≡ None
+none_shown home parts slot read = ap (option_map (place_under home)) (map_read (option_map terms_in_part) parts slot None ∙ ap (option_map terms_in_part) read)
+
+pub place_read : (home : Home) (parts : List (Option Part)) (slot : ℕ) (place : Place) (part : Part) → place_at slot (view_of home parts) ≡ Some place → get_or parts slot None ≡ Some part → place ≡ place_under home part.terms
+place_read home parts slot place part is read = some_same place (place_under home part.terms) (sym is ∙ place_shown home parts slot part read)
 
 -- a slot has a part where it shows a place
-pub is_some_shown : (parts : List (Option Part)) (slot : ℕ) → is_some (get_or (places_of parts) slot None) ≡ is_some (get_or parts slot None)
-is_some_shown parts slot = ap is_some (map_read (option_map place_in_part) parts slot None) ∙ by (get_or parts slot None)
+pub is_some_shown : (home : Home) (parts : List (Option Part)) (slot : ℕ) → is_some (place_at slot (view_of home parts)) ≡ is_some (get_or parts slot None)
+is_some_shown home parts slot = ap (λ t. is_some (option_map (place_under home) t)) (map_read (option_map terms_in_part) parts slot None) ∙ by (get_or parts slot None)
   where
-    by : (p : Option Part) → is_some (option_map place_in_part p) ≡ is_some p
+    by : (p : Option Part) → is_some (option_map (place_under home) (option_map terms_in_part p)) ≡ is_some p
     by None = refl
     by (Some p) = refl
 
-pub places_set : (parts : List (Option Part)) (slot : ℕ) (old new : Part) → get_or parts slot None ≡ Some old → new.place ≡ old.place → places_of (set parts slot (Some new)) ≡ places_of parts
-places_set parts slot old new read same = map-set_same (option_map place_in_part) parts slot (Some new) None (ap Some same ∙ ap (option_map place_in_part) (sym read))
+pub terms_set : (parts : List (Option Part)) (slot : ℕ) (old new : Part) → get_or parts slot None ≡ Some old → new.terms ≡ old.terms → terms_in (set parts slot (Some new)) ≡ terms_in parts
+terms_set parts slot old new read same = map-set_same (option_map terms_in_part) parts slot (Some new) None (ap Some same ∙ ap (option_map terms_in_part) (sym read))
 
 -- the trails of the parts
 pub trail_read : (parts : List (Option Part)) (slot : ℕ) (part : Part) → get_or parts slot None ≡ Some part → trail_of slot (trails_of parts) ≡ part.trail.calls
@@ -197,27 +203,27 @@ trails_noted parts slot old new entry read more =
 pub trail_elsewhere : (parts : List (Option Part)) (slot other : ℕ) (p : Option Part) → other ≢ slot → trail_of other (trails_of (set parts slot p)) ≡ trail_of other (trails_of parts)
 trail_elsewhere parts slot other p differ = ap (trail_of other) (map-set trail_in parts slot p) ∙ get_or-set_other (trails_of parts) slot other (trail_in p) [] differ
 
-pub place_elsewhere : (parts : List (Option Part)) (slot other : ℕ) (p : Option Part) → other ≢ slot → get_or (places_of (set parts slot p)) other None ≡ get_or (places_of parts) other None
-place_elsewhere parts slot other p differ = ap (λ ps. get_or ps other None) (map-set (option_map place_in_part) parts slot p) ∙ get_or-set_other (places_of parts) slot other (option_map place_in_part p) None differ
+pub place_elsewhere : (home : Home) (parts : List (Option Part)) (slot other : ℕ) (p : Option Part) → other ≢ slot → place_at other (view_of home (set parts slot p)) ≡ place_at other (view_of home parts)
+place_elsewhere home parts slot other p differ =
+    ap (λ ts. option_map (place_under home) (get_or ts other None)) (map-set (option_map terms_in_part) parts slot p)
+    ∙ ap (option_map (place_under home)) (get_or-set_other (terms_in parts) slot other (option_map terms_in_part p) None differ)
 
-abbrev pub HomePlace : NodeId → ℕ → ℕ → Place
-HomePlace id dcs shards = place_in (record { data_centres = dcs; shards = shards }) id
+abbrev pub PlaceIn : Home → Place
+PlaceIn home = place_in home.shape home.id
 
 -- one slot is another, and the others stay
-pub IsNode-set : (id : NodeId) (dcs shards : ℕ) (parts : List (Option Part)) (slot : ℕ) (p : Option Part) (store store' : Contents) (outbox outbox' : Queues) → IsNode id dcs shards parts store outbox → slot < length parts
-    → ((part : Part) → p ≡ Some part → IsPart id dcs shards slot part store' outbox') → (p ≡ None → IsUnused slot store' outbox') → OthersStay slot store outbox store' outbox'
-    → AllByRecursion (AllFit (HomePlace id dcs shards)) (trails_of (set parts slot p))
-    → IsNode id dcs shards (set parts slot p) store' outbox'
-IsNode-set id dcs shards parts slot p store store' outbox outbox' h within own unused stay fitting = record {
+pub IsNode-set : (home : Home) (parts : List (Option Part)) (slot : ℕ) (p : Option Part) (store store' : Contents) (outbox outbox' : Queues) → IsNode home parts store outbox → slot < length parts
+    → ((part : Part) → p ≡ Some part → StandsForTrail slot home part store' outbox') → (p ≡ None → IsUnused slot store' outbox') → OthersStay slot store outbox store' outbox'
+    → AllByRecursion (AllFit (PlaceIn home)) (trails_of (set parts slot p))
+    → IsNode home (set parts slot p) store' outbox'
+IsNode-set home parts slot p store store' outbox outbox' h within own unused stay fitting = record {
   slots =
       let n = h.slots in
       let long = length-set parts slot p in
       let tenants = stay.tenants in
       let queued = stay.queued in
       record {
-        dc_exists = n.dc_exists;
-        shard_exists = n.shard_exists;
-        numbers_fit = n.numbers_fit;
+        home_is = n.home_is;
         stored = (let le = n.stored in omega arith);
         queued = (let le = n.queued in omega arith);
         own_is = stay.own ∙ n.own_is;
@@ -231,22 +237,17 @@ IsNode-set id dcs shards parts slot p store store' outbox outbox' h within own u
     here : (s : ℕ) → s ≡ slot → get_or (set parts slot p) s None ≡ p
     here s same = ap (λ m. get_or (set parts slot p) m None) same ∙ get_or-set_same parts slot p None within
 
-    each : (s : ℕ) (part : Part) → get_or (set parts slot p) s None ≡ Some part → (b : Bool) → nat_eq s slot ≡ b → IsPart id dcs shards s part store' outbox'
+    each : (s : ℕ) (part : Part) → get_or (set parts slot p) s None ≡ Some part → (b : Bool) → nat_eq s slot ≡ b → StandsForTrail s home part store' outbox'
     each s part read true is =
         let same : s ≡ slot = (Decides-eqb s slot).0 is in
-        subst (λ m. IsPart id dcs shards m part store' outbox') (sym same) (own part (sym (here s same) ∙ read))
+        subst (λ m. StandsForTrail m home part store' outbox') (sym same) (own part (sym (here s same) ∙ read))
     each s part read false is =
         let differ : s ≢ slot = λ same. true≢false (sym ((Decides-eqb s slot).1 same) ∙ is) in
         let old = h.each s part (sym (get_or-set_other parts slot s p None differ) ∙ read) in
         record {
-          id_is = old.id_is;
-          data_centres_are = old.data_centres_are;
-          shards_are = old.shards_are;
-          kept = record {
-            stands = StandsAt-other slot s part.place part.counters store store' outbox outbox' (left_by part.place part.trail.calls) differ stay old.kept.stands;
-            moment = old.kept.moment;
-            trail_is = old.kept.trail_is;
-          };
+          stands = StandsAt-other slot s (place_under home part.terms) part.counters store store' outbox outbox' (solo_in home part) differ stay old.stands;
+          moment = old.moment;
+          trail_is = old.trail_is;
         }
 
     vacant : (s : ℕ) → get_or (set parts slot p) s None ≡ None → (b : Bool) → nat_eq s slot ≡ b → IsUnused s store' outbox'
@@ -263,14 +264,15 @@ IsNode-set id dcs shards parts slot p store store' outbox outbox' h within own u
 
 -- ---- which calls fit
 
-pub fits_same : (call : NodeCall) (a b : Place) → a.id ≡ b.id → a.data_centres ≡ b.data_centres → a.shards ≡ b.shards → fits a call ≡ fits b call
-fits_same (Get key wanted) a b ids dcs shards = λ i. shard_of key (shards i) == (ids i).shard
-fits_same (Put key value deps near) a b ids dcs shards = λ i. shard_of key (shards i) == (ids i).shard
-fits_same (DepCheck key version) a b ids dcs shards = λ i. shard_of key (shards i) == (ids i).shard
-fits_same (Pull dc) a b ids dcs shards = λ i. nat_lt dc (dcs i) && not (dc == (ids i).dc)
-fits_same (Commit entry) a b ids dcs shards = λ i. (shard_of entry.key (shards i) == (ids i).shard) && ((nat_lt (entry.version.node / shards i) (dcs i) && not (entry.version.node / shards i == (ids i).dc)) && (entry.version.node % shards i == (ids i).shard))
-fits_same (Ack dc version) a b ids dcs shards = λ i. nat_lt dc (dcs i) && not (dc == (ids i).dc)
-fits_same Collect a b ids dcs shards = refl
+-- what never changes of a tenant is no concern of it
+pub fits_under : (home : Home) (terms : Terms) (call : NodeCall) → fits (place_under home terms) call ≡ fits (PlaceIn home) call
+fits_under home terms (Get key wanted) = refl
+fits_under home terms (Put key value deps near) = refl
+fits_under home terms (DepCheck key version) = refl
+fits_under home terms (Pull dc) = refl
+fits_under home terms (Commit entry) = refl
+fits_under home terms (Ack dc version) = refl
+fits_under home terms Collect = refl
 
 pub OnErr-any : {A E : Type 0} (r : Result A E) (P : Type 0) → P → OnErr r P
 OnErr-any (Ok x) P p = tt
@@ -278,85 +280,63 @@ OnErr-any (Err e) P p = p
 
 -- ---- what contracts see
 
-abbrev pub view_of : NodeId → ℕ → ℕ → ℕ → List (Option Part) → Shared
-view_of id dcs shards trans_time parts =
-    record { home = record { id = id; shape = record { data_centres = dcs; shards = shards }; trans_time = trans_time; places = places_of parts }; audit = trails_of parts }
-
--- a part that keeps its place keeps the home
-pub home_set : (id : NodeId) (dcs shards trans_time slot : ℕ) (parts : List (Option Part)) (p new : Part) → get_or parts slot None ≡ Some p → new.place ≡ p.place
-    → (view_of id dcs shards trans_time (set parts slot (Some new))).home ≡ (view_of id dcs shards trans_time parts).home
-home_set id dcs shards trans_time slot parts p new read same =
-    let places = places_set parts slot p new read same in
-    λ i. record { id = id; shape = record { data_centres = dcs; shards = shards }; trans_time = trans_time; places = places i }
-
--- a part that keeps its place and its calls does not show
-pub view_set : (id : NodeId) (dcs shards trans_time slot : ℕ) (parts : List (Option Part)) (p new : Part) → get_or parts slot None ≡ Some p → new.place ≡ p.place → new.trail.calls ≡ p.trail.calls
-    → view_of id dcs shards trans_time (set parts slot (Some new)) ≡ view_of id dcs shards trans_time parts
-view_set id dcs shards trans_time slot parts p new read same calls =
-    let home = home_set id dcs shards trans_time slot parts p new read same in
+-- a part that keeps its terms and its calls does not show
+pub view_set : (home : Home) (slot : ℕ) (parts : List (Option Part)) (p new : Part) → get_or parts slot None ≡ Some p → new.terms ≡ p.terms → new.trail.calls ≡ p.trail.calls
+    → view_of home (set parts slot (Some new)) ≡ view_of home parts
+view_set home slot parts p new read same calls =
+    let terms = terms_set parts slot p new read same in
     let trails = trails_kept parts slot p new read calls in
-    λ i. record { home = home i; audit = trails i }
+    λ i. record { home = home; terms = terms i; audit = trails i }
 
 -- the solo node's audit is the slot's trail
-pub solo_trail : (id : NodeId) (dcs shards slot : ℕ) (parts : List (Option Part)) (store : Contents) (outbox : Queues) (place : Place) (part : Part) → IsNode id dcs shards parts store outbox → get_or parts slot None ≡ Some part
-    → get_or (places_of parts) slot None ≡ Some place → part.trail.calls ≡ (left_by place (trail_of slot (trails_of parts))).trail
-solo_trail id dcs shards slot parts store outbox place part node read found =
-    let is : place ≡ part.place = place_read parts slot place part found read in
+pub solo_trail : (home : Home) (slot : ℕ) (parts : List (Option Part)) (store : Contents) (outbox : Queues) (place : Place) (part : Part) → IsNode home parts store outbox → get_or parts slot None ≡ Some part
+    → place_at slot (view_of home parts) ≡ Some place → part.trail.calls ≡ (left_by place (trail_of slot (trails_of parts))).trail
+solo_trail home slot parts store outbox place part node read found =
+    let is : place ≡ place_under home part.terms = place_read home parts slot place part found read in
     let calls : part.trail.calls ≡ trail_of slot (trails_of parts) = sym (trail_read parts slot part read) in
     subst (λ t. part.trail.calls ≡ (left_by place t).trail) calls
-    (subst (λ (p : Place). part.trail.calls ≡ (left_by p part.trail.calls).trail) (sym is) (sym (node.each slot part read).kept.trail_is))
+    (subst (λ (p : Place). part.trail.calls ≡ (left_by p part.trail.calls).trail) (sym is) (sym (node.each slot part read).trail_is))
+
+-- where memory was refused at the part, it may be at the node
+pub lack_shown : (home : Home) (slot : ℕ) (call : NodeCall) (parts : List (Option Part)) (part : Part) → get_or parts slot None ≡ Some part → HasPartRoom home part → MayLack (view_of home parts) slot call
+lack_shown home slot call parts part read room =
+    let calls : trail_of slot (trails_of parts) ≡ part.trail.calls = trail_read parts slot part read in
+    (place_under home part.terms, place_shown home parts slot part read, (λ i. nat_lt (length (left_by (place_under home part.terms) (calls i)).trail) part.terms.quota.audit) ∙ room)
 
 -- ---- a call of a slot, from what it does to the slot's part
 
-module _ (id : NodeId) (dcs shards trans_time slot moment : ℕ) (call : NodeCall) (parts : List (Option Part)) (p new : Part) (store store' : Contents) (outbox outbox' : Queues)
-    (node : IsNode id dcs shards parts store outbox) (read : get_or parts slot None ≡ Some p) (place_is : new.place ≡ p.place)
-    (stands : StandsForTrail slot new store' outbox') (others : OthersStay slot store outbox store' outbox') where
-  abbrev home : Place
-  home = HomePlace id dcs shards
-
+module _ (home : Home) (slot moment : ℕ) (call : NodeCall) (parts : List (Option Part)) (p new : Part) (store store' : Contents) (outbox outbox' : Queues)
+    (node : IsNode home parts store outbox) (read : get_or parts slot None ≡ Some p) (terms_are : new.terms ≡ p.terms)
+    (stands : StandsForTrail slot home new store' outbox') (others : OthersStay slot store outbox store' outbox') where
   within : slot < length parts
   within = some_there parts slot p read
 
-  own : (part : Part) → Some new ≡ Some part → IsPart id dcs shards slot part store' outbox'
-  own part is =
-      let old = node.each slot p read in
-      subst (λ (q : Part). IsPart id dcs shards slot q store' outbox') (some_same new part is) (record {
-        id_is = ap (λ (q : Place). q.id) place_is ∙ old.id_is;
-        data_centres_are = ap (λ (q : Place). q.data_centres) place_is ∙ old.data_centres_are;
-        shards_are = ap (λ (q : Place). q.shards) place_is ∙ old.shards_are;
-        kept = stands;
-      })
+  own : (part : Part) → Some new ≡ Some part → StandsForTrail slot home part store' outbox'
+  own part is = subst (λ (q : Part). StandsForTrail slot home q store' outbox') (some_same new part is) stands
 
-  whole : AllByRecursion (AllFit home) (trails_of (set parts slot (Some new))) → IsNode id dcs shards (set parts slot (Some new)) store' outbox'
-  whole fitting = IsNode-set id dcs shards parts slot (Some new) store store' outbox outbox' node within own (λ is. absurd (true≢false (ap is_some is))) others fitting
+  whole : AllByRecursion (AllFit (PlaceIn home)) (trails_of (set parts slot (Some new))) → IsNode home (set parts slot (Some new)) store' outbox'
+  whole fitting = IsNode-set home parts slot (Some new) store store' outbox outbox' node within own (λ is. absurd (true≢false (ap is_some is))) others fitting
 
-  pub node_same : new.trail.calls ≡ p.trail.calls → IsNode id dcs shards (set parts slot (Some new)) store' outbox'
-  node_same same = whole (subst (AllByRecursion (AllFit home)) (sym (trails_kept parts slot p new read same)) node.fitting)
+  pub node_same : new.trail.calls ≡ p.trail.calls → IsNode home (set parts slot (Some new)) store' outbox'
+  node_same same = whole (subst (AllByRecursion (AllFit (PlaceIn home))) (sym (trails_kept parts slot p new read same)) node.fitting)
 
-  pub node_joined : (reply : NodeReply) → IsTrue (fits home call) → JoinsCalls moment call reply p new → IsNode id dcs shards (set parts slot (Some new)) store' outbox'
+  pub node_joined : (reply : NodeReply) → IsTrue (fits (PlaceIn home) call) → JoinsCalls moment call reply p new → IsNode home (set parts slot (Some new)) store' outbox'
   node_joined reply fit (inl same) = node_same same.1
   node_joined reply fit (inr more) =
-      whole (subst (AllByRecursion (AllFit home)) (sym (trails_noted parts slot p new (record { moment = moment; call = call; reply = reply }) read more))
-      (AuditFits-noted home slot (trails_of parts) (record { moment = moment; call = call; reply = reply }) node.fitting fit))
+      whole (subst (AllByRecursion (AllFit (PlaceIn home))) (sym (trails_noted parts slot p new (record { moment = moment; call = call; reply = reply }) read more))
+      (AuditFits-noted (PlaceIn home) slot (trails_of parts) (record { moment = moment; call = call; reply = reply }) node.fitting fit))
 
-  pub trail_joined : (reply : NodeReply) → JoinsCalls moment call reply p new
-      → JoinsTrail slot moment call reply (view_of id dcs shards trans_time parts) (view_of id dcs shards trans_time (set parts slot (Some new)))
-  trail_joined reply (inl same) = inl (same.0, view_set id dcs shards trans_time slot parts p new read place_is same.1)
+  pub trail_joined : (reply : NodeReply) → JoinsCalls moment call reply p new → JoinsTrail slot moment call reply (view_of home parts) (view_of home (set parts slot (Some new)))
+  trail_joined reply (inl same) = inl (same.0, view_set home slot parts p new read terms_are same.1)
   trail_joined reply (inr more) = inr (trails_noted parts slot p new (record { moment = moment; call = call; reply = reply }) read more)
 
-  pub solo_turned : (reply : NodeReply) → IsPartTurn moment call reply p new → (place : Place) → get_or (places_of parts) slot None ≡ Some place
-      → IsSoloTurn slot moment call reply place (view_of id dcs shards trans_time parts) (view_of id dcs shards trans_time (set parts slot (Some new)))
+  pub solo_turned : (reply : NodeReply) → IsPartTurn home moment call reply p new → (place : Place) → place_at slot (view_of home parts) ≡ Some place
+      → IsSoloTurn slot moment call reply place (view_of home parts) (view_of home (set parts slot (Some new)))
   solo_turned reply turn place found =
-      let is : place ≡ p.place = place_read parts slot place p found read in
-      let back : p.place ≡ place = sym is in
+      let is : place ≡ place_under home p.terms = place_read home parts slot place p found read in
+      let back : place_under home p.terms ≡ place = sym is in
       let calls : p.trail.calls ≡ trail_of slot (trails_of parts) = sym (trail_read parts slot p read) in
       let after : trail_of slot (trails_of (set parts slot (Some new))) ≡ new.trail.calls = trail_read (set parts slot (Some new)) slot new (get_or-set_same parts slot (Some new) None within) in (
         turn.0 ∙ (λ i. (node_step (back i) moment call (left_by (back i) (calls i))).reply),
         (λ i. left_by (is i) (after i)) ∙ turn.1 ∙ (λ i. (node_step (back i) moment call (left_by (back i) (calls i))).after),
       )
-
-  pub room_seen : HasPartRoom p → (place : Place) → get_or (places_of parts) slot None ≡ Some place → IsTrue (has_audit_room slot place (view_of id dcs shards trans_time parts))
-  room_seen room place found =
-      let is : place ≡ p.place = place_read parts slot place p found read in
-      let calls : trail_of slot (trails_of parts) ≡ p.trail.calls = trail_read parts slot p read in
-      (λ i. nat_lt (length (left_by (is i) (calls i)).trail) (is i).quota.audit) ∙ room

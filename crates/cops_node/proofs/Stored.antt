@@ -15,12 +15,11 @@ use Rattle.cops_outbox.specs.Queues as outbox_queues
 use Rattle.cops_outbox.specs.declared.outbox.Ack.{Ack as Answer}
 use Rattle.cops_outbox.specs.declared.outbox.Ack.TheVariants as answer
 use Rattle.cops_node.specs.declared.parts.Counters.{Counters}
-use Rattle.cops_node.specs.declared.Place.{Place}
 use Rattle.cops_node.specs.declared.NodeCall.TheVariants.{Put, Commit, Ack}
 use Rattle.cops_node.specs.declared.NodeReply.{NodeReply}
 use Rattle.cops_node.specs.declared.NodeReply.TheVariants.{Stored, Committed, Already, OutOfOrder, Refused, Acked, NotFront}
-use Rattle.cops_node.specs.Parts.{IsPlace, StandsAt}
-use Rattle.cops_node.specs.Place.{is_other_dc, is_other_equivalent, own_number}
+use Rattle.cops_node.specs.Parts.{IsHome, StandsAt, home_at}
+use Rattle.cops_node.specs.Place.{Place, is_other_dc, is_other_equivalent, own_number}
 use Rattle.cops_node.specs.SoloNode.{SoloNode, queue}
 use Rattle.cops_node.specs.Step.{CallEffect, commit, commit_refusal, committed, effect, entry_of_put, node_put_refusal, put, put_with_version, store_unless, unchanged, version_of_put, was_committed}
 use Rattle.cops_node.proofs.Effects.{StandsAt-committed, sent, StandsAt-acked, ack_turn, acknowledge_is}
@@ -37,10 +36,10 @@ equivalent_of true b h = h
 equivalent_of false b h = absurd (true≢false (sym h))
 
 -- that of this node
-pub own_within : (place : Place) → IsPlace place → own_number place / place.shards < place.data_centres
+pub own_within : (place : Place) → IsHome (home_at place) → own_number place / place.shards < place.data_centres
 own_within place h = subst (λ dc. dc < place.data_centres) (sym (div-mul-add place.id.dc place.shards place.id.shard h.shard_exists)) h.dc_exists
 
-own_shard : (place : Place) → IsPlace place → own_number place % place.shards ≡ place.id.shard
+own_shard : (place : Place) → IsHome (home_at place) → own_number place % place.shards ≡ place.id.shard
 own_shard place h = mod-mul-add place.id.dc place.shards place.id.shard h.shard_exists
 
 -- and that of an equivalent one
@@ -86,7 +85,7 @@ pub put_within : (slot : ℕ) (place : Place) (counters : Counters) (store : Con
     version_of_put place solo deps ≡ Some version → version.node / place.shards < length counters.marks.items
 put_within slot place counters store outbox solo deps version h is =
     let own : version.node ≡ own_number place = (next_facts (clock place.first_clock solo.recs) (greatest_clock deps) (own_number place) version is).1 in
-    subst (λ n. version.node / place.shards < n) (sym h.marks.all) (subst (λ n. n / place.shards < place.data_centres) (sym own) (own_within place h.place_is))
+    subst (λ n. version.node / place.shards < n) (sym h.marks.all) (subst (λ n. n / place.shards < place.data_centres) (sym own) (own_within place h.home_is))
 
 module _ (slot now : ℕ) (place : Place) (counters counters' : Counters) (store middle store' : Contents) (outbox outbox' : Queues) (solo : SoloNode) (key value : List ℕ) (deps near : List Pair) (version prev : Timestamp) (entry : Entry)
     (moment : solo.moment ≡ now) (h : StandsAt slot place counters store outbox solo)
@@ -127,7 +126,7 @@ module _ (slot now : ℕ) (place : Place) (counters counters' : Counters) (store
       (ap (λ (v : Timestamp). version_le v (mark v.node solo.recs)) same_version ∙ put_above place solo deps version version_is) clock_fits
       (λ tracked s late. subst (λ m. StandsFor (rows_of slot store') (tracked ++ record { record_of = record { entry = entry; at = m }; removed = false } ∷ [])) (sym moment)
       (stands tracked (subst (λ rs. StandsFor (rows_in slot rs) tracked) (sym rows) s) (subst (λ m. NoneLater m tracked) moment late)))
-      (tenants' ∙ tenants) clock_is marks_are (subst (λ n. n / place.shards < place.data_centres) (sym own_node) (own_within place h.place_is)) (ap (λ n. n % place.shards) own_node ∙ own_shard place h.place_is) own queued dcs
+      (tenants' ∙ tenants) clock_is marks_are (subst (λ n. n / place.shards < place.data_centres) (sym own_node) (own_within place h.home_is)) (ap (λ n. n % place.shards) own_node ∙ own_shard place h.home_is) own queued dcs
       (λ dc other. pushed dc (subst (λ n. dc < n) (sym h.all_queues) (other_dc place dc other).0) (λ same. (other_dc place dc other).1 (same ∙ h.own_is)) ∙ ap (λ es. queue_of slot dc outbox ++ es) own_sent))
 
   pub put_done : (Stored version ≡ (effect place (Put key value deps near) solo).reply) × StandsAt slot place counters' store' outbox' (effect place (Put key value deps near) solo).after
@@ -192,7 +191,7 @@ module _ (slot now : ℕ) (place : Place) (counters counters' : Counters) (store
   commit_turn = commit_open place solo entry true above next ∙ ap (λ o. store_unless o Committed entry solo) allowed
 
   none_sent : [] ≡ sent place entry
-  none_sent = ap (λ b. if b then entry ∷ [] else []) (sym (foreign place entry.version.node h.place_is.shard_exists equivalent))
+  none_sent = ap (λ b. if b then entry ∷ [] else []) (sym (foreign place entry.version.node h.home_is.shard_exists equivalent))
 
   commit_reply : Committed ≡ (effect place (Commit entry) solo).reply
   commit_reply = sym (ap (λ t. t.reply) commit_turn)

@@ -9,9 +9,9 @@ use Rattle.cops_node.specs.declared.NodeCall.{NodeCall}
 use Rattle.cops_node.specs.declared.NodeId.{NodeId}
 use Rattle.cops_node.specs.declared.NodeReply.{NodeReply}
 use Rattle.cops_node.specs.declared.NodeReply.TheVariants.{Refused}
-use Rattle.cops_node.specs.Parts.{AuditFits, Shared, home_of, no_calls, place_at, solo_of}
+use Rattle.cops_node.specs.Parts.{AuditFits, Shared, home_of, no_calls, opening_terms, place_at, site_in, solo_of}
 use Rattle.cops_node.specs.Place.{node_number, place_of}
-use Rattle.cops_node.specs.Shape.{Shape}
+use Rattle.cops_node.specs.declared.Shape.{Shape}
 use Rattle.cops_node.specs.SoloNode.{SoloNode, new_node}
 use Rattle.cops_node.specs.Step.{CallEffect, node_step}
 
@@ -26,7 +26,7 @@ id_of shards number = record { dc = number / shards; shard = number % shards }
 
 -- a node of a configuration that no call has reached
 abbrev pub new_shared : Config → ℕ → Shared
-new_shared config number = record { home = home_of config (id_of config.shards number); audit = no_calls (length config.tenants) }
+new_shared config number = record { home = home_of config (id_of config.shards number); terms = opening_terms config; audit = no_calls (length config.tenants) }
 
 abbrev pub shape_of : Config → Shape
 shape_of config = record { data_centres = config.data_centres; shards = config.shards }
@@ -64,7 +64,7 @@ pub record IsCall (old : Cluster) (id : NodeId) (slot moment : ℕ) (call : Node
   pub full : (config : TenantConfig) → config.shards ≡ old.shape.shards → HasTenant config slot old → nat_lt (length (solo_at config id slot old).trail) config.quota.audit ≡ false → reply ≡ Refused AuditFull
   pub others : (config : TenantConfig) (other : ℕ) → other ≢ slot → nodes_of config other new ≡ nodes_of config other old
   pub tenants : (config : TenantConfig) (other : ℕ) → HasTenant config other old → HasTenant config other new
-  pub homes : map (λ node. node.home) new.nodes ≡ map (λ node. node.home) old.nodes
+  pub sites : map site_in new.nodes ≡ map site_in old.nodes
 
 -- ---- the nodes are those of the cluster
 

@@ -6,13 +6,13 @@ use Rattle.cops_types.specs.declared.faults.Fault.TheVariants.{NoSlot, UnknownTe
 use Rattle.cops_types.specs.Version.{last_clock}
 use Rattle.cops_node.specs.declared.NodeCall.{NodeCall}
 use Rattle.cops_node.specs.declared.NodeReply.TheVariants as node_reply
-use Rattle.cops_node.specs.declared.Place.{Place}
 use Rattle.cops_node.specs.declared.hosted.SlotCall.{SlotCall}
 use Rattle.cops_node.specs.declared.hosted.SlotCall.TheVariants.{Own, Admit, Close}
 use Rattle.cops_node.specs.declared.hosted.SlotReply.{SlotReply}
 use Rattle.cops_node.specs.declared.hosted.SlotReply.TheVariants as told
-use Rattle.cops_node.specs.Parts.{Home, MOST_SLOTS, Shared, place_at, place_for, solo_of}
-use Rattle.cops_node.specs.Place.{fits}
+use Rattle.cops_node.specs.declared.Home.{Home}
+use Rattle.cops_node.specs.Parts.{MOST_SLOTS, Shared, place_at, place_for, solo_of}
+use Rattle.cops_node.specs.Place.{Place, fits}
 use Rattle.cops_node.specs.Shape.{place_in}
 use Rattle.cops_node.specs.SoloNode.{SoloNode, new_node}
 use Rattle.cops_node.specs.Step.{node_step}
@@ -69,22 +69,18 @@ slot_turn home slot moment Close held = close_turn held
 
 -- ---- turns of a machine
 
--- the node without any tenant: its number, the sizes of the cluster, and how long a stale version stays
-abbrev pub without_tenants : Shared → Shared
-without_tenants node = record { home = record { id = node.home.id; shape = node.home.shape; trans_time = node.home.trans_time; places = [] }; audit = [] }
-
 -- the turn of what the slot holds; what another slot holds stays, and the node is the same
 pub record IsSlotTurn (old : Shared) (slot moment : ℕ) (call : SlotCall) (reply : SlotReply) (new : Shared) : Type 0 where
-  pub reply_is : reply ≡ (slot_turn (without_tenants old).home slot moment call (slot_holds slot old)).reply
-  pub after : slot_holds slot new ≡ (slot_turn (without_tenants old).home slot moment call (slot_holds slot old)).after
+  pub reply_is : reply ≡ (slot_turn old.home slot moment call (slot_holds slot old)).reply
+  pub after : slot_holds slot new ≡ (slot_turn old.home slot moment call (slot_holds slot old)).after
   pub others : (other : ℕ) → other ≢ slot → slot_holds other new ≡ slot_holds other old
-  pub home : without_tenants new ≡ without_tenants old
+  pub home : new.home ≡ old.home
 
 -- A tenant's call may come to this node. Every node may be asked to admit a tenant with a first clock that a clock has, and to close
-abbrev pub FitsSlot : Shared → ℕ → SlotCall → Type 0
-FitsSlot node slot (Own call) = IsTrue (fits (place_in node.home.shape node.home.id) call)
-FitsSlot node slot (Admit tenant) = tenant.first_clock ≤ last_clock
-FitsSlot node slot Close = Unit {0}
+abbrev pub FitsSlot : Home → ℕ → SlotCall → Type 0
+FitsSlot home slot (Own call) = IsTrue (fits (place_in home.shape home.id) call)
+FitsSlot home slot (Admit tenant) = tenant.first_clock ≤ last_clock
+FitsSlot home slot Close = Unit {0}
 
 -- ---- calls in a row
 

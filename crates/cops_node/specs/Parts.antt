@@ -10,41 +10,67 @@ use Rattle.cops_types.specs.declared.quotas.Quota.{Quota}
 use Rattle.cops_types.specs.Layout.{NODES}
 use Rattle.cops_types.specs.Records.{Tracked, StandsFor, clock, mark}
 use Rattle.cops_types.specs.Refusal.{refused_if}
-use Rattle.cops_types.specs.TenantConfig.{tenant_config}
 use Rattle.cops_types.specs.Version.{Timestamp, no_version, last_clock}
 use Rattle.cops_store.specs.Contents.{Contents, rows_of, NoneLater}
 use Rattle.cops_outbox.specs.Queues.{Queues, queue_of}
 use Rattle.cops_node.specs.declared.AuditEntry.{AuditEntry}
+use Rattle.cops_node.specs.declared.Home.{Home}
 use Rattle.cops_node.specs.declared.NodeCall.{NodeCall}
 use Rattle.cops_node.specs.declared.NodeId.{NodeId}
 use Rattle.cops_node.specs.declared.NodeReply.{NodeReply}
 use Rattle.cops_node.specs.declared.NodeReply.TheVariants.{Refused}
-use Rattle.cops_node.specs.declared.Place.{Place}
+use Rattle.cops_node.specs.declared.Terms.{Terms}
 use Rattle.cops_node.specs.declared.parts.Counters.{Counters}
 use Rattle.cops_node.specs.declared.parts.Part.{Part}
-use Rattle.cops_node.specs.Place.{fits, is_other_dc, place_of}
+use Rattle.cops_node.specs.Place.{Place, fits, is_other_dc}
 use Rattle.cops_node.specs.Run.{calls_in_trail, node_after}
-use Rattle.cops_node.specs.Shape.{Shape, place_in}
+use Rattle.cops_node.specs.Shape.{place_in}
 use Rattle.cops_node.specs.SoloNode.{SoloNode, new_node, queue, issued}
 use Rattle.cops_node.specs.Step.{node_step, effect}
 
 -- ---- a node as contracts see it
 
--- which node it is, the sizes of the cluster, how long a stale version stays, and the place of each slot that has a tenant; no call of a tenant changes it
-pub record Home : Type 0 where
-  pub id : NodeId
-  pub shape : Shape
-  pub trans_time : ℕ
-  pub places : List (Option Place)
-
--- the home, and the trail of each slot: its calls, in order. Among slots there is no order.
+-- the home, which nothing changes; the terms of each slot that has a tenant, which no call changes; and the trail of each slot: its calls, in order. Among slots there is no order.
 pub record Shared : Type 0 where
   pub home : Home
+  pub terms : List (Option Terms)
   pub audit : List (List AuditEntry)
 
--- the place of the tenant of a slot, where it has one
+-- what no call of a tenant changes of a node
+pub record Site : Type 0 where
+  pub home : Home
+  pub terms : List (Option Terms)
+
+abbrev pub site_in : Shared → Site
+site_in node = record { home = node.home; terms = node.terms }
+
+-- the node without its tenants
+abbrev pub home_in : Shared → Home
+home_in node = node.home
+
+-- the place of a tenant with this first clock and quota at a node
+abbrev pub place_for : Home → ℕ → Quota → Place
+place_for home first_clock quota =
+    record {
+      id = home.id;
+      data_centres = home.shape.data_centres;
+      shards = home.shape.shards;
+      trans_time = home.trans_time;
+      first_clock = first_clock;
+      quota = quota;
+    }
+
+-- the place of a tenant with these terms
+abbrev pub place_under : Home → Terms → Place
+place_under home terms = place_for home terms.first_clock terms.quota
+
+-- the terms of the tenant of a slot, where it has one
+abbrev pub terms_at : ℕ → Shared → Option Terms
+terms_at slot node = slice_index_or node.terms slot None
+
+-- and his place
 abbrev pub place_at : ℕ → Shared → Option Place
-place_at slot node = slice_index_or node.home.places slot None
+place_at slot node = option_map (place_under node.home) (terms_at slot node)
 
 -- the trail of one slot
 abbrev pub trail_of : ℕ → List (List AuditEntry) → List AuditEntry
@@ -77,19 +103,28 @@ home_of config id =
       id = id;
       shape = record { data_centres = config.data_centres; shards = config.shards };
       trans_time = config.trans_time;
-      places = map (λ tenant. Some (place_of (tenant_config config tenant) id)) config.tenants;
     }
+
+abbrev pub terms_of : Tenant → Terms
+terms_of tenant = record { first_clock = tenant.first_clock; quota = tenant.quota }
+
+-- the terms of each slot before any call: those of the configuration's tenants
+abbrev pub opening_terms : Config → List (Option Terms)
+opening_terms config = map (λ tenant. Some (terms_of tenant)) config.tenants
+
+-- a node of a configuration, with all its tenants
+abbrev pub site_of : Config → NodeId → Site
+site_of config id = record { home = home_of config id; terms = opening_terms config }
 
 -- each tenant's first clock is a number that a clock has
 abbrev pub are_clocks : Config → Bool
 are_clocks config = list_all (λ (tenant : Tenant). nat_le tenant.first_clock last_clock) config.tenants
 
--- a node of a cluster whose numbers and first clocks fit a version
-pub record IsPlace (place : Place) : Type 0 where
-  pub dc_exists : place.id.dc < place.data_centres
-  pub shard_exists : place.id.shard < place.shards
-  pub numbers_fit : place.data_centres * place.shards ≤ NODES
-  pub clock_fits : place.first_clock ≤ last_clock
+-- a node of a cluster whose numbers fit a version
+pub record IsHome (home : Home) : Type 0 where
+  pub dc_exists : home.id.dc < home.shape.data_centres
+  pub shard_exists : home.id.shard < home.shape.shards
+  pub numbers_fit : home.shape.data_centres * home.shape.shards ≤ NODES
 
 -- a turn of a slot: it is the turn of the solo node
 abbrev pub IsSoloTurn : ℕ → ℕ → NodeCall → NodeReply → Place → Shared → Shared → Type 0
@@ -123,17 +158,21 @@ IsAudited slot moment call reply old new =
 -- ---- what is kept of a slot
 
 -- the mark of a node in a list by data centre: a node of another shard has none
-abbrev pub mark_in : Place → List Timestamp → ℕ → Timestamp
-mark_in place marks node = if node % place.shards == place.id.shard then slice_index_or marks (node / place.shards) no_version else no_version
+abbrev pub mark_in : Home → List Timestamp → ℕ → Timestamp
+mark_in home marks node = if node % home.shape.shards == home.id.shard then slice_index_or marks (node / home.shape.shards) no_version else no_version
 
 -- the list has the marks of this node and of each equivalent one, by data centre; no other node has a record
-pub record AreMarks (place : Place) (marks : List Timestamp) (recs : List Tracked) : Type 0 where
-  pub all : length marks ≡ place.data_centres
-  pub each : (node : ℕ) → mark_in place marks node ≡ mark node recs
+pub record AreMarks (home : Home) (marks : List Timestamp) (recs : List Tracked) : Type 0 where
+  pub all : length marks ≡ home.shape.data_centres
+  pub each : (node : ℕ) → mark_in home marks node ≡ mark node recs
+
+-- the node of a place
+abbrev pub home_at : Place → Home
+home_at place = record { id = place.id; shape = record { data_centres = place.data_centres; shards = place.shards }; trans_time = place.trans_time }
 
 -- what is kept of a slot is what the solo node has
 pub record StandsAt (slot : ℕ) (place : Place) (counters : Counters) (store : Contents) (outbox : Queues) (solo : SoloNode) : Type 0 where
-  pub place_is : IsPlace place
+  pub home_is : IsHome (home_at place)
   pub stored : slot < store.tenants
   pub queued : slot < outbox.tenants
   pub own_is : outbox.own ≡ place.id.dc
@@ -144,7 +183,7 @@ pub record StandsAt (slot : ℕ) (place : Place) (counters : Counters) (store : 
   pub acked : (dc : ℕ) → slice_index solo.acked dc ≤ length (issued place solo)
   pub clock_is : counters.clock ≡ clock place.first_clock solo.recs
   pub clock_fits : counters.clock ≤ last_clock
-  pub marks : AreMarks place counters.marks.items solo.recs
+  pub marks : AreMarks (home_at place) counters.marks.items solo.recs
   pub late : NoneLater solo.moment solo.recs
 
 -- some solo node with the moment `now` is what the slot stands for
@@ -175,9 +214,9 @@ IsDone slot now place call reply counters store outbox counters' store' outbox' 
 
 -- ---- all slots
 
--- the place of each slot
-abbrev pub places_of : List (Option Part) → List (Option Place)
-places_of parts = map (option_map (λ (part : Part). part.place)) parts
+-- the terms of each slot
+abbrev pub terms_in : List (Option Part) → List (Option Terms)
+terms_in parts = map (option_map (λ (part : Part). part.terms)) parts
 
 -- the trail of each slot; one without a tenant has none
 abbrev pub trail_in : Option Part → List AuditEntry
@@ -187,18 +226,15 @@ trail_in (Some part) = part.trail.calls
 abbrev pub trails_of : List (Option Part) → List (List AuditEntry)
 trails_of parts = map trail_in parts
 
--- what is kept of a slot stands for what its trail leaves
-pub record StandsForTrail (slot : ℕ) (part : Part) (store : Contents) (outbox : Queues) : Type 0 where
-  pub stands : StandsAt slot part.place part.counters store outbox (left_by part.place part.trail.calls)
-  pub moment : (left_by part.place part.trail.calls).moment ≡ part.moment
-  pub trail_is : (left_by part.place part.trail.calls).trail ≡ part.trail.calls
+-- the solo node that the trail of a part leaves
+abbrev pub solo_in : Home → Part → SoloNode
+solo_in home part = left_by (place_under home part.terms) part.trail.calls
 
--- and its place is at this node
-pub record IsPart (id : NodeId) (data_centres shards slot : ℕ) (part : Part) (store : Contents) (outbox : Queues) : Type 0 where
-  pub id_is : part.place.id ≡ id
-  pub data_centres_are : part.place.data_centres ≡ data_centres
-  pub shards_are : part.place.shards ≡ shards
-  pub kept : StandsForTrail slot part store outbox
+-- what is kept of a slot stands for what its trail leaves
+pub record StandsForTrail (slot : ℕ) (home : Home) (part : Part) (store : Contents) (outbox : Queues) : Type 0 where
+  pub stands : StandsAt slot (place_under home part.terms) part.counters store outbox (solo_in home part)
+  pub moment : (solo_in home part).moment ≡ part.moment
+  pub trail_is : (solo_in home part).trail ≡ part.trail.calls
 
 -- nothing is kept of a slot, and nothing of it waits
 pub record IsUnused (slot : ℕ) (store : Contents) (outbox : Queues) : Type 0 where
@@ -206,33 +242,31 @@ pub record IsUnused (slot : ℕ) (store : Contents) (outbox : Queues) : Type 0 w
   pub queues : (dc : ℕ) → queue_of slot dc outbox ≡ []
 
 -- the node is one of the cluster's, and there is room for its slots
-pub record HasSlots (id : NodeId) (data_centres shards slots : ℕ) (store : Contents) (outbox : Queues) : Type 0 where
-  pub dc_exists : id.dc < data_centres
-  pub shard_exists : id.shard < shards
-  pub numbers_fit : data_centres * shards ≤ NODES
+pub record HasSlots (home : Home) (slots : ℕ) (store : Contents) (outbox : Queues) : Type 0 where
+  pub home_is : IsHome home
   pub stored : slots ≤ store.tenants
   pub queued : slots ≤ outbox.tenants
-  pub own_is : outbox.own ≡ id.dc
-  pub all_queues : length outbox.queues ≡ data_centres
+  pub own_is : outbox.own ≡ home.id.dc
+  pub all_queues : length outbox.queues ≡ home.shape.data_centres
 
-pub record IsNode (id : NodeId) (data_centres shards : ℕ) (parts : List (Option Part)) (store : Contents) (outbox : Queues) : Type 0 where
-  pub slots : HasSlots id data_centres shards (length parts) store outbox
-  pub each : (slot : ℕ) (part : Part) → slice_index_or parts slot None ≡ Some part → IsPart id data_centres shards slot part store outbox
+pub record IsNode (home : Home) (parts : List (Option Part)) (store : Contents) (outbox : Queues) : Type 0 where
+  pub slots : HasSlots home (length parts) store outbox
+  pub each : (slot : ℕ) (part : Part) → slice_index_or parts slot None ≡ Some part → StandsForTrail slot home part store outbox
   pub vacant : (slot : ℕ) → slice_index_or parts slot None ≡ None → IsUnused slot store outbox
-  pub fitting : AllByRecursion (AllFit (place_in (record { data_centres = data_centres; shards = shards }) id)) (trails_of parts)
+  pub fitting : AllByRecursion (AllFit (place_in home.shape home.id)) (trails_of parts)
 
--- a part before any call
-pub record IsFresh (part : Part) : Type 0 where
+-- a part before any call, at a node of so many data centres
+pub record IsFresh (data_centres : ℕ) (part : Part) : Type 0 where
   pub moment : part.moment ≡ 0
-  pub clock_is : part.counters.clock ≡ part.place.first_clock
-  pub marks : part.counters.marks.items ≡ replicate part.place.data_centres no_version
+  pub clock_is : part.counters.clock ≡ part.terms.first_clock
+  pub marks : part.counters.marks.items ≡ replicate data_centres no_version
   pub trail : part.trail.calls ≡ []
 
 -- the turn of the solo node that a part stands for
-abbrev pub IsPartTurn : ℕ → NodeCall → NodeReply → Part → Part → Type 0
-IsPartTurn moment call reply old new =
-    (reply ≡ (node_step old.place moment call (left_by old.place old.trail.calls)).reply)
-    × (left_by old.place new.trail.calls ≡ (node_step old.place moment call (left_by old.place old.trail.calls)).after)
+abbrev pub IsPartTurn : Home → ℕ → NodeCall → NodeReply → Part → Part → Type 0
+IsPartTurn home moment call reply old new =
+    (reply ≡ (node_step (place_under home old.terms) moment call (solo_in home old)).reply)
+    × (left_by (place_under home old.terms) new.trail.calls ≡ (node_step (place_under home old.terms) moment call (solo_in home old)).after)
 
 -- the call and its reply come behind the calls, unless the audit was full
 abbrev pub JoinsCalls : ℕ → NodeCall → NodeReply → Part → Part → Type 0
@@ -241,8 +275,8 @@ JoinsCalls moment call reply old new =
     ⊎ (new.trail.calls ≡ old.trail.calls ++ record { moment = moment; call = call; reply = reply } ∷ [])
 
 -- the audit of a part has room for one more call
-abbrev pub HasPartRoom : Part → Type 0
-HasPartRoom part = IsTrue (nat_lt (length (left_by part.place part.trail.calls).trail) part.place.quota.audit)
+abbrev pub HasPartRoom : Home → Part → Type 0
+HasPartRoom home part = IsTrue (nat_lt (length (solo_in home part).trail) part.terms.quota.audit)
 
 -- ---- tenants that come and go
 
@@ -258,25 +292,6 @@ is_taken slot node = nat_le MOST_SLOTS slot || is_some (place_at slot node)
 abbrev pub admit_refusal : ℕ → Shared → Option Fault
 admit_refusal slot node = refused_if (is_taken slot node) NoSlot
 
--- the place of a tenant with this first clock and quota at a node
-abbrev pub place_for : Home → ℕ → Quota → Place
-place_for home first_clock quota =
-    record {
-      id = home.id;
-      data_centres = home.shape.data_centres;
-      shards = home.shape.shards;
-      trans_time = home.trans_time;
-      first_clock = first_clock;
-      quota = quota;
-    }
-
--- the same node of the same cluster, whatever tenants it has
-pub record IsSameNode (home home' : Home) : Type 0 where
-  pub id_is : home'.id ≡ home.id
-  pub data_centres_are : home'.shape.data_centres ≡ home.shape.data_centres
-  pub shards_are : home'.shape.shards ≡ home.shape.shards
-  pub trans_time_is : home'.trans_time ≡ home.trans_time
-
 -- another slot is as it was: its tenant and its calls, so what it stands for
 abbrev pub IsSlotKept : ℕ → Shared → Shared → Type 0
 IsSlotKept other old new = (place_at other new ≡ place_at other old) × (trail_of other new.audit ≡ trail_of other old.audit)
@@ -286,10 +301,10 @@ quota_eq a b =
     nat_eq a.versions b.versions && nat_eq a.bytes b.bytes && nat_eq a.outbox b.outbox && nat_eq a.contexts b.contexts && nat_eq a.deps b.deps
     && nat_eq a.actors b.actors && nat_eq a.audit b.audit
 
--- the place has the tenant's first clock and quota
-abbrev pub is_opened_as : Tenant → Option Place → Bool
+-- the terms are the tenant's first clock and quota
+abbrev pub is_opened_as : Tenant → Option Terms → Bool
 is_opened_as tenant None = false
-is_opened_as tenant (Some place) = nat_eq place.first_clock tenant.first_clock && quota_eq place.quota tenant.quota
+is_opened_as tenant (Some terms) = nat_eq terms.first_clock tenant.first_clock && quota_eq terms.quota tenant.quota
 
 -- ---- turns of a machine
 
@@ -300,7 +315,8 @@ pub record IsMachineTurn (old : Shared) (slot moment : ℕ) (call : NodeCall) (r
   pub vacant : place_at slot old ≡ None → (reply ≡ Refused UnknownTenant) × (new ≡ old)
   pub others : (other : ℕ) → other ≢ slot → trail_of other new.audit ≡ trail_of other old.audit
   pub home : new.home ≡ old.home
+  pub terms : new.terms ≡ old.terms
 
 -- the call may come to this node, for whatever slot
-abbrev pub FitsNode : Shared → ℕ → NodeCall → Type 0
-FitsNode node slot call = IsTrue (fits (place_in node.home.shape node.home.id) call)
+abbrev pub FitsNode : Home → ℕ → NodeCall → Type 0
+FitsNode home slot call = IsTrue (fits (place_in home.shape home.id) call)

@@ -1,11 +1,11 @@
 //! What a call does to what a node keeps of a slot.
 ghost use Rattle.std.specs.Prelude.{◌≡◌, IsTrue, IfOk, OnErr};
-ghost use Rattle.cops_node.specs.Parts.{HasSolo, IsDone, IsUnchanged, OthersStay};
+ghost use Rattle.cops_node.specs.Parts.{HasSolo, IsDone, IsUnchanged, OthersStay, place_under};
 ghost use Rattle.cops_node.specs.Place.{fits};
 
 use crate::answered::Answered;
 use crate::parts::{self, Counters};
-use crate::{NodeCall, Place, commits, gets, puts, queues};
+use crate::{Home, NodeCall, Terms, commits, gets, puts, queues};
 use cops_outbox::Outbox;
 use cops_store::Store;
 use std::alloc::{AllocError, Global};
@@ -13,7 +13,8 @@ use std::alloc::{AllocError, Global};
 // Does what the call asks for. All memory that it takes is there before the first change.
 pub(crate) fn act(
     alloc: Global,
-    place: &Place,
+    home: &Home,
+    terms: &Terms,
     counters: &mut Counters,
     store: &mut Store,
     outbox: &mut Outbox,
@@ -21,33 +22,33 @@ pub(crate) fn act(
     now: u64,
     call: NodeCall,
 ) -> Result<Answered, AllocError>
-    requires stands { HasSolo slot now place.now counters.old store.old outbox.old }
-    requires fits { IsTrue (fits place.now call) }
-    ensures done { IfOk result (λ answered. IsDone slot now place.now call answered.told counters.old store.old outbox.old counters.new store.new outbox.new) }
+    requires stands { HasSolo slot now (place_under home.now terms.now) counters.old store.old outbox.old }
+    requires fits { IsTrue (fits (place_under home.now terms.now) call) }
+    ensures done { IfOk result (λ answered. IsDone slot now (place_under home.now terms.now) call answered.told counters.old store.old outbox.old counters.new store.new outbox.new) }
     ensures kept { IfOk result (λ answered. answered.kept ≡ record { call = call; reply = answered.told }) }
     ensures others { OthersStay slot store.old outbox.old store.new outbox.new }
     ensures err { OnErr result (IsUnchanged counters.old store.old outbox.old counters.new store.new outbox.new) }
 {
     match call {
         NodeCall::Get(key, wanted) => {
-            gets::get(alloc, place, counters, store, slot, now, &key, wanted)
+            gets::get(alloc, home, counters, store, slot, now, &key, wanted)
         }
         NodeCall::Put(key, value, deps, near) => puts::put(
-            alloc, place, counters, store, outbox, slot, now, key, value, deps, near,
+            alloc, home, terms, counters, store, outbox, slot, now, key, value, deps, near,
         ),
         NodeCall::DepCheck(key, version) => {
-            let committed = parts::was_committed(place, counters, version);
+            let committed = parts::was_committed(home, counters, version);
             let answered = Answered::checked(alloc, &key, version, committed)?;
             Ok(answered)
         }
         NodeCall::Pull(dc) => queues::pull(alloc, outbox, slot, dc),
         NodeCall::Commit(entry) => {
-            commits::commit(alloc, place, counters, store, slot, now, entry)
+            commits::commit(alloc, home, terms, counters, store, slot, now, entry)
         }
         NodeCall::Ack(dc, version) => {
             let answer = outbox.ack(slot, dc as usize, version);
             Ok(queues::acknowledged(answer, dc, version))
         }
-        NodeCall::Collect => Ok(Answered::removed(store.collect(slot, now, place.trans_time))),
+        NodeCall::Collect => Ok(Answered::removed(store.collect(slot, now, home.trans_time))),
     }
 }

@@ -5,13 +5,13 @@ ghost use Rattle.cops_types.specs.Version.{last_clock};
 ghost use Rattle.cops_store.specs.Contents.{rows_of, use_of, refusal, size_of, HasRoom, LacksVersion, NoneLater};
 ghost use Rattle.cops_outbox.specs.Queues.{Queues};
 ghost use Rattle.cops_node.specs.declared.NodeCall.{NodeCall};
-ghost use Rattle.cops_node.specs.Parts.{HasSolo, IsDone, IsPlace};
+ghost use Rattle.cops_node.specs.Parts.{HasSolo, IsDone, IsHome, place_under};
 ghost use Rattle.cops_node.specs.Place.{fits};
 
 use crate::answered::Answered;
 use crate::parts::{self, Counters};
 use crate::rows::PackedExchange;
-use crate::{NodeCall, NodeReply, Place};
+use crate::{Home, NodeCall, NodeReply, Terms};
 use cops_store::Store;
 use cops_types::{Entry, Key};
 use std::alloc::{AllocError, Global};
@@ -31,28 +31,29 @@ pub(crate) fn reserve(store: &mut Store, slot: usize, key: &Key) -> Result<(), A
 
 // Keeps an entry for which there is room.
 pub(crate) fn keep(
-    place: &Place,
+    home: &Home,
+    terms: &Terms,
     counters: &mut Counters,
     store: &mut Store,
     slot: usize,
     now: u64,
     entry: Entry,
 )
-    requires place { IsPlace place.now }
+    requires home { IsHome home.now }
     requires slot { slot < store.old.tenants }
-    requires data_centre { entry.version.node / place.now.shards < length counters.old.marks.items }
+    requires data_centre { entry.version.node / home.now.shape.shards < length counters.old.marks.items }
     requires new_version { LacksVersion entry.key entry.version (rows_of slot store.old) }
     requires room { HasRoom slot entry.key store.old }
-    requires unrefused { refusal place.now.quota (size_of entry) (use_of (rows_of slot store.old)) ≡ None }
+    requires unrefused { refusal terms.now.quota (size_of entry) (use_of (rows_of slot store.old)) ≡ None }
     ensures stands_for { (tracked : List Tracked) → StandsFor (rows_of slot store.old) tracked → NoneLater now tracked → StandsFor (rows_of slot store.new) (tracked ++ record { record_of = record { entry = entry; at = now }; removed = false } ∷ []) }
     ensures others { (other : ℕ) → other ≢ slot → rows_of other store.new ≡ rows_of other store.old }
     ensures tenants { store.new.tenants ≡ store.old.tenants }
     ensures fits { entry.version.clock ≤ last_clock }
     ensures clock { counters.new.clock ≡ max counters.old.clock entry.version.clock }
-    ensures marks { counters.new.marks.items ≡ slice_set counters.old.marks.items (entry.version.node / place.now.shards) entry.version }
+    ensures marks { counters.new.marks.items ≡ slice_set counters.old.marks.items (entry.version.node / home.now.shape.shards) entry.version }
 {
-    parts::raise(place, counters, entry.version());
-    match store.insert(slot, entry, now, &place.quota) {
+    parts::raise(home, counters, entry.version());
+    match store.insert(slot, entry, now, &terms.quota) {
         Ok(()) => {}
         Err(_) => unreachable!(),
     }
@@ -61,29 +62,30 @@ pub(crate) fn keep(
 // A call `Commit`.
 pub(crate) fn commit(
     alloc: Global,
-    place: &Place,
+    home: &Home,
+    terms: &Terms,
     counters: &mut Counters,
     store: &mut Store,
     slot: usize,
     now: u64,
     entry: Entry,
 ) -> Result<Answered, AllocError>
-    requires stands { (outbox : Queues) × HasSolo slot now place.now counters.old store.old outbox }
-    requires fits { IsTrue (fits place.now (NodeCall.Commit entry)) }
-    ensures done { IfOk result (λ answered. (outbox : Queues) → IsDone slot now place.now (NodeCall.Commit entry) answered.told counters.old store.old outbox counters.new store.new outbox) }
+    requires stands { (outbox : Queues) × HasSolo slot now (place_under home.now terms.now) counters.old store.old outbox }
+    requires fits { IsTrue (fits (place_under home.now terms.now) (NodeCall.Commit entry)) }
+    ensures done { IfOk result (λ answered. (outbox : Queues) → IsDone slot now (place_under home.now terms.now) (NodeCall.Commit entry) answered.told counters.old store.old outbox counters.new store.new outbox) }
     ensures kept { IfOk result (λ answered. answered.kept ≡ record { call = NodeCall.Commit entry; reply = answered.told }) }
     ensures others { (other : ℕ) → other ≢ slot → rows_of other store.new ≡ rows_of other store.old }
     ensures tenants { store.new.tenants ≡ store.old.tenants }
     ensures counters { OnErr result (counters.new ≡ counters.old) }
     ensures rows { OnErr result (store.new.rows ≡ store.old.rows) }
 {
-    if parts::was_committed(place, counters, entry.version()) {
+    if parts::was_committed(home, counters, entry.version()) {
         return Ok(Answered {
             told: NodeReply::Already,
             kept: PackedExchange::already(entry),
         });
     }
-    let mark = parts::mark_for(place, counters, entry.version());
+    let mark = parts::mark_for(home, counters, entry.version());
     let prev = entry.prev();
     if prev != mark {
         return Ok(Answered {
@@ -91,13 +93,13 @@ pub(crate) fn commit(
             kept: PackedExchange::out_of_order(entry, mark),
         });
     }
-    if let Some(fault) = store.refused(slot, &entry.key(), entry.value(), &place.quota) {
+    if let Some(fault) = store.refused(slot, &entry.key(), entry.value(), &terms.quota) {
         let answered = Answered::refused(alloc, NodeCall::Commit(entry), fault)?;
         return Ok(answered);
     }
     let shared = entry.copy(alloc)?;
     reserve(store, slot, &entry.key())?;
-    keep(place, counters, store, slot, now, entry);
+    keep(home, terms, counters, store, slot, now, entry);
     Ok(Answered {
         told: NodeReply::Committed,
         kept: PackedExchange::committed(shared),

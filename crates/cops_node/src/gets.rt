@@ -2,14 +2,14 @@
 ghost use Rattle.std.specs.Prelude.{◌≡◌, List, None, IfOk};
 ghost use Rattle.cops_types.specs.Records.{Tracked, StandsFor, latest as latest_record, exact as exact_record};
 ghost use Rattle.cops_store.specs.Contents.{rows_of};
-ghost use Rattle.cops_node.specs.Parts.{AreMarks, IsPlace};
+ghost use Rattle.cops_node.specs.Parts.{AreMarks, IsHome};
 ghost use Rattle.cops_node.specs.SoloNode.{SoloNode};
 ghost use Rattle.cops_node.specs.Step.{found as found_reply, reply_latest, reply_exact, reply_get};
 
 use crate::answered::Answered;
 use crate::parts::{self, Counters};
 use crate::rows::PackedExchange;
-use crate::{NodeCall, NodeReply, Place, Wanted};
+use crate::{Home, NodeCall, NodeReply, Wanted};
 use cops_store::Store;
 use cops_types::{Key, Record, Version};
 use std::alloc::{AllocError, Global};
@@ -99,7 +99,7 @@ fn exactly(
 // A call `Get`.
 pub(crate) fn get(
     alloc: Global,
-    place: &Place,
+    home: &Home,
     counters: &Counters,
     store: &Store,
     slot: usize,
@@ -107,15 +107,15 @@ pub(crate) fn get(
     key: &Key,
     wanted: Wanted,
 ) -> Result<Answered, AllocError>
-    requires place { IsPlace place.now }
+    requires home { IsHome home.now }
     requires stored { (tracked : List Tracked) × StandsFor (rows_of slot store.now) tracked }
-    ensures told { IfOk result (λ answered. (solo : SoloNode) → StandsFor (rows_of slot store.now) solo.recs → AreMarks place.now counters.now.marks.items solo.recs → solo.moment ≡ now → answered.told ≡ reply_get key.now wanted solo) }
+    ensures told { IfOk result (λ answered. (solo : SoloNode) → StandsFor (rows_of slot store.now) solo.recs → AreMarks home.now counters.now.marks.items solo.recs → solo.moment ≡ now → answered.told ≡ reply_get key.now wanted solo) }
     ensures kept { IfOk result (λ answered. answered.kept ≡ record { call = NodeCall.Get key.now wanted; reply = answered.told }) }
 {
     match wanted {
         Wanted::Latest => latest(alloc, store, slot, key),
         Wanted::Exactly(version) => {
-            let was_here = parts::was_committed(place, counters, version);
+            let was_here = parts::was_committed(home, counters, version);
             exactly(alloc, store, slot, key, version, now, was_here)
         }
     }

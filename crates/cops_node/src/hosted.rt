@@ -1,7 +1,7 @@
 //! Nodes at which tenants come and go while calls are made.
 ghost use Rattle.std.specs.Prelude.{◌≡◌};
 
-use crate::{Node, NodeCall, NodeReply};
+use crate::{Home, Node, NodeCall, NodeReply};
 use cops_types::{Fault, Machine, Tenant};
 use std::marker::Model;
 
@@ -68,17 +68,18 @@ impl HostedNode {
 }
 
 impl Machine for HostedNode {
-    ghost use Rattle.cops_node.specs.Hosting.{FitsSlot, IsSlotTurn, without_tenants};
+    ghost use Rattle.cops_node.specs.Hosting.{FitsSlot, IsSlotTurn};
     ghost use Rattle.cops_node.specs.Lacking.{MayLackAtSlot};
+    ghost use Rattle.cops_node.specs.Parts.{home_in};
 
     type Call = SlotCall;
 
     type Reply = SlotReply;
 
-    /// The node without tenants.
-    type Place = Node;
+    /// The node without its tenants.
+    type Place = Home;
 
-    ghost place = { without_tenants };
+    ghost place = { home_in };
 
     ghost fits = { FitsSlot };
 

@@ -51,14 +51,25 @@ pub struct NodeId {
     pub shard: u64,
 }
 
-/// What never changes of a tenant's part of a node: the node, the sizes of the cluster, and the
-/// tenant's first clock and quota.
+/// The sizes of a cluster: how many data centres there are, and how many shards in each.
 #[derive(Clone, Copy, Debug)]
-pub struct Place {
-    pub id: NodeId,
+pub struct Shape {
     pub data_centres: u64,
     pub shards: u64,
+}
+
+/// What never changes of a node, whatever tenants it has: which one it is, the sizes of the cluster,
+/// and for how many milliseconds a stale version stays.
+#[derive(Clone, Copy, Debug)]
+pub struct Home {
+    pub id: NodeId,
+    pub shape: Shape,
     pub trans_time: u64,
+}
+
+/// What never changes of a tenant at a node: his first clock and his quota.
+#[derive(Clone, Copy, Debug)]
+pub struct Terms {
     pub first_clock: u64,
     pub quota: Quota,
 }

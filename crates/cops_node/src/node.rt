@@ -4,15 +4,14 @@ ghost use Rattle.std.specs.List.{AllByRecursion};
 ghost use Rattle.std.specs.Option.{option_copied};
 ghost use Rattle.cops_types.specs.HeadLines.{are_sizes};
 ghost use Rattle.cops_types.specs.Version.{last_clock};
-ghost use Rattle.cops_node.specs.declared.Place.{Place};
 ghost use Rattle.cops_types.specs.Refusal.{IsAnswer};
 ghost use Rattle.cops_node.specs.Lacking.{MayLack};
-ghost use Rattle.cops_node.specs.Parts.{AuditFits, IsAudited, IsSameNode, IsSlotKept, IsSoloTurn, IsTurn, JoinsTrail, admit_refusal, are_clocks, has_audit_room, home_of, is_opened_as, is_taken, no_calls, place_at, place_for, solo_of, trail_of};
-ghost use Rattle.cops_node.specs.Place.{is_home, is_other_dc, is_other_equivalent, fits};
+ghost use Rattle.cops_node.specs.Parts.{AuditFits, IsAudited, IsSlotKept, IsSoloTurn, IsTurn, JoinsTrail, admit_refusal, are_clocks, has_audit_room, home_of, is_opened_as, is_taken, no_calls, opening_terms, place_at, place_for, solo_of, terms_at, trail_of};
+ghost use Rattle.cops_node.specs.Place.{Place, is_home, is_other_dc, is_other_equivalent, fits};
 ghost use Rattle.cops_node.specs.Shape.{place_in};
 
 use crate::parts::{self, Part};
-use crate::{AuditRow, NodeCall, NodeId, NodeReply, Place, part_turns};
+use crate::{AuditRow, Home, NodeCall, NodeId, NodeReply, Shape, Terms, part_turns};
 use cops_outbox::Outbox;
 use cops_store::Store;
 use cops_types::{Config, Fault, Key, Machine, Quota, Seeds, Tenant};
@@ -22,15 +21,12 @@ use std::marker::Model;
 /// The most slots of a node, so the most tenants that it has at once.
 const MOST_SLOTS: u64 = 64;
 
-/// A node. Contracts see its home, which no call of a tenant changes, and the audit: the trail of each
-/// slot. A slot with a tenant stands for the solo node that its own trail leaves.
+/// A node. Contracts see its home, which nothing changes, the terms of each slot that has a tenant,
+/// which no call changes, and the audit: the trail of each slot. A slot with a tenant stands for the solo node that its own trail leaves.
 #[derive(Drop)]
 pub struct Node {
     alloc: Global,
-    id: NodeId,
-    data_centres: u64,
-    shards: u64,
-    trans_time: u64,
+    home: Home,
     /// What is kept of each slot that has a tenant.
     parts: Vec<Option<Part>>,
     store: Store,
@@ -38,14 +34,13 @@ pub struct Node {
 }
 
 impl Model for Node {
-    ghost use Rattle.std.specs.Prelude.{length};
-    ghost use Rattle.cops_node.specs.Parts.{Shared, IsNode, places_of, trails_of};
+    ghost use Rattle.cops_node.specs.Parts.{Shared, IsNode, terms_in, trails_of};
 
     ghost Value = { Shared };
 
-    ghost view = { λ n. record { home = record { id = n.id; shape = record { data_centres = n.data_centres; shards = n.shards }; trans_time = n.trans_time; places = places_of n.parts.items }; audit = trails_of n.parts.items } };
+    ghost view = { λ n. record { home = n.home; terms = terms_in n.parts.items; audit = trails_of n.parts.items } };
 
-    ghost invariant = { λ n. IsNode n.id n.data_centres n.shards n.parts.items n.store n.outbox };
+    ghost invariant = { λ n. IsNode n.home n.parts.items n.store n.outbox };
 }
 
 impl Node {
@@ -55,9 +50,9 @@ impl Node {
         requires shard_exists { id.shard < config.now.shards }
         requires sizes { IsTrue (are_sizes config.now) }
         requires clocks { IsTrue (are_clocks config.now) }
-        ensures { IfOk result (λ node. node ≡ record { home = home_of config.now id; audit = no_calls (length config.now.tenants) }) }
+        ensures { IfOk result (λ node. node ≡ record { home = home_of config.now id; terms = opening_terms config.now; audit = no_calls (length config.now.tenants) }) }
     {
-        let parts = parts::fresh_parts(alloc, config, id)?;
+        let parts = parts::fresh_parts(alloc, config)?;
         let tenants = parts.len();
         let seeds = Seeds::of_tokens(config.tenants.as_slice());
         let store = match Store::seeded(alloc, tenants, seeds) {
@@ -67,10 +62,14 @@ impl Node {
         let outbox = Outbox::new(alloc, config.data_centres as usize, id.dc, tenants)?;
         Ok(Node {
             alloc,
-            id,
-            data_centres: config.data_centres,
-            shards: config.shards,
-            trans_time: config.trans_time,
+            home: Home {
+                id,
+                shape: Shape {
+                    data_centres: config.data_centres,
+                    shards: config.shards,
+                },
+                trans_time: config.trans_time,
+            },
             parts,
             store,
             outbox,
@@ -79,7 +78,7 @@ impl Node {
 
     /// How many slots there are: those that had a tenant, and all before them.
     pub fn slots(&self) -> u64
-        ensures { result ≡ length self.now.home.places }
+        ensures { result ≡ length self.now.terms }
     {
         self.parts.len() as u64
     }
@@ -88,21 +87,22 @@ impl Node {
     fn is_home(&self, key: &Key) -> bool
         ensures { result ≡ is_home (place_in self.now.home.shape self.now.home.id) key.now }
     {
-        key.shard(self.shards) == self.id.shard
+        key.shard(self.home.shape.shards) == self.home.id.shard
     }
 
     // Whether the data centre is another one of the cluster.
     fn is_other_dc(&self, dc: u64) -> bool
         ensures { result ≡ is_other_dc (place_in self.now.home.shape self.now.home.id) dc }
     {
-        dc < self.data_centres && dc != self.id.dc
+        dc < self.home.shape.data_centres && dc != self.home.id.dc
     }
 
     // Whether the node of this number has this shard in another data centre.
     fn is_other_equivalent(&self, node: u64) -> bool
         ensures { result ≡ is_other_equivalent (place_in self.now.home.shape self.now.home.id) node }
     {
-        self.is_other_dc(node / self.shards) && node % self.shards == self.id.shard
+        self.is_other_dc(node / self.home.shape.shards)
+            && node % self.home.shape.shards == self.home.id.shard
     }
 
     /// Whether the call may come to this node.
@@ -153,7 +153,7 @@ impl Node {
 
     /// Whether the slot has a tenant with this one's first clock and quota.
     pub fn opened_as(&self, slot: u64, tenant: &Tenant) -> bool
-        ensures { result ≡ is_opened_as tenant.now (place_at slot self.now) }
+        ensures { result ≡ is_opened_as tenant.now (terms_at slot self.now) }
     {
         match parts::of(&self.parts, slot) {
             Some(part) => parts::is_of(part, tenant),
@@ -176,22 +176,15 @@ impl Node {
         ensures place { OnOk result (place_at slot self.new ≡ Some (place_for self.old.home first_clock quota)) }
         ensures empty { OnOk result (trail_of slot self.new.audit ≡ []) }
         ensures others { (other : ℕ) → other ≢ slot → IsSlotKept other self.old self.new }
-        ensures home { IsSameNode self.old.home self.new.home }
+        ensures home { self.new.home ≡ self.old.home }
         ensures err { OnErr result (self.new ≡ self.old) }
     {
         if self.is_taken(slot) {
             return Err(Fault::NoSlot);
         }
-        let place = Place {
-            id: self.id,
-            data_centres: self.data_centres,
-            shards: self.shards,
-            trans_time: self.trans_time,
-            first_clock,
-            quota,
-        };
+        let terms = Terms { first_clock, quota };
         let slot = slot as usize;
-        let part = parts::fresh(self.alloc, place)?;
+        let part = parts::fresh(self.alloc, self.home.shape.data_centres, terms)?;
         self.store.admit(slot)?;
         self.outbox.admit(slot)?;
         let more = (slot + 1).saturating_sub(self.parts.len());
@@ -209,7 +202,7 @@ impl Node {
         ensures place { place_at slot self.new ≡ None }
         ensures empty { trail_of slot self.new.audit ≡ [] }
         ensures others { (other : ℕ) → other ≢ slot → IsSlotKept other self.old self.new }
-        ensures home { IsSameNode self.old.home self.new.home }
+        ensures home { self.new.home ≡ self.old.home }
         ensures err { OnErr result (self.new ≡ self.old) }
     {
         if parts::of(&self.parts, slot).is_none() {
@@ -232,6 +225,7 @@ impl Node {
         ensures unchanged { place_at slot self.old ≡ None → self.new ≡ self.old }
         ensures others { (other : ℕ) → other ≢ slot → trail_of other self.new.audit ≡ trail_of other self.old.audit }
         ensures home { self.new.home ≡ self.old.home }
+        ensures terms { self.new.terms ≡ self.old.terms }
         ensures err { OnErr result (self.new ≡ self.old) }
         ensures lacks { OnErr result (MayLack self.old slot call) }
     {
@@ -243,6 +237,7 @@ impl Node {
             Some(part) => {
                 let reply = part_turns::turn(
                     self.alloc,
+                    &self.home,
                     part,
                     &mut self.store,
                     &mut self.outbox,
@@ -267,6 +262,7 @@ impl Node {
         ensures audited { IsSome (place_at slot self.old) → IsAudited slot moment call result self.old self.new }
         ensures others { (other : ℕ) → other ≢ slot → trail_of other self.new.audit ≡ trail_of other self.old.audit }
         ensures home { self.new.home ≡ self.old.home }
+        ensures terms { self.new.terms ≡ self.old.terms }
     {
         match self.try_step(slot, moment, call) {
             Ok(reply) => reply,
@@ -277,17 +273,16 @@ impl Node {
 
 impl Machine for Node {
     ghost use Rattle.cops_node.specs.Lacking.{MayLack};
-    ghost use Rattle.cops_node.specs.Hosting.{without_tenants};
-    ghost use Rattle.cops_node.specs.Parts.{FitsNode, IsMachineTurn};
+    ghost use Rattle.cops_node.specs.Parts.{FitsNode, IsMachineTurn, home_in};
 
     type Call = NodeCall;
 
     type Reply = NodeReply;
 
-    /// The node without tenants.
-    type Place = Node;
+    /// The node without its tenants.
+    type Place = Home;
 
-    ghost place = { without_tenants };
+    ghost place = { home_in };
 
     ghost fits = { FitsNode };
 

@@ -1,10 +1,10 @@
 //! One call at what a node keeps of one slot.
 ghost use Rattle.std.specs.Prelude.{◌≡◌, IsTrue, IfOk, OnErr};
-ghost use Rattle.cops_node.specs.Parts.{HasPartRoom, IsPartTurn, JoinsCalls, OthersStay, StandsForTrail};
+ghost use Rattle.cops_node.specs.Parts.{HasPartRoom, IsPartTurn, JoinsCalls, OthersStay, StandsForTrail, place_under};
 ghost use Rattle.cops_node.specs.Place.{fits};
 
 use crate::parts::{self, Part};
-use crate::{AuditRow, NodeCall, NodeReply, calls};
+use crate::{AuditRow, Home, NodeCall, NodeReply, calls};
 use cops_outbox::Outbox;
 use cops_store::Store;
 use cops_types::Fault;
@@ -14,6 +14,7 @@ use std::alloc::{AllocError, Global};
 // Nothing changes either where memory is refused.
 pub(crate) fn turn(
     alloc: Global,
+    home: &Home,
     part: &mut Part,
     store: &mut Store,
     outbox: &mut Outbox,
@@ -21,15 +22,15 @@ pub(crate) fn turn(
     moment: u64,
     call: NodeCall,
 ) -> Result<NodeReply, AllocError>
-    requires stands { StandsForTrail slot part.old store.old outbox.old }
-    requires fits { IsTrue (fits part.old.place call) }
-    ensures turn { IfOk result (λ reply. IsPartTurn moment call reply part.old part.new) }
+    requires stands { StandsForTrail slot home.now part.old store.old outbox.old }
+    requires fits { IsTrue (fits (place_under home.now part.old.terms) call) }
+    ensures turn { IfOk result (λ reply. IsPartTurn home.now moment call reply part.old part.new) }
     ensures noted { IfOk result (λ reply. JoinsCalls moment call reply part.old part.new) }
-    ensures stands { StandsForTrail slot part.new store.new outbox.new }
+    ensures stands { StandsForTrail slot home.now part.new store.new outbox.new }
     ensures others { OthersStay slot store.old outbox.old store.new outbox.new }
-    ensures place { part.new.place ≡ part.old.place }
+    ensures terms { part.new.terms ≡ part.old.terms }
     ensures err { OnErr result (part.new.trail.calls ≡ part.old.trail.calls) }
-    ensures room { OnErr result (HasPartRoom part.old) }
+    ensures room { OnErr result (HasPartRoom home.now part.old) }
 {
     if parts::is_audit_full(part) {
         return Ok(NodeReply::Refused(Fault::AuditFull));
@@ -40,7 +41,8 @@ pub(crate) fn turn(
     let now = part.moment.max(moment);
     let Ok(answered) = calls::act(
         alloc,
-        &part.place,
+        home,
+        &part.terms,
         &mut part.counters,
         store,
         outbox,

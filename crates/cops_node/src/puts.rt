@@ -9,34 +9,35 @@ ghost use Rattle.cops_store.specs.Contents.{rows_of, use_of, refusal, size_of, H
 ghost use Rattle.cops_outbox.specs.Queues.{queue_of, is_full};
 ghost use Rattle.cops_node.specs.declared.NodeCall.{NodeCall};
 ghost use Rattle.cops_node.specs.declared.NodeReply.{NodeReply};
-ghost use Rattle.cops_node.specs.Parts.{IsPlace, StandsAt, HasSolo, IsDone, OthersStay, IsUnchanged};
-ghost use Rattle.cops_node.specs.Place.{own_number as own_number_of, fits};
+ghost use Rattle.cops_node.specs.Parts.{HasSolo, IsDone, IsHome, IsUnchanged, OthersStay, StandsAt, place_under};
+ghost use Rattle.cops_node.specs.Place.{node_number, fits};
 ghost use Rattle.cops_node.specs.SoloNode.{SoloNode};
 ghost use Rattle.cops_node.specs.Step.{node_put_refusal, put as put_turn, unchanged, version_of_put};
 
 use crate::answered::Answered;
 use crate::parts::{self, Counters};
 use crate::rows::PackedExchange;
-use crate::{NodeCall, NodeReply, Place, commits};
+use crate::{Home, NodeCall, NodeReply, Terms, commits};
 use cops_outbox::Outbox;
 use cops_store::Store;
 use cops_types::{Deps, Entry, EntryParts, Fault, Key, Near, Quota, Value, Version};
 use std::alloc::{AllocError, Global};
 
 // The version that a put with these dependencies gets.
-fn next_version(place: &Place, counters: &Counters, deps: &Deps) -> Result<Version, Fault>
-    requires place { IsPlace place.now }
+fn next_version(home: &Home, counters: &Counters, deps: &Deps) -> Result<Version, Fault>
+    requires home { IsHome home.now }
     requires clock_fits { counters.now.clock ≤ last_clock }
-    ensures { result ≡ ok_or (version_after counters.now.clock (greatest_clock_of deps.now) (own_number_of place.now)) Fault.ClockFull }
+    ensures { result ≡ ok_or (version_after counters.now.clock (greatest_clock_of deps.now) (node_number home.now.shape.shards home.now.id)) Fault.ClockFull }
 {
-    let node = parts::own_number(place);
+    let node = parts::own_number(home);
     let deps_clock = deps.greatest_clock();
     Version::next(counters.clock, deps_clock, node)
 }
 
 // The version of a put, or why it is refused.
 fn version_for(
-    place: &Place,
+    home: &Home,
+    terms: &Terms,
     counters: &Counters,
     store: &Store,
     outbox: &Outbox,
@@ -45,18 +46,18 @@ fn version_for(
     value: &Value,
     deps: &Deps,
 ) -> Result<Version, Fault>
-    requires { (solo : SoloNode) × StandsAt slot place.now counters.now store.now outbox.now solo }
-    ensures version { IfOk result (λ version. (solo : SoloNode) → StandsAt slot place.now counters.now store.now outbox.now solo → version_of_put place.now solo deps.now ≡ Some version) }
-    ensures unrefused { IfOk result (λ version. (solo : SoloNode) → StandsAt slot place.now counters.now store.now outbox.now solo → node_put_refusal place.now solo key.now value.now ≡ None) }
-    ensures room { IfOk result (λ version. refusal place.now.quota (length key.now + length value.now) (use_of (rows_of slot store.now)) ≡ None) }
-    ensures sendable { OnOk result (is_full slot place.now.quota.outbox outbox.now ≡ false) }
-    ensures refused { IfErr result (λ fault. (solo : SoloNode) → StandsAt slot place.now counters.now store.now outbox.now solo → (near : List Pair) → put_turn place.now solo key.now value.now deps.now near ≡ unchanged (NodeReply.Refused fault) solo) }
+    requires { (solo : SoloNode) × StandsAt slot (place_under home.now terms.now) counters.now store.now outbox.now solo }
+    ensures version { IfOk result (λ version. (solo : SoloNode) → StandsAt slot (place_under home.now terms.now) counters.now store.now outbox.now solo → version_of_put (place_under home.now terms.now) solo deps.now ≡ Some version) }
+    ensures unrefused { IfOk result (λ version. (solo : SoloNode) → StandsAt slot (place_under home.now terms.now) counters.now store.now outbox.now solo → node_put_refusal (place_under home.now terms.now) solo key.now value.now ≡ None) }
+    ensures room { IfOk result (λ version. refusal terms.now.quota (length key.now + length value.now) (use_of (rows_of slot store.now)) ≡ None) }
+    ensures sendable { OnOk result (is_full slot terms.now.quota.outbox outbox.now ≡ false) }
+    ensures refused { IfErr result (λ fault. (solo : SoloNode) → StandsAt slot (place_under home.now terms.now) counters.now store.now outbox.now solo → (near : List Pair) → put_turn (place_under home.now terms.now) solo key.now value.now deps.now near ≡ unchanged (NodeReply.Refused fault) solo) }
 {
-    let version = next_version(place, counters, deps)?;
-    if let Some(fault) = store.refused(slot, key, value, &place.quota) {
+    let version = next_version(home, counters, deps)?;
+    if let Some(fault) = store.refused(slot, key, value, &terms.quota) {
         return Err(fault);
     }
-    if outbox.is_full(slot, place.quota.outbox) {
+    if outbox.is_full(slot, terms.quota.outbox) {
         return Err(Fault::OutboxFull);
     }
     Ok(version)
@@ -65,7 +66,8 @@ fn version_for(
 // A call `Put`.
 pub(crate) fn put(
     alloc: Global,
-    place: &Place,
+    home: &Home,
+    terms: &Terms,
     counters: &mut Counters,
     store: &mut Store,
     outbox: &mut Outbox,
@@ -76,13 +78,15 @@ pub(crate) fn put(
     deps: Deps,
     near: Near,
 ) -> Result<Answered, AllocError>
-    requires { HasSolo slot now place.now counters.old store.old outbox.old }
-    ensures done { IfOk result (λ answered. IsDone slot now place.now (NodeCall.Put key value deps near) answered.told counters.old store.old outbox.old counters.new store.new outbox.new) }
+    requires { HasSolo slot now (place_under home.now terms.now) counters.old store.old outbox.old }
+    ensures done { IfOk result (λ answered. IsDone slot now (place_under home.now terms.now) (NodeCall.Put key value deps near) answered.told counters.old store.old outbox.old counters.new store.new outbox.new) }
     ensures kept { IfOk result (λ answered. answered.kept ≡ record { call = NodeCall.Put key value deps near; reply = answered.told }) }
     ensures others { OthersStay slot store.old outbox.old store.new outbox.new }
     ensures err { OnErr result (IsUnchanged counters.old store.old outbox.old counters.new store.new outbox.new) }
 {
-    let version = match version_for(place, counters, store, outbox, slot, &key, &value, &deps) {
+    let version = match version_for(
+        home, terms, counters, store, outbox, slot, &key, &value, &deps,
+    ) {
         Ok(version) => version,
         Err(fault) => {
             let call = NodeCall::Put(key, value, deps, near);
@@ -90,7 +94,7 @@ pub(crate) fn put(
             return Ok(answered);
         }
     };
-    let prev = parts::own_mark(place, counters);
+    let prev = parts::own_mark(home, counters);
     let entry = Entry::new(
         alloc,
         EntryParts {
@@ -104,12 +108,12 @@ pub(crate) fn put(
     )?;
     let shared = entry.copy(alloc)?;
     commits::reserve(store, slot, &entry.key())?;
-    match outbox.push(slot, &entry, place.quota.outbox) {
+    match outbox.push(slot, &entry, terms.quota.outbox) {
         Ok(()) => {}
         Err(Fault::OutOfMemory) => return Err(AllocError),
         Err(_) => unreachable!(),
     }
-    commits::keep(place, counters, store, slot, now, entry);
+    commits::keep(home, terms, counters, store, slot, now, entry);
     Ok(Answered {
         told: NodeReply::Stored(version),
         kept: PackedExchange::stored(shared),

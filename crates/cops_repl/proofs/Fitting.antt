@@ -7,7 +7,8 @@ use Rattle.cops_types.specs.declared.records.EntryParts.{EntryParts as Entry}
 use Rattle.cops_types.specs.Key.{shard_of}
 use Rattle.cops_node.specs.declared.NodeCall.TheVariants.{Commit}
 use Rattle.cops_node.specs.Place.{fits, node_number}
-use Rattle.cops_node.specs.Shape.{Shape, place_in}
+use Rattle.cops_node.specs.declared.Shape.{Shape}
+use Rattle.cops_node.specs.Shape.{place_in}
 use Rattle.cops_repl.specs.Carrier.{Stream, is_foreign}
 use Rattle.cops_repl.specs.Stands.{RunsIn}
 

@@ -4,7 +4,7 @@ use Rattle.cops_types.specs.declared.records.EntryParts.{EntryParts as Entry}
 use Rattle.cops_node.specs.declared.NodeReply.{NodeReply}
 use Rattle.cops_node.specs.declared.NodeReply.TheVariants.{Checked, Pulled, Committed, Already, Acked, NotFront}
 use Rattle.cops_node.specs.Log.{Call, Directed, Ended, LogStep, replies_of}
-use Rattle.cops_node.specs.Shape.{Shape}
+use Rattle.cops_node.specs.declared.Shape.{Shape}
 use Rattle.cops_repl.specs.declared.Progress.{Progress}
 use Rattle.cops_repl.specs.declared.Progress.TheVariants.{Working, Done}
 use Rattle.cops_repl.specs.declared.stages.After.{After}

@@ -10,7 +10,7 @@ use Rattle.cops_types.specs.TenantConfig.{TenantConfig}
 use Rattle.cops_types.proofs.Elements.{Every-append}
 use Rattle.cops_node.specs.declared.AuditEntry.{AuditEntry}
 use Rattle.cops_node.specs.declared.NodeId.{NodeId}
-use Rattle.cops_node.specs.declared.Place.{Place}
+use Rattle.cops_node.specs.Place.{Place}
 use Rattle.cops_node.specs.Clusters.{id_of}
 use Rattle.cops_node.specs.Parts.{Shared, solo_of, trail_of}
 use Rattle.cops_node.specs.Run.{calls_in_trail}

@@ -6,8 +6,9 @@ use Rattle.cops_types.specs.declared.faults.Fault.TheVariants.{NoSlot}
 use Rattle.cops_gate.specs.History.{Makes, Leads, IsLegal, entry, turn}
 use Rattle.cops_node.specs.declared.hosted.SlotCall.TheVariants.{Admit}
 use Rattle.cops_node.specs.declared.hosted.SlotReply.TheVariants as told
-use Rattle.cops_node.specs.Hosting.{Held, IsSlotTurn, SlotEffect, admit_turn, slot_holds, newly_held, slot_after, slot_replies, slot_turn, without_tenants}
-use Rattle.cops_node.specs.Parts.{Home, MOST_SLOTS, Shared, place_for}
+use Rattle.cops_node.specs.Hosting.{Held, IsSlotTurn, SlotEffect, admit_turn, slot_holds, newly_held, slot_after, slot_replies, slot_turn}
+use Rattle.cops_node.specs.declared.Home.{Home}
+use Rattle.cops_node.specs.Parts.{MOST_SLOTS, Shared, place_for}
 use Rattle.cops_node.specs.Run.{TimedCall, node_replies}
 use Rattle.cops_node.specs.SoloNode.{new_node}
 use Rattle.cops_node.specs.Step.{node_step}
@@ -20,60 +21,60 @@ abbrev AsHeld : Home → ℕ → Option Held → List HostedEntry → Shared →
 AsHeld home slot held es left =
     (map (λ (e : HostedEntry). e.reply) es ≡ slot_replies home slot (map timed_slot es) held) × (slot_holds slot left ≡ slot_after home slot (map timed_slot es) held)
 
-module _ (slot : ℕ) (site : Shared) (held : Option Held) (before between left : Shared) (here : without_tenants before ≡ site) (holds : slot_holds slot before ≡ held)
+module _ (slot : ℕ) (home : Home) (held : Option Held) (before between left : Shared) (here : before.home ≡ home) (holds : slot_holds slot before ≡ held)
     (e : HostedEntry) (es : List HostedEntry) (made : IsSlotTurn before e.slot e.moment e.call e.reply between)
-    (later : (next : Option Held) → slot_holds slot between ≡ next → AsHeld site.home slot next es left) where
+    (later : (next : Option Held) → slot_holds slot between ≡ next → AsHeld home slot next es left) where
   -- a turn of this slot, and then the rest
-  own : e.slot ≡ slot → AsHeld site.home slot held (e ∷ es) left
+  own : e.slot ≡ slot → AsHeld home slot held (e ∷ es) left
   own is =
-      let there : slot_turn (without_tenants before).home e.slot e.moment e.call (slot_holds e.slot before) ≡ slot_turn site.home slot e.moment e.call held =
-      ap (λ n. slot_turn (without_tenants before).home n e.moment e.call (slot_holds n before)) is
-      ∙ ap (slot_turn (without_tenants before).home slot e.moment e.call) holds
-      ∙ ap (λ (s : Shared). slot_turn s.home slot e.moment e.call held) here in
-      let reply_is : e.reply ≡ (slot_turn site.home slot e.moment e.call held).reply = made.reply_is ∙ ap (λ (effect : SlotEffect). effect.reply) there in
-      let next_is : slot_holds slot between ≡ (slot_turn site.home slot e.moment e.call held).after =
+      let there : slot_turn before.home e.slot e.moment e.call (slot_holds e.slot before) ≡ slot_turn home slot e.moment e.call held =
+      ap (λ n. slot_turn before.home n e.moment e.call (slot_holds n before)) is
+      ∙ ap (slot_turn before.home slot e.moment e.call) holds
+      ∙ ap (λ (h : Home). slot_turn h slot e.moment e.call held) here in
+      let reply_is : e.reply ≡ (slot_turn home slot e.moment e.call held).reply = made.reply_is ∙ ap (λ (effect : SlotEffect). effect.reply) there in
+      let next_is : slot_holds slot between ≡ (slot_turn home slot e.moment e.call held).after =
       ap (λ n. slot_holds n between) (sym is) ∙ made.after ∙ ap (λ (effect : SlotEffect). effect.after) there in
-      let rest = later (slot_turn site.home slot e.moment e.call held).after next_is in
+      let rest = later (slot_turn home slot e.moment e.call held).after next_is in
       ((λ i. reply_is i ∷ rest.0 i), rest.1)
 
   -- a turn of another slot
-  other : slot ≢ e.slot → AsHeld site.home slot held es left
+  other : slot ≢ e.slot → AsHeld home slot held es left
   other differ = later held (made.others slot differ ∙ holds)
 
-  either : (b : Bool) → eqb e.slot slot ≡ b → AsHeld site.home slot held (cond b (e ∷ es) es) left
+  either : (b : Bool) → eqb e.slot slot ≡ b → AsHeld home slot held (cond b (e ∷ es) es) left
   either true is = own (eqb-true e.slot slot is)
   either false is = other (λ same. eqb-false e.slot slot is (sym same))
 
-  pub joined : AsHeld site.home slot held (joins_at slot (Some e) es) left
+  pub joined : AsHeld home slot held (joins_at slot (Some e) es) left
   joined = either (eqb e.slot slot) refl
 
 -- a turn, or a blank one, leaves the node the same
-same_site : (before between : Shared) (e : Option HostedEntry) → Makes IsSlotTurn before e between → without_tenants between ≡ without_tenants before
-same_site before between None same = ap without_tenants (sym same)
-same_site before between (Some e) made = made.home
+same_home : (before between : Shared) (e : Option HostedEntry) → Makes IsSlotTurn before e between → between.home ≡ before.home
+same_home before between None same = ap (λ (n : Shared). n.home) (sym same)
+same_home before between (Some e) made = made.home
 
-module _ (slot : ℕ) (site : Shared) (held : Option Held) (before between left : Shared) (here : without_tenants before ≡ site) (holds : slot_holds slot before ≡ held)
-    (es : List HostedEntry) (later : (next : Option Held) → slot_holds slot between ≡ next → AsHeld site.home slot next es left) where
-  after_turn : (e : Option HostedEntry) → Makes IsSlotTurn before e between → AsHeld site.home slot held (joins_at slot e es) left
+module _ (slot : ℕ) (home : Home) (held : Option Held) (before between left : Shared) (here : before.home ≡ home) (holds : slot_holds slot before ≡ held)
+    (es : List HostedEntry) (later : (next : Option Held) → slot_holds slot between ≡ next → AsHeld home slot next es left) where
+  after_turn : (e : Option HostedEntry) → Makes IsSlotTurn before e between → AsHeld home slot held (joins_at slot e es) left
   after_turn None same = later held (ap (slot_holds slot) (sym same) ∙ holds)
-  after_turn (Some e) made = joined slot site held before between left here holds e es made later
+  after_turn (Some e) made = joined slot home held before between left here holds e es made later
 
-as_held : (slot : ℕ) (site : Shared) (held : Option Held) (opening left : Shared) (log : HostedLog) → without_tenants opening ≡ site → slot_holds slot opening ≡ held → Leads IsSlotTurn opening log left →
-    AsHeld site.home slot held (slot_entries slot log) left
-as_held slot site held opening left [] here holds l = (refl, ap (slot_holds slot) (sym l) ∙ holds)
-as_held slot site held opening left (t ∷ ts) here holds l =
-    after_turn slot site held opening l.0 left here holds (slot_entries slot ts)
-    (λ next is. as_held slot site next l.0 left ts (same_site opening l.0 t.entry l.1 ∙ here) is l.2) t.entry l.1
+as_held : (slot : ℕ) (home : Home) (held : Option Held) (opening left : Shared) (log : HostedLog) → opening.home ≡ home → slot_holds slot opening ≡ held → Leads IsSlotTurn opening log left →
+    AsHeld home slot held (slot_entries slot log) left
+as_held slot home held opening left [] here holds l = (refl, ap (slot_holds slot) (sym l) ∙ holds)
+as_held slot home held opening left (t ∷ ts) here holds l =
+    after_turn slot home held opening l.0 left here holds (slot_entries slot ts)
+    (λ next is. as_held slot home next l.0 left ts (same_home opening l.0 t.entry l.1 ∙ here) is l.2) t.entry l.1
 
-pub replies_as_held : (slot : ℕ) (opening : Shared) (log : HostedLog) → IsLegal IsSlotTurn opening log → replies_at slot log ≡ slot_replies (without_tenants opening).home slot (slot_calls_at slot log) (slot_holds slot opening)
-replies_as_held slot opening log legal = (as_held slot (without_tenants opening) (slot_holds slot opening) opening legal.0 log refl refl legal.1).0
+pub replies_as_held : (slot : ℕ) (opening : Shared) (log : HostedLog) → IsLegal IsSlotTurn opening log → replies_at slot log ≡ slot_replies opening.home slot (slot_calls_at slot log) (slot_holds slot opening)
+replies_as_held slot opening log legal = (as_held slot opening.home (slot_holds slot opening) opening legal.0 log refl refl legal.1).0
 
-pub left_as_held : (slot : ℕ) (opening left : Shared) (log : HostedLog) → Leads IsSlotTurn opening log left → slot_holds slot left ≡ slot_after (without_tenants opening).home slot (slot_calls_at slot log) (slot_holds slot opening)
-left_as_held slot opening left log l = (as_held slot (without_tenants opening) (slot_holds slot opening) opening left log refl refl l).1
+pub left_as_held : (slot : ℕ) (opening left : Shared) (log : HostedLog) → Leads IsSlotTurn opening log left → slot_holds slot left ≡ slot_after opening.home slot (slot_calls_at slot log) (slot_holds slot opening)
+left_as_held slot opening left log l = (as_held slot opening.home (slot_holds slot opening) opening left log refl refl l).1
 
-pub stays_there : (opening left : Shared) (log : HostedLog) → Leads IsSlotTurn opening log left → without_tenants left ≡ without_tenants opening
-stays_there opening left [] l = ap without_tenants (sym l)
-stays_there opening left (t ∷ ts) l = stays_there l.0 left ts l.2 ∙ same_site opening l.0 t.entry l.1
+pub stays_there : (opening left : Shared) (log : HostedLog) → Leads IsSlotTurn opening log left → left.home ≡ opening.home
+stays_there opening left [] l = ap (λ (n : Shared). n.home) (sym l)
+stays_there opening left (t ∷ ts) l = stays_there l.0 left ts l.2 ∙ same_home opening l.0 t.entry l.1
 
 -- ---- one life
 
@@ -104,9 +105,9 @@ life_as_alone slot moment seat tenant calls opening before life legal are =
     let split = goes_on IsSlotTurn opening legal.0 before (turn seat (Some (entry slot moment (Admit tenant) told.Admitted)) ∷ life) legal.1 in
     let there : Shared = split.0 in
     let made : IsSlotTurn there slot moment (Admit tenant) told.Admitted split.2.0 = split.2.1 in
-    let home : Home = (without_tenants opening).home in
-    let site : without_tenants there ≡ without_tenants opening = stays_there opening there before split.1 in
+    let home : Home = opening.home in
+    let same : there.home ≡ opening.home = stays_there opening there before split.1 in
     let came : slot_holds slot split.2.0 ≡ Some (newly_held home tenant) =
-    made.after ∙ newly (without_tenants there).home slot tenant (slot_holds slot there) made.reply_is ∙ ap (λ (s : Shared). Some (newly_held s.home tenant)) site in
-    let told_so = as_held slot (without_tenants opening) (Some (newly_held home tenant)) split.2.0 legal.0 life (made.home ∙ site) came split.2.2 in
+    made.after ∙ newly there.home slot tenant (slot_holds slot there) made.reply_is ∙ ap (λ (h : Home). Some (newly_held h tenant)) same in
+    let told_so = as_held slot opening.home (Some (newly_held home tenant)) split.2.0 legal.0 life (made.home ∙ same) came split.2.2 in
     told_so.0 ∙ ap (λ cs. slot_replies home slot cs (Some (newly_held home tenant))) are ∙ own_replies home slot calls (newly_held home tenant)

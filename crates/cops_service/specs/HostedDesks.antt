@@ -16,7 +16,8 @@ use Rattle.cops_node.specs.Hosting.{IsSlotTurn}
 use Rattle.cops_node.specs.Lacking.{MayLackAtSlot}
 use Rattle.cops_node.specs.Parts.{Shared}
 use Rattle.cops_node.specs.Place.{fits}
-use Rattle.cops_node.specs.Shape.{Shape, place_in}
+use Rattle.cops_node.specs.declared.Shape.{Shape}
+use Rattle.cops_node.specs.Shape.{place_in}
 use Rattle.cops_service.specs.Gates.{Gates, At}
 
 abbrev pub HostedSeat : Type 0

@@ -10,7 +10,7 @@ use Rattle.cops_node.specs.declared.NodeCall.{NodeCall}
 use Rattle.cops_node.specs.declared.NodeId.{NodeId}
 use Rattle.cops_node.specs.declared.NodeReply.{NodeReply}
 use Rattle.cops_node.specs.Log.{Call, Ended, Late, LogStep, Next, Replied, Restart, replies_of}
-use Rattle.cops_node.specs.Shape.{Shape}
+use Rattle.cops_node.specs.declared.Shape.{Shape}
 use Rattle.cops_session.specs.declared.Answer.{Answer}
 use Rattle.cops_session.specs.declared.Progress.{Progress}
 use Rattle.cops_session.specs.declared.Progress.TheVariants.{Working, Restarted, Done}

@@ -16,7 +16,7 @@ use Rattle.cops_node.specs.declared.NodeCall.{NodeCall}
 use Rattle.cops_node.specs.declared.NodeId.{NodeId}
 use Rattle.cops_node.specs.declared.NodeReply.{NodeReply}
 use Rattle.cops_node.specs.Log.{LogStep, Late, Replied, Next, Call, Restart, Ended}
-use Rattle.cops_node.specs.Shape.{Shape}
+use Rattle.cops_node.specs.declared.Shape.{Shape}
 use Rattle.cops_session.specs.declared.Answer.{Answer}
 use Rattle.cops_session.specs.declared.Answer.TheVariants as answer
 use Rattle.cops_session.specs.declared.Progress.{Progress}

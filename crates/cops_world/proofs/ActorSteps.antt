@@ -4,7 +4,7 @@ use Rattle.cops_types.specs.TenantConfig.{TenantConfig}
 use Rattle.cops_node.specs.declared.NodeCall.{NodeCall}
 use Rattle.cops_node.specs.declared.NodeId.{NodeId}
 use Rattle.cops_node.specs.declared.NodeReply.{NodeReply}
-use Rattle.cops_node.specs.Shape.{Shape}
+use Rattle.cops_node.specs.declared.Shape.{Shape}
 use Rattle.cops_session.specs.Kept.{KeptSession}
 use Rattle.cops_session.specs.Session.{Session}
 use Rattle.cops_session.specs.SessionStands.{SessionStandsFor}

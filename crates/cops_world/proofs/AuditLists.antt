@@ -19,10 +19,9 @@ use Rattle.cops_node.specs.declared.NodeCall.{NodeCall}
 use Rattle.cops_node.specs.declared.NodeCall.TheVariants.{Get, Put, DepCheck, Pull, Commit, Ack, Collect}
 use Rattle.cops_node.specs.declared.NodeId.{NodeId}
 use Rattle.cops_node.specs.declared.NodeReply.{NodeReply}
-use Rattle.cops_node.specs.declared.Place.{Place}
 use Rattle.cops_node.specs.declared.Wanted.TheVariants.{Latest, Exactly}
 use Rattle.cops_node.specs.Log.{Call, Directed, LogStep}
-use Rattle.cops_node.specs.Place.{node_number, place_of}
+use Rattle.cops_node.specs.Place.{Place, node_number, place_of}
 use Rattle.cops_node.specs.SoloNode.{SoloNode, new_node, queue}
 use Rattle.cops_node.specs.Step.{effect, node_step, reply_exact, reply_latest, reply_pull, was_committed}
 use Rattle.cops_node.proofs.AuditLaws.{trail_of_effect}

@@ -12,7 +12,7 @@ use Rattle.cops_types.specs.TenantConfig.{TenantConfig}
 use Rattle.cops_types.specs.Version.{Timestamp}
 use Rattle.cops_node.specs.declared.NodeCall.TheVariants.{Get}
 use Rattle.cops_node.specs.declared.NodeReply.{NodeReply}
-use Rattle.cops_node.specs.declared.Place.{Place}
+use Rattle.cops_node.specs.Place.{Place}
 use Rattle.cops_node.specs.declared.Wanted.{Wanted}
 use Rattle.cops_node.specs.declared.Wanted.TheVariants.{Latest, Exactly}
 use Rattle.cops_node.specs.SoloNode.{SoloNode}

@@ -14,7 +14,7 @@ use Rattle.cops_node.specs.declared.NodeCall.{NodeCall}
 use Rattle.cops_node.specs.declared.NodeCall.TheVariants.{Get, Put, DepCheck, Pull, Commit, Ack, Collect}
 use Rattle.cops_node.specs.declared.NodeReply.{NodeReply}
 use Rattle.cops_node.specs.declared.NodeReply.TheVariants.{Stored, Committed, Already, OutOfOrder, Acked, NotFront, Refused}
-use Rattle.cops_node.specs.declared.Place.{Place}
+use Rattle.cops_node.specs.Place.{Place}
 use Rattle.cops_node.specs.declared.Wanted.TheVariants.{Latest, Exactly}
 use Rattle.cops_node.specs.Log.{is_asked, fault_in}
 use Rattle.cops_node.specs.SoloNode.{SoloNode, queue}

@@ -20,10 +20,9 @@ use Rattle.cops_node.specs.declared.NodeCall.TheVariants.{Get, Put, DepCheck, Pu
 use Rattle.cops_node.specs.declared.NodeReply.{NodeReply}
 use Rattle.cops_node.specs.declared.NodeReply.TheVariants.{Gone, Stored, Committed, Refused}
 use Rattle.cops_node.specs.declared.NodeId.{NodeId}
-use Rattle.cops_node.specs.declared.Place.{Place}
 use Rattle.cops_node.specs.declared.Wanted.{Wanted}
 use Rattle.cops_node.specs.declared.Wanted.TheVariants.{Latest, Exactly}
-use Rattle.cops_node.specs.Place.{node_number, place_of}
+use Rattle.cops_node.specs.Place.{Place, node_number, place_of}
 use Rattle.cops_node.specs.SoloNode.{SoloNode, new_node, queue}
 use Rattle.cops_node.specs.Step.{CallEffect, acknowledge, audited, commit_refusal, effect, entry_of_put, node_put_refusal, node_step, put_with_version, reply_exact, reply_latest, store_unless, unchanged, version_of_put, was_committed}
 use Rattle.cops_node.proofs.MarkLaws.{ever-collected}

@@ -19,10 +19,9 @@ use Rattle.cops_node.specs.declared.NodeCall.{NodeCall}
 use Rattle.cops_node.specs.declared.NodeCall.TheVariants.{Get}
 use Rattle.cops_node.specs.declared.NodeId.{NodeId}
 use Rattle.cops_node.specs.declared.NodeReply.{NodeReply}
-use Rattle.cops_node.specs.declared.Place.{Place}
 use Rattle.cops_node.specs.declared.Wanted.{Wanted}
 use Rattle.cops_node.specs.declared.Wanted.TheVariants.{Latest, Exactly}
-use Rattle.cops_node.specs.Place.{node_number, place_of}
+use Rattle.cops_node.specs.Place.{Place, node_number, place_of}
 use Rattle.cops_node.specs.SoloNode.{SoloNode}
 use Rattle.cops_node.specs.Step.{was_committed, reply_latest, reply_exact}
 use Rattle.cops_repl.specs.Carrier.{pair_of_entry}

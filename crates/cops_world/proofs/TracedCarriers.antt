@@ -10,9 +10,8 @@ use Rattle.cops_node.specs.declared.NodeCall.TheVariants as node_call
 use Rattle.cops_node.specs.declared.NodeId.{NodeId}
 use Rattle.cops_node.specs.declared.NodeReply.{NodeReply}
 use Rattle.cops_node.specs.declared.NodeReply.TheVariants.{Pulled}
-use Rattle.cops_node.specs.declared.Place.{Place}
 use Rattle.cops_node.specs.Log.{LogStep, Replied, Directed, Call}
-use Rattle.cops_node.specs.Place.{node_number, own_number, place_of}
+use Rattle.cops_node.specs.Place.{Place, node_number, own_number, place_of}
 use Rattle.cops_node.specs.SoloNode.{SoloNode, issued, queue}
 use Rattle.cops_node.specs.Step.{reply_pull}
 use Rattle.cops_repl.specs.declared.Progress.{Progress}

@@ -9,7 +9,8 @@ use Rattle.cops_types.specs.TenantConfig.{TenantConfig}
 use Rattle.cops_node.specs.declared.NodeCall.TheVariants as node_call
 use Rattle.cops_node.specs.declared.NodeId.{NodeId}
 use Rattle.cops_node.specs.Clusters.{Cluster, shape_of}
-use Rattle.cops_node.specs.Shape.{Shape, Fits}
+use Rattle.cops_node.specs.declared.Shape.{Shape}
+use Rattle.cops_node.specs.Shape.{Fits}
 use Rattle.cops_repl.specs.Stands.{RunsIn}
 use Rattle.cops_types.specs.declared.configs.Config.{Config}
 use Rattle.cops_world.specs.declared.acts.Act.{Act}

@@ -16,8 +16,8 @@ use Rattle.cops_node.specs.Clusters.{Cluster, HasTenant, IsCall, new_nodes, node
 use Rattle.cops_node.specs.declared.NodeCall.{NodeCall}
 use Rattle.cops_node.specs.declared.NodeId.{NodeId}
 use Rattle.cops_node.specs.declared.NodeReply.{NodeReply}
-use Rattle.cops_node.specs.Parts.{Home, Shared, are_clocks}
-use Rattle.cops_node.specs.Shape.{Shape}
+use Rattle.cops_node.specs.Parts.{Site, are_clocks, site_in}
+use Rattle.cops_node.specs.declared.Shape.{Shape}
 use Rattle.cops_node.specs.SoloNode.{new_node}
 use Rattle.cops_world.specs.declared.actors.Actor.{Actor as Kept}
 use Rattle.cops_world.specs.declared.actors.ActorId.{ActorId}
@@ -186,14 +186,14 @@ new_stands config nodes kept setup_is nodes_are no_entries no_counts tenants fre
 
 -- ---- the nodes stay those of the configuration
 
-abbrev homes : Cluster → List Home
-homes cluster = map (λ (node : Shared). node.home) cluster.nodes
+abbrev sites : Cluster → List Site
+sites cluster = map site_in cluster.nodes
 
 -- after one call at one of them, or none
-pub homes_stay : (old new : Cluster) (slot : ℕ) → (new ≡ old) ⊎ ((id : NodeId) × (at : ℕ) × (call : NodeCall) × (reply : NodeReply) × IsCall old id slot at call reply new) →
-    map (λ (node : Shared). node.home) new.nodes ≡ map (λ (node : Shared). node.home) old.nodes
-homes_stay old new slot (inl same) = ap homes same
-homes_stay old new slot (inr (id, at, call, reply, made)) = made.homes
+pub sites_stay : (old new : Cluster) (slot : ℕ) → (new ≡ old) ⊎ ((id : NodeId) × (at : ℕ) × (call : NodeCall) × (reply : NodeReply) × IsCall old id slot at call reply new) →
+    map site_in new.nodes ≡ map site_in old.nodes
+sites_stay old new slot (inl same) = ap sites same
+sites_stay old new slot (inr (id, at, call, reply, made)) = made.sites
 
 -- ---- a world without actors, at new nodes
 
@@ -207,7 +207,7 @@ kept_at_first config nodes entries counts good nodes_are none counts_are =
     let first : KeptWorld = record { setup = config; nodes = new_nodes config; entries = []; counts = replicate (length config.tenants) 0 } in
     let whole : IsWorld (world_of first) = record {
       shape_is = refl;
-      homes_are = refl;
+      sites_are = refl;
       good = good;
       counted = length-replicate (length config.tenants) 0;
       run = λ id actor e. cc;

@@ -8,10 +8,9 @@ use Rattle.cops_node.specs.declared.NodeCall.TheVariants as node_call
 use Rattle.cops_node.specs.declared.NodeId.{NodeId}
 use Rattle.cops_node.specs.declared.NodeReply.{NodeReply}
 use Rattle.cops_node.specs.declared.NodeReply.TheVariants as node_reply
-use Rattle.cops_node.specs.declared.Place.{Place}
 use Rattle.cops_node.specs.Clusters.{Cluster, IsCall, nodes_of}
-use Rattle.cops_node.specs.Place.{node_number, place_of}
-use Rattle.cops_node.specs.Shape.{Shape}
+use Rattle.cops_node.specs.Place.{Place, node_number, place_of}
+use Rattle.cops_node.specs.declared.Shape.{Shape}
 use Rattle.cops_node.specs.SoloNode.{SoloNode, new_node}
 use Rattle.cops_node.specs.Step.{node_step, effect, audited, unchanged}
 use Rattle.cops_world.specs.declared.acts.Act.{Act}

@@ -6,10 +6,9 @@ use Rattle.std.proofs.lemmas.List.{get_or-map}
 use Rattle.cops_types.specs.TenantConfig.{TenantConfig}
 use Rattle.cops_node.specs.declared.AuditEntry.{AuditEntry}
 use Rattle.cops_node.specs.declared.NodeId.{NodeId}
-use Rattle.cops_node.specs.declared.Place.{Place}
 use Rattle.cops_node.specs.Clusters.{nodes_of}
 use Rattle.cops_node.specs.Parts.{Shared, place_at, solo_of}
-use Rattle.cops_node.specs.Place.{node_number, place_of}
+use Rattle.cops_node.specs.Place.{Place, node_number, place_of}
 use Rattle.cops_node.specs.SoloNode.{SoloNode, new_node}
 use Rattle.cops_world.specs.Cluster.{SoloCluster}
 use Rattle.cops_world.specs.Events.{config_at}

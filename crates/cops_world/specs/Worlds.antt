@@ -5,7 +5,7 @@ use Rattle.std.specs.Map.{keys_of, lookup}
 use Rattle.cops_types.specs.declared.configs.Config.{Config}
 use Rattle.cops_types.specs.TenantConfig.{TenantConfig}
 use Rattle.cops_node.specs.Clusters.{Cluster, HasTenant, new_nodes, nodes_of, shape_of}
-use Rattle.cops_node.specs.Parts.{Home, Shared}
+use Rattle.cops_node.specs.Parts.{Site, site_in}
 use Rattle.cops_world.specs.declared.actors.Actor.{Actor as Kept}
 use Rattle.cops_world.specs.declared.actors.ActorId.{ActorId}
 use Rattle.cops_world.specs.declared.replies.Reply.{Reply}
@@ -33,13 +33,13 @@ pub record KeptWorld : Type 0 where
 abbrev pub world_of : KeptWorld → World
 world_of kept = record { setup = kept.setup; nodes = kept.nodes; actors = λ id. lookup (same_actor id) kept.entries; counts = kept.counts }
 
--- the nodes of a configuration, in number order: which each is, the sizes of the cluster, and the place of each tenant at it
-abbrev pub homes_of : Config → List Home
-homes_of config = map (λ (node : Shared). node.home) (new_nodes config).nodes
+-- the nodes of a configuration, in number order: which each is, the sizes of the cluster, and the terms of each tenant
+abbrev pub sites_of : Config → List Site
+sites_of config = map site_in (new_nodes config).nodes
 
 pub record IsWorld (world : World) : Type 0 where
   pub shape_is : world.nodes.shape ≡ shape_of world.setup
-  pub homes_are : map (λ (node : Shared). node.home) world.nodes.nodes ≡ homes_of world.setup
+  pub sites_are : map site_in world.nodes.nodes ≡ sites_of world.setup
   pub good : IsTrue (is_good world.setup)
   pub counted : length world.counts ≡ length world.setup.tenants
   pub run : (id : ActorId) (actor : Kept) → world.actors id ≡ Some actor → RunsAt (shape_of world.setup) id.slot actor

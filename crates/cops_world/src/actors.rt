@@ -1,7 +1,7 @@
 //! The actors of tenants: sessions and carriers.
 ghost use Rattle.std.specs.Prelude.{◌≡◌, ◌<◌, ◌⊎◌, ℕ, false, IfOk, IsTrue};
 ghost use Rattle.cops_types.specs.TenantConfig.{TenantConfig};
-ghost use Rattle.cops_node.specs.Shape.{Shape};
+ghost use Rattle.cops_node.specs.declared.Shape.{Shape};
 ghost use Rattle.cops_session.specs.Session.{Session as SoloSession};
 ghost use Rattle.cops_session.specs.SessionStands.{SessionStandsFor};
 ghost use Rattle.cops_node.specs.declared.NodeCall.{NodeCall};

@@ -2,7 +2,7 @@
 ghost use Rattle.std.specs.Prelude.{◌≡◌, ◌<◌, ◌-◌, ℕ, true, false, not, IfOk, IfSome, IfNone, IsTrue, IsFalse, None, length, map, nat_le, slice_index, slice_set, if◌then◌else◌};
 ghost use Rattle.cops_types.specs.TenantConfig.{TenantConfig};
 ghost use Rattle.cops_node.specs.Clusters.{IsCluster, shape_of};
-ghost use Rattle.cops_node.specs.Parts.{AuditFits};
+ghost use Rattle.cops_node.specs.Parts.{AuditFits, site_in};
 ghost use Rattle.cops_session.specs.Session.{new_session};
 ghost use Rattle.cops_repl.specs.Carrier.{new_carrier};
 ghost use Rattle.cops_repl.specs.Stands.{RunsIn};
@@ -19,7 +19,7 @@ ghost use Rattle.cops_world.specs.Deeds.{deed_step};
 ghost use Rattle.cops_world.specs.Events.{config_at};
 ghost use Rattle.cops_world.specs.Lacks.{Lacks, Stays, StepStops, StepsStop};
 ghost use Rattle.cops_world.specs.Trails.{audited_at};
-ghost use Rattle.cops_world.specs.Worlds.{HasCluster, HasSizes, Leaves, Moves, homes_of, setup_of, join_step, world_of};
+ghost use Rattle.cops_world.specs.Worlds.{HasCluster, HasSizes, Leaves, Moves, setup_of, sites_of, join_step, world_of};
 ghost use Rattle.cops_world.specs.ActorTables.{same_actor};
 ghost use Rattle.cops_world.specs.declared.acts.Act.TheVariants as acts;
 ghost use Rattle.cops_world.specs.declared.replies.Reply.TheVariants.{Refused};
@@ -443,7 +443,7 @@ impl World {
     /// The nodes of the configuration, by number.
     pub fn nodes(&self) -> &[Node]
         ensures value { result.now ≡ self.now.nodes.nodes }
-        ensures homes { map (λ node. node.home) self.now.nodes.nodes ≡ homes_of (setup_of self.now) }
+        ensures sites { map site_in self.now.nodes.nodes ≡ sites_of (setup_of self.now) }
         ensures in_order { IsCluster (shape_of (setup_of self.now)) self.now.nodes.nodes }
         ensures fitting { AllByRecursion AuditFits self.now.nodes.nodes }
     {

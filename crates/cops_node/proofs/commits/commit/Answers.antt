@@ -3,7 +3,7 @@ use Rattle.cops_types.specs.Records.{mark}
 use Rattle.cops_types.specs.Version.{Timestamp, version_le, version_eq}
 use Rattle.cops_store.specs.Contents.{LacksVersion, rows_in}
 use Rattle.cops_node.specs.declared.NodeReply.TheVariants.{OutOfOrder}
-use Rattle.cops_node.specs.Parts.{StandsAt}
+use Rattle.cops_node.specs.Parts.{StandsAt, place_under}
 use Rattle.cops_node.specs.Place.{is_home, is_other_equivalent}
 use Rattle.cops_node.specs.Step.{CallEffect, commit_refusal}
 use Rattle.cops_node.proofs.Stored.{commit_is_new, commit_out_of_order, commit_refused, commit_done, next_is, not_true, not_false, equivalent_of}
@@ -15,8 +15,8 @@ returns-then-ne-clause-done c = λ outbox solo moment h.
     let above = ap (λ (v : Timestamp). version_le v (mark v.node solo.recs)) (sym c.version.ensures) ∙ sym (c.was_committed.ensures solo.recs h.marks) ∙ c.if-was_committed.false in
     let last = c.mark_for-mark.ensures solo.recs h.marks in
     let next = next_is (record entry { prev = c.prev-prev.result }) entry c.mark_for-mark.result c.version-2.result solo.recs (λ i. record entry { prev = c.prev-prev.ensures i }) c.version-2.ensures last ∙ not_true (version_eq c.prev-prev.result c.mark_for-mark.result) (sym c.ne.ensures ∙ c.if-ne.true) in
-    let turn = commit_out_of_order c.args.place.now solo entry (OutOfOrder c.mark_for-mark.result) above next (ap OutOfOrder (last ∙ ap (λ (v : Timestamp). mark v.node solo.recs) c.version-2.ensures)) in
-    (ap (λ (t : CallEffect). t.reply) turn, subst (λ (t : CallEffect). StandsAt c.args.slot c.args.place.now c.args.counters.now c.args.store.now outbox t.after) turn h)
+    let turn = commit_out_of_order (place_under c.args.home.now c.args.terms.now) solo entry (OutOfOrder c.mark_for-mark.result) above next (ap OutOfOrder (last ∙ ap (λ (v : Timestamp). mark v.node solo.recs) c.version-2.ensures)) in
+    (ap (λ (t : CallEffect). t.reply) turn, subst (λ (t : CallEffect). StandsAt c.args.slot (place_under c.args.home.now c.args.terms.now) c.args.counters.now c.args.store.now outbox t.after) turn h)
 
 pub returns-in-Some-clause-done : goal.returns-in-Some-clause-done
 returns-in-Some-clause-done c = λ outbox solo moment h.
@@ -24,8 +24,8 @@ returns-in-Some-clause-done c = λ outbox solo moment h.
     let above = ap (λ (v : Timestamp). version_le v (mark v.node solo.recs)) (sym c.version.ensures) ∙ sym (c.was_committed.ensures solo.recs h.marks) ∙ c.if-was_committed.false in
     let last = c.mark_for-mark.ensures solo.recs h.marks in
     let next = next_is (record entry { prev = c.prev-prev.result }) entry c.mark_for-mark.result c.version-2.result solo.recs (λ i. record entry { prev = c.prev-prev.ensures i }) c.version-2.ensures last ∙ not_false (version_eq c.prev-prev.result c.mark_for-mark.result) (sym c.ne.ensures ∙ c.if-ne.false) in
-    let turn = commit_refused c.args.place.now solo entry c.in-Some.fault above next ((λ i. commit_refusal c.args.place.now solo (record entry { key = sym c.key.ensures i; value = sym c.value.ensures i })) ∙ sym (c.in-Some.ensures.records solo.recs h.rows)) in
-    (c.in_ok-answered.ensures.told ∙ ap (λ (t : CallEffect). t.reply) turn, subst (λ (t : CallEffect). StandsAt c.args.slot c.args.place.now c.args.counters.now c.args.store.now outbox t.after) turn h)
+    let turn = commit_refused (place_under c.args.home.now c.args.terms.now) solo entry c.in-Some.fault above next ((λ i. commit_refusal (place_under c.args.home.now c.args.terms.now) solo (record entry { key = sym c.key.ensures i; value = sym c.value.ensures i })) ∙ sym (c.in-Some.ensures.records solo.recs h.rows)) in
+    (c.in_ok-answered.ensures.told ∙ ap (λ (t : CallEffect). t.reply) turn, subst (λ (t : CallEffect). StandsAt c.args.slot (place_under c.args.home.now c.args.terms.now) c.args.counters.now c.args.store.now outbox t.after) turn h)
 
 pub keep-requires-clause-new_version : goal.keep-requires-clause-new_version
 keep-requires-clause-new_version c =
@@ -34,7 +34,7 @@ keep-requires-clause-new_version c =
     let h = c.requires.stands.1.2 in
     let above = ap (λ (v : Timestamp). version_le v (mark v.node solo.recs)) (sym c.version.ensures) ∙ sym (c.was_committed.ensures solo.recs h.marks) ∙ c.if-was_committed.false in
     subst (λ rs. LacksVersion c.args.entry.key c.args.entry.version (rows_in c.args.slot rs)) (sym c.reserve.ensures.rows)
-    (commit_is_new c.args.slot c.args.place.now c.args.counters.now c.args.store.now outbox solo c.args.entry h above)
+    (commit_is_new c.args.slot (place_under c.args.home.now c.args.terms.now) c.args.counters.now c.args.store.now outbox solo c.args.entry h above)
 
 pub returns-clause-done : goal.returns-clause-done
 returns-clause-done c = λ outbox solo moment h.
@@ -42,7 +42,7 @@ returns-clause-done c = λ outbox solo moment h.
     let above = ap (λ (v : Timestamp). version_le v (mark v.node solo.recs)) (sym c.version.ensures) ∙ sym (c.was_committed.ensures solo.recs h.marks) ∙ c.if-was_committed.false in
     let last = c.mark_for-mark.ensures solo.recs h.marks in
     let next = next_is (record entry { prev = c.prev-prev.result }) entry c.mark_for-mark.result c.version-2.result solo.recs (λ i. record entry { prev = c.prev-prev.ensures i }) c.version-2.ensures last ∙ not_false (version_eq c.prev-prev.result c.mark_for-mark.result) (sym c.ne.ensures ∙ c.if-ne.false) in
-    commit_done c.args.slot c.args.now c.args.place.now c.args.counters.now c.keep.new.counters c.args.store.now c.reserve.new.store c.keep.new.store outbox solo entry c.args.entry moment h above next
-    ((λ i. commit_refusal c.args.place.now solo (record entry { key = sym c.key.ensures i; value = sym c.value.ensures i })) ∙ sym (c.in_default.ensures.records solo.recs h.rows))
-    (equivalent_of (is_home c.args.place.now entry.key) (is_other_equivalent c.args.place.now entry.version.node) c.requires.fits)
+    commit_done c.args.slot c.args.now (place_under c.args.home.now c.args.terms.now) c.args.counters.now c.keep.new.counters c.args.store.now c.reserve.new.store c.keep.new.store outbox solo entry c.args.entry moment h above next
+    ((λ i. commit_refusal (place_under c.args.home.now c.args.terms.now) solo (record entry { key = sym c.key.ensures i; value = sym c.value.ensures i })) ∙ sym (c.in_default.ensures.records solo.recs h.rows))
+    (equivalent_of (is_home (place_under c.args.home.now c.args.terms.now) entry.key) (is_other_equivalent (place_under c.args.home.now c.args.terms.now) entry.version.node) c.requires.fits)
     (λ _. c.args.entry) c.reserve.ensures.rows c.reserve.ensures.tenants c.keep.ensures.stands_for c.keep.ensures.tenants c.keep.ensures.fits c.keep.ensures.clock c.keep.ensures.marks

@@ -6,7 +6,7 @@ use Rattle.cops_node.proofs.part_turns.turn.Goals as goal
 
 pub returns-then-is_audit_full-clause-turn : goal.returns-then-is_audit_full-clause-turn
 returns-then-is_audit_full-clause-turn c =
-    full_turn c.args.slot c.args.moment c.args.call c.args.part.now c.args.store.now c.args.outbox.now c.is_audit_full.result c.requires.stands c.is_audit_full.ensures.full c.if-is_audit_full.true
+    full_turn c.args.slot c.args.moment c.args.home.now c.args.call c.args.part.now c.args.store.now c.args.outbox.now c.is_audit_full.result c.requires.stands c.is_audit_full.ensures.full c.if-is_audit_full.true
 
 pub returns-then-is_audit_full-clause-others : goal.returns-then-is_audit_full-clause-others
 returns-then-is_audit_full-clause-others c = record {
@@ -22,7 +22,7 @@ returns-then-is_audit_full-clause-others c = record {
 
 pub returns-then-is_err-clause-stands : goal.returns-then-is_err-clause-stands
 returns-then-is_err-clause-stands c =
-    stands_still c.args.slot c.args.part.now (record c.args.part.now { trail = c.reserve.new.self }) c.args.store.now c.args.store.now c.args.outbox.now c.args.outbox.now c.requires.stands refl refl c.reserve.ensures.calls
+    stands_still c.args.slot c.args.home.now c.args.part.now (record c.args.part.now { trail = c.reserve.new.self }) c.args.store.now c.args.store.now c.args.outbox.now c.args.outbox.now c.requires.stands refl refl c.reserve.ensures.calls
     (record { counters_are = refl; rows = refl; tenants = refl; outbox_is = refl })
 
 pub returns-then-is_err-clause-others : goal.returns-then-is_err-clause-others
@@ -37,15 +37,15 @@ returns-then-is_err-clause-others c = record {
 
 pub returns-then-is_err-clause-room : goal.returns-then-is_err-clause-room
 returns-then-is_err-clause-room c =
-    open_room c.args.slot c.args.part.now c.args.store.now c.args.outbox.now c.is_audit_full.result c.requires.stands c.is_audit_full.ensures.full c.if-is_audit_full.false
+    open_room c.args.slot c.args.home.now c.args.part.now c.args.store.now c.args.outbox.now c.is_audit_full.result c.requires.stands c.is_audit_full.ensures.full c.if-is_audit_full.false
 
 pub act-requires-clause-stands : goal.act-requires-clause-stands
 act-requires-clause-stands c =
-    raised_solo c.args.slot c.max-now.result c.args.moment c.args.part.now c.args.store.now c.args.outbox.now c.requires.stands c.max-now.ensures
+    raised_solo c.args.slot c.max-now.result c.args.moment c.args.home.now c.args.part.now c.args.store.now c.args.outbox.now c.requires.stands c.max-now.ensures
 
 pub returns-in_default-clause-stands : goal.returns-in_default-clause-stands
 returns-in_default-clause-stands c =
-    stands_still c.args.slot c.args.part.now (record c.args.part.now { counters = c.act.new.counters; trail = c.reserve.new.self }) c.args.store.now c.act.new.store c.args.outbox.now c.act.new.outbox c.requires.stands refl refl c.reserve.ensures.calls
+    stands_still c.args.slot c.args.home.now c.args.part.now (record c.args.part.now { counters = c.act.new.counters; trail = c.reserve.new.self }) c.args.store.now c.act.new.store c.args.outbox.now c.act.new.outbox c.requires.stands refl refl c.reserve.ensures.calls
     c.in_default.ensures.err
 
 pub returns-in_default-clause-others : goal.returns-in_default-clause-others
@@ -54,7 +54,7 @@ returns-in_default-clause-others c =
 
 pub returns-in_default-clause-room : goal.returns-in_default-clause-room
 returns-in_default-clause-room c =
-    open_room c.args.slot c.args.part.now c.args.store.now c.args.outbox.now c.is_audit_full.result c.requires.stands c.is_audit_full.ensures.full c.if-is_audit_full.false
+    open_room c.args.slot c.args.home.now c.args.part.now c.args.store.now c.args.outbox.now c.is_audit_full.result c.requires.stands c.is_audit_full.ensures.full c.if-is_audit_full.false
 
 -- ---- the call has its effect
 
@@ -70,15 +70,15 @@ pushed c = c.push.ensures ∙ (λ i. c.reserve.ensures.calls i ++ row_is c i ∷
 
 pub returns-clause-turn : goal.returns-clause-turn
 returns-clause-turn c =
-    turn_done c.args.slot c.args.moment c.max-now.result c.args.call c.args.part.now (next c) c.args.store.now c.act.new.store c.args.outbox.now c.act.new.outbox c.in-Ok.answered.told c.in-Ok.answered.told c.is_audit_full.result
+    turn_done c.args.slot c.args.moment c.max-now.result c.args.home.now c.args.call c.args.part.now (next c) c.args.store.now c.act.new.store c.args.outbox.now c.act.new.outbox c.in-Ok.answered.told c.in-Ok.answered.told c.is_audit_full.result
     c.requires.stands c.is_audit_full.ensures.full c.if-is_audit_full.false c.max-now.ensures refl refl (pushed c) c.in-Ok.ensures.done refl
 
 pub returns-clause-noted : goal.returns-clause-noted
 returns-clause-noted c =
-    turn_joins c.args.slot c.args.moment c.max-now.result c.args.call c.args.part.now (next c) c.args.store.now c.act.new.store c.args.outbox.now c.act.new.outbox c.in-Ok.answered.told c.in-Ok.answered.told c.is_audit_full.result
+    turn_joins c.args.slot c.args.moment c.max-now.result c.args.home.now c.args.call c.args.part.now (next c) c.args.store.now c.act.new.store c.args.outbox.now c.act.new.outbox c.in-Ok.answered.told c.in-Ok.answered.told c.is_audit_full.result
     c.requires.stands c.is_audit_full.ensures.full c.if-is_audit_full.false c.max-now.ensures refl refl (pushed c) c.in-Ok.ensures.done refl
 
 pub returns-clause-stands : goal.returns-clause-stands
 returns-clause-stands c =
-    turn_stands c.args.slot c.args.moment c.max-now.result c.args.call c.args.part.now (next c) c.args.store.now c.act.new.store c.args.outbox.now c.act.new.outbox c.in-Ok.answered.told c.in-Ok.answered.told c.is_audit_full.result
+    turn_stands c.args.slot c.args.moment c.max-now.result c.args.home.now c.args.call c.args.part.now (next c) c.args.store.now c.act.new.store c.args.outbox.now c.act.new.outbox c.in-Ok.answered.told c.in-Ok.answered.told c.is_audit_full.result
     c.requires.stands c.is_audit_full.ensures.full c.if-is_audit_full.false c.max-now.ensures refl refl (pushed c) c.in-Ok.ensures.done refl

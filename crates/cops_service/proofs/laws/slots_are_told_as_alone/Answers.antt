@@ -7,5 +7,5 @@ returns-clause-replies c = replies_as_held
 pub returns-clause-after : goal.returns-clause-after
 returns-clause-after c = left_as_held
 
-pub returns-clause-site : goal.returns-clause-site
-returns-clause-site c = stays_there
+pub returns-clause-home : goal.returns-clause-home
+returns-clause-home c = stays_there

@@ -2,16 +2,16 @@ use Rattle.std.proofs.Common.{◌≡◌, ◌∙◌, ◌++◌, ◌+◌, ◌-◌, 
 use Rattle.std.specs.Prelude.{None, Some, Option, is_some, nat_le, replicate}
 use Rattle.cops_outbox.specs.Queues.{Queues}
 use Rattle.cops_node.specs.declared.parts.Part.{Part}
-use Rattle.cops_node.specs.Parts.{IsNode, MOST_SLOTS, Shared, place_at, place_for, places_of, trail_of, trails_of}
+use Rattle.cops_node.specs.Parts.{IsNode, MOST_SLOTS, Shared, place_at, place_for, trail_of, trails_of}
 use Rattle.cops_node.proofs.Admissions.{HasMoreRoom, IsNode-room, none_from, node_admitted, or_right, others_admitted, place_admitted, trail_admitted}
-use Rattle.cops_node.proofs.Slots.{is_some_shown}
+use Rattle.cops_node.proofs.Slots.{is_some_shown, view_of}
 use Rattle.cops_node.proofs.node.Node.admit.Goals as goal
 
 pub invariant_of-self-in_err-admit-2 : goal.invariant_of-self-in_err-admit-2
 invariant_of-self-in_err-admit-2 c =
     let stored = c.in_ok-admit.ensures.tenants in
     let queued = ap (λ (o : Queues). o.tenants) c.in_err-admit-2.ensures.err in
-    IsNode-room c.self.inside.id c.self.inside.data_centres c.self.inside.shards c.self.inside.parts.items c.self.inside.store c.admit.new.self c.self.inside.outbox c.admit-2.new.self c.self.invariant (record {
+    IsNode-room c.self.inside.home c.self.inside.parts.items c.self.inside.store c.admit.new.self c.self.inside.outbox c.admit-2.new.self c.self.invariant (record {
       rows = c.admit.ensures.rows;
       stored = omega arith;
       queues = c.admit-2.ensures.queues;
@@ -24,7 +24,7 @@ pub invariant_of-self-in_err-added : goal.invariant_of-self-in_err-added
 invariant_of-self-in_err-added c =
     let stored = c.in_ok-admit.ensures.tenants in
     let queued = c.in_ok-admit-2.ensures.tenants in
-    IsNode-room c.self.inside.id c.self.inside.data_centres c.self.inside.shards c.self.inside.parts.items c.self.inside.store c.admit.new.self c.self.inside.outbox c.admit-2.new.self c.self.invariant (record {
+    IsNode-room c.self.inside.home c.self.inside.parts.items c.self.inside.store c.admit.new.self c.self.inside.outbox c.admit-2.new.self c.self.invariant (record {
       rows = c.admit.ensures.rows;
       stored = omega arith;
       queues = c.admit-2.ensures.queues;
@@ -37,8 +37,8 @@ pub invariant_of-self-in_err-append : goal.invariant_of-self-in_err-append
 invariant_of-self-in_err-append c =
     let stored = c.in_ok-admit.ensures.tenants in
     let queued = c.in_ok-admit-2.ensures.tenants in
-    subst (λ (ps : List (Option Part)). IsNode c.self.inside.id c.self.inside.data_centres c.self.inside.shards ps c.admit.new.self c.admit-2.new.self) (sym c.in_err-append.ensures.items)
-    (IsNode-room c.self.inside.id c.self.inside.data_centres c.self.inside.shards c.self.inside.parts.items c.self.inside.store c.admit.new.self c.self.inside.outbox c.admit-2.new.self c.self.invariant (record {
+    subst (λ (ps : List (Option Part)). IsNode c.self.inside.home ps c.admit.new.self c.admit-2.new.self) (sym c.in_err-append.ensures.items)
+    (IsNode-room c.self.inside.home c.self.inside.parts.items c.self.inside.store c.admit.new.self c.self.inside.outbox c.admit-2.new.self c.self.invariant (record {
       rows = c.admit.ensures.rows;
       stored = omega arith;
       queues = c.admit-2.ensures.queues;
@@ -68,7 +68,7 @@ more_is c = c.saturating_sub-more.ensures ∙ ap (λ n. c.args.slot + 1 - n) (c.
 free : (c : goal.After-drop-added-2) → get_or c.self.inside.parts.items c.args.slot None ≡ None
 free c =
     none_from (get_or c.self.inside.parts.items c.args.slot None)
-    (sym (is_some_shown c.self.inside.parts.items c.args.slot) ∙ ap (λ (v : Shared). is_some (place_at c.args.slot v)) c.self.view_is
+    (sym (is_some_shown c.self.inside.home c.self.inside.parts.items c.args.slot) ∙ ap (λ (v : Shared). is_some (place_at c.args.slot v)) c.self.view_is
     ∙ or_right (nat_le MOST_SLOTS c.args.slot) (is_some (place_at c.args.slot c.args.self.now)) (sym c.is_taken.ensures ∙ c.if-is_taken.false))
 
 made : (c : goal.After-drop-added-2) → c.append.new.self.items ≡ c.self.inside.parts.items ++ replicate c.saturating_sub-more.result None
@@ -76,27 +76,27 @@ made c = c.in_ok-append.ensures.items ∙ ap (λ ps. c.self.inside.parts.items +
 
 pub invariant_of-self-2 : goal.invariant_of-self-2
 invariant_of-self-2 c =
-    subst (λ (ps : List (Option Part)). IsNode c.self.inside.id c.self.inside.data_centres c.self.inside.shards (set ps c.args.slot (Some c.in_ok-part.part)) c.admit.new.self c.admit-2.new.self) (sym (made c))
-    (node_admitted c.self.inside.id c.self.inside.data_centres c.self.inside.shards c.self.inside.trans_time c.args.slot c.saturating_sub-more.result c.args.first_clock c.args.quota c.self.inside.parts.items c.in_ok-part.part
-    c.self.inside.store c.admit.new.self c.self.inside.outbox c.admit-2.new.self c.self.invariant (room c) c.in_ok-admit.ensures.tenants c.in_ok-admit-2.ensures.tenants (more_is c) (free c) c.in_ok-part.ensures.fresh c.requires c.in_ok-part.ensures.place)
+    subst (λ (ps : List (Option Part)). IsNode c.self.inside.home (set ps c.args.slot (Some c.in_ok-part.part)) c.admit.new.self c.admit-2.new.self) (sym (made c))
+    (node_admitted c.self.inside.home c.args.slot c.saturating_sub-more.result c.args.first_clock c.args.quota c.self.inside.parts.items c.in_ok-part.part
+    c.self.inside.store c.admit.new.self c.self.inside.outbox c.admit-2.new.self c.self.invariant (room c) c.in_ok-admit.ensures.tenants c.in_ok-admit-2.ensures.tenants (more_is c) (free c) c.in_ok-part.ensures.fresh c.requires c.in_ok-part.ensures.terms)
 
 pub returns-clause-place : goal.returns-clause-place
 returns-clause-place c =
-    ap (λ (ps : List (Option Part)). get_or (places_of (set ps c.args.slot (Some c.in_ok-part.part))) c.args.slot None) (made c)
-    ∙ place_admitted c.self.inside.id c.self.inside.data_centres c.self.inside.shards c.self.inside.trans_time c.args.slot c.saturating_sub-more.result c.args.first_clock c.args.quota c.self.inside.parts.items c.in_ok-part.part
-    c.self.inside.store c.admit.new.self c.self.inside.outbox c.admit-2.new.self c.self.invariant (room c) c.in_ok-admit.ensures.tenants c.in_ok-admit-2.ensures.tenants (more_is c) (free c) c.in_ok-part.ensures.fresh c.requires c.in_ok-part.ensures.place
+    ap (λ (ps : List (Option Part)). place_at c.args.slot (view_of c.self.inside.home (set ps c.args.slot (Some c.in_ok-part.part)))) (made c)
+    ∙ place_admitted c.self.inside.home c.args.slot c.saturating_sub-more.result c.args.first_clock c.args.quota c.self.inside.parts.items c.in_ok-part.part
+    c.self.inside.store c.admit.new.self c.self.inside.outbox c.admit-2.new.self c.self.invariant (room c) c.in_ok-admit.ensures.tenants c.in_ok-admit-2.ensures.tenants (more_is c) (free c) c.in_ok-part.ensures.fresh c.requires c.in_ok-part.ensures.terms
     ∙ ap (λ (v : Shared). Some (place_for v.home c.args.first_clock c.args.quota)) c.self.view_is
 
 pub returns-clause-empty : goal.returns-clause-empty
 returns-clause-empty c =
     ap (λ (ps : List (Option Part)). trail_of c.args.slot (trails_of (set ps c.args.slot (Some c.in_ok-part.part)))) (made c)
-    ∙ trail_admitted c.self.inside.id c.self.inside.data_centres c.self.inside.shards c.self.inside.trans_time c.args.slot c.saturating_sub-more.result c.args.first_clock c.args.quota c.self.inside.parts.items c.in_ok-part.part
-    c.self.inside.store c.admit.new.self c.self.inside.outbox c.admit-2.new.self c.self.invariant (room c) c.in_ok-admit.ensures.tenants c.in_ok-admit-2.ensures.tenants (more_is c) (free c) c.in_ok-part.ensures.fresh c.requires c.in_ok-part.ensures.place
+    ∙ trail_admitted c.self.inside.home c.args.slot c.saturating_sub-more.result c.args.first_clock c.args.quota c.self.inside.parts.items c.in_ok-part.part
+    c.self.inside.store c.admit.new.self c.self.inside.outbox c.admit-2.new.self c.self.invariant (room c) c.in_ok-admit.ensures.tenants c.in_ok-admit-2.ensures.tenants (more_is c) (free c) c.in_ok-part.ensures.fresh c.requires c.in_ok-part.ensures.terms
 
 pub returns-clause-others : goal.returns-clause-others
 returns-clause-others c = λ other differ.
-    let kept = others_admitted c.self.inside.id c.self.inside.data_centres c.self.inside.shards c.self.inside.trans_time c.args.slot c.saturating_sub-more.result c.args.first_clock c.args.quota c.self.inside.parts.items c.in_ok-part.part
-    c.self.inside.store c.admit.new.self c.self.inside.outbox c.admit-2.new.self c.self.invariant (room c) c.in_ok-admit.ensures.tenants c.in_ok-admit-2.ensures.tenants (more_is c) (free c) c.in_ok-part.ensures.fresh c.requires c.in_ok-part.ensures.place other differ in (
-      ap (λ (ps : List (Option Part)). get_or (places_of (set ps c.args.slot (Some c.in_ok-part.part))) other None) (made c) ∙ kept.0 ∙ ap (place_at other) c.self.view_is,
+    let kept = others_admitted c.self.inside.home c.args.slot c.saturating_sub-more.result c.args.first_clock c.args.quota c.self.inside.parts.items c.in_ok-part.part
+    c.self.inside.store c.admit.new.self c.self.inside.outbox c.admit-2.new.self c.self.invariant (room c) c.in_ok-admit.ensures.tenants c.in_ok-admit-2.ensures.tenants (more_is c) (free c) c.in_ok-part.ensures.fresh c.requires c.in_ok-part.ensures.terms other differ in (
+      ap (λ (ps : List (Option Part)). place_at other (view_of c.self.inside.home (set ps c.args.slot (Some c.in_ok-part.part)))) (made c) ∙ kept.0 ∙ ap (place_at other) c.self.view_is,
       ap (λ (ps : List (Option Part)). trail_of other (trails_of (set ps c.args.slot (Some c.in_ok-part.part)))) (made c) ∙ kept.1 ∙ ap (λ (v : Shared). trail_of other v.audit) c.self.view_is,
     )

@@ -9,5 +9,5 @@ pub returns-in-Some-clause-solo : goal.returns-in-Some-clause-solo
 returns-in-Some-clause-solo c = λ own found.
     let read : get_or c.self.inside.parts.items c.args.slot None ≡ Some c.in-Some.part.now = ap (λ ps. get_or ps c.args.slot None) (sym c.deref.ensures.value) ∙ sym c.of.ensures ∙ ap option_copied c.in-Some.is in
     c.get.ensures
-    ∙ ap (λ t. slice_get t c.args.place) (solo_trail c.self.inside.id c.self.inside.data_centres c.self.inside.shards c.args.slot c.self.inside.parts.items c.self.inside.store c.self.inside.outbox own c.in-Some.part.now c.self.invariant read (ap (place_at c.args.slot) c.self.view_is ∙ found))
+    ∙ ap (λ t. slice_get t c.args.place) (solo_trail c.self.inside.home c.args.slot c.self.inside.parts.items c.self.inside.store c.self.inside.outbox own c.in-Some.part.now c.self.invariant read (ap (place_at c.args.slot) c.self.view_is ∙ found))
     ∙ ap (λ (v : Shared). slice_get (solo_of c.args.slot own v).trail c.args.place) c.self.view_is

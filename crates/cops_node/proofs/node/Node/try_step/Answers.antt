@@ -1,19 +1,14 @@
 use Rattle.std.proofs.Common.{◌≡◌, ◌∙◌, ap, arith, sym, subst, get_or, IsTrue, set}
 use Rattle.std.specs.Prelude.{None, Some}
 use Rattle.std.proofs.lemmas.List.{get_or_default}
+use Rattle.cops_node.specs.Lacking.{MayLack}
 use Rattle.cops_node.specs.Parts.{IsSoloTurn, JoinsTrail, Shared, place_at, trail_of}
 use Rattle.cops_node.specs.Place.{fits}
 use Rattle.cops_node.specs.Shape.{place_in}
-use Rattle.cops_node.proofs.Slots.{HomePlace, OnErr-any, fits_same, home_set, node_joined, node_same, solo_turned, trail_elsewhere, trail_joined, view_of, view_set}
+use Rattle.cops_node.proofs.Slots.{OnErr-any, fits_under, lack_shown, node_joined, node_same, solo_turned, terms_set, trail_elsewhere, trail_joined, view_of, view_set}
 use Rattle.cops_node.proofs.node.Node.try_step.Goals as goal
 
--- the part of the slot, at the call and where it has returned
-at_call : (c : goal.After-turn-arg-in-Some-2-1) → get_or c.self.inside.parts.items c.args.slot None ≡ Some c.in-Some.part
-at_call c =
-    let long = c.len.ensures ∙ c.self.inside.parts.ok.0 in
-    let lt = c.if-slot-len.false in
-    get_or_default c.self.inside.parts.items c.args.slot None c.index_mut.result.now (omega arith) ∙ sym c.index_mut.ensures.value ∙ c.in-Some.is
-
+-- the part of the slot, where the call has returned
 at_err : (c : goal.After-from_residual) → get_or c.self.inside.parts.items c.args.slot None ≡ Some c.in-Some.part
 at_err c =
     let long = c.len.ensures ∙ c.self.inside.parts.ok.0 in
@@ -27,20 +22,21 @@ at_ok c =
     get_or_default c.self.inside.parts.items c.args.slot None c.index_mut.result.now (omega arith) ∙ sym c.index_mut.ensures.value ∙ c.in-Some.is
 
 pub turn-requires-clause-stands : goal.turn-requires-clause-stands
-turn-requires-clause-stands c = (c.self.invariant.each c.args.slot c.in-Some.part (at_call c)).kept
+turn-requires-clause-stands c =
+    let long = c.len.ensures ∙ c.self.inside.parts.ok.0 in
+    let lt = c.if-slot-len.false in
+    c.self.invariant.each c.args.slot c.in-Some.part (get_or_default c.self.inside.parts.items c.args.slot None c.index_mut.result.now (omega arith) ∙ sym c.index_mut.ensures.value ∙ c.in-Some.is)
 
 pub turn-requires-clause-fits : goal.turn-requires-clause-fits
 turn-requires-clause-fits c =
-    let own = c.self.invariant.each c.args.slot c.in-Some.part (at_call c) in
-    fits_same c.args.call c.in-Some.part.place (HomePlace c.self.inside.id c.self.inside.data_centres c.self.inside.shards) own.id_is own.data_centres_are own.shards_are
-    ∙ subst (λ (v : Shared). IsTrue (fits (place_in v.home.shape v.home.id) c.args.call)) (sym c.self.view_is) c.requires
+    fits_under c.self.inside.home c.in-Some.part.terms c.args.call ∙ subst (λ (v : Shared). IsTrue (fits (place_in v.home.shape v.home.id) c.args.call)) (sym c.self.view_is) c.requires
 
 -- ---- memory was refused
 
 pub invariant_of-self : goal.invariant_of-self
 invariant_of-self c =
-    node_same c.self.inside.id c.self.inside.data_centres c.self.inside.shards c.self.inside.trans_time c.args.slot c.args.moment c.args.call c.self.inside.parts.items c.in-Some.part c.turn.new.part
-    c.self.inside.store c.turn.new.store c.self.inside.outbox c.turn.new.outbox c.self.invariant (at_err c) c.turn.ensures.place c.turn.ensures.stands c.turn.ensures.others c.in_err-reply-in-Some.ensures.err
+    node_same c.self.inside.home c.args.slot c.args.moment c.args.call c.self.inside.parts.items c.in-Some.part c.turn.new.part
+    c.self.inside.store c.turn.new.store c.self.inside.outbox c.turn.new.outbox c.self.invariant (at_err c) c.turn.ensures.terms c.turn.ensures.stands c.turn.ensures.others c.in_err-reply-in-Some.ensures.err
 
 pub returns-in_err-reply-in-Some-clause-others : goal.returns-in_err-reply-in-Some-clause-others
 returns-in_err-reply-in-Some-clause-others c = λ other differ.
@@ -48,38 +44,48 @@ returns-in_err-reply-in-Some-clause-others c = λ other differ.
 
 pub returns-in_err-reply-in-Some-clause-home : goal.returns-in_err-reply-in-Some-clause-home
 returns-in_err-reply-in-Some-clause-home c =
-    home_set c.self.inside.id c.self.inside.data_centres c.self.inside.shards c.self.inside.trans_time c.args.slot c.self.inside.parts.items c.in-Some.part c.turn.new.part (at_err c) c.turn.ensures.place
-    ∙ ap (λ (v : Shared). v.home) c.self.view_is
+    ap (λ (v : Shared). v.home) c.self.view_is
+
+pub returns-in_err-reply-in-Some-clause-terms : goal.returns-in_err-reply-in-Some-clause-terms
+returns-in_err-reply-in-Some-clause-terms c =
+    terms_set c.self.inside.parts.items c.args.slot c.in-Some.part c.turn.new.part (at_err c) c.turn.ensures.terms
+    ∙ ap (λ (v : Shared). v.terms) c.self.view_is
 
 pub returns-in_err-reply-in-Some-clause-err : goal.returns-in_err-reply-in-Some-clause-err
 returns-in_err-reply-in-Some-clause-err c =
     OnErr-any c.from_residual.result _
-    (view_set c.self.inside.id c.self.inside.data_centres c.self.inside.shards c.self.inside.trans_time c.args.slot c.self.inside.parts.items c.in-Some.part c.turn.new.part (at_err c) c.turn.ensures.place c.in_err-reply-in-Some.ensures.err
+    (view_set c.self.inside.home c.args.slot c.self.inside.parts.items c.in-Some.part c.turn.new.part (at_err c) c.turn.ensures.terms c.in_err-reply-in-Some.ensures.err
     ∙ c.self.view_is)
+
+pub returns-in_err-reply-in-Some-clause-lacks : goal.returns-in_err-reply-in-Some-clause-lacks
+returns-in_err-reply-in-Some-clause-lacks c =
+    OnErr-any c.from_residual.result _
+    (subst (λ (v : Shared). MayLack v c.args.slot c.args.call) c.self.view_is
+    (lack_shown c.self.inside.home c.args.slot c.args.call c.self.inside.parts.items c.in-Some.part (at_err c) c.in_err-reply-in-Some.ensures.room))
 
 -- ---- the call has its effect
 
 pub invariant_of-self-in-Some : goal.invariant_of-self-in-Some
 invariant_of-self-in-Some c =
-    node_joined c.self.inside.id c.self.inside.data_centres c.self.inside.shards c.self.inside.trans_time c.args.slot c.args.moment c.args.call c.self.inside.parts.items c.in-Some.part c.turn.new.part
-    c.self.inside.store c.turn.new.store c.self.inside.outbox c.turn.new.outbox c.self.invariant (at_ok c) c.turn.ensures.place c.turn.ensures.stands c.turn.ensures.others c.in_ok-reply-in-Some.reply
+    node_joined c.self.inside.home c.args.slot c.args.moment c.args.call c.self.inside.parts.items c.in-Some.part c.turn.new.part
+    c.self.inside.store c.turn.new.store c.self.inside.outbox c.turn.new.outbox c.self.invariant (at_ok c) c.turn.ensures.terms c.turn.ensures.stands c.turn.ensures.others c.in_ok-reply-in-Some.reply
     (subst (λ (v : Shared). IsTrue (fits (place_in v.home.shape v.home.id) c.args.call)) (sym c.self.view_is) c.requires) c.in_ok-reply-in-Some.ensures.noted
 
 pub returns-in_ok-reply-in-Some-clause-turn : goal.returns-in_ok-reply-in-Some-clause-turn
 returns-in_ok-reply-in-Some-clause-turn c = λ place found.
     let done = subst (λ (v : Shared). IsSoloTurn c.args.slot c.args.moment c.args.call c.in_ok-reply-in-Some.reply place v
-    (view_of c.self.inside.id c.self.inside.data_centres c.self.inside.shards c.self.inside.trans_time (set c.self.inside.parts.items c.args.slot (Some c.turn.new.part)))) c.self.view_is
-    (solo_turned c.self.inside.id c.self.inside.data_centres c.self.inside.shards c.self.inside.trans_time c.args.slot c.args.moment c.args.call c.self.inside.parts.items c.in-Some.part c.turn.new.part
-    c.self.inside.store c.turn.new.store c.self.inside.outbox c.turn.new.outbox c.self.invariant (at_ok c) c.turn.ensures.place c.turn.ensures.stands c.turn.ensures.others c.in_ok-reply-in-Some.reply
+    (view_of c.self.inside.home (set c.self.inside.parts.items c.args.slot (Some c.turn.new.part)))) c.self.view_is
+    (solo_turned c.self.inside.home c.args.slot c.args.moment c.args.call c.self.inside.parts.items c.in-Some.part c.turn.new.part
+    c.self.inside.store c.turn.new.store c.self.inside.outbox c.turn.new.outbox c.self.invariant (at_ok c) c.turn.ensures.terms c.turn.ensures.stands c.turn.ensures.others c.in_ok-reply-in-Some.reply
     c.in_ok-reply-in-Some.ensures.turn place (ap (place_at c.args.slot) c.self.view_is ∙ found)) in
     (done.0, done.1)
 
 pub returns-in_ok-reply-in-Some-clause-noted : goal.returns-in_ok-reply-in-Some-clause-noted
 returns-in_ok-reply-in-Some-clause-noted c = λ some.
     subst (λ (v : Shared). JoinsTrail c.args.slot c.args.moment c.args.call c.in_ok-reply-in-Some.reply v
-    (view_of c.self.inside.id c.self.inside.data_centres c.self.inside.shards c.self.inside.trans_time (set c.self.inside.parts.items c.args.slot (Some c.turn.new.part)))) c.self.view_is
-    (trail_joined c.self.inside.id c.self.inside.data_centres c.self.inside.shards c.self.inside.trans_time c.args.slot c.args.moment c.args.call c.self.inside.parts.items c.in-Some.part c.turn.new.part
-    c.self.inside.store c.turn.new.store c.self.inside.outbox c.turn.new.outbox c.self.invariant (at_ok c) c.turn.ensures.place c.turn.ensures.stands c.turn.ensures.others c.in_ok-reply-in-Some.reply c.in_ok-reply-in-Some.ensures.noted)
+    (view_of c.self.inside.home (set c.self.inside.parts.items c.args.slot (Some c.turn.new.part)))) c.self.view_is
+    (trail_joined c.self.inside.home c.args.slot c.args.moment c.args.call c.self.inside.parts.items c.in-Some.part c.turn.new.part
+    c.self.inside.store c.turn.new.store c.self.inside.outbox c.turn.new.outbox c.self.invariant (at_ok c) c.turn.ensures.terms c.turn.ensures.stands c.turn.ensures.others c.in_ok-reply-in-Some.reply c.in_ok-reply-in-Some.ensures.noted)
 
 pub returns-in_ok-reply-in-Some-clause-others : goal.returns-in_ok-reply-in-Some-clause-others
 returns-in_ok-reply-in-Some-clause-others c = λ other differ.
@@ -87,5 +93,9 @@ returns-in_ok-reply-in-Some-clause-others c = λ other differ.
 
 pub returns-in_ok-reply-in-Some-clause-home : goal.returns-in_ok-reply-in-Some-clause-home
 returns-in_ok-reply-in-Some-clause-home c =
-    home_set c.self.inside.id c.self.inside.data_centres c.self.inside.shards c.self.inside.trans_time c.args.slot c.self.inside.parts.items c.in-Some.part c.turn.new.part (at_ok c) c.turn.ensures.place
-    ∙ ap (λ (v : Shared). v.home) c.self.view_is
+    ap (λ (v : Shared). v.home) c.self.view_is
+
+pub returns-in_ok-reply-in-Some-clause-terms : goal.returns-in_ok-reply-in-Some-clause-terms
+returns-in_ok-reply-in-Some-clause-terms c =
+    terms_set c.self.inside.parts.items c.args.slot c.in-Some.part c.turn.new.part (at_ok c) c.turn.ensures.terms
+    ∙ ap (λ (v : Shared). v.terms) c.self.view_is

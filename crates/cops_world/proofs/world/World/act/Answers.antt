@@ -17,7 +17,7 @@ invariant_of-self c =
     record {
       whole = record {
         shape_is = whole.shape_is;
-        homes_are = whole.homes_are;
+        sites_are = whole.sites_are;
         good = whole.good;
         counted = whole.counted;
         run = runs_after_act (shape_of c.self.inside.config) (λ id. lookup (same_actor id) c.self.inside.actors.entries) (λ id. lookup (same_actor id) c.act_at.new.actors.entries) (record { slot = c.args.slot; name = c.args.name }) whole.run

@@ -2,7 +2,7 @@ use Rattle.std.proofs.Common.{◌≡◌, ◌+◌, ◌*◌, ◌<◌, List, length
 use Rattle.std.specs.Option.{option_copied}
 use Rattle.cops_node.specs.Clusters.{shape_of}
 use Rattle.cops_node.specs.Parts.{Shared}
-use Rattle.cops_node.specs.Shape.{Shape}
+use Rattle.cops_node.specs.declared.Shape.{Shape}
 use Rattle.cops_node.proofs.Clusters.{number_within}
 use Rattle.cops_world.specs.Cluster.{SoloCluster}
 use Rattle.cops_world.specs.Events.{config_at}

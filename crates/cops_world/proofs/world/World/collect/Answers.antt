@@ -1,5 +1,5 @@
 use Rattle.std.proofs.Common.{◌≡◌, true, ap, refl, subst, sym, ◌∙◌}
-use Rattle.cops_node.specs.Shape.{Shape}
+use Rattle.cops_node.specs.declared.Shape.{Shape}
 use Rattle.cops_types.specs.declared.faults.Fault.TheVariants.{NoSuchPlace}
 use Rattle.cops_world.specs.declared.acts.Act.TheVariants as acts
 use Rattle.cops_world.specs.declared.replies.Reply.TheVariants.{Refused}
@@ -63,7 +63,7 @@ invariant_of-self c =
     record {
       whole = record {
         shape_is = c.step.ensures.shape ∙ whole.shape_is;
-        homes_are = c.step.ensures.answers.homes ∙ whole.homes_are;
+        sites_are = c.step.ensures.answers.sites ∙ whole.sites_are;
         good = whole.good;
         counted = whole.counted;
         run = whole.run;

@@ -12,7 +12,7 @@ use Rattle.cops_world.specs.ActorTables.{same_actor}
 use Rattle.cops_world.specs.Cluster.{actor_step}
 use Rattle.cops_world.specs.Lacks.{StepStops}
 use Rattle.cops_world.specs.Worlds.{KeptWorld, Leaves, Moves, world_of}
-use Rattle.cops_world.proofs.WorldKeeps.{back_table, homes_stay, left_table, runs_after}
+use Rattle.cops_world.proofs.WorldKeeps.{back_table, sites_stay, left_table, runs_after}
 use Rattle.cops_world.proofs.WorldLacks.{spared_leaves, steps_world_leaves}
 use Rattle.cops_world.proofs.WorldSteps.{absent_step, counts_after}
 use Rattle.cops_world.proofs.world.World.step.Goals as goal
@@ -33,7 +33,7 @@ invariant_of-self c =
     record {
       whole = record {
         shape_is = ensures.shape ∙ whole.shape_is;
-        homes_are = homes_stay c.self.inside.nodes c.step_at-reply.new.nodes c.args.slot ensures.once ∙ whole.homes_are;
+        sites_are = sites_stay c.self.inside.nodes c.step_at-reply.new.nodes c.args.slot ensures.once ∙ whole.sites_are;
         good = whole.good;
         counted = whole.counted;
         run = runs_after (shape_of c.self.inside.config) (λ q. lookup (same_actor q) c.self.inside.actors.entries) (λ q. lookup (same_actor q) c.step_at-reply.new.actors.entries) id (Some f.0) f.1.0 whole.run
@@ -52,7 +52,7 @@ invariant_of-self-else-is_over c =
     record {
       whole = record {
         shape_is = ensures.shape ∙ whole.shape_is;
-        homes_are = homes_stay c.self.inside.nodes c.step_at-reply.new.nodes c.args.slot ensures.once ∙ whole.homes_are;
+        sites_are = sites_stay c.self.inside.nodes c.step_at-reply.new.nodes c.args.slot ensures.once ∙ whole.sites_are;
         good = whole.good;
         counted = whole.counted;
         run = runs_after (shape_of c.self.inside.config) (λ q. lookup (same_actor q) c.self.inside.actors.entries) (λ q. lookup (same_actor q) c.step_at-reply.new.actors.entries) id (Some f.0) f.1.0 whole.run
