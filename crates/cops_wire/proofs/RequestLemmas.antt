@@ -25,11 +25,11 @@ use Rattle.cops_handles.specs.Rows.{is_spent}
 
 -- ---- refusals
 
-ok_if : {A E : Type 0} (b : Bool) (x y : A) (e : E) → Ok x ≡ cond b (Ok y) (Err e) → b ≡ true
+pub ok_if : {A E : Type 0} (b : Bool) (x y : A) (e : E) → Ok x ≡ cond b (Ok y) (Err e) → b ≡ true
 ok_if true x y e is = refl
 ok_if false x y e is = cc
 
-ok_same : {A E : Type 0} (b : Bool) (x y : A) (e : E) → Ok x ≡ cond b (Ok y) (Err e) → x ≡ y
+pub ok_same : {A E : Type 0} (b : Bool) (x y : A) (e : E) → Ok x ≡ cond b (Ok y) (Err e) → x ≡ y
 ok_same true x y e is = cc
 ok_same false x y e is = cc
 

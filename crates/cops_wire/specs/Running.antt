@@ -1,8 +1,13 @@
 -- The steps of a session that is kept, for each session of the definition that it stands for.
-use Rattle.std.specs.Prelude.{◌≡◌, ◌⊎◌, ◌≤◌, ◌++◌, ℕ, length, List, [], Option, Some, None, Result, Ok, Err, OnOk, OnErr}
+use Rattle.std.specs.Prelude.{◌≡◌, ◌⊎◌, ◌≤◌, ◌++◌, ℕ, nat_lt, not, length, List, [], ◌∷◌, Option, Some, None, Result, Ok, Err, Vec, IfOk, OnOk, OnErr}
+use Rattle.std.specs.Global.{Global}
+use Rattle.std.specs.List.{list_all}
 use Rattle.std.specs.declared.alloc.AllocError.{AllocError}
 use Rattle.cops_types.specs.declared.faults.Fault.{Fault}
-use Rattle.cops_types.specs.declared.faults.Fault.TheVariants.{OutOfMemory}
+use Rattle.cops_types.specs.declared.faults.Fault.TheVariants.{BadKey, OutOfMemory, Syntax}
+use Rattle.cops_types.specs.Key.{is_key}
+use Rattle.cops_types.specs.Refusal.{IsAnswer}
+use Rattle.cops_types.specs.Search.{first_refusal}
 use Rattle.cops_types.specs.TenantConfig.{TenantConfig}
 use Rattle.cops_node.specs.declared.NodeCall.{NodeCall}
 use Rattle.cops_node.specs.declared.NodeId.{NodeId}
@@ -55,6 +60,11 @@ pub record IsRequestDone (config : TenantConfig) (refusal : Option Fault) (old t
   pub after : Session
   pub stands : SessionStandsFor config kept after
   pub told_is : ((reply ≡ Refused OutOfMemory) × (after ≡ old)) ⊎ IsTold refusal old then_be told after reply
+
+-- the keys were made of these lists, unless there are none or one is no key
+pub record AreKeysOf (lists : List (List ℕ)) (made : Result (Vec (List ℕ) Global) Fault) : Type 0 where
+  pub same : IfOk made (λ keys. keys.items ≡ lists)
+  pub refused : IsAnswer (first_refusal ((nat_lt (length lists) 1, Syntax) ∷ (not (list_all is_key lists), BadKey) ∷ [])) made
 
 -- the frame of a reply was put at the end, or nothing for want of memory
 abbrev pub PutsFrame : Result Unit AllocError → List ℕ → List ℕ → Message → Type 0

@@ -1,8 +1,6 @@
 //! The requests of a client, as its session answers them.
-ghost use Rattle.std.specs.Prelude.{◌≡◌, ℕ, [], Some, None, IsTrue, OnOk, OnErr, IfOk, MatchResult, not, ◌++◌};
-ghost use Rattle.std.specs.List.{list_all};
-ghost use Rattle.cops_types.specs.Key.{is_key};
-ghost use Rattle.cops_types.specs.Refusal.{IsAnswer, refused_if};
+ghost use Rattle.std.specs.Prelude.{◌≡◌, ℕ, List, [], Some, None, IsTrue, OnOk, OnErr, IfOk, MatchResult, not, ◌++◌};
+ghost use Rattle.cops_types.specs.Refusal.{IsAnswer};
 ghost use Rattle.cops_types.specs.TenantConfig.{TenantConfig};
 ghost use Rattle.cops_session.specs.Kept.{IsOfSizes};
 ghost use Rattle.cops_session.specs.Request.{Write, Fetch};
@@ -10,8 +8,9 @@ ghost use Rattle.cops_session.specs.Session.{Session as SoloSession, context_cre
 ghost use Rattle.cops_session.specs.SessionStands.{SessionStandsFor};
 ghost use Rattle.cops_wire.specs.declared.messages.Message.{Message};
 ghost use Rattle.cops_wire.specs.Fitting.{CanBeWritten};
+ghost use Rattle.cops_wire.specs.Reading.{all_at, text_at};
 ghost use Rattle.cops_wire.specs.Requests.{KeepsShape, HasAnswered, backend, deletion_refusal, naming_refusal, number_in, reading_refusal, writing_refusal};
-ghost use Rattle.cops_wire.specs.Running.{HasRun, IsRequestDone, PutsFrame};
+ghost use Rattle.cops_wire.specs.Running.{AreKeysOf, HasRun, IsRequestDone, PutsFrame};
 ghost use Rattle.cops_wire.specs.Serving.{is_request};
 ghost use Rattle.cops_wire.specs.Spelling.{spelling};
 ghost use Rattle.cops_handles.specs.Wire.{wire_of};
@@ -19,13 +18,14 @@ ghost use Rattle.cops_session.specs.Tags.{context_tag};
 
 use crate::messages::Message;
 use crate::moments::Moments;
+use crate::reading::Unseen;
 use crate::replies::push_reply;
 use crate::steps::finish;
 use crate::writing::{encode, push_refusal};
 use cops_handles::Handle;
 use cops_node::Nodes;
 use cops_session::{Contexts, Session};
-use cops_types::{ByteLists, Bytes, Fault, Key, Value};
+use cops_types::{ByteLists, Fault, Key, Value};
 use std::alloc::{AllocError, Global};
 
 /// The context that a handle names, while no request runs.
@@ -83,8 +83,8 @@ fn begin_put(
     alloc: Global,
     session: &mut Session,
     handle: &[u8; 9],
-    key: &Bytes,
-    value: &Bytes,
+    key: &[u8],
+    value: &[u8],
 ) -> Result<(), Fault>
     ensures begun { (config : TenantConfig) (solo : SoloSession) → SessionStandsFor config session.old solo →
         OnOk result (SessionStandsFor config session.new (request_begun (number_in handle.now) (Write key.now value.now) solo)) }
@@ -93,8 +93,8 @@ fn begin_put(
     ensures setting { session.new.setting ≡ session.old.setting }
     ensures err { OnErr result (session.new ≡ session.old) }
 {
-    let key = Key::new(key.as_slice())?;
-    let value = Value::new(alloc, value.as_slice())?;
+    let key = Key::new(key)?;
+    let value = Value::new(alloc, value)?;
     let context = context_of(session, handle)?;
     match session.begin_put(context, key, value) {
         Ok(_) => Ok(()),
@@ -102,12 +102,14 @@ fn begin_put(
     }
 }
 
-/// The keys, where each is one.
+/// The keys of these lists, where each is one and there are some.
 fn keys_of(alloc: Global, lists: &ByteLists) -> Result<Vec<Key>, Fault>
-    ensures ok { IfOk result (λ keys. keys.items ≡ lists.now) }
-    ensures refused { IsAnswer (refused_if (not (list_all is_key lists.now)) Fault.BadKey) result }
+    ensures { AreKeysOf lists.now result }
 {
     let lists = lists.as_slice();
+    if lists.is_empty() {
+        return Err(Fault::Syntax);
+    }
     let mut keys = Vec::with_capacity(alloc, lists.len())?;
     for list in lists {
         let key = Key::new(list.as_slice())?;
@@ -118,24 +120,41 @@ fn keys_of(alloc: Global, lists: &ByteLists) -> Result<Vec<Key>, Fault>
     Ok(keys)
 }
 
+/// The keys that lie behind one another, where each is one and there are some.
+fn keys_at(alloc: Global, count: u8, bytes: &[u8]) -> Result<Vec<Key>, Fault>
+    ensures { (lists : List (List ℕ)) → all_at (text_at 1) count bytes.now ≡ Some (lists, []) → AreKeysOf lists result }
+{
+    if count == 0 {
+        return Err(Fault::Syntax);
+    }
+    let mut keys = Vec::with_capacity(alloc, usize::from(count))?;
+    let mut unseen = Unseen::of(bytes);
+    for _ in 0..count {
+        let Some(bytes) = unseen.next_key() else {
+            return Err(Fault::Syntax);
+        };
+        let key = Key::new(bytes)?;
+        if keys.push(key).is_err() {
+            return Err(Fault::OutOfMemory);
+        }
+    }
+    Ok(keys)
+}
+
 /// Begins a get transaction.
 fn begin_get(
-    alloc: Global,
     session: &mut Session,
     handle: &[u8; 9],
-    keys: &ByteLists,
+    keys: Result<Vec<Key>, Fault>,
 ) -> Result<(), Fault>
-    ensures begun { (config : TenantConfig) (solo : SoloSession) → SessionStandsFor config session.old solo →
-        OnOk result (SessionStandsFor config session.new (request_begun (number_in handle.now) (Fetch keys.now) solo)) }
-    ensures refused { (config : TenantConfig) (solo : SoloSession) → SessionStandsFor config session.old solo →
-        IsAnswer (reading_refusal config handle.now keys.now solo) result }
+    ensures begun { (lists : List (List ℕ)) → AreKeysOf lists keys → (config : TenantConfig) (solo : SoloSession) → SessionStandsFor config session.old solo →
+        OnOk result (SessionStandsFor config session.new (request_begun (number_in handle.now) (Fetch lists) solo)) }
+    ensures refused { (lists : List (List ℕ)) → AreKeysOf lists keys → (config : TenantConfig) (solo : SoloSession) → SessionStandsFor config session.old solo →
+        IsAnswer (reading_refusal config handle.now lists solo) result }
     ensures setting { session.new.setting ≡ session.old.setting }
     ensures err { OnErr result (session.new ≡ session.old) }
 {
-    if keys.len() == 0 {
-        return Err(Fault::Syntax);
-    }
-    let keys = keys_of(alloc, keys)?;
+    let keys = keys?;
     let context = context_of(session, handle)?;
     let _ = session.begin_get_trans(context, keys.as_slice())?;
     Ok(())
@@ -160,6 +179,70 @@ fn run<N: Nodes, M: Moments>(
     }
 }
 
+/// Answers a put as `answer` does.
+pub(crate) fn answer_put<N: Nodes, M: Moments>(
+    alloc: Global,
+    session: &mut Session,
+    nodes: &mut N,
+    moments: &mut M,
+    handle: &[u8; 9],
+    key: &[u8],
+    value: &[u8],
+    out: &mut Vec<u8>,
+) -> Result<(), AllocError>
+    requires fits { IsOfSizes (N.shape nodes.old).data_centres (N.shape nodes.old).shards session.old.setting }
+    ensures answered { (reply : Message)
+        × HasAnswered (KeepsShape N.shape N.Answers) M.Gives (backend session.old nodes.old moments.old) (Message.Put handle.now key.now value.now) reply (backend session.new nodes.new moments.new)
+        × PutsFrame result out.old.items out.new.items reply }
+    ensures setting { session.new.setting ≡ session.old.setting }
+    ensures shape { N.shape nodes.new ≡ N.shape nodes.old }
+{
+    let begun = begin_put(alloc, session, handle, key, value);
+    run(session, nodes, moments, begun, out)
+}
+
+/// Answers a get transaction over the keys that were made of its lists, as `answer` does.
+fn answer_get<N: Nodes, M: Moments>(
+    session: &mut Session,
+    nodes: &mut N,
+    moments: &mut M,
+    handle: &[u8; 9],
+    keys: Result<Vec<Key>, Fault>,
+    out: &mut Vec<u8>,
+) -> Result<(), AllocError>
+    requires fits { IsOfSizes (N.shape nodes.old).data_centres (N.shape nodes.old).shards session.old.setting }
+    ensures answered { (lists : List (List ℕ)) → AreKeysOf lists keys → (reply : Message)
+        × HasAnswered (KeepsShape N.shape N.Answers) M.Gives (backend session.old nodes.old moments.old) (Message.GetTrans handle.now lists) reply (backend session.new nodes.new moments.new)
+        × PutsFrame result out.old.items out.new.items reply }
+    ensures setting { session.new.setting ≡ session.old.setting }
+    ensures shape { N.shape nodes.new ≡ N.shape nodes.old }
+{
+    let begun = begin_get(session, handle, keys);
+    run(session, nodes, moments, begun, out)
+}
+
+/// Answers a get transaction whose keys lie behind one another, as `answer` does.
+pub(crate) fn answer_get_at<N: Nodes, M: Moments>(
+    alloc: Global,
+    session: &mut Session,
+    nodes: &mut N,
+    moments: &mut M,
+    handle: &[u8; 9],
+    count: u8,
+    keys: &[u8],
+    out: &mut Vec<u8>,
+) -> Result<(), AllocError>
+    requires fits { IsOfSizes (N.shape nodes.old).data_centres (N.shape nodes.old).shards session.old.setting }
+    ensures answered { (lists : List (List ℕ)) → all_at (text_at 1) count keys.now ≡ Some (lists, []) → (reply : Message)
+        × HasAnswered (KeepsShape N.shape N.Answers) M.Gives (backend session.old nodes.old moments.old) (Message.GetTrans handle.now lists) reply (backend session.new nodes.new moments.new)
+        × PutsFrame result out.old.items out.new.items reply }
+    ensures setting { session.new.setting ≡ session.old.setting }
+    ensures shape { N.shape nodes.new ≡ N.shape nodes.old }
+{
+    let keys = keys_at(alloc, count, keys);
+    answer_get(session, nodes, moments, handle, keys, out)
+}
+
 /// Answers a request, and puts its reply at the end.
 ///
 /// After an `Err` no reply is there, though the request may have been answered.
@@ -176,18 +259,25 @@ pub(crate) fn answer<N: Nodes, M: Moments>(
     ensures answered { (reply : Message)
         × HasAnswered (KeepsShape N.shape N.Answers) M.Gives (backend session.old nodes.old moments.old) request.now reply (backend session.new nodes.new moments.new)
         × PutsFrame result out.old.items out.new.items reply }
+    ensures setting { session.new.setting ≡ session.old.setting }
     ensures shape { N.shape nodes.new ≡ N.shape nodes.old }
 {
     match request {
         Message::CreateContext => encode(&create(session), out),
         Message::DeleteContext(handle) => encode(&delete(session, handle), out),
-        Message::Put(handle, key, value) => {
-            let begun = begin_put(alloc, session, handle, key, value);
-            run(session, nodes, moments, begun, out)
-        }
-        Message::GetTrans(handle, keys) => {
-            let begun = begin_get(alloc, session, handle, keys);
-            run(session, nodes, moments, begun, out)
+        Message::Put(handle, key, value) => answer_put(
+            alloc,
+            session,
+            nodes,
+            moments,
+            handle,
+            key.as_slice(),
+            value.as_slice(),
+            out,
+        ),
+        Message::GetTrans(handle, lists) => {
+            let keys = keys_of(alloc, lists);
+            answer_get(session, nodes, moments, handle, keys, out)
         }
         _ => Ok(()),
     }

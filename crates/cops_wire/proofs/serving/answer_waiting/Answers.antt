@@ -1,80 +1,16 @@
-use Rattle.std.proofs.Common.{◌≡◌, ◌+◌, ◌++◌, ◌∷◌, [], take, drop, sym, ap, subst, ◌∙◌, arith}
-use Rattle.std.proofs.lemmas.List.{drop_more, nil_from_length, take_all, take_more, take-append-drop}
-use Rattle.cops_types.specs.Sink.{sink_writer}
-use Rattle.cops_wire.specs.Requests.{KeepsShape, HasAnswered, backend}
-use Rattle.cops_wire.proofs.AnsweredRequests.{SoFar, all_sent, on_err, one_more, one_unkept, sent_on, some_sent}
+use Rattle.std.proofs.lemmas.List.{nil_from_length}
+use Rattle.std.proofs.Common.{arith}
+use Rattle.cops_wire.specs.Requests.{KeepsShape, HasAnswered}
+use Rattle.cops_wire.proofs.AnsweredRequests.{all_written, front_sent, front_unsent, on_err, some_written}
 use Rattle.cops_wire.proofs.serving.answer_waiting.Goals as goal
-
-pub returns-in_err-send-clause-front : goal.returns-in_err-send-clause-front
-returns-in_err-send-clause-front g c =
-    let messages = c.args.messages.now in
-    let i = c.loop-message.message-index in
-    on_err c.from_residual.result
-    (some_sent (HasAnswered (KeepsShape g.N.Nodes.shape g.N.Nodes.Answers) g.M.Moments.Gives) _ _ messages (take i messages) (drop i messages) _ _ _ _ (sym (take-append-drop i messages)) c.loop-message.invariant.so_far c.in_err-send.ensures.front)
-
-pub returns-then-not-is_asked-clause-ok : goal.returns-then-not-is_asked-clause-ok
-returns-then-not-is_asked-clause-ok g c =
-    let messages = c.args.messages.now in
-    let i = c.loop-message.message-index in
-    let m = c.message-item.result in
-    let whole : messages ≡ take i messages ++ m ∷ drop (i + 1) messages =
-    sym (take-append-drop i messages) ∙ ap (λ l. take i messages ++ l) (drop_more messages i m c.loop-message-test.true ∙ ap (λ x. x ∷ drop (i + 1) messages) (sym c.message-item.is)) in
-    all_sent (HasAnswered (KeepsShape g.N.Nodes.shape g.N.Nodes.Answers) g.M.Moments.Gives) _ _ messages (take i messages) _ _ c.send.new.out.items _ (m, drop (i + 1) messages, whole, sym c.is_asked.ensures ∙ c.if-not-is_asked.true)
-    (nil_from_length c.send.new.out.items (omega (arith, c.in_ok-send.ensures.less)))
-    (sent_on (HasAnswered (KeepsShape g.N.Nodes.shape g.N.Nodes.Answers) g.M.Moments.Gives) _ _ (take i messages) _ _ _ _ _ c.loop-message.invariant.so_far c.in_ok-send.ensures.sent)
-
-pub returns-in_err-answer-clause-front : goal.returns-in_err-answer-clause-front
-returns-in_err-answer-clause-front g c =
-    let messages = c.args.messages.now in
-    let i = c.loop-message.message-index in
-    let m = c.message-item.result in
-    let whole : messages ≡ take i messages ++ m ∷ drop (i + 1) messages =
-    sym (take-append-drop i messages) ∙ ap (λ l. take i messages ++ l) (drop_more messages i m c.loop-message-test.true ∙ ap (λ x. x ∷ drop (i + 1) messages) (sym c.message-item.is)) in
-    let done = c.in_err-answer.ensures.answered in
-    on_err c.from_residual-in_err-answer.result
-    (one_unkept (HasAnswered (KeepsShape g.N.Nodes.shape g.N.Nodes.Answers) g.M.Moments.Gives) _ _ _ messages (take i messages) (drop (i + 1) messages) m done.0 _ _ _ whole c.loop-message.invariant.so_far (sym c.is_asked.ensures ∙ c.if-not-is_asked.false) done.1)
-
-pub returns-in_err-send-2-clause-front : goal.returns-in_err-send-2-clause-front
-returns-in_err-send-2-clause-front g c =
-    let messages = c.args.messages.now in
-    let i = c.loop-message.message-index in
-    let m = c.message-item.result in
-    let whole : messages ≡ (take i messages ++ m ∷ []) ++ drop (i + 1) messages =
-    sym (take-append-drop (i + 1) messages) ∙ ap (λ l. l ++ drop (i + 1) messages) (take_more messages i m c.loop-message-test.true ∙ ap (λ x. take i messages ++ x ∷ []) (sym c.message-item.is)) in
-    let done = c.in_ok-answer.ensures.answered in
-    on_err c.from_residual-in_err-send-2.result
-    (some_sent (HasAnswered (KeepsShape g.N.Nodes.shape g.N.Nodes.Answers) g.M.Moments.Gives) _ _ messages (take i messages ++ m ∷ []) (drop (i + 1) messages) _ _ _ _ whole
-    (one_more (HasAnswered (KeepsShape g.N.Nodes.shape g.N.Nodes.Answers) g.M.Moments.Gives) _ _ _ (take i messages) m done.0 _ _ _ _ c.loop-message.invariant.so_far (sym c.is_asked.ensures ∙ c.if-not-is_asked.false) done.1 done.2.0) c.in_err-send-2.ensures.front)
-
-pub loop-message-preserved : goal.loop-message-preserved
-loop-message-preserved g c =
-    let messages = c.args.messages.now in
-    let i = c.loop-message.message-index in
-    let m = c.message-item.result in
-    let front : take i messages ++ m ∷ [] ≡ take (i + 1) messages =
-    ap (λ x. take i messages ++ x ∷ []) c.message-item.is ∙ sym (take_more messages i m c.loop-message-test.true) in
-    let done = c.in_ok-answer.ensures.answered in
-    record {
-      so_far = subst (λ l. SoFar (HasAnswered (KeepsShape g.N.Nodes.shape g.N.Nodes.Answers) g.M.Moments.Gives) (backend c.args.session.now c.args.nodes.now c.args.moments.now) (backend c.answer.new.session c.answer.new.nodes c.answer.new.moments) l
-          (g.W.Write.contents (sink_writer c.args.sink.now)) (g.W.Write.contents (sink_writer c.send-in-loop-message.new.sink)) c.send-in-loop-message.new.out.items) front
-          (sent_on (HasAnswered (KeepsShape g.N.Nodes.shape g.N.Nodes.Answers) g.M.Moments.Gives) _ _ (take i messages ++ m ∷ []) _ _ _ _ _
-          (one_more (HasAnswered (KeepsShape g.N.Nodes.shape g.N.Nodes.Answers) g.M.Moments.Gives) _ _ _ (take i messages) m done.0 _ _ _ _ c.loop-message.invariant.so_far (sym c.is_asked.ensures ∙ c.if-not-is_asked.false) done.1 done.2.0) c.in_ok-send-2.ensures.sent);
-      failures = c.in_ok-send-2.ensures.same ∙ c.loop-message.invariant.failures;
-      setting = done.1.setting ∙ c.loop-message.invariant.setting;
-      shape = c.in_ok-answer.ensures.shape ∙ c.loop-message.invariant.shape;
-    }
-
-pub returns-in_err-send-3-clause-front : goal.returns-in_err-send-3-clause-front
-returns-in_err-send-3-clause-front g c =
-    let messages = c.args.messages.now in
-    let i = c.loop-message.message-index in
-    on_err c.from_residual-in_err-send-3.result
-    (some_sent (HasAnswered (KeepsShape g.N.Nodes.shape g.N.Nodes.Answers) g.M.Moments.Gives) _ _ messages (take i messages) (drop i messages) _ _ _ _ (sym (take-append-drop i messages)) c.loop-message.invariant.so_far c.in_err-send-3.ensures.front)
 
 pub returns-clause-ok : goal.returns-clause-ok
 returns-clause-ok g c =
-    let messages = c.args.messages.now in
-    let i = c.loop-message.message-index in
-    all_sent (HasAnswered (KeepsShape g.N.Nodes.shape g.N.Nodes.Answers) g.M.Moments.Gives) _ _ messages (take i messages) _ _ c.send-2.new.out.items _ (take_all i messages (omega (arith, c.loop-message-test.false)))
-    (nil_from_length c.send-2.new.out.items (omega (arith, c.in_ok-send-3.ensures.less)))
-    (sent_on (HasAnswered (KeepsShape g.N.Nodes.shape g.N.Nodes.Answers) g.M.Moments.Gives) _ _ (take i messages) _ _ _ _ _ c.loop-message.invariant.so_far c.in_ok-send-3.ensures.sent)
+    all_written (HasAnswered (KeepsShape g.N.Nodes.shape g.N.Nodes.Answers) g.M.Moments.Gives) _ _ c.args.messages.now _ _ _ _ c.in_ok-all.all c.clear.ensures.items (nil_from_length c.send.new.out.items (omega (arith, c.in_ok-send.ensures.less)))
+    (front_sent (HasAnswered (KeepsShape g.N.Nodes.shape g.N.Nodes.Answers) g.M.Moments.Gives) _ _ c.args.messages.now _ _ _ _ _ _ c.in_ok-all.all c.in_ok-all.ensures.ok c.in_ok-send.ensures.sent)
+
+pub returns-in_err-send-clause-front : goal.returns-in_err-send-clause-front
+returns-in_err-send-clause-front g c =
+    on_err c.from_residual-in_err-send.result
+    (some_written (HasAnswered (KeepsShape g.N.Nodes.shape g.N.Nodes.Answers) g.M.Moments.Gives) _ _ c.args.messages.now _ _ _ c.clear.ensures.items
+    (front_unsent (HasAnswered (KeepsShape g.N.Nodes.shape g.N.Nodes.Answers) g.M.Moments.Gives) _ _ c.args.messages.now _ _ _ _ _ c.in_ok-all.all c.in_ok-all.ensures.ok c.in_err-send.ensures.front))
