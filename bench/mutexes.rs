@@ -93,11 +93,12 @@ fn main() {
     let words: Vec<String> = std::env::args().collect();
     let times: usize = words[2].parse().expect("a number");
     let work = microsecond();
+    // Each run takes a fifth of a second or more: the system needs some milliseconds to give each new thread a core of its own.
     println!("| Nodes | Each thread | Threads | Work of a turn | Seats | Mutexes | Ratio |");
     println!("|---|---|---|---|---|---|---|");
     for (nodes, stride, way) in [(1, 0, "at the node"), (4, 0, "at one node"), (4, 1, "goes round"), (16, 0, "at one node"), (16, 1, "goes round")] {
         for threads in [1, 2, 4, 8] {
-            for (name, rounds, total) in [("none", 0, 4_000_000), ("1 microsecond", work, 160_000)] {
+            for (name, rounds, total) in [("none", 0, 4_000_000), ("1 microsecond", work, 800_000)] {
                 let load = Load { threads, nodes, turns: total / threads, rounds, stride };
                 let (mut of_seats, mut of_mutexes, mut ratios) = (Vec::new(), Vec::new(), Vec::new());
                 for _ in 0..times {

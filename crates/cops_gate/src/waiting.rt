@@ -1,6 +1,6 @@
 //! How a thread waits for the machine: it looks again, and then sleeps until a turn ends.
 //! The words are read without a seat, so nothing here changes what a seat knows.
-ghost use Rattle.std.specs.Prelude.{◌≡◌, ◌<◌, ◌^◌};
+ghost use Rattle.std.specs.Prelude.{◌≡◌, ◌<◌, ◌≤◌, ◌^◌, IfOk};
 
 use crate::board::{Board, LAST, SERVING, TICKET};
 use cops_types::Machine;
@@ -9,13 +9,17 @@ use std::sync::Wait;
 use std::sync::atomic::AtomicU64;
 use std::sync::atomic::Ordering::SeqCst;
 
-// The first tries that stay awake, each for twice as many looks as the one before. Later ones sleep.
-const LOOKS: u32 = 10;
+// How many tries a thread stays awake, each for twice as many looks as the one before, until it sleeps.
+const TRIES: u32 = 12;
 
-// After so many tries a thread no longer holds back: it draws its ticket and waits in line.
-const HOLDS: u32 = 32;
+// How many tries it stays awake each time that it has slept. They are few: where threads are more than processors, one
+// that looks takes a processor from one that could make a turn.
+const TRIES_AGAIN: u32 = 6;
 
-/// Who sleeps until a turn ends. A turn that finds nobody makes no system call.
+// A thread that has slept so often no longer holds back: it draws its ticket and waits in line.
+const SLEEPS: u32 = 16;
+
+/// Who waits until a turn ends. A turn that finds nobody asleep, or somebody awake who may go on, makes no system call.
 #[derive(Drop)]
 pub(crate) struct Sleepers {
     /// How many sleep that have a ticket. They sleep on the serving word.
@@ -23,6 +27,9 @@ pub(crate) struct Sleepers {
     /// 1 where threads without a ticket may sleep, which they do on this word. It is 0 where none does, and from the end
     /// of a turn that wakes one until that one goes on.
     held_back: AtomicU64,
+    /// How many are awake without a ticket and look whether they may go on. While there are any, none of those who hold
+    /// back is woken.
+    awake: AtomicU64,
 }
 
 impl Sleepers {
@@ -30,6 +37,7 @@ impl Sleepers {
         Sleepers {
             in_line: AtomicU64::new(0),
             held_back: AtomicU64::new(0),
+            awake: AtomicU64::new(0),
         }
     }
 
@@ -45,7 +53,7 @@ impl Sleepers {
     )
         requires { board.now.shared.table_id.words ≡ 2 }
     {
-        if tries < LOOKS {
+        if tries < TRIES {
             look_again(board, tries, seen);
         } else {
             self.in_line.fetch_add(1, SeqCst);
@@ -54,18 +62,26 @@ impl Sleepers {
         }
     }
 
-    // Waits a while without a ticket, the longer the more tries there were.
-    // A turn that ended after the look is seen here, or finds the word at 1. Nobody falls asleep once it has taken that down.
-    fn hold_back<M: Machine, R: Wait>(&self, rt: &R, board: &Board<M>, tries: u32, seen: u64)
+    // Looks for so many tries at most, and is counted as awake meanwhile.
+    fn look<M: Machine>(&self, board: &Board<M>, most: u32) -> Result<u64, u64>
+        requires words { board.now.shared.table_id.words ≡ 2 }
+        requires most { most ≤ 32 }
+        ensures { IfOk result (λ ticket. ticket < 2 ^ 62) }
+    {
+        self.awake.fetch_add(1, SeqCst);
+        let found = look_for_free(board, most);
+        self.awake.fetch_sub(1, SeqCst);
+        found
+    }
+
+    // Sleeps without a ticket, unless a turn has ended since the last look, which saw that this ticket was served.
+    // A turn that ended after that look is seen here, or finds the word at 1. Nobody falls asleep once it has taken that down.
+    fn sleep<M: Machine, R: Wait>(&self, rt: &R, board: &Board<M>, seen: u64)
         requires { board.now.shared.table_id.words ≡ 2 }
     {
-        if tries < LOOKS {
-            look_again(board, tries, seen);
-        } else {
-            self.others_may_sleep();
-            if board.shared.peek(SERVING) == seen {
-                self.held_back.park(rt, 1);
-            }
+        self.others_may_sleep();
+        if board.shared.peek(SERVING) == seen {
+            self.held_back.park(rt, 1);
         }
     }
 
@@ -75,7 +91,8 @@ impl Sleepers {
     }
 
     /// Wakes who may go on, now that `serving` is served: those in line, since one of them may have this ticket, and one
-    /// of those who hold back. Behind the last ticket no turn follows, so all of these are woken.
+    /// of those who hold back, unless somebody is awake who sees this end and wakes others by the end of a turn of its
+    /// own. Behind the last ticket no turn follows, so all of these are woken.
     pub(crate) fn wake<M: Machine>(&self, board: &Board<M>, serving: u64)
         requires { board.now.shared.table_id.words ≡ 2 }
     {
@@ -85,7 +102,14 @@ impl Sleepers {
         if serving >= LAST {
             self.held_back.store(0, SeqCst);
             self.held_back.wake_all();
-        } else if self.held_back.load(SeqCst) == 1 && self.held_back.swap(0, SeqCst) == 1 {
+        } else if self.held_back.load(SeqCst) == 1 && self.awake.load(SeqCst) == 0 {
+            self.wake_one();
+        }
+    }
+
+    // Wakes one of those who hold back, unless another thread has done so.
+    fn wake_one(&self) {
+        if self.held_back.swap(0, SeqCst) == 1 {
             self.held_back.wake_one();
         }
     }
@@ -99,19 +123,54 @@ pub(crate) fn hold_back<M: Machine, R: Wait>(rt: &R, board: &Board<M>, sleepers:
     requires { board.now.shared.table_id.words ≡ 2 }
     ensures { result < 2 ^ 62 }
 {
-    for tries in 0..HOLDS {
-        let serving = board.shared.peek(SERVING);
-        let ticket = board.shared.peek(TICKET);
-        if ticket == serving || ticket >= LAST {
-            if tries > LOOKS {
-                sleepers.others_may_sleep();
+    if let Ok(ticket) = free_ticket(board) {
+        return ticket;
+    }
+    for sleeps in 0..SLEEPS {
+        let most = if sleeps == 0 { TRIES } else { TRIES_AGAIN };
+        match sleepers.look(board, most) {
+            Ok(ticket) => {
+                if sleeps > 0 {
+                    sleepers.others_may_sleep();
+                }
+                return ticket;
             }
-            return below_last(ticket);
+            Err(seen) => sleepers.sleep(rt, board, seen),
         }
-        sleepers.hold_back(rt, board, tries, serving);
     }
     sleepers.others_may_sleep();
     below_last(board.shared.peek(TICKET))
+}
+
+// The ticket that is likely to be the next, where no other is out or none is left, or else the one that is served.
+fn free_ticket<M: Machine>(board: &Board<M>) -> Result<u64, u64>
+    requires { board.now.shared.table_id.words ≡ 2 }
+    ensures { IfOk result (λ ticket. ticket < 2 ^ 62) }
+{
+    let serving = board.shared.peek(SERVING);
+    let ticket = board.shared.peek(TICKET);
+    if ticket == serving || ticket >= LAST {
+        Ok(below_last(ticket))
+    } else {
+        Err(serving)
+    }
+}
+
+// Looks until no ticket is out, but only for so many tries.
+fn look_for_free<M: Machine>(board: &Board<M>, most: u32) -> Result<u64, u64>
+    requires words { board.now.shared.table_id.words ≡ 2 }
+    requires most { most ≤ 32 }
+    ensures { IfOk result (λ ticket. ticket < 2 ^ 62) }
+{
+    let mut seen = 0;
+    for tries in 0..most {
+        match free_ticket(board) {
+            Ok(ticket) => return Ok(ticket),
+            Err(serving) => seen = serving,
+        }
+        look_again(board, tries, seen);
+    }
+    Err(seen)
 }
 
 // Where the tickets are spent any number is as good as another.
