@@ -22,6 +22,7 @@ use Rattle.cops_world.specs.ScriptRuns.{text_in}
 use Rattle.cops_world.specs.ScriptWorlds.{IsLeftBy, IsLeftByRead, cluster_left}
 use Rattle.cops_world.specs.Worlds.{HasCluster, KeptWorld, setup_of}
 use Rattle.cops_world.proofs.AnswersTo.{config_at-found}
+use Rattle.cops_world.proofs.WorldLives.{his_nodes_are, his_tenant}
 use Rattle.cops_replay.specs.declared.Record.{Record}
 use Rattle.cops_replay.specs.Audits.{HasShape, ReplaysSame, records_of}
 use Rattle.cops_replay.specs.AuditRuns.{HasItsTenants, IsOfWriting, ReplaysSameFor, WritesAudit, WritesAuditFront, audit_after, audit_out}
@@ -55,7 +56,7 @@ module _ (world : KeptWorld) (bytes : List ℕ) (left : IsLeftBy setup_of HasClu
 
   pub world_tenants : HasItsTenants world
   world_tenants slot tenant e =
-      subst (λ (c : TenantConfig). HasTenant c slot world.nodes) (his_config slot tenant e) (stands slot (slice_get_within setup.tenants slot tenant e)).has
+      subst (λ (c : TenantConfig). HasTenant c slot world.nodes) (his_config slot tenant e) (his_tenant world slot _ (stands slot (slice_get_within setup.tenants slot tenant e)))
 
   -- their audit is the text
   audit_is : audit_of setup world.nodes.nodes ≡ audit_text setup (λ tenant slot. (cluster_left setup left.lines tenant slot).nodes)
@@ -63,7 +64,7 @@ module _ (world : KeptWorld) (bytes : List ℕ) (left : IsLeftBy setup_of HasClu
       (tenants_text-same setup (his_nodes setup world.nodes.nodes) (λ tenant slot. (cluster_left setup left.lines tenant slot).nodes) 0 setup.tenants
       (λ k tenant e.
       let same = his_config k tenant e in
-      let nodes : nodes_of (config_at setup k) k world.nodes ≡ (cluster_left setup left.lines (config_at setup k) k).nodes = (stands k (slice_get_within setup.tenants k tenant e)).nodes_are in
+      let nodes : nodes_of (config_at setup k) k world.nodes ≡ (cluster_left setup left.lines (config_at setup k) k).nodes = his_nodes_are world k _ (stands k (slice_get_within setup.tenants k tenant e)) in
       let his : nodes_of (tenant_config setup tenant) k world.nodes ≡ (cluster_left setup left.lines (tenant_config setup tenant) k).nodes = subst (λ (c : TenantConfig). nodes_of c k world.nodes ≡ (cluster_left setup left.lines c k).nodes) same nodes in
       subst (λ n. his_nodes setup world.nodes.nodes (tenant_config setup tenant) n ≡ (cluster_left setup left.lines (tenant_config setup tenant) n).nodes) (omega arith) his))
 
@@ -81,7 +82,7 @@ module _ (world : KeptWorld) (bytes : List ℕ) (left : IsLeftBy setup_of HasClu
     where
       each : (slot : ℕ) (tenant : Tenant) → slice_get setup.tenants slot ≡ Some tenant → ReplaysSame (tenant_config setup tenant) (cluster_left setup left.lines (tenant_config setup tenant) slot).nodes
       each slot tenant e =
-          let nodes : nodes_of (config_at setup slot) slot world.nodes ≡ (cluster_left setup left.lines (config_at setup slot) slot).nodes = (stands slot (slice_get_within setup.tenants slot tenant e)).nodes_are in
+          let nodes : nodes_of (config_at setup slot) slot world.nodes ≡ (cluster_left setup left.lines (config_at setup slot) slot).nodes = his_nodes_are world slot _ (stands slot (slice_get_within setup.tenants slot tenant e)) in
           let his : nodes_of (tenant_config setup tenant) slot world.nodes ≡ (cluster_left setup left.lines (tenant_config setup tenant) slot).nodes =
           subst (λ (c : TenantConfig). nodes_of c slot world.nodes ≡ (cluster_left setup left.lines c slot).nodes) (his_config slot tenant e) nodes in
           subst (ReplaysSame (tenant_config setup tenant)) his (same (tenant_config setup tenant) slot (record { data_centres = refl; shards = refl }))
@@ -92,7 +93,7 @@ module _ (world : KeptWorld) (bytes : List ℕ) (left : IsLeftBy setup_of HasClu
     where
       each : (slot : ℕ) (tenant : Tenant) → slice_get setup.tenants slot ≡ Some tenant → AllByRecursion (λ (told : Record). IsTrue (is_record told)) (his_records setup (nodes_left setup left.lines) slot tenant)
       each slot tenant e =
-          let nodes : nodes_of (config_at setup slot) slot world.nodes ≡ (cluster_left setup left.lines (config_at setup slot) slot).nodes = (stands slot (slice_get_within setup.tenants slot tenant e)).nodes_are in
+          let nodes : nodes_of (config_at setup slot) slot world.nodes ≡ (cluster_left setup left.lines (config_at setup slot) slot).nodes = his_nodes_are world slot _ (stands slot (slice_get_within setup.tenants slot tenant e)) in
           let his : nodes_of (tenant_config setup tenant) slot world.nodes ≡ (cluster_left setup left.lines (tenant_config setup tenant) slot).nodes =
           subst (λ (c : TenantConfig). nodes_of c slot world.nodes ≡ (cluster_left setup left.lines c slot).nodes) (his_config slot tenant e) nodes in
           subst (λ (ns : List SoloNode). AllByRecursion (λ (told : Record). IsTrue (is_record told)) (records_of (tenant_config setup tenant) ns)) his (formed slot tenant e)

@@ -2,7 +2,6 @@ ghost use Rattle.std.specs.Prelude.{◌≡◌, ◌⊎◌, ◌<◌, ◌+◌, ◌-
 ghost use Rattle.std.specs.Option.{option_map};
 ghost use Rattle.cops_types.specs.Refusal.{IsAnswer};
 ghost use Rattle.cops_types.specs.TenantConfig.{TenantConfig, tenant_config};
-ghost use Rattle.cops_types.specs.declared.configs.Tenant.{Tenant};
 ghost use Rattle.cops_node.specs.declared.NodeCall.{NodeCall};
 ghost use Rattle.cops_node.specs.declared.NodeId.{NodeId};
 ghost use Rattle.cops_node.specs.declared.NodeReply.{NodeReply};
@@ -23,7 +22,7 @@ use crate::{Answer, Progress};
 use cops_context::Context;
 use cops_handles::{Handle, Table};
 use cops_node::Nodes;
-use cops_types::{Config, Fault, Key, Reads, Value};
+use cops_types::{Config, Fault, Key, Reads, Tenant, Value};
 use std::alloc::Global;
 use std::marker::Model;
 
@@ -57,7 +56,8 @@ impl Session {
     ghost use Rattle.cops_session.specs.Stepping.{DoesNext, runs};
     ghost use Rattle.cops_handles.specs.Rows.{is_spent};
 
-    /// A session of a tenant in a data centre, with no contexts. Its first numbers are 1.
+    /// A session of a tenant of the configuration in a data centre, with no contexts. Its first
+    /// numbers are 1.
     pub fn new(alloc: Global, config: &Config, slot: u64, dc: u64) -> Self
         requires slot { slot < length config.now.tenants }
         requires dc { dc < config.now.data_centres }
@@ -66,10 +66,22 @@ impl Session {
             SessionStandsFor (tenant_config config.now tenant) result (new_session dc 1) }
         ensures slot { result.setting.slot ≡ slot }
     {
-        Session::starting_at(alloc, config, slot, dc, 1)
+        let tenant = config.tenants.tenant(slot);
+        Session::of_tenant(alloc, config, tenant, slot, dc)
     }
 
-    /// A session whose numbers begin with `first`.
+    /// A session of a tenant that has this slot, and need not be one of the configuration, in a data
+    /// centre of it. It has no contexts, and its first numbers are 1.
+    pub fn of_tenant(alloc: Global, config: &Config, tenant: &Tenant, slot: u64, dc: u64) -> Self
+        requires dc { dc < config.now.data_centres }
+        requires shards { 0 < config.now.shards }
+        ensures stands { SessionStandsFor (tenant_config config.now tenant.now) result (new_session dc 1) }
+        ensures slot { result.setting.slot ≡ slot }
+    {
+        Session::of_tenant_starting_at(alloc, config, tenant, slot, dc, 1)
+    }
+
+    /// A session of a tenant of the configuration, whose numbers begin with `first`.
     pub fn starting_at(alloc: Global, config: &Config, slot: u64, dc: u64, first: u64) -> Self
         requires slot { slot < length config.now.tenants }
         requires dc { dc < config.now.data_centres }
@@ -78,7 +90,25 @@ impl Session {
             SessionStandsFor (tenant_config config.now tenant) result (new_session dc first) }
         ensures slot { result.setting.slot ≡ slot }
     {
-        let quota = config.tenants.tenant(slot).quota;
+        let tenant = config.tenants.tenant(slot);
+        Session::of_tenant_starting_at(alloc, config, tenant, slot, dc, first)
+    }
+
+    /// A session of a tenant that has this slot, whose numbers begin with `first`.
+    pub fn of_tenant_starting_at(
+        alloc: Global,
+        config: &Config,
+        tenant: &Tenant,
+        slot: u64,
+        dc: u64,
+        first: u64,
+    ) -> Self
+        requires dc { dc < config.now.data_centres }
+        requires shards { 0 < config.now.shards }
+        ensures stands { SessionStandsFor (tenant_config config.now tenant.now) result (new_session dc first) }
+        ensures slot { result.setting.slot ≡ slot }
+    {
+        let quota = tenant.quota;
         let setting = Setting {
             slot,
             dc,

@@ -1,10 +1,10 @@
 -- The table of actors: what is found, and what follows when one is put in another's place.
-use Rattle.std.proofs.Common.{◌≡◌, ◌≢◌, ℕ, zero, suc, ◌+◌, ◌<◌, nat_lt, lt-ltb, not, unwrap_or, Bool, true, false, cond, ◌&&◌, List, [], ◌∷◌, length, get_or, nat_eq, refl, sym, subst, ap, ◌∙◌, true≢false, arith}
+use Rattle.std.proofs.Common.{◌≡◌, ◌≢◌, ℕ, zero, suc, ◌+◌, ◌<◌, nat_lt, lt-ltb, not, unwrap_or, Bool, true, false, cond, ◌&&◌, List, [], ◌∷◌, filter, length, get_or, nat_eq, refl, sym, subst, ap, ◌∙◌, true≢false, arith}
 use Rattle.std.specs.Prelude.{IsTrue, OnOk, Option, Some, None, is_some, Result, Ok, Err, slice_get, position}
 use Rattle.std.specs.Result.{is_ok}
 use Rattle.std.specs.Cmp.{IsEquivalence}
 use Rattle.std.specs.List.{AllByRecursion, IsDistinct, position_or_len}
-use Rattle.std.specs.Map.{keys_of, values_of}
+use Rattle.std.specs.Map.{keys_of, lookup, values_of}
 use Rattle.std.proofs.lemmas.Bool.Decides.{Decides-eqb}
 use Rattle.std.proofs.lemmas.List.Quantifiers.{position-Some}
 use Rattle.std.proofs.lemmas.Option.{slice_get_within}
@@ -126,3 +126,30 @@ stays_unique table i after unique = subst (IsDistinct same_actor) (sym (keys-wit
 pub ok_is : {A E : Type 0} {P : Type 0} (r : Result A E) {said : Bool} → IsTrue said → said ≡ is_ok r → OnOk r P → P
 ok_is (Ok a) holds same h = h
 ok_is (Err e) holds same h = absurd (true≢false (sym holds ∙ same))
+
+-- ---- all actors of a slot are taken out
+
+module _ {V : Type 0} (slot : ℕ) where
+  abbrev pub of_others : List (ActorId × V) → List (ActorId × V)
+  of_others es = filter (λ e. not (nat_eq e.0.slot slot)) es
+
+  pub none_of_slot : (id : ActorId) → id.slot ≡ slot → (es : List (ActorId × V)) → lookup (same_actor id) (of_others es) ≡ None
+  none_of_slot id same [] = refl
+  none_of_slot id same (e ∷ es) = by (none_of_slot id same es) (nat_eq e.0.slot slot) refl
+    where
+      by : lookup (same_actor id) (of_others es) ≡ None → (t : Bool) → nat_eq e.0.slot slot ≡ t → lookup (same_actor id) (cond (not t) (e ∷ of_others es) (of_others es)) ≡ None
+      by rest true own = rest
+      by rest false own =
+          let apart : same_actor id e.0 ≡ false = other_slot id e.0 (λ is. true≢false (sym ((Decides-eqb e.0.slot slot).1 (sym is ∙ same)) ∙ own)) in
+          ap (λ t. cond t (Some e.1) (lookup (same_actor id) (of_others es))) apart ∙ rest
+
+  pub others_of_slot : (id : ActorId) → slot ≢ id.slot → (es : List (ActorId × V)) → lookup (same_actor id) (of_others es) ≡ lookup (same_actor id) es
+  others_of_slot id differ [] = refl
+  others_of_slot id differ (e ∷ es) = by (others_of_slot id differ es) (nat_eq e.0.slot slot) refl
+    where
+      by : lookup (same_actor id) (of_others es) ≡ lookup (same_actor id) es → (t : Bool) → nat_eq e.0.slot slot ≡ t →
+          lookup (same_actor id) (cond (not t) (e ∷ of_others es) (of_others es)) ≡ lookup (same_actor id) (e ∷ es)
+      by rest true own =
+          let apart : same_actor id e.0 ≡ false = other_slot id e.0 (λ is. differ (sym (is ∙ (Decides-eqb e.0.slot slot).0 own))) in
+          rest ∙ sym (ap (λ t. cond t (Some e.1) (lookup (same_actor id) es)) apart)
+      by rest false own = ap (cond (same_actor id e.0) (Some e.1)) rest

@@ -20,7 +20,7 @@ use Rattle.cops_world.specs.declared.replies.Reply.{Reply}
 use Rattle.cops_world.specs.declared.replies.Reply.TheVariants.{Started, Refused}
 use Rattle.cops_world.specs.Cluster.{ActEffect, OfSession, SoloCluster, cluster_step, on_session, reply_with, unless_refused, with_actor}
 use Rattle.cops_world.specs.Deeds.{deed_step}
-use Rattle.cops_world.specs.Events.{config_at}
+use Rattle.cops_world.specs.Setups.{config_in}
 use Rattle.cops_world.specs.Worlds.{World, Moves}
 use Rattle.cops_world.proofs.WorldJoins.{lack_moves, refused_moves, same_moves}
 
@@ -81,7 +81,7 @@ too_long value false e = by (is_value value) refl
 module _ (old : World) (slot : ℕ) (name : List ℕ) (number : ℕ) (key value : List ℕ) where
   abbrev put_if : Bool → Bool → SoloCluster → ActEffect
   put_if k v cluster =
-      let config = config_at old.setup slot in
+      let config = config_in old.setup slot in
       unless_refused (first_refusal ((not k, BadKey) ∷ (not v, ValueTooLong) ∷ [])) cluster
       (on_session name cluster λ s.
       unless_refused (session_put_refusal config number key s) cluster
@@ -116,7 +116,7 @@ counts_none (key ∷ keys) t is = some ∙ is
 module _ (old : World) (slot : ℕ) (name : List ℕ) (number : ℕ) (keys : List (List ℕ)) where
   abbrev get_if : Bool → Bool → SoloCluster → ActEffect
   get_if none all cluster =
-      let config = config_at old.setup slot in
+      let config = config_in old.setup slot in
       unless_refused (first_refusal ((none, Syntax) ∷ (not all, BadKey) ∷ [])) cluster
       (on_session name cluster λ s.
       unless_refused (get_refusal config number keys s) cluster

@@ -1,6 +1,6 @@
 -- Calls at the nodes of a world, and the acts that name a node which isn't there.
 use Rattle.std.proofs.Common.{◌≡◌, ℕ, ◌<◌, Bool, true, false, not, ◌&&◌, List, [], ◌∷◌, length, refl, sym, subst, ap, ◌∙◌, true≢false}
-use Rattle.std.specs.Prelude.{Option, Some, None, is_some, nat_lt, ◌==◌}
+use Rattle.std.specs.Prelude.{IsTrue, Option, Some, None, is_some, nat_lt, ◌==◌}
 use Rattle.std.proofs.lemmas.Bool.{ltb-true}
 use Rattle.std.proofs.lemmas.Bool.Decides.{Decides-eqb}
 use Rattle.cops_types.specs.declared.faults.Fault.TheVariants.{NoSuchPlace, NameTaken}
@@ -21,10 +21,10 @@ use Rattle.cops_world.specs.declared.actors.Stepped.{Stepped}
 use Rattle.cops_world.specs.declared.replies.Reply.{Reply}
 use Rattle.cops_world.specs.declared.replies.Reply.TheVariants.{Refused}
 use Rattle.cops_world.specs.Cluster.{ActEffect, Actor, SoloCluster, actor_refusal, actor_step, cluster_step, collect_at, has_node, has_stream, reply_with, unless_refused, with_new_actor}
-use Rattle.cops_world.specs.Events.{config_at}
+use Rattle.cops_world.specs.Setups.{config_in, is_open_at}
 use Rattle.cops_world.specs.Worlds.{World, IsWorld, HasSizes, Moves, join_step}
 use Rattle.cops_world.proofs.WorldJoins.{refused_moves, same_moves, taken_moves}
-use Rattle.cops_world.proofs.WorldKeeps.{sizes_at}
+use Rattle.cops_world.proofs.WorldKeeps.{below_counts, sizes_in}
 use Rattle.cops_world.proofs.WorldSteps.{HasSteppedAt, counts_after, step_moves, table_after}
 
 and_left : (a b : Bool) → (a && b) ≡ true → a ≡ true
@@ -46,14 +46,14 @@ node_fits shape config id data_centres shards there = record {
 }
 
 module _ (old : World) (slot : ℕ) (id : NodeId) (moment : ℕ) where
-  pub no_node_moves : has_node (config_at old.setup slot) id.dc id.shard ≡ false → Moves (λ config. cluster_step config (acts.Collect id.dc id.shard moment)) old slot (Refused NoSuchPlace) old
+  pub no_node_moves : has_node (config_in old.setup slot) id.dc id.shard ≡ false → Moves (λ config. cluster_step config (acts.Collect id.dc id.shard moment)) old slot (Refused NoSuchPlace) old
   no_node_moves none = refused_moves (λ config. cluster_step config (acts.Collect id.dc id.shard moment)) old slot NoSuchPlace
-      (λ cluster h. ap (λ b. unless_refused (first_refusal ((not b, NoSuchPlace) ∷ [])) cluster (collect_at (config_at old.setup slot) id moment cluster)) none)
+      (λ cluster h. ap (λ b. unless_refused (first_refusal ((not b, NoSuchPlace) ∷ [])) cluster (collect_at (config_in old.setup slot) id moment cluster)) none)
 
-  pub node_collects : has_node (config_at old.setup slot) id.dc id.shard ≡ true → (reply : Reply) (new : World) → Moves (λ config. collect_at config id moment) old slot reply new →
+  pub node_collects : has_node (config_in old.setup slot) id.dc id.shard ≡ true → (reply : Reply) (new : World) → Moves (λ config. collect_at config id moment) old slot reply new →
       Moves (λ config. cluster_step config (acts.Collect id.dc id.shard moment)) old slot reply new
   node_collects there reply new = same_moves (λ config. collect_at config id moment) (λ config. cluster_step config (acts.Collect id.dc id.shard moment)) old slot reply new
-      (λ cluster. sym (ap (λ b. unless_refused (first_refusal ((not b, NoSuchPlace) ∷ [])) cluster (collect_at (config_at old.setup slot) id moment cluster)) there))
+      (λ cluster. sym (ap (λ b. unless_refused (first_refusal ((not b, NoSuchPlace) ∷ [])) cluster (collect_at (config_in old.setup slot) id moment cluster)) there))
 
 -- ---- new actors
 
@@ -70,13 +70,13 @@ abbrev pub join_where : (TenantConfig → Bool) → List ℕ → Actor → Reply
 join_where exists name solo told config cluster = unless_refused (actor_refusal config (exists config) name cluster) cluster (reply_with told (with_new_actor name solo cluster))
 
 module _ (old : World) (slot : ℕ) (name : List ℕ) (exists : TenantConfig → Bool) (solo : Actor) (told : Reply) where
-  pub joins_there : exists (config_at old.setup slot) ≡ true → (reply : Reply) (new : World) → Moves (join_step name solo told) old slot reply new → Moves (join_where exists name solo told) old slot reply new
+  pub joins_there : exists (config_in old.setup slot) ≡ true → (reply : Reply) (new : World) → Moves (join_step name solo told) old slot reply new → Moves (join_where exists name solo told) old slot reply new
   joins_there there reply new = same_moves (join_step name solo told) (join_where exists name solo told) old slot reply new
-      (λ cluster. let config = config_at old.setup slot in sym (ap (λ b. unless_refused (actor_refusal config b name cluster) cluster (reply_with told (with_new_actor name solo cluster))) there))
+      (λ cluster. let config = config_in old.setup slot in sym (ap (λ b. unless_refused (actor_refusal config b name cluster) cluster (reply_with told (with_new_actor name solo cluster))) there))
 
-  pub no_place_moves : exists (config_at old.setup slot) ≡ false → Moves (join_where exists name solo told) old slot (Refused NoSuchPlace) old
+  pub no_place_moves : exists (config_in old.setup slot) ≡ false → Moves (join_where exists name solo told) old slot (Refused NoSuchPlace) old
   no_place_moves none = refused_moves (join_where exists name solo told) old slot NoSuchPlace
-      (λ cluster h. let config = config_at old.setup slot in ap (λ b. unless_refused (actor_refusal config b name cluster) cluster (reply_with told (with_new_actor name solo cluster))) none)
+      (λ cluster h. let config = config_in old.setup slot in ap (λ b. unless_refused (actor_refusal config b name cluster) cluster (reply_with told (with_new_actor name solo cluster))) none)
 
 -- a stream that is there may be carried
 pub stream_runs : (setup : Config) (config : TenantConfig) (origin : NodeId) (to_dc : ℕ) → HasSizes config setup → has_stream config origin.dc origin.shard to_dc ≡ true →
@@ -106,11 +106,11 @@ id_of slot name = record { slot = slot; name = name }
 -- the world after a step
 pub steps_world : (old : World) → IsWorld old → (slot : ℕ) (name : List ℕ) (moment : ℕ) (stepped : Stepped) (nodes : Cluster) (before after : Kept) → HasSteppedAt old slot name moment stepped nodes before after →
     (new : World) → ((q : ActorId) → new.actors q ≡ table_after stepped.is_over old.actors (id_of slot name) after q) → new.setup ≡ old.setup → new.nodes ≡ nodes → new.counts ≡ counts_after stepped.is_over old.counts slot →
-    slot < length old.setup.tenants → Moves (λ config. actor_step config name moment) old slot stepped.reply new
+    IsTrue (is_open_at old.setup slot) → Moves (λ config. actor_step config name moment) old slot stepped.reply new
 steps_world old whole slot name moment stepped nodes before after h new actors setup_is nodes_are counts_are within =
-    let sizes = sizes_at old.setup slot within in
+    let sizes = sizes_in old.setup slot within in
     subst (Moves (λ config. actor_step config name moment) old slot stepped.reply) (λ i. record { setup = sym setup_is i; nodes = sym nodes_are i; actors = new.actors; counts = sym counts_are i })
-    (step_moves old whole slot name moment stepped nodes before after h new.actors actors (subst (λ n. slot < n) (sym whole.counted) within) (sizes.shards ∙ sym (ap (λ (s : Shape). s.shards) whole.shape_is)))
+    (step_moves old whole slot name moment stepped nodes before after h new.actors actors (below_counts old whole slot within) (sizes.shards ∙ sym (ap (λ (s : Shape). s.shards) whole.shape_is)))
 
 -- ---- acts
 

@@ -17,6 +17,7 @@ use Rattle.cops_world.specs.ActorsStand.{ActorStandsFor}
 use Rattle.cops_world.specs.ActorTables.{same_actor}
 use Rattle.cops_world.specs.Cluster.{ActEffect, Actor, SoloCluster, reply_with, unless_refused, with_new_actor}
 use Rattle.cops_world.specs.Events.{config_at}
+use Rattle.cops_world.specs.Setups.{config_in}
 use Rattle.cops_world.specs.Worlds.{ClusterStandsAt, Moves, World, join_step}
 use Rattle.cops_world.proofs.ActorMoves.{absent_too, found_too, joins, count-joined}
 use Rattle.cops_world.proofs.ActorTableLemmas.{same_actor-refl, other_slot, other_name}
@@ -30,7 +31,7 @@ id_of slot name = record { slot = slot; name = name }
 
 -- an act that is refused leaves the world
 pub refused_moves : (turn_of : TenantConfig → SoloCluster → ActEffect) (old : World) (slot : ℕ) (fault : Fault) →
-    ((cluster : SoloCluster) → ClusterStandsAt old slot cluster → turn_of (config_at old.setup slot) cluster ≡ reply_with (Refused fault) cluster) → Moves turn_of old slot (Refused fault) old
+    ((cluster : SoloCluster) → ClusterStandsAt old slot cluster → turn_of (config_in old.setup slot) cluster ≡ reply_with (Refused fault) cluster) → Moves turn_of old slot (Refused fault) old
 refused_moves turn_of old slot fault refuses = record {
   same = refl;
   own = λ spared cluster h.
@@ -44,7 +45,7 @@ pub lack_moves : (turn_of : TenantConfig → SoloCluster → ActEffect) (old : W
 lack_moves turn_of old slot = record { same = refl; own = λ spared. absurd (true≢false spared); others = λ other differ cluster h. h }
 
 -- the same turns by another name
-pub same_moves : (one other : TenantConfig → SoloCluster → ActEffect) (old : World) (slot : ℕ) (reply : Reply) (new : World) → ((cluster : SoloCluster) → one (config_at old.setup slot) cluster ≡ other (config_at old.setup slot) cluster) →
+pub same_moves : (one other : TenantConfig → SoloCluster → ActEffect) (old : World) (slot : ℕ) (reply : Reply) (new : World) → ((cluster : SoloCluster) → one (config_in old.setup slot) cluster ≡ other (config_in old.setup slot) cluster) →
     Moves one old slot reply new → Moves other old slot reply new
 same_moves one other old slot reply new same h = record {
   same = h.same;
@@ -64,33 +65,33 @@ quota_at config slot tenant at = config_at-found config slot (tenant_config conf
     mapped (t ∷ list) (suc k) e = mapped list k e
 
 module _ (old : World) (slot : ℕ) (name : List ℕ) (solo : Actor) (reply : Reply) where
-  taken_refuses : (kept : Kept) → old.actors (id_of slot name) ≡ Some kept → (cluster : SoloCluster) → ClusterStandsAt old slot cluster → join_step name solo reply (config_at old.setup slot) cluster ≡ reply_with (Refused NameTaken) cluster
+  taken_refuses : (kept : Kept) → old.actors (id_of slot name) ≡ Some kept → (cluster : SoloCluster) → ClusterStandsAt old slot cluster → join_step name solo reply (config_in old.setup slot) cluster ≡ reply_with (Refused NameTaken) cluster
   taken_refuses kept there cluster h =
-      let found = found_too (ActorStandsFor (config_at old.setup slot)) name (λ n. old.actors (id_of slot n)) (λ n. old.actors (id_of slot n)) cluster h.actors_are kept there in
-      ap (λ o. unless_refused (first_refusal ((not true, NoSuchPlace) ∷ (is_some o, NameTaken) ∷ (nat_le (config_at old.setup slot).quota.actors (length cluster.actors), ActorsFull) ∷ [])) cluster (reply_with reply (with_new_actor name solo cluster))) found.1
+      let found = found_too (ActorStandsFor (config_in old.setup slot)) name (λ n. old.actors (id_of slot n)) (λ n. old.actors (id_of slot n)) cluster h.actors_are kept there in
+      ap (λ o. unless_refused (first_refusal ((not true, NoSuchPlace) ∷ (is_some o, NameTaken) ∷ (nat_le (config_in old.setup slot).quota.actors (length cluster.actors), ActorsFull) ∷ [])) cluster (reply_with reply (with_new_actor name solo cluster))) found.1
 
-  full_refuses : old.actors (id_of slot name) ≡ None → nat_le (config_at old.setup slot).quota.actors (slice_index old.counts slot) ≡ true → (cluster : SoloCluster) → ClusterStandsAt old slot cluster →
-      join_step name solo reply (config_at old.setup slot) cluster ≡ reply_with (Refused ActorsFull) cluster
+  full_refuses : old.actors (id_of slot name) ≡ None → nat_le (config_in old.setup slot).quota.actors (slice_index old.counts slot) ≡ true → (cluster : SoloCluster) → ClusterStandsAt old slot cluster →
+      join_step name solo reply (config_in old.setup slot) cluster ≡ reply_with (Refused ActorsFull) cluster
   full_refuses none full cluster h =
-      let gone = absent_too (ActorStandsFor (config_at old.setup slot)) name (λ n. old.actors (id_of slot n)) (λ n. old.actors (id_of slot n)) cluster h.actors_are none in
-      (λ i. unless_refused (first_refusal ((not true, NoSuchPlace) ∷ (is_some (gone i), NameTaken) ∷ (nat_le (config_at old.setup slot).quota.actors (sym h.count_is i), ActorsFull) ∷ [])) cluster (reply_with reply (with_new_actor name solo cluster)))
+      let gone = absent_too (ActorStandsFor (config_in old.setup slot)) name (λ n. old.actors (id_of slot n)) (λ n. old.actors (id_of slot n)) cluster h.actors_are none in
+      (λ i. unless_refused (first_refusal ((not true, NoSuchPlace) ∷ (is_some (gone i), NameTaken) ∷ (nat_le (config_in old.setup slot).quota.actors (sym h.count_is i), ActorsFull) ∷ [])) cluster (reply_with reply (with_new_actor name solo cluster)))
       ∙ ap (λ b. unless_refused (first_refusal ((not true, NoSuchPlace) ∷ (false, NameTaken) ∷ (b, ActorsFull) ∷ [])) cluster (reply_with reply (with_new_actor name solo cluster))) full
 
-  room_joins : old.actors (id_of slot name) ≡ None → nat_le (config_at old.setup slot).quota.actors (slice_index old.counts slot) ≡ false → (cluster : SoloCluster) → ClusterStandsAt old slot cluster →
-      join_step name solo reply (config_at old.setup slot) cluster ≡ reply_with reply (with_new_actor name solo cluster)
+  room_joins : old.actors (id_of slot name) ≡ None → nat_le (config_in old.setup slot).quota.actors (slice_index old.counts slot) ≡ false → (cluster : SoloCluster) → ClusterStandsAt old slot cluster →
+      join_step name solo reply (config_in old.setup slot) cluster ≡ reply_with reply (with_new_actor name solo cluster)
   room_joins none room cluster h =
-      let gone = absent_too (ActorStandsFor (config_at old.setup slot)) name (λ n. old.actors (id_of slot n)) (λ n. old.actors (id_of slot n)) cluster h.actors_are none in
-      (λ i. unless_refused (first_refusal ((not true, NoSuchPlace) ∷ (is_some (gone i), NameTaken) ∷ (nat_le (config_at old.setup slot).quota.actors (sym h.count_is i), ActorsFull) ∷ [])) cluster (reply_with reply (with_new_actor name solo cluster)))
+      let gone = absent_too (ActorStandsFor (config_in old.setup slot)) name (λ n. old.actors (id_of slot n)) (λ n. old.actors (id_of slot n)) cluster h.actors_are none in
+      (λ i. unless_refused (first_refusal ((not true, NoSuchPlace) ∷ (is_some (gone i), NameTaken) ∷ (nat_le (config_in old.setup slot).quota.actors (sym h.count_is i), ActorsFull) ∷ [])) cluster (reply_with reply (with_new_actor name solo cluster)))
       ∙ ap (λ b. unless_refused (first_refusal ((not true, NoSuchPlace) ∷ (false, NameTaken) ∷ (b, ActorsFull) ∷ [])) cluster (reply_with reply (with_new_actor name solo cluster))) room
 
   pub taken_moves : (kept : Kept) → old.actors (id_of slot name) ≡ Some kept → Moves (join_step name solo reply) old slot (Refused NameTaken) old
   taken_moves kept there = refused_moves (join_step name solo reply) old slot NameTaken (taken_refuses kept there)
 
-  pub full_moves : old.actors (id_of slot name) ≡ None → nat_le (config_at old.setup slot).quota.actors (slice_index old.counts slot) ≡ true → Moves (join_step name solo reply) old slot (Refused ActorsFull) old
+  pub full_moves : old.actors (id_of slot name) ≡ None → nat_le (config_in old.setup slot).quota.actors (slice_index old.counts slot) ≡ true → Moves (join_step name solo reply) old slot (Refused ActorsFull) old
   full_moves none full = refused_moves (join_step name solo reply) old slot ActorsFull (full_refuses none full)
 
-  pub join_moves : (kept : Kept) (actors : ActorId → Option Kept) → ActorStandsFor (config_at old.setup slot) kept solo → old.actors (id_of slot name) ≡ None →
-      nat_le (config_at old.setup slot).quota.actors (slice_index old.counts slot) ≡ false → slot < length old.counts →
+  pub join_moves : (kept : Kept) (actors : ActorId → Option Kept) → ActorStandsFor (config_in old.setup slot) kept solo → old.actors (id_of slot name) ≡ None →
+      nat_le (config_in old.setup slot).quota.actors (slice_index old.counts slot) ≡ false → slot < length old.counts →
       ((q : ActorId) → actors q ≡ cond (same_actor (id_of slot name) q) (Some kept) (old.actors q)) →
       Moves (join_step name solo reply) old slot reply (record old { actors = actors; counts = slice_set old.counts slot (slice_index old.counts slot + 1) })
   join_moves kept actors stands none room within updates = record {
@@ -98,10 +99,11 @@ module _ (old : World) (slot : ℕ) (name : List ℕ) (solo : Actor) (reply : Re
     own = λ spared cluster h.
         let is = room_joins none room cluster h in
         let here : actors (id_of slot name) ≡ Some kept = updates (id_of slot name) ∙ rw (same_actor-refl (id_of slot name)) refl in
-        let joined = joins (ActorStandsFor (config_at old.setup slot)) name (λ n. old.actors (id_of slot n)) (λ n. actors (id_of slot n)) cluster h.actors_are kept solo none here
+        let joined = joins (ActorStandsFor (config_in old.setup slot)) name (λ n. old.actors (id_of slot n)) (λ n. actors (id_of slot n)) cluster h.actors_are kept solo none here
         (λ other apart. updates (id_of slot other) ∙ rw (other_name slot name other apart) refl) stands in (
           ap (λ (t : ActEffect). t.reply) (sym is),
           subst (λ (t : ActEffect). ClusterStandsAt (record old { actors = actors; counts = slice_set old.counts slot (slice_index old.counts slot + 1) }) slot t.after) (sym is) (record {
+            open_there = h.open_there;
             has = h.has;
             nodes_are = h.nodes_are;
             actors_are = joined;

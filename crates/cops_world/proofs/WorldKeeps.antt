@@ -1,10 +1,12 @@
 -- What a world keeps whatever its tenants do: its actors run at its nodes, and its tenants have its sizes.
-use Rattle.std.proofs.Common.{◌≡◌, ℕ, zero, suc, ◌+◌, ◌*◌, ◌<◌, ◌≤◌, Bool, true, false, true≢false, ◌&&◌, cond, get_or, Fits, w64, List, [], ◌∷◌, length, map, ◌⊎◌, inl, inr, refl, sym, subst, ap, ◌∙◌, arith}
-use Rattle.std.specs.Prelude.{Option, Some, None, IsTrue, nat_le, replicate, slice_get, slice_index}
-use Rattle.std.specs.List.{IsDistinct, list_all}
+use Rattle.std.proofs.Common.{◌≡◌, ℕ, zero, suc, ◌+◌, ◌-◌, ◌*◌, ◌<◌, ◌≤◌, Bool, true, false, true≢false, ◌&&◌, cond, get_or, Fits, w64, List, [], ◌∷◌, ◌++◌, length, map, ◌⊎◌, inl, inr, refl, sym, subst, ap, ◌∙◌, arith}
+use Rattle.std.specs.Prelude.{Option, Some, None, IsTrue, is_some, nat_le, replicate, slice_get, slice_index, slice_index_or}
+use Rattle.std.specs.Option.{option_map}
+use Rattle.std.specs.List.{AllByRecursion, IsDistinct, list_all, range_with_len}
 use Rattle.std.proofs.lemmas.Bool.{leb-false, leb-true}
 use Rattle.std.proofs.lemmas.List.{length-replicate}
-use Rattle.cops_types.specs.HeadLines.{are_sizes, greatest_quota, is_between, is_name, is_quota, is_tenant, most_shards}
+use Rattle.cops_types.specs.HeadLines.{are_sizes, greatest_quota, is_between, is_name, is_quota, is_tenant, most_shards, most_tenants}
+use Rattle.cops_types.specs.OpenSlots.{begun_with, open_at}
 use Rattle.cops_types.specs.Version.{last_clock}
 use Rattle.cops_types.specs.Words.{is_u64}
 use Rattle.cops_world.specs.GoodHeads.{is_good}
@@ -12,20 +14,22 @@ use Rattle.cops_types.proofs.WordLemmas.{same_value}
 use Rattle.cops_types.specs.declared.configs.Config.{Config}
 use Rattle.cops_types.specs.declared.configs.Tenant.{Tenant}
 use Rattle.cops_types.specs.TenantConfig.{TenantConfig, tenant_config}
-use Rattle.cops_node.specs.Clusters.{Cluster, HasTenant, IsCall, new_nodes, nodes_of}
+use Rattle.cops_node.specs.Clusters.{Cluster, HasTenant, IsCall, id_of, new_nodes, new_shared, nodes_of}
 use Rattle.cops_node.specs.declared.NodeCall.{NodeCall}
 use Rattle.cops_node.specs.declared.NodeId.{NodeId}
 use Rattle.cops_node.specs.declared.NodeReply.{NodeReply}
-use Rattle.cops_node.specs.Parts.{Site, are_clocks, site_in}
+use Rattle.cops_node.specs.Parts.{Shared, Site, are_clocks, home_of, place_under, site_in, terms_of}
+use Rattle.cops_node.specs.Place.{place_of}
 use Rattle.cops_node.specs.declared.Shape.{Shape}
 use Rattle.cops_node.specs.SoloNode.{new_node}
 use Rattle.cops_world.specs.declared.actors.Actor.{Actor as Kept}
 use Rattle.cops_world.specs.declared.actors.ActorId.{ActorId}
 use Rattle.cops_world.specs.ActorsStand.{RunsAt}
 use Rattle.cops_world.specs.ActorTables.{same_actor}
-use Rattle.cops_world.specs.Events.{config_at}
+use Rattle.cops_world.specs.Events.{config_at, no_config}
+use Rattle.cops_world.specs.Setups.{Setup, config_in, config_of, is_open_at}
 use Rattle.cops_world.specs.Cluster.{new_cluster}
-use Rattle.cops_world.specs.Worlds.{ClusterStandsAt, HasSizes, IsKeptWorld, IsWorld, KeptWorld, world_of}
+use Rattle.cops_world.specs.Worlds.{AreSitesIn, HasCluster, HasSizes, IsSiteIn, IsKeptWorld, IsWorld, KeptWorld, World, world_of}
 use Rattle.cops_world.proofs.ActorTableLemmas.{same_actor-is}
 use Rattle.cops_world.proofs.WorldJoins.{quota_at}
 use Rattle.cops_world.proofs.WorldSteps.{table_after}
@@ -50,10 +54,56 @@ sizes_at setup slot below =
     let is = tenant_at setup.tenants slot below in
     subst (λ (c : TenantConfig). HasSizes c setup) (sym (quota_at setup slot is.0 is.1)) (record { data_centres = refl; shards = refl; restarts = refl })
 
+-- ---- the tenants who are open
+
+pub tenant_in : (setup : Setup) (slot : ℕ) → IsTrue (is_open_at setup slot) → (tenant : Tenant) × (open_at slot setup.tenants ≡ Some tenant)
+tenant_in setup slot there = by (open_at slot setup.tenants) there
+  where
+    by : (o : Option Tenant) → IsTrue (is_some o) → (tenant : Tenant) × (o ≡ Some tenant)
+    by None h = absurd (true≢false (sym h))
+    by (Some tenant) h = (tenant, refl)
+
+-- an open tenant has the sizes of the head
+pub sizes_in : (setup : Setup) (slot : ℕ) → IsTrue (is_open_at setup slot) → HasSizes (config_in setup slot) setup.head
+sizes_in setup slot there = by (open_at slot setup.tenants) there
+  where
+    by : (o : Option Tenant) → IsTrue (is_some o) → HasSizes (config_of setup.head o) setup.head
+    by None h = absurd (true≢false (sym h))
+    by (Some tenant) h = record { data_centres = refl; shards = refl; restarts = refl }
+
+pub below_in : (tenants : List (Option Tenant)) (slot : ℕ) → IsTrue (is_some (open_at slot tenants)) → slot < length tenants
+below_in [] slot there = absurd (true≢false (sym there))
+below_in (o ∷ tenants) zero there = omega arith
+below_in (o ∷ tenants) (suc slot) there = let rest = below_in tenants slot there in omega (arith, rest)
+
+pub below_counts : (world : World) → IsWorld world → (slot : ℕ) → IsTrue (is_open_at world.setup slot) → slot < length world.counts
+below_counts world whole slot there = subst (λ n. slot < n) (sym whole.counted) (below_in world.setup.tenants slot there)
+
 -- ---- the actors
 
 abbrev pub AllRunIn : Shape → (ActorId → Option Kept) → Type 0
 AllRunIn shape actors = (id : ActorId) (actor : Kept) → actors id ≡ Some actor → RunsAt shape id.slot actor
+
+-- each is of a tenant who is open
+abbrev pub AllHosted : Setup → (ActorId → Option Kept) → Type 0
+AllHosted setup actors = (id : ActorId) (actor : Kept) → actors id ≡ Some actor → IsTrue (is_open_at setup id.slot)
+
+pub hosted_after : (setup : Setup) (old new : ActorId → Option Kept) (id : ActorId) (after : Option Kept) → ((q : ActorId) → new q ≡ cond (same_actor id q) after (old q)) →
+    AllHosted setup old → ((actor : Kept) → after ≡ Some actor → IsTrue (is_open_at setup id.slot)) → AllHosted setup new
+hosted_after setup old new id after updates before own q actor there = by (same_actor id q) refl
+  where
+    by : (t : Bool) → same_actor id q ≡ t → IsTrue (is_open_at setup q.slot)
+    by true e = subst (λ (i : ActorId). IsTrue (is_open_at setup i.slot)) (same_actor-is id q e) (own actor (ap (λ b. cond b after (old q)) (sym e) ∙ sym (updates q) ∙ there))
+    by false e = before q actor (ap (λ b. cond b after (old q)) (sym e) ∙ sym (updates q) ∙ there)
+
+-- one of them did what it was asked, or there is none of the name
+pub hosted_after_act : (setup : Setup) (old new : ActorId → Option Kept) (id : ActorId) → AllHosted setup old →
+    ((before : Kept) → old id ≡ Some before → (after : Kept) × ((q : ActorId) → new q ≡ cond (same_actor id q) (Some after) (old q))) → (old id ≡ None → new ≡ old) → AllHosted setup new
+hosted_after_act setup old new id before found absent = by (old id) refl
+  where
+    by : (o : Option Kept) → old id ≡ o → AllHosted setup new
+    by None e = subst (AllHosted setup) (sym (absent e)) before
+    by (Some kept) e = let f = found kept e in hosted_after setup old new id (Some f.0) f.1 before (λ actor same. before id kept e)
 
 -- one of them was put in, put back or taken out
 pub runs_after : (shape : Shape) (old new : ActorId → Option Kept) (id : ActorId) (after : Option Kept) → ((q : ActorId) → new q ≡ cond (same_actor id q) after (old q)) →
@@ -100,27 +150,35 @@ tenant_within [] slot tenant all at = cc
 tenant_within (t ∷ tenants) zero tenant all at = ap is_tenant (sym (same_value t tenant at)) ∙ and_left (is_tenant t) (list_all is_tenant tenants) all
 tenant_within (t ∷ tenants) (suc slot) tenant all at = tenant_within tenants slot tenant (and_right (is_tenant t) (list_all is_tenant tenants) all) at
 
-pub limits_at : (setup : Config) (slot : ℕ) → IsTrue (is_good setup) → slot < length setup.tenants → WithinLimits (config_at setup slot)
-limits_at setup slot good within =
-    let at = tenant_at setup.tenants slot within in
-    let quota = at.0.quota in
+pub limits_of : (head : Config) (tenant : Tenant) → IsTrue (is_good head) → IsTrue (is_tenant tenant) → WithinLimits (tenant_config head tenant)
+limits_of head tenant good own =
+    let quota = tenant.quota in
     let v = nat_le quota.versions greatest_quota in
     let w = nat_le quota.bytes greatest_quota in
     let x = nat_le quota.outbox greatest_quota in
     let y = nat_le quota.contexts greatest_quota in
     let z = nat_le quota.deps 1024 in
     let u = nat_le quota.actors greatest_quota in
-    let sizes = is_between 1 8 setup.data_centres && is_between 1 most_shards setup.shards && is_u64 setup.trans_time in
-    let all = and_right (are_sizes setup) (list_all is_tenant setup.tenants) good in
-    let own = tenant_within setup.tenants slot at.0 all at.1 in
-    let quotas = and_right (is_name at.0.name && nat_le at.0.first_clock last_clock) (is_quota quota) own in
+    let sizes = is_between 1 8 head.data_centres && is_between 1 most_shards head.shards && is_u64 head.trans_time in
+    let quotas = and_right (is_name tenant.name && nat_le tenant.first_clock last_clock) (is_quota quota) own in
     let most = and_left (v && w && x && y && z && u) (nat_le quota.audit greatest_quota) quotas in
     let less = and_left (v && w && x && y && z) u most in
-    subst WithinLimits (sym (quota_at setup slot at.0 at.1)) (record {
+    record {
       actors = leb-true quota.actors greatest_quota (and_right (v && w && x && y && z) u most);
       deps = leb-true quota.deps 1024 (and_right (v && w && x && y) z less);
-      restarts = leb-true setup.restarts 15 (and_right sizes (nat_le setup.restarts 15) (and_left (are_sizes setup) (list_all is_tenant setup.tenants) good));
-    })
+      restarts = leb-true head.restarts 15 (and_right sizes (nat_le head.restarts 15) (and_left (are_sizes head) (list_all is_tenant head.tenants) good));
+    }
+
+pub limits_at : (setup : Config) (slot : ℕ) → IsTrue (is_good setup) → slot < length setup.tenants → WithinLimits (config_at setup slot)
+limits_at setup slot good within =
+    let at = tenant_at setup.tenants slot within in
+    subst WithinLimits (sym (quota_at setup slot at.0 at.1))
+    (limits_of setup at.0 good (tenant_within setup.tenants slot at.0 (and_right (are_sizes setup) (list_all is_tenant setup.tenants) good) at.1))
+
+pub limits_in : (world : World) → IsWorld world → (slot : ℕ) → IsTrue (is_open_at world.setup slot) → WithinLimits (config_in world.setup slot)
+limits_in world whole slot there =
+    let at = tenant_in world.setup slot there in
+    subst (λ o. WithinLimits (config_of world.setup.head o)) (sym at.1) (limits_of world.setup.head at.0 whole.good (whole.tenants_good slot at.0 at.1))
 
 -- ---- the table after a step
 
@@ -164,24 +222,65 @@ no_count zero slot = refl
 no_count (suc tenants) zero = refl
 no_count (suc tenants) (suc slot) = no_count tenants slot
 
+-- ---- the tenants of the head are open at first
+
+begun_at : (tenants : List Tenant) (free slot : ℕ) → open_at slot (map Some tenants ++ replicate free None) ≡ slice_get tenants slot
+begun_at [] zero slot = refl
+begun_at [] (suc free) zero = refl
+begun_at [] (suc free) (suc slot) = begun_at [] free slot
+begun_at (t ∷ tenants) free zero = refl
+begun_at (t ∷ tenants) free (suc slot) = begun_at tenants free slot
+
+pub open_begun : (tenants : List Tenant) (slot : ℕ) → open_at slot (begun_with tenants) ≡ slice_get tenants slot
+open_begun tenants slot = begun_at tenants (most_tenants - length tenants) slot
+
+config_found : (head : Config) (tenants : List Tenant) (slot : ℕ) → config_of head (slice_get tenants slot) ≡ slice_index_or (map (tenant_config head) tenants) slot no_config
+config_found head [] slot = refl
+config_found head (t ∷ tenants) zero = refl
+config_found head (t ∷ tenants) (suc slot) = config_found head tenants slot
+
+pub config_begun : (setup : Setup) (slot : ℕ) → setup.tenants ≡ begun_with setup.head.tenants → config_in setup slot ≡ config_at setup.head slot
+config_begun setup slot begun =
+    ap (λ ts. config_of setup.head (open_at slot ts)) begun ∙ ap (config_of setup.head) (open_begun setup.head.tenants slot) ∙ config_found setup.head setup.head.tenants slot
+
+pub open_in_head : (setup : Setup) (slot : ℕ) → setup.tenants ≡ begun_with setup.head.tenants → slot < length setup.head.tenants → IsTrue (is_open_at setup slot)
+open_in_head setup slot begun within = ap (λ ts. is_some (open_at slot ts)) begun ∙ ap is_some (open_begun setup.head.tenants slot ∙ (tenant_at setup.head.tenants slot within).1)
+
+long_begun : (tenants : List Tenant) (free : ℕ) → length (map (λ (t : Tenant). Some t) tenants ++ replicate free None) ≡ length tenants + free
+long_begun [] zero = refl
+long_begun [] (suc free) = let more = long_begun [] free in omega (arith, more)
+long_begun (t ∷ tenants) free = let more = long_begun tenants free in omega (arith, more)
+
+pub enough_begun : (tenants : List Tenant) → most_tenants ≤ length (begun_with tenants)
+enough_begun tenants = let long = long_begun tenants (most_tenants - length tenants) in omega (arith, long)
+
+abbrev pub begun_setup : Config → Setup
+begun_setup config = record { head = config; tenants = begun_with config.tenants }
+
 -- each tenant of a new world has a new cluster
-pub new_stands : (config : Config) (nodes : Cluster) (kept : KeptWorld) → kept.setup ≡ config → kept.nodes ≡ nodes → kept.entries ≡ [] → kept.counts ≡ replicate (length config.tenants) 0 →
+pub new_stands : (config : Config) (nodes : Cluster) (kept : KeptWorld) → kept.setup ≡ begun_setup config → kept.nodes ≡ nodes → kept.entries ≡ [] → (free : ℕ) → kept.counts ≡ replicate free 0 →
     ((slot : ℕ) (tenant : Tenant) → slice_get config.tenants slot ≡ Some tenant → HasTenant (tenant_config config tenant) slot nodes) →
     ((slot : ℕ) (tenant : Tenant) → slice_get config.tenants slot ≡ Some tenant → nodes_of (tenant_config config tenant) slot nodes ≡ replicate (config.data_centres * config.shards) (new_node config.data_centres)) →
-    (slot : ℕ) → slot < length config.tenants → ClusterStandsAt (world_of kept) slot (new_cluster (config_at config slot))
-new_stands config nodes kept setup_is nodes_are no_entries no_counts tenants fresh slot within =
+    (slot : ℕ) → slot < length config.tenants → HasCluster kept slot (new_cluster (config_at config slot))
+new_stands config nodes kept setup_is nodes_are no_entries free no_counts tenants fresh slot within =
     let at = tenant_at config.tenants slot within in
     let quota = quota_at config slot at.0 at.1 in
-    let Fresh : TenantConfig → Type 0 = λ c. HasTenant c slot nodes × (nodes_of c slot nodes ≡ (new_cluster c).nodes) in
-    let stood = subst Fresh (sym quota) (tenants slot at.0 at.1, fresh slot at.0 at.1) in
-    let new : KeptWorld = record { setup = config; nodes = nodes; entries = []; counts = replicate (length config.tenants) 0 } in
-    subst (λ (k : KeptWorld). ClusterStandsAt (world_of k) slot (new_cluster (config_at config slot)))
+    let own = config_begun (begun_setup config) slot refl in
+    let Fresh : TenantConfig → Type 0 = λ c. HasTenant c slot nodes × (nodes_of c slot nodes ≡ (new_cluster (config_at config slot)).nodes) in
+    let his : Fresh (tenant_config config at.0) = subst (λ c. HasTenant (tenant_config config at.0) slot nodes × (nodes_of (tenant_config config at.0) slot nodes ≡ (new_cluster c).nodes)) (sym quota) (tenants slot at.0 at.1, fresh slot at.0 at.1) in
+    let stood = subst Fresh (sym (own ∙ quota)) his in
+    let new : KeptWorld = record { setup = begun_setup config; nodes = nodes; entries = []; counts = replicate free 0 } in
+    subst (λ (k : KeptWorld). HasCluster k slot (new_cluster (config_at config slot)))
     (λ i. record { setup = sym setup_is i; nodes = sym nodes_are i; entries = sym no_entries i; counts = sym no_counts i })
     (record {
-      has = stood.0;
-      nodes_are = stood.1;
-      actors_are = record { same = λ name. tt; distinct = tt };
-      count_is = no_count (length config.tenants) slot;
+      tenants_are = refl;
+      stands = record {
+        open_there = open_in_head (begun_setup config) slot refl within;
+        has = stood.0;
+        nodes_are = stood.1;
+        actors_are = record { same = λ name. tt; distinct = tt };
+        count_is = no_count free slot;
+      };
     })
 
 -- ---- the nodes stay those of the configuration
@@ -201,16 +300,48 @@ no_two : IsDistinct same_actor []
 unfolding IsDistinct
 no_two = tt
 
-pub kept_at_first : (config : Config) (nodes : Cluster) (entries : List (ActorId × Kept)) (counts : List ℕ) → IsTrue (is_good config) → nodes ≡ new_nodes config → entries ≡ [] → counts ≡ replicate (length config.tenants) 0 →
-    IsKeptWorld (record { setup = config; nodes = nodes; entries = entries; counts = counts })
-kept_at_first config nodes entries counts good nodes_are none counts_are =
-    let first : KeptWorld = record { setup = config; nodes = new_nodes config; entries = []; counts = replicate (length config.tenants) 0 } in
+place_begun : (config : Config) (id : NodeId) (tenants : List Tenant) (slot : ℕ) →
+    option_map (place_under (home_of config id)) (slice_index_or (map (λ tenant. Some (terms_of tenant)) tenants) slot None) ≡ option_map (λ tenant. place_of (tenant_config config tenant) id) (slice_get tenants slot)
+place_begun config id [] slot = refl
+place_begun config id (t ∷ tenants) zero = refl
+place_begun config id (t ∷ tenants) (suc slot) = place_begun config id tenants slot
+
+-- the sites of a configuration's nodes
+sites_begun : (config : Config) → AreSitesIn (begun_setup config) (sites (new_nodes config))
+sites_begun config = record { all = count 0 (config.data_centres * config.shards); each = each (range_with_len 0 (config.data_centres * config.shards)) }
+  where
+    count : (at n : ℕ) → length (map site_in (map (new_shared config) (range_with_len at n))) ≡ n
+    count at zero = refl
+    count at (suc n) = ap suc (count (at + 1) n)
+
+    each : (numbers : List ℕ) → AllByRecursion (IsSiteIn (begun_setup config)) (map site_in (map (new_shared config) numbers))
+    each [] = tt
+    each (number ∷ numbers) = (
+      record {
+        shape_is = refl;
+        trans_time_is = refl;
+        places_are = λ slot.
+            place_begun config (id_of config.shards number) config.tenants slot
+            ∙ ap (option_map (λ tenant. place_of (tenant_config config tenant) (id_of config.shards number))) (sym (open_begun config.tenants slot));
+      },
+      each numbers,
+    )
+
+pub kept_at_first : (config : Config) (tenants : List (Option Tenant)) (nodes : Cluster) (entries : List (ActorId × Kept)) (counts : List ℕ) → IsTrue (is_good config) → tenants ≡ begun_with config.tenants → nodes ≡ new_nodes config → entries ≡ [] →
+    counts ≡ replicate (length tenants) 0 → IsKeptWorld (record { setup = record { head = config; tenants = tenants }; nodes = nodes; entries = entries; counts = counts })
+kept_at_first config tenants nodes entries counts good begun nodes_are none counts_are =
+    let free = length tenants in
+    let first : KeptWorld = record { setup = begun_setup config; nodes = new_nodes config; entries = []; counts = replicate free 0 } in
     let whole : IsWorld (world_of first) = record {
       shape_is = refl;
-      sites_are = refl;
+      sites_are = sites_begun config;
       good = good;
-      counted = length-replicate (length config.tenants) 0;
+      tenants_good = λ slot tenant e.
+          tenant_within config.tenants slot tenant (and_right (are_sizes config) (list_all is_tenant config.tenants) good) (sym (open_begun config.tenants slot) ∙ e);
+      enough = enough_begun config.tenants;
+      counted = length-replicate free 0 ∙ ap length begun;
       run = λ id actor e. cc;
+      hosted = λ id actor e. cc;
     } in
     let kept : IsKeptWorld first = record { whole = whole; distinct = no_two } in
-    subst IsKeptWorld (λ i. record { setup = config; nodes = sym nodes_are i; entries = sym none i; counts = sym counts_are i }) kept
+    subst IsKeptWorld (λ i. record { setup = record { head = config; tenants = sym begun i }; nodes = sym nodes_are i; entries = sym none i; counts = sym counts_are i }) kept

@@ -1,7 +1,6 @@
 -- What is left of a tenant's cluster in the world where memory was refused.
 use Rattle.std.proofs.Common.{◌≡◌, inl, inr, ℕ, zero, suc, ◌<◌, Bool, true, false, cond, max, List, length, refl, sym, subst, ap, ◌∙◌, true≢false}
 use Rattle.std.specs.Prelude.{IsTrue, Option, nat_lt, slice_index_or}
-use Rattle.cops_types.specs.declared.configs.Config.{Config}
 use Rattle.cops_types.specs.declared.faults.Fault.TheVariants.{AuditFull}
 use Rattle.cops_types.specs.TenantConfig.{TenantConfig}
 use Rattle.cops_node.specs.declared.NodeCall.TheVariants as node_call
@@ -20,11 +19,12 @@ use Rattle.cops_world.specs.declared.actors.Stepped.{Stepped}
 use Rattle.cops_world.specs.declared.replies.Reply.{Reply}
 use Rattle.cops_world.specs.ActorsStand.{ActorStandsFor}
 use Rattle.cops_world.specs.Cluster.{SoloCluster, actor_step, goes_on, reply_of_collect}
-use Rattle.cops_world.specs.Events.{config_at, is_out_of_memory}
+use Rattle.cops_world.specs.Events.{is_out_of_memory}
+use Rattle.cops_world.specs.Setups.{Setup, config_in, is_open_at}
 use Rattle.cops_world.specs.Lacks.{Lacks, Stays, StepStops, StepsStop}
 use Rattle.cops_world.specs.Worlds.{ClusterStandsAt, IsWorld, Leaves, Moves, World}
 use Rattle.cops_world.proofs.Stops.{actor_stops}
-use Rattle.cops_world.proofs.WorldKeeps.{sizes_at}
+use Rattle.cops_world.proofs.WorldKeeps.{below_counts, sizes_in}
 use Rattle.cops_world.proofs.WorldMoves.{kept_alike}
 use Rattle.cops_world.proofs.WorldSteps.{HasSteppedAt, counts_after, goes_on-spared, solo_steps, stands_after, table_after}
 
@@ -46,9 +46,10 @@ deed_leaves old slot reply actors stay = λ lack cluster stands. (
   cluster,
   refl,
   record {
+    open_there = stands.open_there;
     has = stands.has;
     nodes_are = stands.nodes_are;
-    actors_are = kept_alike (ActorStandsFor (config_at old.setup slot)) (λ n. old.actors (id_of slot n)) (λ n. actors (id_of slot n)) cluster (λ n. stay lack (id_of slot n)) stands.actors_are;
+    actors_are = kept_alike (ActorStandsFor (config_in old.setup slot)) (λ n. old.actors (id_of slot n)) (λ n. actors (id_of slot n)) cluster (λ n. stay lack (id_of slot n)) stands.actors_are;
     count_is = stands.count_is;
   },
 )
@@ -63,12 +64,12 @@ collect_spared place moment solo = by (nat_lt (length solo.trail) place.quota.au
     by true = refl
     by false = refl
 
-pub collect_leaves : (old : World) (slot : ℕ) (id : NodeId) (moment : ℕ) (answered : NodeReply) (nodes : Cluster) (reply : Reply) → (config_at old.setup slot).shards ≡ old.nodes.shape.shards →
+pub collect_leaves : (old : World) (slot : ℕ) (id : NodeId) (moment : ℕ) (answered : NodeReply) (nodes : Cluster) (reply : Reply) → (config_in old.setup slot).shards ≡ old.nodes.shape.shards →
     IsCall old.nodes id slot moment node_call.Collect answered nodes → reply ≡ reply_of_collect answered → Leaves Stays old slot reply (record old { nodes = nodes })
 collect_leaves old slot id moment answered nodes reply shards made is = λ lack cluster stands. elim made.turn [
   | inl refused ↦ (cluster, refl, subst (λ ns. ClusterStandsAt (record old { nodes = ns }) slot cluster) (sym refused.1) stands)
   | inr turn ↦
-      let config = config_at old.setup slot in
+      let config = config_in old.setup slot in
       let turned = (turn config shards stands.has).reply_is in
       let node = slice_index_or (nodes_of config slot old.nodes) (node_number config.shards id) (new_node config.data_centres) in
       absurd (true≢false (sym lack ∙ ap is_out_of_memory (is ∙ ap reply_of_collect turned) ∙ collect_spared (place_of config id) moment node))
@@ -78,10 +79,10 @@ collect_leaves old slot id moment answered nodes reply shards made is = λ lack 
 
 -- the step of an actor stopped
 step_leaves : (old : World) (whole : IsWorld old) (slot : ℕ) (name : List ℕ) (moment : ℕ) (stepped : Stepped) (nodes : Cluster) (before after : Kept) (h : HasSteppedAt old slot name moment stepped nodes before after)
-    (actors : ActorId → Option Kept) (updates : (q : ActorId) → actors q ≡ table_after stepped.is_over old.actors (id_of slot name) after q) → slot < length old.counts → (config_at old.setup slot).shards ≡ old.nodes.shape.shards →
+    (actors : ActorId → Option Kept) (updates : (q : ActorId) → actors q ≡ table_after stepped.is_over old.actors (id_of slot name) after q) → slot < length old.counts → (config_in old.setup slot).shards ≡ old.nodes.shape.shards →
     Leaves (λ config. StepStops config name moment) old slot stepped.reply (record old { nodes = nodes; actors = actors; counts = counts_after stepped.is_over old.counts slot })
 step_leaves old whole slot name moment stepped nodes before after h actors updates within shards = λ lack cluster stands.
-    let config = config_at old.setup slot in
+    let config = config_in old.setup slot in
     let solo = solo_steps old whole slot name moment stepped nodes before after h actors updates shards cluster stands in
     let left = actor_stops config name cluster (nodes_of config slot nodes) moment solo.0 after stepped solo.1 lack solo.2 in (
       left.0,
@@ -91,11 +92,11 @@ step_leaves old whole slot name moment stepped nodes before after h actors updat
 
 pub steps_world_leaves : (old : World) → IsWorld old → (slot : ℕ) (name : List ℕ) (moment : ℕ) (stepped : Stepped) (nodes : Cluster) (before after : Kept) → HasSteppedAt old slot name moment stepped nodes before after →
     (new : World) → ((q : ActorId) → new.actors q ≡ table_after stepped.is_over old.actors (id_of slot name) after q) → new.setup ≡ old.setup → new.nodes ≡ nodes → new.counts ≡ counts_after stepped.is_over old.counts slot →
-    slot < length old.setup.tenants → Leaves (λ config. StepStops config name moment) old slot stepped.reply new
+    IsTrue (is_open_at old.setup slot) → Leaves (λ config. StepStops config name moment) old slot stepped.reply new
 steps_world_leaves old whole slot name moment stepped nodes before after h new actors setup_is nodes_are counts_are within =
-    let sizes = sizes_at old.setup slot within in
+    let sizes = sizes_in old.setup slot within in
     subst (Leaves (λ config. StepStops config name moment) old slot stepped.reply) (λ i. record { setup = sym setup_is i; nodes = sym nodes_are i; actors = new.actors; counts = sym counts_are i })
-    (step_leaves old whole slot name moment stepped nodes before after h new.actors actors (subst (λ n. slot < n) (sym whole.counted) within) (sizes.shards ∙ sym (ap (λ (s : Shape). s.shards) whole.shape_is)))
+    (step_leaves old whole slot name moment stepped nodes before after h new.actors actors (below_counts old whole slot within) (sizes.shards ∙ sym (ap (λ (s : Shape). s.shards) whole.shape_is)))
 
 -- the first step stopped
 pub steps_end_leaves : (more : ℕ) (name : List ℕ) (moment : ℕ) (old : World) (slot : ℕ) (reply : Reply) (new : World) → Leaves (λ config. StepStops config name moment) old slot reply new →
@@ -111,10 +112,10 @@ pub steps_on_leaves : (more : ℕ) (name : List ℕ) (moment : ℕ) (old : World
     Leaves (λ config. StepsStop (suc more) config name moment) old slot reply new
 steps_on_leaves more name moment old slot first mid reply new goes h later = λ lack cluster stands.
     let one = h.own (goes_on-spared first goes) cluster stands in
-    let turn = actor_step (config_at old.setup slot) name moment cluster in
+    let turn = actor_step (config_in old.setup slot) name moment cluster in
     let left = later lack turn.after one.1 in (
       left.0,
-      inr (ap goes_on (sym one.0) ∙ goes, subst (λ (c : Config). StepsStop more (config_at c slot) name moment turn.after left.0) h.same left.1),
+      inr (ap goes_on (sym one.0) ∙ goes, subst (λ (c : Setup). StepsStop more (config_in c slot) name moment turn.after left.0) h.same left.1),
       left.2,
     )
 

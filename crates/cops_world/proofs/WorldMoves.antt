@@ -22,7 +22,8 @@ use Rattle.cops_world.specs.ActorTables.{same_actor}
 use Rattle.cops_world.specs.ActorTurns.{ActorTurn, actor_turn, unless_actor_refused, actor_does, session_does}
 use Rattle.cops_world.specs.Cluster.{ActEffect, Actor, NamedActor, OfCarrier, OfSession, SoloCluster, find_actor, on_found, reply_with, session_in, unless_refused, with_actor}
 use Rattle.cops_world.specs.Deeds.{deed_step, session_deed}
-use Rattle.cops_world.specs.Events.{config_at, is_out_of_memory}
+use Rattle.cops_world.specs.Events.{is_out_of_memory}
+use Rattle.cops_world.specs.Setups.{config_in}
 use Rattle.cops_world.specs.Worlds.{ClusterStandsAt, Moves, World}
 use Rattle.cops_world.proofs.ActorMoves.{absent_too, found_too, put_in_place, with_actor-same, count-with_actor}
 use Rattle.cops_world.proofs.ActorTableLemmas.{same_actor-refl, other_slot, other_name}
@@ -86,9 +87,10 @@ pub others_stay : (old : World) (nodes : Cluster) (actors : ActorId → Option K
     ((q : ActorId) → slot ≢ q.slot → actors q ≡ old.actors q) → slice_index counts other ≡ slice_index old.counts other →
     (cluster : SoloCluster) → ClusterStandsAt old other cluster → ClusterStandsAt (record old { nodes = nodes; actors = actors; counts = counts }) other cluster
 others_stay old nodes actors counts slot other differ same_nodes keeps same_actors same_count cluster h = record {
-  has = keeps (config_at old.setup other) h.has;
-  nodes_are = same_nodes (config_at old.setup other) ∙ h.nodes_are;
-  actors_are = kept_alike (ActorStandsFor (config_at old.setup other)) (λ name. old.actors (record { slot = other; name = name })) (λ name. actors (record { slot = other; name = name })) cluster
+  open_there = h.open_there;
+  has = keeps (config_in old.setup other) h.has;
+  nodes_are = same_nodes (config_in old.setup other) ∙ h.nodes_are;
+  actors_are = kept_alike (ActorStandsFor (config_in old.setup other)) (λ name. old.actors (record { slot = other; name = name })) (λ name. actors (record { slot = other; name = name })) cluster
       (λ name. same_actors (record { slot = other; name = name }) differ) h.actors_are;
   count_is = same_count ∙ h.count_is;
 }
@@ -109,11 +111,11 @@ module _ (old : World) (slot : ℕ) (name : List ℕ) (actors : ActorId → Opti
   new_world = record old { actors = actors }
 
   deed_own : IsFalse (is_out_of_memory reply) → (cluster : SoloCluster) → ClusterStandsAt old slot cluster →
-      (reply ≡ (deed_step (config_at old.setup slot) name deed cluster).reply) × ClusterStandsAt (record old { actors = actors }) slot (deed_step (config_at old.setup slot) name deed cluster).after
+      (reply ≡ (deed_step (config_in old.setup slot) name deed cluster).reply) × ClusterStandsAt (record old { actors = actors }) slot (deed_step (config_in old.setup slot) name deed cluster).after
   deed_own spared cluster h = by_actor (old.actors (id_of slot name)) refl
     where
       config : TenantConfig
-      config = config_at old.setup slot
+      config = config_in old.setup slot
 
       Own : ActEffect → Type 0
       Own turn = (reply ≡ turn.reply) × ClusterStandsAt (record old { actors = actors }) slot turn.after
@@ -125,6 +127,7 @@ module _ (old : World) (slot : ℕ) (name : List ℕ) (actors : ActorId → Opti
           subst Own (sym (deed_absent config name deed cluster gone)) (
             same.0,
             record {
+              open_there = h.open_there;
               has = h.has;
               nodes_are = h.nodes_are;
               actors_are = kept_alike (ActorStandsFor config) (λ n. old.actors (id_of slot n)) (λ n. actors (id_of slot n)) cluster (λ n. ap (λ f. f (id_of slot n)) same.1) h.actors_are;
@@ -141,6 +144,7 @@ module _ (old : World) (slot : ℕ) (name : List ℕ) (actors : ActorId → Opti
           (λ other apart. did.1.0 (id_of slot other) ∙ rw (other_name slot name other apart) refl) own.1 in (
             own.0 ∙ sym turn.reply_is,
             record {
+              open_there = h.open_there;
               has = h.has;
               nodes_are = h.nodes_are ∙ sym turn.nodes_stay;
               actors_are = actors_alone (ActorStandsFor config) (λ n. actors (id_of slot n)) (with_actor name (actor_does config deed solo.0).after cluster) (deed_step config name deed cluster).after (sym turn.actors_are) placed;

@@ -2,7 +2,6 @@
 use Rattle.std.proofs.Common.{◌≡◌, ◌≢◌, ◌⊎◌, inl, inr, ℕ, zero, suc, ◌+◌, ◌-◌, ◌<◌, Bool, true, false, cond, List, length, refl, sym, subst, ap, ◌∙◌, true≢false, arith}
 use Rattle.std.specs.Prelude.{IsFalse, Option, Some, None, slice_index, slice_set}
 use Rattle.std.proofs.lemmas.List.{get_or-set_same, get_or-set_other}
-use Rattle.cops_types.specs.declared.configs.Config.{Config}
 use Rattle.cops_types.specs.declared.faults.Fault.TheVariants.{UnknownName}
 use Rattle.cops_types.specs.TenantConfig.{TenantConfig}
 use Rattle.cops_node.specs.declared.NodeCall.{NodeCall}
@@ -27,7 +26,8 @@ use Rattle.cops_world.specs.Actors.{ActorsStandFor}
 use Rattle.cops_world.specs.ActorsStand.{ActorStandsFor, ActorSteps, SessionSteps, NodesTurn, IsAfter, StepsCluster}
 use Rattle.cops_world.specs.ActorTables.{same_actor}
 use Rattle.cops_world.specs.Cluster.{ActEffect, Actor, OfCarrier, OfSession, SoloCluster, actor_step, actor_steps, collect_at, find_actor, goes_on, reply_of_collect, step_of, with_actor, without_actor}
-use Rattle.cops_world.specs.Events.{config_at, is_out_of_memory}
+use Rattle.cops_world.specs.Events.{is_out_of_memory}
+use Rattle.cops_world.specs.Setups.{Setup, config_in}
 use Rattle.cops_world.specs.Worlds.{ClusterStandsAt, IsWorld, Moves, World}
 use Rattle.cops_world.proofs.ActorMoves.{absent_too, found_too, put_in_place, leaves, count-with_actor, count-without}
 use Rattle.cops_world.proofs.ActorTableLemmas.{same_actor-refl, other_slot, other_name}
@@ -109,7 +109,7 @@ pub record HasSteppedAt (old : World) (slot : ℕ) (name : List ℕ) (moment : �
 module _ (old : World) (whole : IsWorld old) (slot : ℕ) (name : List ℕ) (moment : ℕ) (stepped : Stepped) (nodes : Cluster) (before after : Kept) (h : HasSteppedAt old slot name moment stepped nodes before after)
     (actors : ActorId → Option Kept) (updates : (q : ActorId) → actors q ≡ table_after stepped.is_over old.actors (id_of slot name) after q) where
   abbrev config_of_slot : TenantConfig
-  config_of_slot = config_at old.setup slot
+  config_of_slot = config_in old.setup slot
 
   abbrev stepped_world : World
   stepped_world = record old { nodes = nodes; actors = actors; counts = counts_after stepped.is_over old.counts slot }
@@ -130,6 +130,7 @@ module _ (old : World) (whole : IsWorld old) (slot : ℕ) (name : List ℕ) (mom
   pub stands_after : (cluster : SoloCluster) (solo : Actor) (turn : ActEffect) → ClusterStandsAt old slot cluster → slot < length old.counts → find_actor name cluster ≡ Some solo → StepsCluster config_of_slot name cluster (nodes_of config_of_slot slot nodes) turn stepped after →
       ClusterStandsAt stepped_world slot turn.after
   stands_after cluster solo turn stood within found took = record {
+    open_there = stood.open_there;
     has = once_tenants old.nodes nodes slot slot h.once config_of_slot stood.has;
     nodes_are = sym took.nodes_are;
     actors_are = by_end stepped.is_over refl;
@@ -183,7 +184,7 @@ module _ (old : World) (whole : IsWorld old) (slot : ℕ) (name : List ℕ) (mom
             config_of_slot moment stepped solo.0 after (h.steps config_of_slot solo.0 solo.2),
       )
 
-  pub step_moves : slot < length old.counts → (config_at old.setup slot).shards ≡ old.nodes.shape.shards → Moves (λ config. actor_step config name moment) old slot stepped.reply stepped_world
+  pub step_moves : slot < length old.counts → (config_in old.setup slot).shards ≡ old.nodes.shape.shards → Moves (λ config. actor_step config name moment) old slot stepped.reply stepped_world
   step_moves within shards = record {
     same = refl;
     own = λ spared cluster stood.
@@ -198,8 +199,8 @@ module _ (old : World) (whole : IsWorld old) (slot : ℕ) (name : List ℕ) (mom
 -- nobody of the name is there
 pub absent_step : (old : World) (slot : ℕ) (name : List ℕ) (moment : ℕ) → old.actors (id_of slot name) ≡ None → Moves (λ config. actor_step config name moment) old slot (Refused UnknownName) old
 absent_step old slot name moment none = refused_moves (λ config. actor_step config name moment) old slot UnknownName (λ cluster h.
-    let gone = absent_too (ActorStandsFor (config_at old.setup slot)) name (λ n. old.actors (id_of slot n)) (λ n. old.actors (id_of slot n)) cluster h.actors_are none in
-    ap (step_of (config_at old.setup slot) name moment cluster) gone)
+    let gone = absent_too (ActorStandsFor (config_in old.setup slot)) name (λ n. old.actors (id_of slot n)) (λ n. old.actors (id_of slot n)) cluster h.actors_are none in
+    ap (step_of (config_in old.setup slot) name moment cluster) gone)
 
 -- ---- steps in a row
 
@@ -222,10 +223,10 @@ steps_end (suc more) name moment old slot reply new ends h = record {
   same = h.same;
   own = λ spared cluster stands.
       let one = h.own spared cluster stands in
-      let turn = actor_step (config_at old.setup slot) name moment cluster in
+      let turn = actor_step (config_in old.setup slot) name moment cluster in
       let last : goes_on turn.reply ≡ false = ap goes_on (sym one.0) ∙ ends in
       subst (λ (t : ActEffect). (reply ≡ t.reply) × ClusterStandsAt new slot t.after)
-      (sym (ap (λ b. elim b [ true ↦ actor_steps more (config_at old.setup slot) name moment turn.after | false ↦ turn ]) last)) one;
+      (sym (ap (λ b. elim b [ true ↦ actor_steps more (config_in old.setup slot) name moment turn.after | false ↦ turn ]) last)) one;
   others = h.others;
 }
 
@@ -237,35 +238,36 @@ steps_on more name moment old slot first mid reply new goes h later = record {
   same = later.same ∙ h.same;
   own = λ spared cluster stands.
       let one = h.own (goes_on-spared first goes) cluster stands in
-      let turn = actor_step (config_at old.setup slot) name moment cluster in
+      let turn = actor_step (config_in old.setup slot) name moment cluster in
       let on : goes_on turn.reply ≡ true = ap goes_on (sym one.0) ∙ goes in
       let rest = later.own spared turn.after one.1 in
       subst (λ (t : ActEffect). (reply ≡ t.reply) × ClusterStandsAt new slot t.after)
-      (ap (λ (c : Config). actor_steps more (config_at c slot) name moment turn.after) h.same
-      ∙ sym (ap (λ b. elim b [ true ↦ actor_steps more (config_at old.setup slot) name moment turn.after | false ↦ turn ]) on)) rest;
+      (ap (λ (c : Setup). actor_steps more (config_in c slot) name moment turn.after) h.same
+      ∙ sym (ap (λ b. elim b [ true ↦ actor_steps more (config_in old.setup slot) name moment turn.after | false ↦ turn ]) on)) rest;
   others = λ other differ cluster stands. later.others other differ cluster (h.others other differ cluster stands);
 }
 
 -- ---- a collection
 
-pub collect_moves : (old : World) (slot : ℕ) (id : NodeId) (moment : ℕ) (answered : NodeReply) (nodes : Cluster) (reply : Reply) → (config_at old.setup slot).shards ≡ old.nodes.shape.shards →
+pub collect_moves : (old : World) (slot : ℕ) (id : NodeId) (moment : ℕ) (answered : NodeReply) (nodes : Cluster) (reply : Reply) → (config_in old.setup slot).shards ≡ old.nodes.shape.shards →
     IsCall old.nodes id slot moment node_call.Collect answered nodes → reply ≡ reply_of_collect answered → Moves (λ config. collect_at config id moment) old slot reply (record old { nodes = nodes })
 collect_moves old slot id moment answered nodes reply shards made is = record {
   same = refl;
-  own = λ spared cluster stood. by_turn spared cluster stood (subst (λ ns. NodesTurn (config_at old.setup slot) ns (nodes_of (config_at old.setup slot) slot nodes) moment id node_call.Collect answered) stood.nodes_are
-      (call_turns (config_at old.setup slot) old.nodes nodes slot moment id node_call.Collect answered shards stood.has made));
+  own = λ spared cluster stood. by_turn spared cluster stood (subst (λ ns. NodesTurn (config_in old.setup slot) ns (nodes_of (config_in old.setup slot) slot nodes) moment id node_call.Collect answered) stood.nodes_are
+      (call_turns (config_in old.setup slot) old.nodes nodes slot moment id node_call.Collect answered shards stood.has made));
   others = λ other differ. others_stay old nodes old.actors old.counts slot other differ (λ config. made.others config other (λ same. differ (sym same))) (λ config. made.tenants config other) (λ q apart. refl) refl;
 }
   where
-    by_turn : IsFalse (is_out_of_memory reply) → (cluster : SoloCluster) → ClusterStandsAt old slot cluster → NodesTurn (config_at old.setup slot) cluster.nodes (nodes_of (config_at old.setup slot) slot nodes) moment id node_call.Collect answered →
-        (reply ≡ (collect_at (config_at old.setup slot) id moment cluster).reply) × ClusterStandsAt (record old { nodes = nodes }) slot (collect_at (config_at old.setup slot) id moment cluster).after
+    by_turn : IsFalse (is_out_of_memory reply) → (cluster : SoloCluster) → ClusterStandsAt old slot cluster → NodesTurn (config_in old.setup slot) cluster.nodes (nodes_of (config_in old.setup slot) slot nodes) moment id node_call.Collect answered →
+        (reply ≡ (collect_at (config_in old.setup slot) id moment cluster).reply) × ClusterStandsAt (record old { nodes = nodes }) slot (collect_at (config_in old.setup slot) id moment cluster).after
     by_turn spared cluster stood (inl (lack, stays)) = absurd (true≢false (ap is_out_of_memory (sym (is ∙ ap reply_of_collect lack)) ∙ spared))
     by_turn spared cluster stood (inr (reply_is, moved)) = (
       is ∙ ap reply_of_collect reply_is,
       record {
-        has = made.tenants (config_at old.setup slot) slot stood.has;
+        open_there = stood.open_there;
+        has = made.tenants (config_in old.setup slot) slot stood.has;
         nodes_are = moved;
-        actors_are = actors_alone (ActorStandsFor (config_at old.setup slot)) (λ n. old.actors (id_of slot n)) cluster (collect_at (config_at old.setup slot) id moment cluster).after refl stood.actors_are;
+        actors_are = actors_alone (ActorStandsFor (config_in old.setup slot)) (λ n. old.actors (id_of slot n)) cluster (collect_at (config_in old.setup slot) id moment cluster).after refl stood.actors_are;
         count_is = stood.count_is;
       },
     )

@@ -11,7 +11,7 @@ use Rattle.cops_node.specs.Parts.{Shared, place_at, solo_of}
 use Rattle.cops_node.specs.Place.{Place, node_number, place_of}
 use Rattle.cops_node.specs.SoloNode.{SoloNode, new_node}
 use Rattle.cops_world.specs.Cluster.{SoloCluster}
-use Rattle.cops_world.specs.Events.{config_at}
+use Rattle.cops_world.specs.Setups.{config_in}
 use Rattle.cops_world.specs.Trails.{audited_at}
 use Rattle.cops_world.specs.Worlds.{ClusterStandsAt, World}
 
@@ -22,24 +22,24 @@ all_at P (z ∷ xs) (suc i) x h lt is = all_at P xs i x h.1 (omega arith) is
 
 -- a node shows of a tenant what his own node has, in each cluster that his part of the world stands for
 pub shows_own : (world : World) (slot : ℕ) (id : NodeId) (place : ℕ) (node : Shared) (shown : Option AuditEntry) →
-    (config_at world.setup slot).shards ≡ world.setup.shards → node_number world.setup.shards id < length world.nodes.nodes → node ≡ get_or world.nodes.nodes (node_number world.setup.shards id) node →
+    (config_in world.setup slot).shards ≡ world.setup.head.shards → node_number world.setup.head.shards id < length world.nodes.nodes → node ≡ get_or world.nodes.nodes (node_number world.setup.head.shards id) node →
     ((own : Place) → place_at slot node ≡ Some own → shown ≡ slice_get (solo_of slot own node).trail place) →
-    (cluster : SoloCluster) → ClusterStandsAt world slot cluster → shown ≡ audited_at (config_at world.setup slot) id place cluster
+    (cluster : SoloCluster) → ClusterStandsAt world slot cluster → shown ≡ audited_at (config_in world.setup slot) id place cluster
 shows_own world slot id place node shown shards within read told cluster stood =
     told (place_of config node.home.id) found ∙ ap (λ (solo : SoloNode). slice_get solo.trail place) solo_is
   where
     config : TenantConfig
-    config = config_at world.setup slot
+    config = config_in world.setup slot
 
     solo : Shared → SoloNode
     solo n = solo_of slot (place_of config n.home.id) n
 
     found : place_at slot node ≡ Some (place_of config node.home.id)
-    found = all_at (λ (n : Shared). place_at slot n ≡ Some (place_of config n.home.id)) world.nodes.nodes (node_number world.setup.shards id) node stood.has within read
+    found = all_at (λ (n : Shared). place_at slot n ≡ Some (place_of config n.home.id)) world.nodes.nodes (node_number world.setup.head.shards id) node stood.has within read
 
     solo_is : solo node ≡ get_or cluster.nodes (node_number config.shards id) (new_node config.data_centres)
     solo_is =
         ap solo read
-        ∙ sym (get_or-map solo world.nodes.nodes (node_number world.setup.shards id) node (new_node config.data_centres) within)
+        ∙ sym (get_or-map solo world.nodes.nodes (node_number world.setup.head.shards id) node (new_node config.data_centres) within)
         ∙ ap (λ n. get_or (nodes_of config slot world.nodes) (id.dc * n + id.shard) (new_node config.data_centres)) (sym shards)
         ∙ ap (λ ns. get_or ns (node_number config.shards id) (new_node config.data_centres)) stood.nodes_are

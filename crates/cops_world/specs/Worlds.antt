@@ -1,31 +1,37 @@
 -- A world as contracts see it, and the cluster that a tenant's part of it stands for.
-use Rattle.std.specs.Prelude.{◌≡◌, ◌≢◌, ℕ, true, IsFalse, IsTrue, List, length, map, slice_index, Option, Some}
-use Rattle.std.specs.List.{IsDistinct}
+use Rattle.std.specs.Prelude.{◌≡◌, ◌≢◌, ℕ, ◌*◌, ◌≤◌, true, IsFalse, IsTrue, List, [], length, map, slice_index, slice_index_or, slice_set, Option, Some, None}
+use Rattle.std.specs.List.{AllByRecursion, IsDistinct}
 use Rattle.std.specs.Map.{keys_of, lookup}
+use Rattle.std.specs.Option.{option_map}
 use Rattle.cops_types.specs.declared.configs.Config.{Config}
-use Rattle.cops_types.specs.TenantConfig.{TenantConfig}
-use Rattle.cops_node.specs.Clusters.{Cluster, HasTenant, new_nodes, nodes_of, shape_of}
-use Rattle.cops_node.specs.Parts.{Site, site_in}
+use Rattle.cops_types.specs.declared.configs.Tenant.{Tenant}
+use Rattle.cops_types.specs.HeadLines.{is_tenant, most_tenants}
+use Rattle.cops_types.specs.OpenSlots.{begun_with, open_at}
+use Rattle.cops_types.specs.TenantConfig.{TenantConfig, tenant_config}
+use Rattle.cops_node.specs.Clusters.{Cluster, HasTenant, nodes_of, shape_of}
+use Rattle.cops_node.specs.Parts.{Site, place_at, place_under, site_in, trail_of}
+use Rattle.cops_node.specs.Place.{place_of}
 use Rattle.cops_world.specs.declared.actors.Actor.{Actor as Kept}
 use Rattle.cops_world.specs.declared.actors.ActorId.{ActorId}
 use Rattle.cops_world.specs.declared.replies.Reply.{Reply}
 use Rattle.cops_world.specs.Actors.{ActorsStandFor}
 use Rattle.cops_world.specs.ActorTables.{same_actor}
 use Rattle.cops_world.specs.ActorsStand.{ActorStandsFor, RunsAt}
-use Rattle.cops_world.specs.Cluster.{ActEffect, Actor, SoloCluster, actor_refusal, reply_with, unless_refused, with_new_actor}
-use Rattle.cops_world.specs.Events.{config_at, is_out_of_memory}
+use Rattle.cops_world.specs.Cluster.{ActEffect, Actor, SoloCluster, actor_refusal, new_cluster, reply_with, unless_refused, with_new_actor}
+use Rattle.cops_world.specs.Events.{is_out_of_memory}
 use Rattle.cops_world.specs.GoodHeads.{is_good}
+use Rattle.cops_world.specs.Setups.{Setup, config_in, is_open_at}
 
--- the configuration, the nodes, the actors by slot and name, and how many actors each tenant has
+-- the configuration with the tenants that are open, the nodes, the actors by slot and name, and how many actors each tenant has
 pub record World : Type 0 where
-  pub setup : Config
+  pub setup : Setup
   pub nodes : Cluster
   pub actors : ActorId → Option Kept
   pub counts : List ℕ
 
 -- a world as it is kept: the actors as entries of their table
 pub record KeptWorld : Type 0 where
-  pub setup : Config
+  pub setup : Setup
   pub nodes : Cluster
   pub entries : List (ActorId × Kept)
   pub counts : List ℕ
@@ -33,35 +39,48 @@ pub record KeptWorld : Type 0 where
 abbrev pub world_of : KeptWorld → World
 world_of kept = record { setup = kept.setup; nodes = kept.nodes; actors = λ id. lookup (same_actor id) kept.entries; counts = kept.counts }
 
--- the nodes of a configuration, in number order: which each is, the sizes of the cluster, and the terms of each tenant
-abbrev pub sites_of : Config → List Site
-sites_of config = map site_in (new_nodes config).nodes
+-- what no call changes of a node: the sizes are the head's, and each slot has the place of the tenant who is open there, or none
+pub record IsSiteIn (setup : Setup) (site : Site) : Type 0 where
+  pub shape_is : site.home.shape ≡ shape_of setup.head
+  pub trans_time_is : site.home.trans_time ≡ setup.head.trans_time
+  pub places_are : (slot : ℕ) → option_map (place_under site.home) (slice_index_or site.terms slot None) ≡ option_map (λ tenant. place_of (tenant_config setup.head tenant) site.home.id) (open_at slot setup.tenants)
+
+-- the nodes of the configuration: so many, and each such a one
+pub record AreSitesIn (setup : Setup) (sites : List Site) : Type 0 where
+  pub all : length sites ≡ setup.head.data_centres * setup.head.shards
+  pub each : AllByRecursion (IsSiteIn setup) sites
 
 pub record IsWorld (world : World) : Type 0 where
-  pub shape_is : world.nodes.shape ≡ shape_of world.setup
-  pub sites_are : map site_in world.nodes.nodes ≡ sites_of world.setup
-  pub good : IsTrue (is_good world.setup)
+  pub shape_is : world.nodes.shape ≡ shape_of world.setup.head
+  pub sites_are : AreSitesIn world.setup (map site_in world.nodes.nodes)
+  pub good : IsTrue (is_good world.setup.head)
+  pub tenants_good : (slot : ℕ) (tenant : Tenant) → open_at slot world.setup.tenants ≡ Some tenant → IsTrue (is_tenant tenant)
+  pub enough : most_tenants ≤ length world.setup.tenants
   pub counted : length world.counts ≡ length world.setup.tenants
-  pub run : (id : ActorId) (actor : Kept) → world.actors id ≡ Some actor → RunsAt (shape_of world.setup) id.slot actor
+  pub run : (id : ActorId) (actor : Kept) → world.actors id ≡ Some actor → RunsAt (shape_of world.setup.head) id.slot actor
+  pub hosted : (id : ActorId) (actor : Kept) → world.actors id ≡ Some actor → IsTrue (is_open_at world.setup id.slot)
 
 -- a world may be kept so: no two entries are of one actor
 pub record IsKeptWorld (kept : KeptWorld) : Type 0 where
   pub whole : IsWorld (world_of kept)
   pub distinct : IsDistinct same_actor (keys_of kept.entries)
 
--- the tenant of a slot has this cluster
+-- a tenant is open at the slot, and has this cluster
 pub record ClusterStandsAt (world : World) (slot : ℕ) (cluster : SoloCluster) : Type 0 where
-  pub has : HasTenant (config_at world.setup slot) slot world.nodes
-  pub nodes_are : nodes_of (config_at world.setup slot) slot world.nodes ≡ cluster.nodes
-  pub actors_are : ActorsStandFor (ActorStandsFor (config_at world.setup slot)) (λ name. world.actors (record { slot = slot; name = name })) cluster
+  pub open_there : IsTrue (is_open_at world.setup slot)
+  pub has : HasTenant (config_in world.setup slot) slot world.nodes
+  pub nodes_are : nodes_of (config_in world.setup slot) slot world.nodes ≡ cluster.nodes
+  pub actors_are : ActorsStandFor (ActorStandsFor (config_in world.setup slot)) (λ name. world.actors (record { slot = slot; name = name })) cluster
   pub count_is : slice_index world.counts slot ≡ length cluster.actors
 
--- the configuration, and the tenants' clusters, of a world as it is kept
+-- the configuration of a world as it is kept
 abbrev pub setup_of : KeptWorld → Config
-setup_of kept = kept.setup
+setup_of kept = kept.setup.head
 
-abbrev pub HasCluster : KeptWorld → ℕ → SoloCluster → Type 0
-HasCluster kept = ClusterStandsAt (world_of kept)
+-- the tenants who are open are those of the head, and the tenant of a slot has this cluster
+pub record HasCluster (kept : KeptWorld) (slot : ℕ) (cluster : SoloCluster) : Type 0 where
+  pub tenants_are : kept.setup.tenants ≡ begun_with kept.setup.head.tenants
+  pub stands : ClusterStandsAt (world_of kept) slot cluster
 
 -- a tenant's configuration has the sizes of the whole one
 pub record HasSizes (config : TenantConfig) (setup : Config) : Type 0 where
@@ -73,14 +92,38 @@ pub record HasSizes (config : TenantConfig) (setup : Config) : Type 0 where
 pub record Moves (turn_of : TenantConfig → SoloCluster → ActEffect) (old : World) (slot : ℕ) (reply : Reply) (new : World) : Type 0 where
   pub same : new.setup ≡ old.setup
   pub own : IsFalse (is_out_of_memory reply) → (cluster : SoloCluster) → ClusterStandsAt old slot cluster →
-      (reply ≡ (turn_of (config_at old.setup slot) cluster).reply) × ClusterStandsAt new slot (turn_of (config_at old.setup slot) cluster).after
+      (reply ≡ (turn_of (config_in old.setup slot) cluster).reply) × ClusterStandsAt new slot (turn_of (config_in old.setup slot) cluster).after
   pub others : (other : ℕ) → slot ≢ other → (cluster : SoloCluster) → ClusterStandsAt old other cluster → ClusterStandsAt new other cluster
 
 -- where memory was refused, this holds of what is left of the tenant's cluster
 abbrev pub Leaves : (TenantConfig → SoloCluster → SoloCluster → Type 0) → World → ℕ → Reply → World → Type 0
 Leaves Left old slot reply new =
-    IsTrue (is_out_of_memory reply) → (cluster : SoloCluster) → ClusterStandsAt old slot cluster → (after : SoloCluster) × Left (config_at old.setup slot) cluster after × ClusterStandsAt new slot after
+    IsTrue (is_out_of_memory reply) → (cluster : SoloCluster) → ClusterStandsAt old slot cluster → (after : SoloCluster) × Left (config_in old.setup slot) cluster after × ClusterStandsAt new slot after
 
 -- a new actor joins, where its place exists, unless its name is taken or the tenant has as many as he may
 abbrev pub join_step : List ℕ → Actor → Reply → TenantConfig → SoloCluster → ActEffect
 join_step name actor reply config cluster = unless_refused (actor_refusal config true name cluster) cluster (reply_with reply (with_new_actor name actor cluster))
+
+-- ---- tenants that come and go
+
+-- another slot's tenant has the cluster that he had
+abbrev pub OthersStand : ℕ → KeptWorld → KeptWorld → Type 0
+OthersStand slot old new = (other : ℕ) → slot ≢ other → (cluster : SoloCluster) → ClusterStandsAt (world_of old) other cluster → ClusterStandsAt (world_of new) other cluster
+
+-- the slot is this tenant's, who has a new cluster without actors
+pub record Admits (slot : ℕ) (tenant : Tenant) (old new : KeptWorld) : Type 0 where
+  pub setup_is : new.setup ≡ record { head = old.setup.head; tenants = slice_set old.setup.tenants slot (Some tenant) }
+  pub begins : ClusterStandsAt (world_of new) slot (new_cluster (tenant_config old.setup.head tenant))
+  pub others : OthersStand slot old new
+
+-- the slot has no tenant, no actor, and nothing at any node
+pub record Closes (slot : ℕ) (old new : KeptWorld) : Type 0 where
+  pub setup_is : new.setup ≡ record { head = old.setup.head; tenants = slice_set old.setup.tenants slot None }
+  pub no_actor : (name : List ℕ) → (world_of new).actors (record { slot = slot; name = name }) ≡ None
+  pub nowhere : AllByRecursion (λ node. (place_at slot node ≡ None) × (trail_of slot node.audit ≡ [])) new.nodes.nodes
+  pub others : OthersStand slot old new
+
+-- the same tenants are open, and each has the cluster that he had
+pub record StaysOpen (old new : KeptWorld) : Type 0 where
+  pub setup_is : new.setup ≡ old.setup
+  pub clusters : (slot : ℕ) (cluster : SoloCluster) → ClusterStandsAt (world_of old) slot cluster → ClusterStandsAt (world_of new) slot cluster

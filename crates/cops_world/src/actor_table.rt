@@ -1,5 +1,5 @@
 //! The actors of all tenants, by slot and name.
-ghost use Rattle.std.specs.Prelude.{◌≡◌, ◌≢◌, ◌<◌, ◌⊎◌, ℕ, IsTrue, IsFalse, IfSome, is_some, position, slice_get, Some, None};
+ghost use Rattle.std.specs.Prelude.{◌≡◌, ◌≢◌, ◌<◌, ◌⊎◌, ℕ, nat_eq, not, IsTrue, IsFalse, IfSome, is_some, position, slice_get, Some, None};
 ghost use Rattle.std.specs.List.{IsDistinct};
 ghost use Rattle.indexmap.specs.IndexMap.{keys, values, Updates};
 ghost use Rattle.cops_types.specs.TenantConfig.{TenantConfig};
@@ -115,4 +115,17 @@ pub(crate) fn take_out(actors: &mut IndexMap<ActorId, Actor, Seeds>, id: ActorId
     ensures unique { IsDistinct same_actor (keys actors.new) }
 {
     let _over = actors.swap_remove(&id);
+}
+
+/// Takes out all actors of a slot.
+pub(crate) fn take_out_all(actors: &mut IndexMap<ActorId, Actor, Seeds>, slot: u64)
+    ensures gone { (id : Id) → id.slot ≡ slot → actor_at actors.new id ≡ None }
+    ensures others { (id : Id) → slot ≢ id.slot → actor_at actors.new id ≡ actor_at actors.old id }
+    ensures unique { IsDistinct same_actor (keys actors.new) }
+{
+    actors.retain(
+        |id: &ActorId, actor: &mut Actor| -> bool
+            ensures { (result ≡ not (nat_eq id.now.slot slot)) × (actor.new ≡ actor.old) }
+        { id.slot != slot },
+    );
 }

@@ -32,8 +32,9 @@ fn see_name(name: Name)
     let _bytes = name.bytes();
 }
 
-/// Whether a tenant is within the limits.
-fn is_tenant(tenant: &Tenant) -> bool
+/// Whether a head may give the tenant: its first clock and its quota are within the limits. A world requires
+/// that of whom it admits.
+pub fn is_tenant(tenant: &Tenant) -> bool
     ensures { result ≡ is_tenant tenant.now }
 {
     see_name(tenant.name);

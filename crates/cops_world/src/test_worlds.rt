@@ -95,16 +95,42 @@ pub(crate) fn row<'a>(rt: &impl Abort, row: &'a str) -> (&'a str, &'a str) {
     }
 }
 
+/// Applies an event. Whether memory was not refused; then the reply has one of these texts.
+fn is_told(rt: &impl Abort, alloc: Global, world: &mut World, event: &Event, texts: &str) -> bool {
+    let reply = world.apply(event);
+    if matches!(reply, Reply::Refused(Fault::OutOfMemory)) {
+        return false;
+    }
+    assert!(rt; says(rt, alloc, &reply, texts), "{texts}");
+    true
+}
+
 /// Applies the events of these rows. Whether memory was never refused.
 fn goes_through(rt: &impl Abort, alloc: Global, world: &mut World, rows: &str) -> bool {
     for line in rows.lines() {
         let (line, texts) = row(rt, line);
         let event = event_of(rt, &world.config().tenants, line);
-        let reply = world.apply(&event);
-        if matches!(reply, Reply::Refused(Fault::OutOfMemory)) {
+        if !is_told(rt, alloc, world, &event, texts) {
             return false;
         }
-        assert!(rt; says(rt, alloc, &reply, texts), "{line}");
+    }
+    true
+}
+
+/// Applies the acts of these rows at a slot, whoever has it. Whether memory was never refused.
+fn goes_through_at(
+    rt: &impl Abort,
+    alloc: Global,
+    world: &mut World,
+    slot: u64,
+    rows: &str,
+) -> bool {
+    for line in rows.lines() {
+        let (line, texts) = row(rt, line);
+        let act = act_of(rt, line.as_bytes());
+        if !is_told(rt, alloc, world, &Event { slot, act }, texts) {
+            return false;
+        }
     }
     true
 }
@@ -115,6 +141,15 @@ pub(crate) fn check(rt: &impl Abort, alloc: Global, world: &mut World, rows: &st
     for part in rows.split("\n\n") {
         if !goes_through(rt, alloc, world, part) {
             assert!(rt; goes_through(rt, alloc, world, part));
+        }
+    }
+}
+
+/// As `check`, with all acts at a slot.
+pub(crate) fn check_at(rt: &impl Abort, alloc: Global, world: &mut World, slot: u64, rows: &str) {
+    for part in rows.split("\n\n") {
+        if !goes_through_at(rt, alloc, world, slot, part) {
+            assert!(rt; goes_through_at(rt, alloc, world, slot, part));
         }
     }
 }

@@ -1,14 +1,16 @@
 //! All tenants of a cluster in one process.
-ghost use Rattle.std.specs.Prelude.{◌≡◌, ◌<◌, ◌-◌, ℕ, true, false, not, IfOk, IfSome, IfNone, IsTrue, IsFalse, None, length, map, nat_le, slice_index, slice_set, if◌then◌else◌};
-ghost use Rattle.cops_types.specs.TenantConfig.{TenantConfig};
+ghost use Rattle.std.specs.Prelude.{◌≡◌, ◌<◌, ◌-◌, ◌⊎◌, ℕ, true, false, not, Err, IfErr, IfOk, IfSome, IfNone, IsOk, IsTrue, IsFalse, None, OnErr, OnOk, Some, length, map, nat_le, slice_index, slice_set, if◌then◌else◌};
+ghost use Rattle.cops_types.specs.TenantConfig.{TenantConfig, tenant_config};
 ghost use Rattle.cops_node.specs.Clusters.{IsCluster, shape_of};
 ghost use Rattle.cops_node.specs.Parts.{AuditFits, site_in};
 ghost use Rattle.cops_session.specs.Session.{new_session};
 ghost use Rattle.cops_repl.specs.Carrier.{new_carrier};
 ghost use Rattle.cops_repl.specs.Stands.{RunsIn};
+ghost use Rattle.cops_types.specs.HeadLines.{is_tenant};
 ghost use Rattle.cops_types.specs.Key.{is_key};
+ghost use Rattle.cops_types.specs.OpenSlots.{admission_refusal, open_at};
 ghost use Rattle.cops_types.specs.Refusal.{IsAnswer, refused_if};
-ghost use Rattle.cops_types.specs.declared.faults.Fault.TheVariants.{BadKey};
+ghost use Rattle.cops_types.specs.declared.faults.Fault.TheVariants.{BadKey, OutOfMemory, UnknownTenant};
 ghost use Rattle.std.specs.List.{AllByRecursion, list_all};
 ghost use Rattle.std.specs.Option.{option_copied};
 ghost use Rattle.cops_world.specs.Acting.{HasActed, IsNew};
@@ -17,33 +19,39 @@ ghost use Rattle.cops_world.specs.ActorsStand.{ActorStandsFor, RunsAt};
 ghost use Rattle.cops_world.specs.Cluster.{Actor as Solo, SoloCluster, actor_step, actor_steps, cluster_step, goes_on, has_node, has_stream, most_steps, reply_of_collect};
 ghost use Rattle.cops_world.specs.Deeds.{deed_step};
 ghost use Rattle.cops_world.specs.Events.{config_at};
+ghost use Rattle.cops_world.specs.Setups.{config_in, is_open_at, next_slot};
 ghost use Rattle.cops_world.specs.Lacks.{Lacks, Stays, StepStops, StepsStop};
 ghost use Rattle.cops_world.specs.Trails.{audited_at};
-ghost use Rattle.cops_world.specs.Worlds.{HasCluster, HasSizes, Leaves, Moves, setup_of, sites_of, join_step, world_of};
+ghost use Rattle.cops_world.specs.Worlds.{Admits, AreSitesIn, ClusterStandsAt, Closes, HasCluster, HasSizes, Leaves, Moves, StaysOpen, setup_of, join_step, world_of};
 ghost use Rattle.cops_world.specs.ActorTables.{same_actor};
 ghost use Rattle.cops_world.specs.declared.acts.Act.TheVariants as acts;
 ghost use Rattle.cops_world.specs.declared.replies.Reply.TheVariants.{Refused};
 
-use crate::actor_table::{act_at, place_of, put_new, step_at, take_out};
+use crate::actor_table::{act_at, place_of, put_new, step_at, take_out, take_out_all};
 use crate::actors::{Actor, ActorId, Deed, Keys, Stepped};
 use crate::guesses::Guesses;
 use crate::{Act, ByteSlice, ByteSlices, Event, Reply, Tenancy};
 use cops_node::{AuditRow, Cluster0, Node, NodeCall, NodeId, NodeReply, Nodes};
 use cops_repl::Carrier;
 use cops_session::Session;
-use cops_types::{Config, Fault, Key, Name, Seeds, Value};
+use cops_types::{Config, Fault, Key, Name, OpenTenants, Seeds, Tenant, Value};
 use indexmap::IndexMap;
 use std::alloc::{AllocError, Global};
 use std::marker::Model;
 
-/// The nodes of a cluster, and the sessions and carriers of all its tenants.
+/// The most tenants that may be open at once. No slot has this number.
+const MOST_OPEN: u64 = 64;
+
+/// The nodes of a cluster, and the sessions and carriers of all its tenants, who may come and go.
 #[derive(Drop)]
 pub struct World {
     alloc: Global,
     config: Config,
+    tenants: OpenTenants,
     nodes: Cluster0,
     actors: IndexMap<ActorId, Actor, Seeds>,
     guesses: Guesses,
+    /// How many actors the tenant of each slot has. Of a slot without a tenant it means nothing.
     counts: Vec<u64>,
 }
 
@@ -52,9 +60,9 @@ impl Model for World {
 
     ghost Value = { KeptWorld };
 
-    ghost view = { λ w. record { setup = w.config; nodes = w.nodes; entries = w.actors.entries; counts = w.counts.items } };
+    ghost view = { λ w. record { setup = record { head = w.config; tenants = w.tenants }; nodes = w.nodes; entries = w.actors.entries; counts = w.counts.items } };
 
-    ghost invariant = { λ w. IsKeptWorld (record { setup = w.config; nodes = w.nodes; entries = w.actors.entries; counts = w.counts.items }) };
+    ghost invariant = { λ w. IsKeptWorld (record { setup = record { head = w.config; tenants = w.tenants }; nodes = w.nodes; entries = w.actors.entries; counts = w.counts.items }) };
 }
 
 /// The keys, where each is one.
@@ -74,14 +82,13 @@ fn keys_of(alloc: Global, slices: &ByteSlices) -> Result<Keys, Fault>
 }
 
 /// A session of a tenant at a data centre, as an actor.
-fn new_session(alloc: Global, config: &Config, slot: u64, dc: u64) -> Actor
-    requires slot { slot < length config.now.tenants }
+fn new_session(alloc: Global, config: &Config, tenant: &Tenant, slot: u64, dc: u64) -> Actor
     requires dc { dc < config.now.data_centres }
     requires shards { 0 < config.now.shards }
-    ensures stands { ActorStandsFor (config_at config.now slot) result (Solo.OfSession (new_session dc 1)) }
+    ensures stands { ActorStandsFor (tenant_config config.now tenant.now) result (Solo.OfSession (new_session dc 1)) }
     ensures runs { RunsAt (shape_of config.now) slot result }
 {
-    Actor::OfSession(Session::new(alloc, config, slot, dc))
+    Actor::OfSession(Session::of_tenant(alloc, config, tenant, slot, dc))
 }
 
 /// A carrier from a node to another data centre, as an actor.
@@ -154,20 +161,41 @@ impl World {
         self.act(slot, name, Deed::Show(number))
     }
 
+    /// Whether a tenant is open at a slot.
+    fn has_tenant(&self, slot: u64) -> bool
+        ensures { result ≡ is_open_at self.now.setup slot }
+    {
+        self.tenants.tenant(slot).is_some()
+    }
+
+    /// The tenant who is open at a slot.
+    fn tenant(&self, slot: u64) -> &Tenant
+        requires { IsTrue (is_open_at self.now.setup slot) }
+        ensures there { open_at slot self.now.setup.tenants ≡ Some result.now }
+        ensures good { IsTrue (is_tenant result.now) }
+        ensures counted { slot < length self.now.counts }
+    {
+        match self.tenants.tenant(slot) {
+            Some(tenant) => tenant,
+            None => unreachable!(),
+        }
+    }
+
     /// Whether a tenant has as many actors as he may.
     fn is_full(&self, slot: u64) -> bool
-        requires { slot < length self.now.setup.tenants }
-        ensures { result ≡ nat_le (config_at self.now.setup slot).quota.actors (slice_index self.now.counts slot) }
+        requires { IsTrue (is_open_at self.now.setup slot) }
+        ensures { result ≡ nat_le (config_in self.now.setup slot).quota.actors (slice_index self.now.counts slot) }
     {
-        self.counts[slot as usize] >= self.config.tenants.tenant(slot).quota.actors
+        let tenant = self.tenant(slot);
+        self.counts[slot as usize] >= tenant.quota.actors
     }
 
     /// Why a new actor may not join: its name is taken, or its tenant has as many as he may.
     fn refuses(&self, id: ActorId) -> Option<Fault>
-        requires { id.slot < length self.now.setup.tenants }
+        requires { IsTrue (is_open_at self.now.setup id.slot) }
         ensures refused { IfSome result (λ fault. (solo : Solo) (reply : Reply) → Moves (join_step id.name solo reply) (world_of self.now) id.slot (Refused fault) (world_of self.now)) }
         ensures free { IfNone result ((world_of self.now).actors id ≡ None) }
-        ensures room { IfNone result (nat_le (config_at self.now.setup id.slot).quota.actors (slice_index self.now.counts id.slot) ≡ false) }
+        ensures room { IfNone result (nat_le (config_in self.now.setup id.slot).quota.actors (slice_index self.now.counts id.slot) ≡ false) }
     {
         if self.actors.contains_key(&id) {
             return Some(Fault::NameTaken);
@@ -180,12 +208,12 @@ impl World {
 
     /// Takes in a new actor, whose name is free and whose tenant may have one more. Whether there
     /// was memory for it.
-    fn admit(&mut self, id: ActorId, actor: Actor) -> bool
-        requires slot { id.slot < length self.old.setup.tenants }
-        requires runs { RunsAt (shape_of self.old.setup) id.slot actor }
+    fn join(&mut self, id: ActorId, actor: Actor) -> bool
+        requires slot { IsTrue (is_open_at self.old.setup id.slot) }
+        requires runs { RunsAt (shape_of self.old.setup.head) id.slot actor }
         requires free { (world_of self.old).actors id ≡ None }
-        requires room { nat_le (config_at self.old.setup id.slot).quota.actors (slice_index self.old.counts id.slot) ≡ false }
-        ensures joined { IsTrue result → (solo : Solo) (reply : Reply) → ActorStandsFor (config_at self.old.setup id.slot) actor solo →
+        requires room { nat_le (config_in self.old.setup id.slot).quota.actors (slice_index self.old.counts id.slot) ≡ false }
+        ensures joined { IsTrue result → (solo : Solo) (reply : Reply) → ActorStandsFor (config_in self.old.setup id.slot) actor solo →
             Moves (join_step id.name solo reply) (world_of self.old) id.slot reply (world_of self.new) }
         ensures lack { IsFalse result → world_of self.new ≡ world_of self.old }
     {
@@ -200,7 +228,7 @@ impl World {
     /// Opens a session of a tenant at a data centre.
     #[inline(never)]
     fn open(&mut self, slot: u64, name: Name, dc: u64) -> Reply
-        requires { slot < length self.old.setup.tenants }
+        requires { IsTrue (is_open_at self.old.setup slot) }
         ensures moves { Moves (λ config. cluster_step config (acts.Open name dc)) (world_of self.old) slot result (world_of self.new) }
         ensures lack { Leaves Stays (world_of self.old) slot result (world_of self.new) }
     {
@@ -210,8 +238,9 @@ impl World {
         if let Some(fault) = self.refuses(ActorId { slot, name }) {
             return Reply::Refused(fault);
         }
-        let session = new_session(self.alloc, &self.config, slot, dc);
-        if self.admit(ActorId { slot, name }, session) {
+        let tenant = self.tenant(slot);
+        let session = new_session(self.alloc, &self.config, tenant, slot, dc);
+        if self.join(ActorId { slot, name }, session) {
             Reply::Opened
         } else {
             Reply::Refused(Fault::OutOfMemory)
@@ -220,14 +249,14 @@ impl World {
 
     /// Whether there is such a node.
     fn has_node(&self, dc: u64, shard: u64) -> bool
-        ensures { (config : TenantConfig) → HasSizes config self.now.setup → result ≡ has_node config dc shard }
+        ensures { (config : TenantConfig) → HasSizes config self.now.setup.head → result ≡ has_node config dc shard }
     {
         dc < self.config.data_centres && shard < self.config.shards
     }
 
     /// Whether there is such a node, and this data centre, which is another one.
     fn has_stream(&self, origin: NodeId, to_dc: u64) -> bool
-        ensures { (config : TenantConfig) → HasSizes config self.now.setup → result ≡ has_stream config origin.dc origin.shard to_dc }
+        ensures { (config : TenantConfig) → HasSizes config self.now.setup.head → result ≡ has_stream config origin.dc origin.shard to_dc }
     {
         self.has_node(origin.dc, origin.shard)
             && to_dc < self.config.data_centres
@@ -237,7 +266,7 @@ impl World {
     /// Begins a carrier of a tenant from a node to another data centre.
     #[inline(never)]
     fn carry(&mut self, slot: u64, name: Name, origin: NodeId, to_dc: u64) -> Reply
-        requires { slot < length self.old.setup.tenants }
+        requires { IsTrue (is_open_at self.old.setup slot) }
         ensures moves { Moves (λ config. cluster_step config (acts.Carry name origin.dc origin.shard to_dc)) (world_of self.old) slot result (world_of self.new) }
         ensures lack { Leaves Stays (world_of self.old) slot result (world_of self.new) }
     {
@@ -248,7 +277,7 @@ impl World {
             return Reply::Refused(fault);
         }
         let carrier = new_carrier(&self.config, origin, to_dc);
-        if self.admit(ActorId { slot, name }, carrier) {
+        if self.join(ActorId { slot, name }, carrier) {
             Reply::Started
         } else {
             Reply::Refused(Fault::OutOfMemory)
@@ -257,7 +286,7 @@ impl World {
 
     /// Takes out an actor that is over.
     fn leave(&mut self, id: ActorId)
-        requires { id.slot < length self.old.setup.tenants }
+        requires { IsTrue (is_open_at self.old.setup id.slot) }
         ensures setup { self.new.setup ≡ self.old.setup }
         ensures nodes { self.new.nodes ≡ self.old.nodes }
         ensures actors { (other : ActorId) → (world_of self.new).actors other ≡ (if same_actor id other then None else (world_of self.old).actors other) }
@@ -271,7 +300,7 @@ impl World {
 
     /// Takes a step of an actor at a moment.
     fn step(&mut self, slot: u64, name: Name, moment: u64) -> Reply
-        requires { slot < length self.old.setup.tenants }
+        requires { IsTrue (is_open_at self.old.setup slot) }
         ensures moves { Moves (λ config. actor_step config name moment) (world_of self.old) slot result (world_of self.new) }
         ensures lack { Leaves (λ config. StepStops config name moment) (world_of self.old) slot result (world_of self.new) }
     {
@@ -296,7 +325,7 @@ impl World {
 
     /// Takes steps of an actor at one moment until it has answered, at most `more` after the first.
     fn steps(&mut self, slot: u64, name: Name, moment: u64, mut more: u64) -> Reply
-        requires { slot < length self.old.setup.tenants }
+        requires { IsTrue (is_open_at self.old.setup slot) }
         ensures moves { Moves (λ config. actor_steps more config name moment) (world_of self.old) slot result (world_of self.new) }
         ensures lack { Leaves (λ config. StepsStop more config name moment) (world_of self.old) slot result (world_of self.new) }
     {
@@ -312,7 +341,7 @@ impl World {
     /// Collects at a node.
     #[inline(never)]
     fn collect(&mut self, slot: u64, id: NodeId, moment: u64) -> Reply
-        requires { slot < length self.old.setup.tenants }
+        requires { IsTrue (is_open_at self.old.setup slot) }
         ensures moves { Moves (λ config. cluster_step config (acts.Collect id.dc id.shard moment)) (world_of self.old) slot result (world_of self.new) }
         ensures lack { Leaves Stays (world_of self.old) slot result (world_of self.new) }
     {
@@ -360,26 +389,42 @@ impl World {
 
     /// More steps than any request of a session or any carrier takes.
     fn most_steps(&self, slot: u64) -> u64
-        requires { slot < length self.now.setup.tenants }
-        ensures { result ≡ most_steps (config_at self.now.setup slot) }
+        requires { IsTrue (is_open_at self.now.setup slot) }
+        ensures { result ≡ most_steps (config_in self.now.setup slot) }
     {
-        let deps = self.config.tenants.tenant(slot).quota.deps;
+        let deps = self.tenant(slot).quota.deps;
         (self.config.restarts + 1) * (2 * 32 + 1) + deps + 3
     }
 
     /// One event: it acts on its own tenant's cluster and on no other. Where memory was refused
     /// nothing changed, unless a step was taken: its request or its carrier is then over, and what
     /// the calls did stands.
+    ///
+    /// On a slot without a tenant it is `UnknownTenant`, and nothing changes.
     pub fn apply(&mut self, event: &Event) -> Reply
-        requires { event.now.slot < length self.old.setup.tenants }
-        ensures { HasActed setup_of HasCluster self.old event.now result self.new }
+        ensures acted { HasActed setup_of HasCluster self.old event.now result self.new }
+        ensures moves { Moves (λ config. cluster_step config event.now.act) (world_of self.old) event.now.slot result (world_of self.new) }
+        ensures lack { Leaves (λ config. Lacks config event.now.act) (world_of self.old) event.now.slot result (world_of self.new) }
+        ensures vacant { IsFalse (is_open_at self.old.setup event.now.slot) → (result ≡ Refused UnknownTenant) × (self.new ≡ self.old) }
     {
-        Tenancy::apply(self, event)
+        self.act_for(event.slot, &event.act)
     }
 
-    /// One act of the tenant in a slot.
+    /// One act of the tenant in a slot, if it has one.
     pub(crate) fn act_for(&mut self, slot: u64, act: &Act) -> Reply
-        requires { slot < length self.old.setup.tenants }
+        ensures moves { Moves (λ config. cluster_step config act.now) (world_of self.old) slot result (world_of self.new) }
+        ensures lack { Leaves (λ config. Lacks config act.now) (world_of self.old) slot result (world_of self.new) }
+        ensures vacant { IsFalse (is_open_at self.old.setup slot) → (result ≡ Refused UnknownTenant) × (self.new ≡ self.old) }
+    {
+        if !self.has_tenant(slot) {
+            return Reply::Refused(Fault::UnknownTenant);
+        }
+        self.act_of_tenant(slot, act)
+    }
+
+    /// One act of the tenant who is open at a slot.
+    fn act_of_tenant(&mut self, slot: u64, act: &Act) -> Reply
+        requires { IsTrue (is_open_at self.old.setup slot) }
         ensures moves { Moves (λ config. cluster_step config act.now) (world_of self.old) slot result (world_of self.new) }
         ensures lack { Leaves (λ config. Lacks config act.now) (world_of self.old) slot result (world_of self.new) }
     {
@@ -412,19 +457,89 @@ impl World {
         }
     }
 
+    /// Gives a slot to a tenant, who begins with an empty cluster and without actors: at all nodes, or
+    /// at none. `NameTaken` where an open tenant has that name or token, `NoSlot` where the slot has a
+    /// tenant or is none of the 64, in this order. The tenant is within the limits that a head sets.
+    pub fn admit_at(&mut self, slot: u64, tenant: Tenant) -> Result<(), Fault>
+        requires { IsTrue (is_tenant tenant) }
+        ensures ok { OnOk result (Admits slot tenant self.old self.new) }
+        ensures refused { IfSome (admission_refusal self.old.setup.tenants slot tenant) (λ fault. result ≡ Err fault) }
+        ensures faults { IfErr result (λ fault. (admission_refusal self.old.setup.tenants slot tenant ≡ Some fault) ⊎ (fault ≡ OutOfMemory)) }
+        ensures err { OnErr result (StaysOpen self.old self.new) }
+    {
+        let first_clock = tenant.first_clock;
+        let quota = tenant.quota;
+        self.tenants.admit_at(slot, tenant)?;
+        if let Err(fault) = self.nodes.admit(slot, first_clock, quota) {
+            let _closed = self.tenants.close(slot);
+            return Err(fault);
+        }
+        self.counts[slot as usize] = 0;
+        Ok(())
+    }
+
+    /// The least free slot, or the number of all slots where none is free.
+    fn next_slot(&self) -> u64
+        ensures { result ≡ next_slot self.now.setup.tenants }
+    {
+        match self.tenants.least_free() {
+            Some(slot) => slot,
+            None => MOST_OPEN,
+        }
+    }
+
+    /// Gives the least free slot to a tenant, as `admit_at` does, and tells which it is.
+    pub fn admit(&mut self, tenant: Tenant) -> Result<u64, Fault>
+        requires { IsTrue (is_tenant tenant) }
+        ensures least { IfOk result (λ slot. slot ≡ next_slot self.old.setup.tenants) }
+        ensures ok { IfOk result (λ slot. Admits slot tenant self.old self.new) }
+        ensures refused { IfSome (admission_refusal self.old.setup.tenants (next_slot self.old.setup.tenants) tenant) (λ fault. result ≡ Err fault) }
+        ensures faults { IfErr result (λ fault. (admission_refusal self.old.setup.tenants (next_slot self.old.setup.tenants) tenant ≡ Some fault) ⊎ (fault ≡ OutOfMemory)) }
+        ensures err { OnErr result (StaysOpen self.old self.new) }
+    {
+        let slot = self.next_slot();
+        match self.admit_at(slot, tenant) {
+            Ok(()) => Ok(slot),
+            Err(fault) => Err(fault),
+        }
+    }
+
+    /// Takes a slot from its tenant, and drops all of it: what the nodes have, sessions and carriers.
+    /// `UnknownTenant` where it has none. It asks for no memory. It goes through the actors of all
+    /// tenants, and takes as long as there are some.
+    pub fn close(&mut self, slot: u64) -> Result<(), Fault>
+        ensures closed { OnOk result (Closes slot self.old self.new) }
+        ensures there { IsTrue (is_open_at self.old.setup slot) → IsOk result }
+        ensures vacant { IsFalse (is_open_at self.old.setup slot) → result ≡ Err UnknownTenant }
+        ensures err { OnErr result (self.new ≡ self.old) }
+    {
+        self.tenants.close(slot)?;
+        self.nodes.close(slot);
+        take_out_all(&mut self.actors, slot);
+        Ok(())
+    }
+
+    /// The tenants who are open now, by slot.
+    pub fn tenants(&self) -> &OpenTenants
+        ensures { result.now ≡ self.now.setup.tenants }
+    {
+        &self.tenants
+    }
+
     /// A new world of a configuration.
     pub fn new(alloc: Global, config: Config) -> Result<Self, AllocError>
         requires { IsTrue (is_good config) }
         ensures { IfOk result (IsNew setup_of HasCluster config) }
     {
         let nodes = Cluster0::new(alloc, &config)?;
-        let tenants = config.tenants.len();
-        let counts = vec![in alloc; 0; tenants]?;
+        let tenants = OpenTenants::of(alloc, &config.tenants)?;
+        let counts = vec![in alloc; 0; tenants.as_slice().len()]?;
         let guesses = Guesses::new(alloc)?;
         let seeds = Seeds::of_tokens(config.tenants.as_slice());
         Ok(World {
             alloc,
             config,
+            tenants,
             nodes,
             actors: IndexMap::with_hasher(alloc, seeds),
             guesses,
@@ -432,7 +547,7 @@ impl World {
         })
     }
 
-    /// The configuration.
+    /// The configuration of the head, whoever is open now.
     pub fn config(&self) -> &Config
         ensures value { result.now ≡ setup_of self.now }
         ensures good { IsTrue (is_good (setup_of self.now)) }
@@ -443,7 +558,7 @@ impl World {
     /// The nodes of the configuration, by number.
     pub fn nodes(&self) -> &[Node]
         ensures value { result.now ≡ self.now.nodes.nodes }
-        ensures sites { map site_in self.now.nodes.nodes ≡ sites_of (setup_of self.now) }
+        ensures sites { AreSitesIn self.now.setup (map site_in self.now.nodes.nodes) }
         ensures in_order { IsCluster (shape_of (setup_of self.now)) self.now.nodes.nodes }
         ensures fitting { AllByRecursion AuditFits self.now.nodes.nodes }
     {
@@ -454,8 +569,8 @@ impl World {
     pub fn audit(&self, id: NodeId, slot: u64, place: u64) -> Option<&AuditRow>
         requires dc { id.dc < (setup_of self.now).data_centres }
         requires shard { id.shard < (setup_of self.now).shards }
-        requires slot { slot < length (setup_of self.now).tenants }
-        ensures { (cluster : SoloCluster) → HasCluster self.now slot cluster → option_copied result ≡ audited_at (config_at (setup_of self.now) slot) id place cluster }
+        ensures begun { (cluster : SoloCluster) → HasCluster self.now slot cluster → option_copied result ≡ audited_at (config_at (setup_of self.now) slot) id place cluster }
+        ensures open_now { (cluster : SoloCluster) → ClusterStandsAt (world_of self.now) slot cluster → option_copied result ≡ audited_at (config_in self.now.setup slot) id place cluster }
     {
         let cluster = &self.nodes;
         let nodes = cluster.nodes();
@@ -478,6 +593,6 @@ impl Tenancy for World {
     }
 
     fn apply(&mut self, event: &Event) -> Reply {
-        self.act_for(event.slot, &event.act)
+        World::apply(self, event)
     }
 }

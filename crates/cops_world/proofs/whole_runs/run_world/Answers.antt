@@ -1,10 +1,14 @@
-use Rattle.std.proofs.Common.{ap, subst, ◌∙◌}
+use Rattle.std.proofs.Common.{◌<◌, length, ap, subst, sym, ◌∙◌}
+use Rattle.std.specs.Prelude.{All}
 use Rattle.cops_types.specs.declared.configs.Config.{Config}
 use Rattle.cops_world.specs.Cluster.{new_cluster}
 use Rattle.cops_world.specs.Events.{before_lack, cluster_after, config_at, own, replies, replies_from, IsFrontOf}
 use Rattle.cops_world.specs.Worlds.{HasCluster}
 use Rattle.cops_world.proofs.MainLemmas.{holds_for, some_shard}
 use Rattle.cops_world.proofs.whole_runs.run_world.Goals as goal
+
+pub run_all-requires : goal.run_all-requires
+run_all-requires c = subst (λ (k : Config). All (λ e. e.slot < length k.tenants) c.args.events.now) (sym c.in_ok-world.ensures.setup_is) c.requires.slots
 
 pub returns-clause-theorem : goal.returns-clause-theorem
 returns-clause-theorem c = λ slot within.

@@ -9,10 +9,11 @@ use Rattle.cops_world.specs.declared.replies.Reply.{Reply}
 use Rattle.cops_world.specs.Cluster.{SoloCluster, cluster_step, new_cluster}
 use Rattle.cops_world.specs.Events.{own, config_at, solo_replies, before_lack, IsFrontOf, IsSpared, ToldAlone}
 use Rattle.cops_world.specs.GoodHeads.{is_good}
-use Rattle.cops_world.specs.Worlds.{KeptWorld, HasCluster}
+use Rattle.cops_world.specs.Worlds.{HasCluster, KeptWorld, setup_of}
 use Rattle.cops_world.proofs.MainLemmas.{alone_config, alone_good}
 use Rattle.cops_world.proofs.RunLaws.{taken_whole, own_stays, own_too, solo_front, solo_step}
 use Rattle.cops_world.proofs.WorldKeeps.{tenant_at}
+use Rattle.cops_world.proofs.WorldLives.{has_acted}
 use Rattle.cops_world.proofs.whole_runs.solo.Goals as goal
 use Rattle.cops_world.proofs.whole_runs.solo.Goals.{then-event-slot+in_ok-push, else-event-slot}
 
@@ -32,7 +33,6 @@ loop-event-init c =
     let there = subst (λ (k : Config). 0 < length k.tenants) (sym alone) some in
     let same = ap (λ (k : Config). config_at k 0) alone ∙ alone_config config c.args.slot at.0 at.1 in
     record {
-      there = subst (λ (k : Config). 0 < length k.tenants) (sym new.setup_is) there;
       same = ap (λ (k : Config). config_at k 0) new.setup_is ∙ same;
       as_long = ap length c.new-told.ensures.items;
       alone = λ spared. record {
@@ -53,15 +53,14 @@ loop-event-preserved c =
     let takes : take (i + 1) xs ≡ take i xs ++ e ∷ [] = take_more xs i e c.loop-event-test.true ∙ ap (λ d. take i xs ++ d ∷ []) (sym c.event-item.is) in
     elim c.if-event-slot.branch [
       | then-event-slot+in_ok-push w ↦
-          let moves = w.act_for.ensures.moves in
           let reply = w.act_for.result in
+          let moves = has_acted l.world (record { slot = 0; act = e.act }) reply w.act_for.new.self w.act_for.ensures.moves w.act_for.ensures.lack in
           let items = ap (λ t. t.items) w.told-is ∙ w.in_ok-push.ensures.items in
           let After = HasCluster w.act_for.new.self 0 in
           let Told : List Event → List Reply → (SoloCluster → Type 0) → Type 0 = λ es rs Stands. IsSpared rs → ToldAlone config (new_cluster config) (own slot es) rs Stands in
           let First : List Event → List Reply → Type 0 = λ es rs. IsFrontOf (before_lack rs) (solo_replies config (own slot es)) in
           record {
-            there = subst (λ (k : KeptWorld). 0 < length k.setup.tenants) (sym w.world-is) (subst (λ (k : Config). 0 < length k.tenants) (sym moves.same) l.invariant.there);
-            same = ap (λ (k : KeptWorld). config_at k.setup 0) w.world-is ∙ ap (λ (k : Config). config_at k 0) moves.same ∙ l.invariant.same;
+            same = ap (λ (k : KeptWorld). config_at (setup_of k) 0) w.world-is ∙ ap (λ (k : Config). config_at k 0) moves.same ∙ l.invariant.same;
             as_long = ap length items ∙ length-append l.told.items (reply ∷ []) ∙ ap (λ n. n + 1) l.invariant.as_long ∙ sym (length-append (own slot (take i xs)) (e.act ∷ []))
                 ∙ ap length (sym (own_too slot (take i xs) e w.if-event-slot.true)) ∙ ap (λ es. length (own slot es)) (sym takes);
             alone = subst (λ es. Told es c.if-event-slot.told.items (HasCluster c.if-event-slot.world 0)) (sym takes)
@@ -81,8 +80,7 @@ loop-event-preserved c =
           let stays = own_stays slot (take i xs) e w.if-event-slot.false in
           let Told : List Act → List Reply → (SoloCluster → Type 0) → Type 0 = λ acts rs Stands. IsSpared rs → ToldAlone config (new_cluster config) acts rs Stands in
           record {
-            there = subst (λ (k : KeptWorld). 0 < length k.setup.tenants) (sym w.world-is) l.invariant.there;
-            same = ap (λ (k : KeptWorld). config_at k.setup 0) w.world-is ∙ l.invariant.same;
+            same = ap (λ (k : KeptWorld). config_at (setup_of k) 0) w.world-is ∙ l.invariant.same;
             as_long = ap length items ∙ l.invariant.as_long ∙ ap length (sym stays) ∙ ap (λ es. length (own slot es)) (sym takes);
             alone = subst (λ acts. Told acts c.if-event-slot.told.items (HasCluster c.if-event-slot.world 0)) (sym (ap (own slot) takes ∙ stays))
                 (subst (λ rs. Told (own slot (take i xs)) rs (HasCluster c.if-event-slot.world 0)) (sym items)

@@ -1,31 +1,37 @@
 use Rattle.std.proofs.Common.{◌≡◌, ◌+◌, ◌*◌, ◌<◌, List, length, sym, ap, ◌∙◌, subst, get_or}
 use Rattle.std.specs.Option.{option_copied}
+use Rattle.cops_types.specs.TenantConfig.{TenantConfig}
 use Rattle.cops_node.specs.Clusters.{shape_of}
 use Rattle.cops_node.specs.Parts.{Shared}
 use Rattle.cops_node.specs.declared.Shape.{Shape}
 use Rattle.cops_node.proofs.Clusters.{number_within}
 use Rattle.cops_world.specs.Cluster.{SoloCluster}
-use Rattle.cops_world.specs.Events.{config_at}
+use Rattle.cops_world.specs.Setups.{config_in}
 use Rattle.cops_world.specs.Trails.{audited_at}
-use Rattle.cops_world.specs.Worlds.{HasCluster, KeptWorld, world_of}
-use Rattle.cops_world.proofs.WorldKeeps.{sizes_at}
+use Rattle.cops_world.specs.Worlds.{ClusterStandsAt, KeptWorld, setup_of, world_of}
+use Rattle.cops_world.proofs.WorldKeeps.{config_begun, sizes_in}
 use Rattle.cops_world.proofs.WorldTrails.{shows_own}
 use Rattle.cops_world.proofs.world.World.audit.Goals as goal
 
-pub returns : goal.returns
-returns c =
+pub returns-clause-open_now : goal.returns-clause-open_now
+returns-clause-open_now c =
     let config = c.self.inside.config in
     let nodes = c.self.inside.nodes in
     let id = c.args.id in
     let slot = c.args.slot in
     let node = c.index-nodes-id.result in
     let number = id.dc * config.shards + id.shard in
-    let now : KeptWorld = record { setup = config; nodes = nodes; entries = c.self.inside.actors.entries; counts = c.self.inside.counts.items } in
-    let dc = subst (λ (k : KeptWorld). id.dc < k.setup.data_centres) (sym c.self.view_is) c.requires.dc in
-    let shard = subst (λ (k : KeptWorld). id.shard < k.setup.shards) (sym c.self.view_is) c.requires.shard in
-    let there = subst (λ (k : KeptWorld). slot < length k.setup.tenants) (sym c.self.view_is) c.requires.slot in
+    let old : KeptWorld = record { setup = record { head = config; tenants = c.self.inside.tenants }; nodes = nodes; entries = c.self.inside.actors.entries; counts = c.self.inside.counts.items } in
+    let dc = subst (λ (k : KeptWorld). id.dc < k.setup.head.data_centres) (sym c.self.view_is) c.requires.dc in
+    let shard = subst (λ (k : KeptWorld). id.shard < k.setup.head.shards) (sym c.self.view_is) c.requires.shard in
     let all = c.nodes-nodes.ensures.in_order.all ∙ ap (λ (s : Shape). s.data_centres * s.shards) c.self.invariant.whole.shape_is in
     let within : number < length nodes.nodes = subst (λ n. number < n) (sym all) (number_within (shape_of config) id dc shard) in
     let read : node ≡ get_or nodes.nodes number node = c.index-nodes-id.is ∙ ap (λ (ns : List Shared). get_or ns number node) c.nodes-nodes.ensures.value in
-    subst (λ (k : KeptWorld). (cluster : SoloCluster) → HasCluster k slot cluster → option_copied c.audit.result ≡ audited_at (config_at k.setup slot) id c.args.place cluster) c.self.view_is
-    (shows_own (world_of now) slot id c.args.place node (option_copied c.audit.result) (sizes_at config slot there).shards within read c.audit.ensures.solo)
+    subst (λ (k : KeptWorld). (cluster : SoloCluster) → ClusterStandsAt (world_of k) slot cluster → option_copied c.audit.result ≡ audited_at (config_in k.setup slot) id c.args.place cluster) c.self.view_is
+    (λ cluster stood. shows_own (world_of old) slot id c.args.place node (option_copied c.audit.result) (sizes_in old.setup slot stood.open_there).shards within read c.audit.ensures.solo cluster stood)
+
+pub returns-clause-begun : goal.returns-clause-begun
+returns-clause-begun c = λ cluster has.
+    let kept = c.args.self.now in
+    subst (λ (config : TenantConfig). option_copied c.audit.result ≡ audited_at config c.args.id c.args.place cluster) (config_begun kept.setup c.args.slot has.tenants_are)
+    (returns-clause-open_now c cluster has.stands)

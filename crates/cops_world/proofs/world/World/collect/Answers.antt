@@ -4,10 +4,10 @@ use Rattle.cops_types.specs.declared.faults.Fault.TheVariants.{NoSuchPlace}
 use Rattle.cops_world.specs.declared.acts.Act.TheVariants as acts
 use Rattle.cops_world.specs.declared.replies.Reply.TheVariants.{Refused}
 use Rattle.cops_world.specs.Cluster.{cluster_step, has_node}
-use Rattle.cops_world.specs.Events.{config_at}
+use Rattle.cops_world.specs.Setups.{config_in}
 use Rattle.cops_world.specs.Lacks.{Stays}
-use Rattle.cops_world.specs.Worlds.{KeptWorld, Leaves, Moves, world_of}
-use Rattle.cops_world.proofs.WorldKeeps.{sizes_at}
+use Rattle.cops_world.specs.Worlds.{AreSitesIn, KeptWorld, Leaves, Moves, world_of}
+use Rattle.cops_world.proofs.WorldKeeps.{sizes_in}
 use Rattle.cops_world.proofs.WorldCalls.{node_fits, no_node_moves, node_collects}
 use Rattle.cops_world.proofs.WorldLacks.{collect_leaves, same_leaves}
 use Rattle.cops_world.proofs.WorldSteps.{collect_moves}
@@ -15,33 +15,33 @@ use Rattle.cops_world.proofs.world.World.collect.Goals as goal
 
 pub returns-then-not-has_node-clause-moves : goal.returns-then-not-has_node-clause-moves
 returns-then-not-has_node-clause-moves c =
-    let sizes = sizes_at c.args.self.now.setup c.args.slot c.requires in
+    let sizes = sizes_in c.args.self.now.setup c.args.slot c.requires in
     no_node_moves (world_of c.args.self.now) c.args.slot c.args.id c.args.moment
-    (sym (c.has_node.ensures (config_at c.args.self.now.setup c.args.slot) sizes) ∙ c.if-not-has_node.true)
+    (sym (c.has_node.ensures (config_in c.args.self.now.setup c.args.slot) sizes) ∙ c.if-not-has_node.true)
 
 pub step-requires : goal.step-requires
 step-requires c =
     let now = c.args.self.now in
     let shape = c.self.inside.nodes.shape in
-    let sizes = sizes_at now.setup c.args.slot c.requires in
+    let sizes = sizes_in now.setup c.args.slot c.requires in
     let same_shape = c.self.invariant.whole.shape_is in
     let same_setup = ap (λ (k : KeptWorld). k.setup) c.self.view_is in
-    node_fits shape (config_at now.setup c.args.slot) c.args.id
-    (sizes.data_centres ∙ sym (ap (λ (s : Shape). s.data_centres) same_shape ∙ ap (λ setup. setup.data_centres) same_setup))
-    (sizes.shards ∙ sym (ap (λ (s : Shape). s.shards) same_shape ∙ ap (λ setup. setup.shards) same_setup))
-    (sym (c.has_node.ensures (config_at now.setup c.args.slot) sizes) ∙ c.if-not-has_node.false)
+    node_fits shape (config_in now.setup c.args.slot) c.args.id
+    (sizes.data_centres ∙ sym (ap (λ (s : Shape). s.data_centres) same_shape ∙ ap (λ setup. setup.head.data_centres) same_setup))
+    (sizes.shards ∙ sym (ap (λ (s : Shape). s.shards) same_shape ∙ ap (λ setup. setup.head.shards) same_setup))
+    (sym (c.has_node.ensures (config_in now.setup c.args.slot) sizes) ∙ c.if-not-has_node.false)
 
 pub returns-clause-moves : goal.returns-clause-moves
 returns-clause-moves c =
     let now = c.args.self.now in
-    let sizes = sizes_at now.setup c.args.slot c.requires in
-    let old : KeptWorld = record { setup = c.self.inside.config; nodes = c.self.inside.nodes; entries = c.self.inside.actors.entries; counts = c.self.inside.counts.items } in
+    let sizes = sizes_in now.setup c.args.slot c.requires in
+    let old : KeptWorld = record { setup = record { head = c.self.inside.config; tenants = c.self.inside.tenants }; nodes = c.self.inside.nodes; entries = c.self.inside.actors.entries; counts = c.self.inside.counts.items } in
     let new : KeptWorld = record old { nodes = c.step.new.self } in
-    let there = sym (c.has_node.ensures (config_at now.setup c.args.slot) sizes) ∙ c.if-not-has_node.false in
-    let shards = subst (λ (k : KeptWorld). (config_at k.setup c.args.slot).shards ≡ k.setup.shards) (sym c.self.view_is) sizes.shards ∙ sym (ap (λ (s : Shape). s.shards) c.self.invariant.whole.shape_is) in
+    let there = sym (c.has_node.ensures (config_in now.setup c.args.slot) sizes) ∙ c.if-not-has_node.false in
+    let shards = subst (λ (k : KeptWorld). (config_in k.setup c.args.slot).shards ≡ k.setup.head.shards) (sym c.self.view_is) sizes.shards ∙ sym (ap (λ (s : Shape). s.shards) c.self.invariant.whole.shape_is) in
     subst (λ (kept : KeptWorld). Moves (λ config. cluster_step config (acts.Collect c.args.id.dc c.args.id.shard c.args.moment)) (world_of kept) c.args.slot c.reply_of_collect.result (world_of new)) c.self.view_is
     (node_collects (world_of old) c.args.slot c.args.id c.args.moment
-    (subst (λ (k : KeptWorld). has_node (config_at k.setup c.args.slot) c.args.id.dc c.args.id.shard ≡ true) (sym c.self.view_is) there)
+    (subst (λ (k : KeptWorld). has_node (config_in k.setup c.args.slot) c.args.id.dc c.args.id.shard ≡ true) (sym c.self.view_is) there)
     c.reply_of_collect.result (world_of new)
     (collect_moves (world_of old) c.args.slot c.args.id c.args.moment c.step.result c.step.new.self c.reply_of_collect.result shards c.step.ensures.answers c.reply_of_collect.ensures))
 
@@ -50,10 +50,10 @@ returns-then-not-has_node-clause-lack c = same_leaves (world_of c.args.self.now)
 
 pub returns-clause-lack : goal.returns-clause-lack
 returns-clause-lack c =
-    let sizes = sizes_at c.args.self.now.setup c.args.slot c.requires in
-    let old : KeptWorld = record { setup = c.self.inside.config; nodes = c.self.inside.nodes; entries = c.self.inside.actors.entries; counts = c.self.inside.counts.items } in
+    let sizes = sizes_in c.args.self.now.setup c.args.slot c.requires in
+    let old : KeptWorld = record { setup = record { head = c.self.inside.config; tenants = c.self.inside.tenants }; nodes = c.self.inside.nodes; entries = c.self.inside.actors.entries; counts = c.self.inside.counts.items } in
     let new : KeptWorld = record old { nodes = c.step.new.self } in
-    let shards = subst (λ (k : KeptWorld). (config_at k.setup c.args.slot).shards ≡ k.setup.shards) (sym c.self.view_is) sizes.shards ∙ sym (ap (λ (s : Shape). s.shards) c.self.invariant.whole.shape_is) in
+    let shards = subst (λ (k : KeptWorld). (config_in k.setup c.args.slot).shards ≡ k.setup.head.shards) (sym c.self.view_is) sizes.shards ∙ sym (ap (λ (s : Shape). s.shards) c.self.invariant.whole.shape_is) in
     subst (λ (kept : KeptWorld). Leaves Stays (world_of kept) c.args.slot c.reply_of_collect.result (world_of new)) c.self.view_is
     (collect_leaves (world_of old) c.args.slot c.args.id c.args.moment c.step.result c.step.new.self c.reply_of_collect.result shards c.step.ensures.answers c.reply_of_collect.ensures)
 
@@ -63,10 +63,13 @@ invariant_of-self c =
     record {
       whole = record {
         shape_is = c.step.ensures.shape ∙ whole.shape_is;
-        sites_are = c.step.ensures.answers.sites ∙ whole.sites_are;
+        sites_are = subst (AreSitesIn (record { head = c.self.inside.config; tenants = c.self.inside.tenants })) (sym c.step.ensures.answers.sites) whole.sites_are;
         good = whole.good;
+        tenants_good = whole.tenants_good;
+        enough = whole.enough;
         counted = whole.counted;
         run = whole.run;
+        hosted = whole.hosted;
       };
       distinct = c.self.invariant.distinct;
     }
