@@ -30,7 +30,6 @@ use Rattle.cops_node.specs.Queues.{front}
 use Rattle.cops_repl.specs.declared.Progress.{Progress as CarrierProgress}
 use Rattle.cops_repl.specs.declared.Progress.TheVariants as carrier_progress
 use Rattle.cops_repl.specs.Carrier.{Carrier, Stream}
-use Rattle.cops_repl.specs.Carrier as carrier
 use Rattle.cops_repl.proofs.CarrierStages.{Acking, Checking, Committing, Delivering, InDelivery, Pulling, Stage}
 use Rattle.cops_session.specs.Request.{Action, Fetch, Write, key_home, next}
 use Rattle.cops_session.specs.Session.{Running, Session, obs_of, request_of}

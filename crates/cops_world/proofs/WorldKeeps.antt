@@ -18,7 +18,7 @@ use Rattle.cops_node.specs.Clusters.{Cluster, HasTenant, IsCall, id_of, new_node
 use Rattle.cops_node.specs.declared.NodeCall.{NodeCall}
 use Rattle.cops_node.specs.declared.NodeId.{NodeId}
 use Rattle.cops_node.specs.declared.NodeReply.{NodeReply}
-use Rattle.cops_node.specs.Parts.{Shared, Site, are_clocks, home_of, place_under, site_in, terms_of}
+use Rattle.cops_node.specs.Parts.{Site, are_clocks, home_of, place_under, site_in, terms_of}
 use Rattle.cops_node.specs.Place.{place_of}
 use Rattle.cops_node.specs.declared.Shape.{Shape}
 use Rattle.cops_node.specs.SoloNode.{new_node}

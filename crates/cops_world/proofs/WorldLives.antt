@@ -1,13 +1,12 @@
 -- A tenant comes to a world, or goes from it.
-use Rattle.std.proofs.Common.{◌≡◌, ◌≢◌, ◌⊎◌, inl, inr, ℕ, zero, suc, ◌*◌, ◌<◌, ◌≤◌, Bool, true, false, true≢false, not, ◌&&◌, ◌||◌, List, [], ◌∷◌, length, map, set, refl, sym, subst, ap, ◌∙◌, arith}
-use Rattle.std.specs.Prelude.{Option, Some, None, IsTrue, IfNone, IfSome, is_none, is_ok, is_some, nat_le, nat_lt, replicate, slice_index, slice_index_or, Result, Ok, Err, IsOk, OnOk}
+use Rattle.std.proofs.Common.{◌≡◌, ◌≢◌, inl, inr, ℕ, zero, suc, ◌<◌, ◌≤◌, Bool, true, false, true≢false, not, ◌&&◌, ◌||◌, List, [], ◌∷◌, length, map, set, refl, sym, subst, ap, ◌∙◌, arith}
+use Rattle.std.specs.Prelude.{Option, Some, None, IsTrue, IfNone, IfSome, is_none, is_ok, is_some, nat_le, nat_lt, replicate, slice_index, Result, Ok, Err, IsOk, OnOk}
 use Rattle.std.specs.List.{AllByRecursion, list_any}
 use Rattle.std.specs.Option.{option_map}
 use Rattle.std.proofs.Math.ListN.{length-set}
 use Rattle.std.proofs.lemmas.Bool.{leb-true}
 use Rattle.std.proofs.lemmas.Bool.Decides.{eqb_tells, nat_tests}
 use Rattle.std.proofs.lemmas.List.{get_or-set_same, get_or-set_other}
-use Rattle.cops_types.specs.declared.configs.Config.{Config}
 use Rattle.cops_types.specs.declared.configs.Tenant.{Tenant}
 use Rattle.cops_types.specs.declared.faults.Fault.{Fault}
 use Rattle.cops_types.specs.declared.faults.Fault.TheVariants.{NameTaken, NoSlot}
@@ -16,12 +15,12 @@ use Rattle.cops_types.specs.Version.{last_clock}
 use Rattle.cops_types.specs.OpenSlots.{admission_refusal, begun_with, is_new, open_at}
 use Rattle.cops_types.specs.Search.{first_refusal}
 use Rattle.cops_types.specs.TenantConfig.{TenantConfig, tenant_config}
-use Rattle.cops_node.specs.Clusters.{Cluster, HasTenant, nodes_of, shape_of}
+use Rattle.cops_node.specs.Clusters.{Cluster, HasTenant, nodes_of}
 use Rattle.cops_node.specs.Lives.{AtEach, IsAdmitted, IsClosed}
 use Rattle.cops_node.specs.declared.Home.{Home}
 use Rattle.cops_node.specs.Parts.{IsSlotKept, Shared, Site, is_taken, left_by, place_at, place_for, site_in, solo_of, trail_of}
 use Rattle.cops_node.specs.Place.{Place, place_of}
-use Rattle.cops_node.specs.SoloNode.{SoloNode, new_node}
+use Rattle.cops_node.specs.SoloNode.{new_node}
 use Rattle.cops_world.specs.declared.acts.Event.{Event}
 use Rattle.cops_world.specs.declared.actors.Actor.{Actor as Kept}
 use Rattle.cops_world.specs.declared.actors.ActorId.{ActorId}
@@ -34,9 +33,9 @@ use Rattle.cops_world.specs.Cluster.{ActEffect, SoloCluster, cluster_step, new_c
 use Rattle.cops_world.specs.Events.{config_at}
 use Rattle.cops_world.specs.Lacks.{Lacks}
 use Rattle.cops_world.specs.Setups.{Setup, config_in, config_of, is_open_at}
-use Rattle.cops_world.specs.Worlds.{Admits, AreSitesIn, ClusterStandsAt, Closes, HasCluster, IsSiteIn, IsWorld, KeptWorld, Leaves, Moves, OthersStand, StaysOpen, World, setup_of, world_of}
+use Rattle.cops_world.specs.Worlds.{Admits, AreSitesIn, ClusterStandsAt, Closes, HasCluster, IsSiteIn, IsWorld, KeptWorld, Leaves, Moves, StaysOpen, World, setup_of, world_of}
 use Rattle.cops_world.proofs.WorldJoins.{refused_moves}
-use Rattle.cops_world.proofs.WorldKeeps.{AllHosted, below_in, config_begun, tenant_in}
+use Rattle.cops_world.proofs.WorldKeeps.{AllHosted, below_in, config_begun}
 use Rattle.cops_world.proofs.WorldMoves.{kept_alike}
 
 -- ---- while no tenant comes or goes

@@ -58,12 +58,12 @@ fn first_tenant(rt: &impl Abort, alloc: Global, head: &str) -> Tenant
 }
 
 /// Gives the least free slot to the tenant, and tells which it is.
-fn admit(rt: &impl Abort, world: &mut World, tenant: Tenant) -> u64
-    requires { IsTrue (is_tenant tenant) }
+fn admit(rt: &impl Abort, world: &mut World, tenant: &Tenant) -> u64
+    requires { IsTrue (is_tenant tenant.now) }
 {
-    match world.admit(tenant) {
+    match world.admit(*tenant) {
         Ok(slot) => slot,
-        Err(_) => world.admit(tenant).expect(rt, "memory"),
+        Err(_) => world.admit(*tenant).expect(rt, "memory"),
     }
 }
 
@@ -76,7 +76,7 @@ fn a_closed_slot_begins_anew(rt: HostRuntime) {
     check(&rt, alloc, &mut world, BETA_PUTS);
     assert!(&rt; world.close(1).is_ok());
     check_at(&rt, alloc, &mut world, 1, "beta step a 0 > E02");
-    assert!(&rt; admit(&rt, &mut world, gama) == 1);
+    assert!(&rt; admit(&rt, &mut world, &gama) == 1);
     check_at(&rt, alloc, &mut world, 1, GAMA_PUTS);
     check(&rt, alloc, &mut world, ACME_GETS);
 }

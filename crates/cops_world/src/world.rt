@@ -419,15 +419,6 @@ impl World {
         if !self.has_tenant(slot) {
             return Reply::Refused(Fault::UnknownTenant);
         }
-        self.act_of_tenant(slot, act)
-    }
-
-    /// One act of the tenant who is open at a slot.
-    fn act_of_tenant(&mut self, slot: u64, act: &Act) -> Reply
-        requires { IsTrue (is_open_at self.old.setup slot) }
-        ensures moves { Moves (λ config. cluster_step config act.now) (world_of self.old) slot result (world_of self.new) }
-        ensures lack { Leaves (λ config. Lacks config act.now) (world_of self.old) slot result (world_of self.new) }
-    {
         match act {
             Act::Open(name, dc) => self.open(slot, *name, *dc),
             Act::Create(name) => self.create(slot, *name),
@@ -593,6 +584,6 @@ impl Tenancy for World {
     }
 
     fn apply(&mut self, event: &Event) -> Reply {
-        World::apply(self, event)
+        self.act_for(event.slot, &event.act)
     }
 }

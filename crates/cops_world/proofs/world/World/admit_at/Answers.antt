@@ -1,4 +1,4 @@
-use Rattle.std.proofs.Common.{◌≡◌, inr, sym, subst}
+use Rattle.std.proofs.Common.{inr, sym, subst}
 use Rattle.std.specs.List.{list_any}
 use Rattle.std.specs.Prelude.{List, Option, slice_set}
 use Rattle.cops_types.specs.declared.configs.Tenant.{Tenant}

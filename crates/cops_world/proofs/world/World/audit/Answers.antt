@@ -8,7 +8,7 @@ use Rattle.cops_node.proofs.Clusters.{number_within}
 use Rattle.cops_world.specs.Cluster.{SoloCluster}
 use Rattle.cops_world.specs.Setups.{config_in}
 use Rattle.cops_world.specs.Trails.{audited_at}
-use Rattle.cops_world.specs.Worlds.{ClusterStandsAt, KeptWorld, setup_of, world_of}
+use Rattle.cops_world.specs.Worlds.{ClusterStandsAt, KeptWorld, world_of}
 use Rattle.cops_world.proofs.WorldKeeps.{config_begun, sizes_in}
 use Rattle.cops_world.proofs.WorldTrails.{shows_own}
 use Rattle.cops_world.proofs.world.World.audit.Goals as goal

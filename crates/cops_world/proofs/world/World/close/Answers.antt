@@ -1,5 +1,5 @@
-use Rattle.std.proofs.Common.{◌≡◌, sym, subst}
-use Rattle.std.specs.Prelude.{List, Option, None, slice_set}
+use Rattle.std.proofs.Common.{sym, subst}
+use Rattle.std.specs.Prelude.{List, Option}
 use Rattle.cops_types.specs.declared.configs.Tenant.{Tenant}
 use Rattle.cops_types.specs.declared.faults.Fault.TheVariants.{UnknownTenant}
 use Rattle.cops_types.specs.OpenSlots.{open_at}
