@@ -93,7 +93,7 @@ fn main() {
     let words: Vec<String> = std::env::args().collect();
     let times: usize = words[2].parse().expect("a number");
     let work = microsecond();
-    // Each run takes a fifth of a second or more: the system needs some milliseconds to give each new thread a core of its own.
+    // Each run takes a fifth of a second or more: in shorter ones the ratio of four threads at four nodes varied more.
     println!("| Nodes | Each thread | Threads | Work of a turn | Seats | Mutexes | Ratio |");
     println!("|---|---|---|---|---|---|---|");
     for (nodes, stride, way) in [(1, 0, "at the node"), (4, 0, "at one node"), (4, 1, "goes round"), (16, 0, "at one node"), (16, 1, "goes round")] {
