@@ -60,7 +60,7 @@ token-short token bytes e = by_32 (nat_eq (length token) 32) refl e
     by_32 true t e = is_length 32 t (omega arith)
     by_32 false t e = by_36 (nat_eq (length token) 36) refl e
 
-name-short : (name : List ℕ) → IsTrue (is_name name) → length name ≤ 16
+pub name-short : (name : List ℕ) → IsTrue (is_name name) → length name ≤ 16
 name-short name h = let low = (both (is_key name) (nat_le (length name) 16) h).1 in grind (arith, nat_tests, low)
 
 -- ---- the lines
@@ -75,7 +75,7 @@ cluster-short line config is =
     let whole = spaced-length (codes "cluster" ∷ decimal config.data_centres ∷ decimal config.shards ∷ decimal config.trans_time ∷ decimal config.restarts ∷ []) in
     subst (λ l. length l ≤ longest_line) (sym is.spelled) (omega (arith, one, two, three, four, whole))
 
-tenant-short : (line : List ℕ) (tenant : Tenant) → IsTenantLine line tenant → length line ≤ longest_line
+pub tenant-short : (line : List ℕ) (tenant : Tenant) → IsTenantLine line tenant → length line ≤ longest_line
 tenant-short line tenant is =
     let fits = tenant_fits last_clock (omega arith) tenant is.within in
     let q = tenant.quota in

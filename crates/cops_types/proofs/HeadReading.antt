@@ -1,6 +1,6 @@
 -- What the words of a line say that were taken one by one.
 use Rattle.std.proofs.Common.{◌≡◌, ℕ, ◌<◌, ◌≤◌, ◌^◌, Bool, true, false, not, ◌&&◌, List, [], ◌∷◌, refl, sym, subst, ap, ◌∙◌, arith, cond}
-use Rattle.std.specs.Prelude.{IsTrue, IfSome, IfNone, decimal, nat_le, Option, Some, None, Result, Ok, Err, IsOk, ◌↔◌}
+use Rattle.std.specs.Prelude.{IsTrue, IfSome, IfNone, codes, decimal, nat_le, Option, Some, None, Result, Ok, Err, IsOk, ◌↔◌}
 use Rattle.std.specs.List.{AllByRecursion, list_all}
 use Rattle.std.specs.Str.{bytes_eq}
 use Rattle.std.proofs.lemmas.Bool.Decides.{nat_tests}
@@ -12,7 +12,7 @@ use Rattle.cops_types.specs.declared.quotas.Quota.{Quota}
 use Rattle.cops_types.specs.Head.{Front, Within, JoinsOrStays}
 use Rattle.cops_types.specs.HeadReader.{front_with}
 use Rattle.cops_types.specs.HeadLines.{begin_line, IsClusterLine, are_sizes, cluster_in, is_between, most_shards, greatest_quota, is_quota, tenant_in, IsTenantLineTo, is_tenant_to, tenant_in_to}
-use Rattle.cops_types.specs.HeadWords.{cluster_words, tenant_words}
+use Rattle.cops_types.specs.HeadWords.{AreTenantWords, cluster_words, quota_words, tenant_words}
 use Rattle.cops_types.specs.Key.{is_name}
 use Rattle.cops_types.specs.OldHead.{old_front_with, old_tenant_in}
 use Rattle.cops_types.specs.declared.faults.Fault.TheVariants as Fault
@@ -189,6 +189,33 @@ no_token found error word token ok is parses = let clash = subst IsOk is (ok.1 (
 
 pub token_lacks : (line first name word : List ℕ) (others : List (List ℕ)) → parts_at space line ≡ first ∷ name ∷ word ∷ others → Lacks space word
 token_lacks line first name word others e = (subst (AllByRecursion (Lacks space)) e (parts_lack space line)).1.1.0
+
+-- ---- the words after the first of a tenant's line
+
+pub tenant_spelled : (last : ℕ) (line : List ℕ) (words : List (List ℕ)) (tenant : Tenant) → parts_at space line ≡ codes "tenant" ∷ words → AreTenantWords last words tenant → IsTenantLineTo last line tenant
+tenant_spelled last line words tenant parts are =
+    let each : parts_at space line ≡ tenant_words are.token tenant = parts ∙ ap (λ ws. codes "tenant" ∷ ws) are.spelled in
+    record {
+      token = are.token;
+      spelled = spelled_by line _ each;
+      one_word = token_is_word are.token tenant.token (token_lacks line _ _ are.token _ each) are.parses;
+      parses = are.parses;
+      within = are.within;
+    }
+
+pub words_of_tenant : (last : ℕ) → last < 2 ^ 64 → (line first : List ℕ) (words : List (List ℕ)) (tenant : Tenant) → parts_at space line ≡ first ∷ words → IsTenantLineTo last line tenant → AreTenantWords last words tenant
+words_of_tenant last low line first words tenant parts is =
+    let each = tenant_parts last low line tenant is in
+    let after : words ≡ tenant.name ∷ is.token ∷ decimal tenant.first_clock ∷ quota_words tenant.quota = cc (parts, each) in
+    record { token = is.token; spelled = after; parses = is.parses; within = is.within }
+
+pub some_so : {A : Type 0} {P Q : A → Type 0} (found : Option A) → ((it : A) → P it → Q it) → IfSome found P → IfSome found Q
+some_so None so h = tt
+some_so (Some it) so h = so it h
+
+pub none_so : {A P Q : Type 0} (found : Option A) → (P → Q) → IfNone found P → IfNone found Q
+none_so None so h = so h
+none_so (Some it) so h = tt
 
 -- ---- a tenant that joins
 

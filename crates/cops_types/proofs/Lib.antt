@@ -9,6 +9,7 @@ mod HeadExamples
 pub mod HeadLemmas
 pub mod HeadLengths
 pub mod HeadReading
+pub mod HostLineLemmas
 pub mod KnownLemmas
 pub mod LineEndLemmas
 pub mod LineLemmas

@@ -5,7 +5,7 @@ ghost use Rattle.cops_types.specs.declared.configs.Tenant.{Tenant};
 ghost use Rattle.cops_types.specs.declared.quotas.Quota.{Quota};
 ghost use Rattle.cops_types.specs.Head.{JoinsOrStays, may_join};
 ghost use Rattle.cops_types.specs.HeadLines.{IsClusterLine, IsTenantLine, cluster_in, is_between, is_quota, most_shards, tenant_in, IsTenantLineTo, tenant_in_to};
-ghost use Rattle.cops_types.specs.HeadWords.{quota_words};
+ghost use Rattle.cops_types.specs.HeadWords.{AreTenantWords, quota_words};
 ghost use Rattle.cops_types.specs.Words.{is_u64};
 
 use crate::configs::{Config, Tenant};
@@ -113,6 +113,30 @@ fn last_quota(words: &mut Words) -> Option<Quota>
     Some(quota)
 }
 
+/// The tenant that these words give, and no more, with a first clock up to this one.
+pub(crate) fn last_tenant(words: &mut Words, last_clock: u64) -> Option<Tenant>
+    ensures some { IfSome result (AreTenantWords last_clock words.old) }
+    ensures none { IfNone result ((tenant : Tenant) → AreTenantWords last_clock words.old tenant → ⊥) }
+{
+    let Ok(name) = Name::new(words.next_word()?) else {
+        return None;
+    };
+    let Ok(token) = Uuid::try_parse_ascii(words.next_word()?) else {
+        return None;
+    };
+    let first_clock = next_number(words)?;
+    if first_clock > last_clock {
+        return None;
+    }
+    let quota = last_quota(words)?;
+    Some(Tenant {
+        name,
+        token,
+        first_clock,
+        quota,
+    })
+}
+
 /// The tenant that a line gives, with a first clock up to this one.
 fn tenant_of(line: &[u8], last_clock: u64) -> Option<Tenant>
     ensures some { IfSome result (IsTenantLineTo last_clock line.now) }
@@ -122,23 +146,7 @@ fn tenant_of(line: &[u8], last_clock: u64) -> Option<Tenant>
     if words.next_word()? != b"tenant".as_slice() {
         return None;
     }
-    let Ok(name) = Name::new(words.next_word()?) else {
-        return None;
-    };
-    let Ok(token) = Uuid::try_parse_ascii(words.next_word()?) else {
-        return None;
-    };
-    let first_clock = next_number(&mut words)?;
-    if first_clock > last_clock {
-        return None;
-    }
-    let quota = last_quota(&mut words)?;
-    Some(Tenant {
-        name,
-        token,
-        first_clock,
-        quota,
-    })
+    last_tenant(&mut words, last_clock)
 }
 
 /// The tenant that a line gives, with a first clock up to this one.

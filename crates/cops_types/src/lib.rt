@@ -10,6 +10,7 @@ mod faults;
 mod fronts;
 mod head_lines;
 mod heads;
+pub mod host_lines;
 mod keys;
 mod laws;
 mod line_runs;

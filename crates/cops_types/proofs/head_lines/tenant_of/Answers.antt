@@ -1,12 +1,8 @@
-use Rattle.std.proofs.Common.{◌≡◌, ◌∷◌, [], true, refl, sym, ◌∙◌, ap, arith}
-use Rattle.std.specs.Prelude.{codes, decimal, Some}
-use Rattle.uuid.specs.Text.{parsed}
-use Rattle.cops_types.specs.HeadWords.{quota_words, tenant_words}
-use Rattle.cops_types.specs.Key.{is_name}
+use Rattle.std.proofs.Common.{◌≡◌, ◌∷◌, [], sym, ◌∙◌, arith}
+use Rattle.std.specs.Prelude.{codes}
+use Rattle.cops_types.specs.HeadWords.{tenant_words}
 use Rattle.cops_types.specs.Words.{parts_at, space}
-use Rattle.cops_types.proofs.HeadLemmas.{tenant_fits}
-use Rattle.cops_types.proofs.HeadReading.{clock_within, is_tenant-made, name_of_made, no_token, other_word, quota_of_tenant, same_number, same_word, spelled_by, tenant_parts, token_lacks, token_is_word}
-use Rattle.cops_types.proofs.SlotLemmas.{no_name}
+use Rattle.cops_types.proofs.HeadReading.{none_so, other_word, same_word, some_so, tenant_parts, tenant_spelled, words_of_tenant}
 use Rattle.cops_types.proofs.head_lines.tenant_of.Goals as goal
 
 pub returns-in_err-next_word-clause-none : goal.returns-in_err-next_word-clause-none
@@ -21,65 +17,13 @@ returns-then-ne-clause-none c = λ tenant is.
     let first : c.in_ok-next_word.field-0.now ≡ codes "tenant" = cc (words, c.in_ok-next_word.ensures) in
     other_word c.in_ok-next_word.field-0.now (codes "tenant") c.as_slice.result.now c.ne.result c.ne.ensures c.as_slice.ensures c.if-ne.true first
 
-pub returns-in_err-next_word-2-clause-none : goal.returns-in_err-next_word-2-clause-none
-returns-in_err-next_word-2-clause-none c = rw c.from_residual-in_err-next_word-2.ensures (λ tenant is.
-    let words : c.of-words.result ≡ tenant_words is.token tenant = c.of-words.ensures ∙ tenant_parts c.args.last_clock (omega arith) c.args.line.now tenant is in
-    let left : c.next_word.new.self ≡ tenant.name ∷ is.token ∷ decimal tenant.first_clock ∷ quota_words tenant.quota = cc (words, c.in_ok-next_word.ensures) in
-    let none : c.next_word.new.self ≡ [] = c.in_err-next_word-2.ensures.0 in
-    cc)
-
-pub returns-in_default-clause-none : goal.returns-in_default-clause-none
-returns-in_default-clause-none c = λ tenant is.
-    let words : c.of-words.result ≡ tenant_words is.token tenant = c.of-words.ensures ∙ tenant_parts c.args.last_clock (omega arith) c.args.line.now tenant is in
-    let name : c.in_ok-next_word-2.field-0.now ≡ tenant.name = cc (words, c.in_ok-next_word.ensures, c.in_ok-next_word-2.ensures) in
-    let named : is_name c.in_ok-next_word-2.field-0.now ≡ true = ap is_name name ∙ (tenant_fits c.args.last_clock (omega arith) tenant is.within).name in
-    let none = no_name c.in_ok-next_word-2.field-0.now c.in_default.field-0 (is_name c.in_ok-next_word-2.field-0.now) refl (sym c.new.ensures ∙ c.in_default.is) in
-    cc
-
-pub returns-in_err-next_word-3-clause-none : goal.returns-in_err-next_word-3-clause-none
-returns-in_err-next_word-3-clause-none c = rw c.from_residual-in_err-next_word-3.ensures (λ tenant is.
-    let words : c.of-words.result ≡ tenant_words is.token tenant = c.of-words.ensures ∙ tenant_parts c.args.last_clock (omega arith) c.args.line.now tenant is in
-    let left : c.next_word-2.new.self ≡ is.token ∷ decimal tenant.first_clock ∷ quota_words tenant.quota = cc (words, c.in_ok-next_word.ensures, c.in_ok-next_word-2.ensures) in
-    let none : c.next_word-2.new.self ≡ [] = c.in_err-next_word-3.ensures.0 in
-    cc)
-
-pub returns-in_default-try_parse_ascii-clause-none : goal.returns-in_default-try_parse_ascii-clause-none
-returns-in_default-try_parse_ascii-clause-none c = λ tenant is.
-    let words : c.of-words.result ≡ tenant_words is.token tenant = c.of-words.ensures ∙ tenant_parts c.args.last_clock (omega arith) c.args.line.now tenant is in
-    let token : c.in_ok-next_word-3.field-0.now ≡ is.token = cc (words, c.in_ok-next_word.ensures, c.in_ok-next_word-2.ensures, c.in_ok-next_word-3.ensures) in
-    no_token c.try_parse_ascii.result c.in_default-try_parse_ascii.field-0 c.in_ok-next_word-3.field-0.now tenant.token c.try_parse_ascii.ensures.ok c.in_default-try_parse_ascii.is (ap parsed token ∙ is.parses)
-
-pub returns-in_err-first_clock-clause-none : goal.returns-in_err-first_clock-clause-none
-returns-in_err-first_clock-clause-none c = rw c.from_residual-in_err-first_clock.ensures (λ tenant is.
-    let words : c.of-words.result ≡ tenant_words is.token tenant = c.of-words.ensures ∙ tenant_parts c.args.last_clock (omega arith) c.args.line.now tenant is in
-    let left : c.next_word-3.new.self ≡ decimal tenant.first_clock ∷ quota_words tenant.quota = cc (words, c.in_ok-next_word.ensures, c.in_ok-next_word-2.ensures, c.in_ok-next_word-3.ensures) in
-    c.in_err-first_clock.ensures.none tenant.first_clock (quota_words tenant.quota) (tenant_fits c.args.last_clock (omega arith) tenant is.within).first_clock left)
-
-pub returns-then-first_clock-last_clock-clause-none : goal.returns-then-first_clock-last_clock-clause-none
-returns-then-first_clock-last_clock-clause-none c = λ tenant is.
-    let words : c.of-words.result ≡ tenant_words is.token tenant = c.of-words.ensures ∙ tenant_parts c.args.last_clock (omega arith) c.args.line.now tenant is in
-    let clock : decimal c.in_ok-first_clock.first_clock ≡ decimal tenant.first_clock = cc (words, c.in_ok-next_word.ensures, c.in_ok-next_word-2.ensures, c.in_ok-next_word-3.ensures, c.in_ok-first_clock.ensures.some) in
-    let same = same_number c.in_ok-first_clock.first_clock tenant.first_clock c.in_ok-first_clock.ensures.small (tenant_fits c.args.last_clock (omega arith) tenant is.within).first_clock clock in
-    omega (arith, same, clock_within c.args.last_clock tenant is.within, c.if-first_clock-last_clock.true)
-
-pub returns-in_err-quota-clause-none : goal.returns-in_err-quota-clause-none
-returns-in_err-quota-clause-none c = rw c.from_residual-in_err-quota.ensures (λ tenant is.
-    let words : c.of-words.result ≡ tenant_words is.token tenant = c.of-words.ensures ∙ tenant_parts c.args.last_clock (omega arith) c.args.line.now tenant is in
-    let left : c.next_number.new.words ≡ quota_words tenant.quota = cc (words, c.in_ok-next_word.ensures, c.in_ok-next_word-2.ensures, c.in_ok-next_word-3.ensures, c.in_ok-first_clock.ensures.some) in
-    c.in_err-quota.ensures.none tenant.quota (quota_of_tenant c.args.last_clock tenant is.within) left)
-
 pub returns-clause-some : goal.returns-clause-some
 returns-clause-some c =
     let first = same_word c.in_ok-next_word.field-0.now (codes "tenant") c.as_slice.result.now c.ne.result c.ne.ensures c.as_slice.ensures c.if-ne.false in
-    let name = name_of_made c.in_ok-next_word-2.field-0.now c.in-Ok.name (sym c.new.ensures ∙ c.in-Ok.is) in
-    let quota = c.in_ok-quota.ensures.some in
-    let words : parts_at space c.args.line.now ≡ codes "tenant" ∷ c.in-Ok.name ∷ c.in_ok-next_word-3.field-0.now ∷ decimal c.in_ok-first_clock.first_clock ∷ quota_words c.in_ok-quota.quota =
-    cc (c.of-words.ensures, first, name.0, quota.0, c.in_ok-next_word.ensures, c.in_ok-next_word-2.ensures, c.in_ok-next_word-3.ensures, c.in_ok-first_clock.ensures.some) in
-    let parses : parsed c.in_ok-next_word-3.field-0.now ≡ Some c.in-Ok-try_parse_ascii.token = sym c.in-Ok-try_parse_ascii.ensures.bytes in
-    record {
-      token = c.in_ok-next_word-3.field-0.now;
-      spelled = spelled_by c.args.line.now _ words;
-      one_word = token_is_word c.in_ok-next_word-3.field-0.now c.in-Ok-try_parse_ascii.token (token_lacks c.args.line.now _ _ c.in_ok-next_word-3.field-0.now _ words) parses;
-      parses = parses;
-      within = is_tenant-made c.args.last_clock c.in-Ok.name c.in-Ok-try_parse_ascii.token c.in_ok-first_clock.first_clock c.in_ok-quota.quota name.1 c.if-first_clock-last_clock.false quota.1;
-    }
+    let words : parts_at space c.args.line.now ≡ codes "tenant" ∷ c.next_word.new.self = cc (c.of-words.ensures, first, c.in_ok-next_word.ensures) in
+    some_so c.last_tenant.result (λ tenant are. tenant_spelled c.args.last_clock c.args.line.now c.next_word.new.self tenant words are) c.last_tenant.ensures.some
+
+pub returns-clause-none : goal.returns-clause-none
+returns-clause-none c =
+    let words : parts_at space c.args.line.now ≡ c.in_ok-next_word.field-0.now ∷ c.next_word.new.self = sym c.of-words.ensures ∙ c.in_ok-next_word.ensures in
+    none_so c.last_tenant.result (λ none tenant is. none tenant (words_of_tenant c.args.last_clock (omega arith) c.args.line.now c.in_ok-next_word.field-0.now c.next_word.new.self tenant words is)) c.last_tenant.ensures.none
