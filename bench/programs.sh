@@ -4,7 +4,7 @@
 # peak memory, and their ratios A/B (over 1: A is slower or larger; for requests/s: A
 # is faster). On a shared machine trust processor time. A program may be a command with
 # arguments in one word:
-#   bench/programs.sh out/cops "bench/plain/target/release/plain --fixed-tenants"
+#   bench/programs.sh out/cops "bench/plain/target/release/plain --count-audit"
 #
 # Environment (defaults):
 #   REPS=3            repetitions of each case

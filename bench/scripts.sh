@@ -9,7 +9,7 @@ times=${1:-3}
 shift || true
 cases=("$@")
 if [ ${#cases[@]} -eq 0 ]; then
-    cases=(many_keys few_keys long_lists many_gets two_data_centres many_tenants collected beside alone)
+    cases=(many_keys few_keys long_lists many_gets two_data_centres many_tenants collected beside alone lives lives_beside)
 fi
 room=${ROOM:-}
 if [ -z "$room" ]; then
@@ -27,7 +27,7 @@ if [ -z "$program" ]; then
     program=$here/../crates/cops_cli/out/cops_cli
 fi
 (cd "$here/plain" && cargo build --quiet --release --offline --target-dir "$room/target")
-plain=("$room/target/release/plain" --fixed-tenants)
+plain=$room/target/release/plain
 workload=$room/target/release/workload
 
 # Runs a program over the script and adds a line with its seconds and kilobytes to a file.
@@ -49,11 +49,11 @@ echo '| Script | Lines | Time | Memory |'
 echo '|---|---|---|---|'
 for case in "${cases[@]}"; do
     "$workload" "$case" >"$room/script"
-    cmp <("$program" run <"$room/script") <("${plain[@]}" run <"$room/script")
+    cmp <("$program" run <"$room/script") <("$plain" run <"$room/script")
     rm -f "$room/of_cops" "$room/of_plain"
     for ((run = 0; run < times; run++)); do
         measure "$room/of_cops" "$program"
-        measure "$room/of_plain" "${plain[@]}"
+        measure "$room/of_plain" "$plain"
     done
     echo "$case $(wc -l <"$room/script") $(least "$room/of_cops") $(least "$room/of_plain")" |
         awk '{ printf "| %s | %d | %.2f | %.2f |\n", $1, $2, $3 / $5, $4 / $6 }'

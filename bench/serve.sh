@@ -16,4 +16,4 @@ redis=()
 if command -v redis-server redis-benchmark >/dev/null; then
     redis=(--redis)
 fi
-exec python3 "$here/serve.py" "$1" "$clients/plain --fixed-tenants" "$clients" --times "${2:-5}" "${redis[@]}"
+exec python3 "$here/serve.py" "$1" "$clients/plain" "$clients" --times "${2:-5}" "${redis[@]}"

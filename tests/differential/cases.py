@@ -8,6 +8,7 @@ from dataclasses import dataclass
 from random import Random
 
 import audits
+from lives import Lives
 from programs import Outcome, Programs
 from scripts import ScriptMaker
 from services import converse
@@ -19,8 +20,10 @@ COMMANDS = ["run", "solo", "audit", "replay", "migrate", "serve"]
 SCRIPT_REPLIES = {
     *(f"E{number:02}" for number in [1, *range(3, 19), 22, 24, 25]),
     *"opened context dropped started all working restarted stored values removed nothing waits".split(),
-    "committed acked", "already notfront", "- E02",
+    "committed acked", "already notfront", "- E01", "- E02", "- E04", "- E28", "- admitted", "- closed",
 }  # fmt: skip
+#: How many names of a script are told its lines alone.
+MOST_ALONE = 5
 #: Every kind of reply and every refusal that a stream can meet where replies don't depend on time.
 STREAM_REPLIES = {
     *"81 82 83 84 85".split(),
@@ -86,27 +89,60 @@ def kinds(output: bytes) -> Counter[str]:
 
 
 def hold_script(pair: Pair, numbers: Random) -> Counter[str]:
-    """A script: what is run, what each tenant is told alone, the audit, and its replays. The kinds of replies."""
+    """A script: what is run, what each name is told alone, the audit, and its replays. The kinds of replies."""
     maker = ScriptMaker(numbers)
-    return compare_script(pair, numbers, maker.text(), [tenant.name for tenant in maker.tenants])
+    return compare_script(pair, numbers, maker.text(), maker.host.names)
 
 
 def compare_script(pair: Pair, numbers: Random, text: bytes, names: list[str]) -> Counter[str]:
     run = pair.both(["run"], text) if "run" in pair.commands else None
+    lives = Lives(text) if run is not None and run.status == 0 else None
+    if run is not None and lives is not None:
+        compare_lives(pair, numbers, text, run, lives)
     if "solo" in pair.commands:
-        name = numbers.choice(names)
-        if numbers.random() < 0.03:
-            name = numbers.choice(["zeta", "Acme", "", "name_of_17_bytes_"])
-        alone = pair.both(["solo", name], text)
-        if run is not None and alone.status == 0:
-            own = b"".join(line for line in run.output.splitlines(True) if line.startswith(name.encode() + b" "))
-            if own != alone.output:
-                raise Difference(f"solo {name} isn't his part of run", {"input": text, "run": own, "solo": alone.output})
+        if lives is not None:
+            names = [*{life.name.decode() for life in lives.all}, *names[:2]]
+        # In the order of the names, as a set has no order that a seed gives again.
+        chosen = numbers.sample(sorted(set(names)), min(len(set(names)), MOST_ALONE))
+        for name in [*chosen, numbers.choice(["zeta", "Acme", "", "+", "name_of_17_bytes_"])]:
+            compare_alone(pair, text, run, lives, name)
     if "audit" in pair.commands:
         audit = pair.both(["audit"], text)
+        if audit.status == 0 and lives is not None:
+            head = lives.audit_head()
+            if audit.output.splitlines()[: len(head)] != head:
+                raise Difference("an audit's head isn't who is open", {"input": text, "audit": audit.output})
         if audit.status == 0 and "replay" in pair.commands:
             compare_replays(pair, numbers, audit.output)
     return kinds(run.output) if run is not None else Counter()
+
+
+def compare_lives(pair: Pair, numbers: Random, text: bytes, run: Outcome, lives: Lives) -> None:
+    """Each reply is to whom it belongs, the host's are those of a table of tenants, and a life is told what a cluster of its
+    own would tell it."""
+    replies = run.output.splitlines()
+    for wanted, reply in zip(lives.told, replies):
+        if reply != wanted if wanted.startswith(b"- ") else not reply.startswith(wanted + b" "):
+            raise Difference("run isn't as the table of tenants", {"input": text, "told": reply, "wanted": wanted})
+    if len(replies) != len(lives.told):
+        raise Difference("run has more or fewer replies than lines", {"input": text, "run": run.output})
+    for life in numbers.sample(lives.all, min(len(lives.all), 2)):
+        alone = pair.both(["run"], lives.alone(life)).output.splitlines()
+        told = [replies[place] for place in life.places]
+        if alone != told:
+            files = {"life": lives.alone(life), "alone": b"\n".join(alone), "told": b"\n".join(told)}
+            raise Difference("a life is told otherwise alone", {"input": text, **files})
+
+
+def compare_alone(pair: Pair, text: bytes, run: Outcome | None, lives: Lives | None, name: str) -> None:
+    """A name alone is told what it is told in the whole run, life after life; where it was never open, that."""
+    alone = pair.both(["solo", name], text)
+    if run is None or lives is None:
+        return
+    own = b"".join(line for line in run.output.splitlines(True) if line.startswith(name.encode() + b" "))
+    wanted = Outcome(0, own, b"") if lives.of(name.encode()) else Outcome(2, b"", b"cops: E02\n")
+    if alone != wanted:
+        raise Difference(f"solo {name} isn't its part of run", {"input": text, "run": own, "solo": alone.output})
 
 
 def compare_files_of_nobody(pair: Pair, audit: bytes) -> None:

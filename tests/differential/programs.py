@@ -80,12 +80,8 @@ def working_folder() -> tempfile.TemporaryDirectory[str]:
     return tempfile.TemporaryDirectory(prefix="cops_random_", dir=memory_folder())
 
 
-#: The program under test has the tenants of the head and no others.
-PLAIN_WORDS = ["--fixed-tenants"]
-
-
 def build_plain(root: pathlib.Path) -> list[str]:
     """Builds the plain program where it isn't built, and gives its command."""
     folder = root / "bench" / "plain"
     subprocess.run(["cargo", "build", "--quiet", "--release", "--offline", "--bin", "plain"], cwd=folder, check=True)
-    return [str(folder / "target" / "release" / "plain"), *PLAIN_WORDS]
+    return [str(folder / "target" / "release" / "plain")]

@@ -7,6 +7,7 @@ from dataclasses import dataclass, field
 from random import Random
 
 from cops_client.layout import CLOCK_BITS
+from hosts import NO_HOST, Host, admission, unformed_admission, unformed_close
 
 MOST = (1 << 64) - 1
 MOST_QUOTA = 4_294_967_295
@@ -19,7 +20,7 @@ KEYS = ["x", "y", "z", "ab", "ba", "item_000001", "item_000002", "k" * 15, "k" *
 BAD_KEYS = ["X", "x.y", "m" * 65, "\r", "x\r", "\x00", "\xff", "x\t", "-", "@"]
 BAD_NUMBERS = ["", "00", "01", "+1", "-1", "1.0", "0x1", "a", str(MOST + 1), "9" * 30, "1\r", "\xb9"]
 BAD_LINES = [
-    "", " ", "  ", "+", "-", "+ x", "- acme", "zeta open a 0", "acme", "acme ", " acme open a 0", "acme  open a 0",
+    "", " ", "  ", *NO_HOST, "zeta open a 0", "acme", "acme ", " acme open a 0", "acme  open a 0",
     "acme fly", "acme open", "acme open a", "acme open a 0 ", "acme open a 0 0", "acme open A 0", "acme ctx a 1",
     "acme ctx", "acme put a 1 x", "acme put a 1 x 10 20", "acme get a 1", "acme get a 1 ", "acme get a 1 x ",
     "acme get a 1 x  y", "acme show a", "acme drop a", "acme carry k 0 0", "acme carry k 0 0 1 1", "acme collect 0 0",
@@ -99,11 +100,15 @@ class ScriptMaker:
         #: How much of what is drawn is wrong.
         self.wrong = numbers.choice([0.0, 0.01, 0.03, 0.1, 0.3])
         careful = numbers.random() < 0.4
-        count = 64 if numbers.random() < 0.01 else numbers.choice([1, 2, 2, 3, 4])
+        count = 64 if numbers.random() < 0.02 else numbers.choice([0, 1, 1, 2, 2, 2, 2, 3, 3, 4])
         names = ["acme", "beta", "gama", "tenant_16_bytes_", *(f"t{number}" for number in range(60))][:count]
         self.tenants = [
             Tenant(name, tenant_line(numbers, name, number + 1, careful)) for number, name in enumerate(names)
         ]
+        self.careful = careful
+        self.host = Host(numbers, names, count == 64)
+        #: Who was open and is no longer; each with what his last life had.
+        self.closed: list[Tenant] = []
         self.head = [f"cluster {self.data_centres} {self.shards} {self.trans_time} {self.restarts}"]
         self.head += [tenant.line for tenant in self.tenants]
         self.head.append("begin")
@@ -194,7 +199,13 @@ class ScriptMaker:
         if self.wrong > 0 and numbers.random() < self.wrong / 4:
             self.lines.append(self.bad_line())
             return
+        if self.host.is_next() or not self.tenants:
+            self.lines.append(self.host_line())
+            return
         tenant = numbers.choice(self.tenants)
+        if self.closed and numbers.random() < 0.03:
+            # He goes on as if he were open still. His name may be open again.
+            tenant = numbers.choice(self.closed)
         draw = numbers.random()
         if draw < 0.02:
             self.straddle(tenant)
@@ -205,6 +216,26 @@ class ScriptMaker:
 
     def write(self, tenant: Tenant, act: str) -> None:
         self.lines.append(f"{tenant.name} {act}")
+
+    def host_line(self) -> str:
+        """A tenant comes or goes, or is refused it."""
+        numbers = self.numbers
+        is_unformed = numbers.random() < 0.1
+        if self.host.is_admission():
+            if is_unformed:
+                return unformed_admission(numbers, admission(tenant_line(numbers, "zeta", 1_000, self.careful)))
+            name, token, is_admitted = self.host.newcomer()
+            line = tenant_line(numbers, name, token, self.careful)
+            if is_admitted:
+                self.tenants.append(Tenant(name, line))
+            return admission(line)
+        if is_unformed:
+            return unformed_close(numbers, numbers.choice(self.host.names))
+        name, is_closed = self.host.leaver()
+        if is_closed:
+            self.closed += [tenant for tenant in self.tenants if tenant.name == name]
+            self.tenants = [tenant for tenant in self.tenants if tenant.name != name]
+        return f"- {name}"
 
     def bad_line(self) -> str:
         numbers = self.numbers

@@ -3,10 +3,14 @@
 Nobody else's replies change, nothing is kept after a client has gone, and other workers go on.
 """
 
+import pathlib
 import resource
 import socket
+import subprocess
 import time
 import unittest
+from collections.abc import Iterator
+from itertools import chain
 
 import collisions
 import pair
@@ -36,6 +40,21 @@ def time_of_run(text: bytes) -> tuple[float, bytes]:
     outcome = pair.program(["run"], text)
     after = resource.getrusage(resource.RUSAGE_CHILDREN)
     return after.ru_utime - before.ru_utime + after.ru_stime - before.ru_stime, outcome.output
+
+
+def memory_of_run(lines: Iterator[bytes]) -> int:
+    """The most that was resident while the program answered a script, in kilobytes, told before it comes to the end."""
+    pair.hold()
+    with subprocess.Popen([*pair.PROGRAM, "run"], stdin=subprocess.PIPE, stdout=subprocess.DEVNULL) as started:
+        assert started.stdin is not None
+        started.stdin.writelines(lines)
+        started.stdin.flush()
+        # (what is left in the pipe is fewer lines than a hundred)
+        status = pathlib.Path(f"/proc/{started.pid}/status").read_text(encoding="ascii")
+        started.stdin.close()
+        if started.wait(20) != 0:
+            raise AssertionError("the script isn't answered")
+    return int(status.split("VmHWM:")[1].split()[0])
 
 
 class Denial(unittest.TestCase):
@@ -145,3 +164,14 @@ class Denial(unittest.TestCase):
             taken.append(min(times))
         print(f"{count} other names: {taken[0]:.3f} s, colliding names: {taken[1]:.3f} s")
         self.assertLess(taken[1], 3 * taken[0] + 0.05)
+
+    def test_tenants_who_come_and_go_leave_nothing(self):
+        """Twenty thousand lives, each with a value of 1,000 bytes, take what a thousand take."""
+        acts = ["open a 0", "ctx a", "put a 1 x " + "v" * 1_000, "done a 0", "open b 1"]
+        life = "".join([*(f"guest {act}\n" for act in acts), "- guest\n"])
+        sizes = []
+        for count in (1_000, 20_000):
+            lives = (f"+ guest {number:032x} 0 100 10000 10 4 20 8 1000\n{life}".encode() for number in range(count))
+            sizes.append(memory_of_run(chain([b"cluster 2 2 5000 1\nbegin\n"], lives)))
+        print(f"1,000 lives: {sizes[0]:,} kB, 20,000: {sizes[1]:,} kB")
+        self.assertLess(sizes[1], sizes[0] + 4_000)

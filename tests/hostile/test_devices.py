@@ -12,7 +12,7 @@ import unittest
 import pair
 from pair import failing, plain, program
 from programs import Outcome
-from texts import SCRIPT
+from texts import LIVES, SCRIPT
 
 READ_FAULT, WRITE_FAULT = b"cops: E26\n", b"cops: E27\n"
 #: What the shim says when a call fails.
@@ -24,7 +24,8 @@ def cases() -> list[tuple[list[str], bytes]]:
     audit = plain(["audit"], SCRIPT).output
     # An audit of small versions is one of layout 1 too, but for the line that names its layout.
     old = audit.removeprefix(b"layout 2\n")
-    return [(["run"], SCRIPT), (["solo", "acme"], SCRIPT), (["audit"], SCRIPT), (["replay", "acme"], audit), (["migrate"], old)]
+    of_scripts = [(["run"], SCRIPT), (["solo", "acme"], SCRIPT), (["audit"], SCRIPT), (["solo", "acme"], b"\n".join(LIVES))]
+    return [*of_scripts, (["replay", "acme"], audit), (["migrate"], old)]
 
 
 class Devices(unittest.TestCase):
@@ -72,6 +73,21 @@ class Devices(unittest.TestCase):
             outcome = program(words, text, failing("read", call=number, piece=1))
             self.is_front(outcome, whole, READ_FAULT)
         self.assertEqual(program(words, text, failing("read", call=len(text) + 2, piece=1)), whole)
+
+    def test_each_read_fails_before_a_name_is_found_unknown(self):
+        """Whether a name was ever open is known at the end of the input, so a failure before it is told and no other."""
+        words, text = ["solo", "zeta"], SCRIPT
+        unknown = Outcome(2, b"", b"cops: E02\n")
+        for piece in (4_096, 29):
+            number = 1
+            while True:
+                outcome = program(words, text, failing("read", call=number, error=errno.EIO, piece=piece))
+                if FAILED not in outcome.faults:
+                    break
+                self.assertEqual(outcome, Outcome(1, b"", FAILED + READ_FAULT))
+                number += 1
+            self.assertEqual(outcome, unknown)
+            self.assertGreater(number, len(text) // piece + 1)
 
     def test_each_write_fails(self):
         self.assertGreater(self.fail_in_turn("write", WRITE_FAULT, [65_536, 100, 7], errno.EIO), 4)

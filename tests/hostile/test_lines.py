@@ -96,10 +96,12 @@ class Lines(unittest.TestCase):
             self.assertEqual(both(words, text_of([*AUDIT_HEAD, *FRONT])), bad)
 
     def test_a_head_without_tenants(self):
-        """Each line then names none. In layout 1 there is no such head."""
+        """Each line but the host's then names none, and no name is taken. In layout 1 there is no such head."""
         head = [HEAD[0], HEAD[-1]]
-        lines = [line for _, line in event_lines()]
-        self.check(both(["run"], text_of([*head, *lines])), [b"- E02"] * len(lines))
+        pairs = [(reply, line) for reply, line in event_lines() if reply != b"- E04"]
+        lines = [line for _, line in pairs]
+        replies = [b"- E01" if reply == b"- E01" else b"- E02" for reply, _ in pairs]
+        self.check(both(["run"], text_of([*head, *lines])), replies)
         self.check(both(["audit"], text_of([*head, *lines])), [AUDIT_HEAD[0], *head])
         unknown = Outcome(2, b"", b"cops: E02\n")
         for text in (["solo", "acme"], text_of(head)), (["replay", "acme"], text_of([AUDIT_HEAD[0], *head])):
@@ -160,7 +162,7 @@ class Lines(unittest.TestCase):
         records = self.audit.splitlines()[len(AUDIT_HEAD) :]
         own = [record for record in records if record.startswith(b"acme ")]
         for reply, line in event_lines():
-            if reply == b"- E02":
+            if reply.startswith(b"- "):
                 with self.subTest(line=line[:80]):
                     text = text_of([*AUDIT_HEAD, line, *records, line])
                     self.check(both(["replay", "acme"], text), [b"same %d" % len(own)])

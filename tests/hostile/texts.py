@@ -43,6 +43,34 @@ BACK = [
 ]
 SCRIPT = b"\n".join([*HEAD, *FRONT, *BACK]) + b"\n"
 TENANTS = ["acme", "beta"]
+#: The ten words of tenants who may come, with tokens of nobody before them.
+GAMA = b"gama 00000000-0000-0000-0000-000000000003 0 100 10000 10 4 20 8 1000"
+ACME = HEAD[1].removeprefix(b"tenant ")
+#: Tenants come and go: gama's slot is acme's in the end, and acme's the third.
+LIVES = [
+    *HEAD,
+    *FRONT,
+    b"+ " + GAMA,
+    b"gama open a 0",
+    b"gama ctx a",
+    b"gama put a 1 x 7",
+    b"gama done a 0",
+    b"- gama",
+    b"gama step a 0",
+    b"- acme",
+    b"+ " + GAMA.replace(b"gama ", b"acme "),
+    b"acme open a 0",
+    b"acme ctx a",
+    b"acme get a 1 x",
+    b"acme done a 1",
+    b"+ acme" + GAMA[4:],
+    b"+ " + GAMA.replace(b"3 0 100", b"4 0 100"),
+    b"gama open a 1",
+    b"- zeta",
+    b"-",
+    b"beta get a 1 x",
+    b"beta done a 1",
+]
 
 
 def written(text: str) -> bytes:

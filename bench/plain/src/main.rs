@@ -12,8 +12,7 @@ use std::process::ExitCode;
 
 const USAGE: &str = "usage: plain run | solo TENANT | audit | replay TENANT | migrate
        plain serve ADDRESS [--workers N] [--connections N]
-options: --layout 1        the older layout of versions, with fixed tenants
-         --fixed-tenants   no tenants but the head's
+options: --layout 1        the older layout of versions, with no tenants but the head's
          --count-audit     keep only the length of audits (run, solo, replay)";
 
 enum Command {
@@ -29,7 +28,6 @@ enum Command {
 fn parse(words: impl Iterator<Item = OsString>) -> Option<(Command, Options)> {
     let mut options = Options {
         layout: Layout::Two,
-        has_fixed_tenants: false,
         keep_audit: true,
     };
     let mut limits = Limits {
@@ -67,13 +65,11 @@ fn parse(words: impl Iterator<Item = OsString>) -> Option<(Command, Options)> {
                     number().filter(|count| (1..=u64::from(u32::MAX)).contains(count))?;
                 of_serve = true;
             }
-            b"--fixed-tenants" if joined.is_none() => options.has_fixed_tenants = true,
             b"--count-audit" if joined.is_none() => options.keep_audit = false,
             _ if word.starts_with(b"-") => return None,
             _ => plain.push(word),
         }
     }
-    options.has_fixed_tenants |= options.layout == Layout::One;
     let mut plain = plain.into_iter();
     let command = match plain.next()?.as_slice() {
         b"run" => Command::Run,

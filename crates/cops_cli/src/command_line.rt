@@ -72,7 +72,7 @@ fn tenant_argument<'a>(alloc: Global) -> Arg<'a>
     ensures local { result.global ≡ false }
 {
     Arg::new(alloc, TENANT)
-        .help("The tenant's name in the head")
+        .help("The tenant's name")
         .required(true)
 }
 

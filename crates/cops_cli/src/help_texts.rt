@@ -4,7 +4,9 @@ pub(crate) const COPS_HELP: &str =
     "'cops COMMAND --help' tells what a command reads and writes, and how it ends.";
 
 pub(crate) const RUN_HELP: &str =
-    "Reads a script from standard input: a head, and then one event to a line.
+    "Reads a script from standard input: a head, and then one event to a line. The
+line '+ ..' admits a tenant, with the words of a line of the head; '- NAME'
+closes one.
 Writes one line of reply to standard output for each line after the head.
 
 Status  Standard error              When
@@ -23,7 +25,8 @@ Example:
 pub(crate) const SOLO_HELP: &str =
     "Reads a script from standard input: a head, and then one event to a line.
 Writes one line of reply to standard output for each line of this tenant: what
-'cops run' writes where no other tenant is in the head or sends a line.
+'cops run' writes where no other tenant is in the head, is admitted or sends a
+line. A tenant who is closed and admitted again begins anew.
 
 Status  Standard error              When
 0                                   all was read, and the tenant answered
@@ -31,7 +34,8 @@ Status  Standard error              When
 1       cops: E26                   reading failed
 1       cops: E27                   writing failed
 2       cops: configuration line N  the head is bad; nothing is written
-2       cops: E02                   the head has no such tenant; nothing is written
+2       cops: E02                   all was read, and no such tenant was ever open;
+                                    nothing is written
 2       this, or what is wrong      help was asked for, or cops takes no such words
 
 With status 1 the first of the replies may be written.
@@ -41,8 +45,9 @@ Example:
 
 pub(crate) const AUDIT_HELP: &str =
     "Reads a script from standard input: a head, and then one event to a line.
-Writes the audit of it to standard output: the layout, the head, and then each
-call of a node with its reply, one to a line.
+Writes the audit of it to standard output: the layout, a head of the tenants who
+are open at the end, and then each of their calls of a node with its reply, one
+to a line.
 
 Status  Standard error              When
 0                                   all was read, and the audit is written

@@ -17,7 +17,7 @@ use Rattle.cops_types.proofs.FrontLemmas.{front_after-is}
 use Rattle.cops_types.proofs.HeadLemmas.{tenant_fits}
 use Rattle.cops_types.proofs.HeadLengths.{front_after-short}
 use Rattle.cops_types.proofs.WordLemmas.{both}
-use Rattle.cops_world.specs.Script.{AreNamed}
+use Rattle.cops_types.specs.Slots.{AreNamed}
 use Rattle.cops_world.proofs.HeadRuns as today
 use Rattle.cops_replay.specs.declared.layouts.Layout.{Layout}
 use Rattle.cops_replay.specs.declared.layouts.Layout.TheVariants.{Today, Early, Old}

@@ -11,13 +11,13 @@ use Rattle.cops_types.specs.declared.configs.Tenant.{Tenant}
 use Rattle.cops_types.specs.TenantConfig.{TenantConfig, tenant_config}
 use Rattle.cops_node.specs.declared.AuditEntry.{AuditEntry}
 use Rattle.cops_node.specs.declared.NodeId.{NodeId}
-use Rattle.cops_node.specs.Clusters.{id_of}
+use Rattle.cops_node.specs.Clusters.{HasTenant, IsCluster, id_of, shape_of}
 use Rattle.cops_node.specs.Parts.{Shared, place_at, solo_of}
 use Rattle.cops_node.specs.Place.{place_of}
 use Rattle.cops_node.specs.SoloNode.{SoloNode}
 use Rattle.cops_replay.specs.declared.Record.{Record}
 use Rattle.cops_replay.specs.Audits.{record_of, records_from, records_of}
-use Rattle.cops_replay.specs.AuditText.{AreNodesOf, ended, his_nodes, records_text, tenants_text}
+use Rattle.cops_replay.specs.AuditText.{audit_text, ended, head_text, his_nodes, records_text, tenants_text}
 use Rattle.cops_replay.specs.RecordText.{record_line}
 
 -- a word and numbers, each after a space
@@ -102,15 +102,15 @@ each_at P (y ∷ xs) zero x h e = let same : y ≡ x = cc in subst P same h.0
 each_at P (y ∷ xs) (suc i) x h e = each_at P xs i x h.1 e
 
 -- a node has its number
-pub numbered : (config : Config) (nodes : List Shared) (i : ℕ) (node : Shared) → AreNodesOf config nodes → i < length nodes → node ≡ get_or nodes i node → node.home.id ≡ id_of config.shards i
-numbered config nodes i node are below is = (are.by_number.each i node below is).0
+pub numbered : (config : Config) (nodes : List Shared) (i : ℕ) (node : Shared) → IsCluster (shape_of config) nodes → i < length nodes → node ≡ get_or nodes i node → node.home.id ≡ id_of config.shards i
+numbered config nodes i node are below is = (are.each i node below is).0
 
 -- a tenant's slot has his place there
-pub place_there : (config : Config) (tenant : Tenant) (slot : ℕ) (nodes : List Shared) (i : ℕ) (node : Shared) → AreNodesOf config nodes → i < length nodes → node ≡ get_or nodes i node →
-    slice_get config.tenants slot ≡ Some tenant → place_at slot node ≡ Some (place_of (tenant_config config tenant) (id_of config.shards i))
-place_there config tenant slot nodes i node are below is e =
-    each_at (λ (n : Shared). place_at slot n ≡ Some (place_of (tenant_config config tenant) n.home.id)) nodes i node (are.each_tenant slot tenant e) (slice_get-get_or nodes i node below ∙ ap Some (sym is))
-    ∙ ap (λ id. Some (place_of (tenant_config config tenant) id)) (numbered config nodes i node are below is)
+pub place_there : (config : Config) (tenant : TenantConfig) (slot : ℕ) (nodes : List Shared) (i : ℕ) (node : Shared) → IsCluster (shape_of config) nodes → i < length nodes → node ≡ get_or nodes i node →
+    HasTenant tenant slot (record { shape = shape_of config; nodes = nodes }) → place_at slot node ≡ Some (place_of tenant (id_of config.shards i))
+place_there config tenant slot nodes i node are below is has =
+    each_at (λ (n : Shared). place_at slot n ≡ Some (place_of tenant n.home.id)) nodes i node has (slice_get-get_or nodes i node below ∙ ap Some (sym is))
+    ∙ ap (λ id. Some (place_of tenant id)) (numbered config nodes i node are below is)
 
 -- the lines of a tenant's nodes
 pub nodes_text_cut : (name : List ℕ) (shards : ℕ) (nodes : List SoloNode) (i : ℕ) (node : SoloNode) → slice_get nodes i ≡ Some node →
@@ -149,7 +149,7 @@ nodes_records_one_more shards nodes i node e =
     ∙ ap (λ l. records_from shards 0 (take i nodes) ++ l) (append-nil his)
 
 -- a tenant's node among those that tenants share
-pub his_node : (config : Config) (tenant : TenantConfig) (slot : ℕ) (nodes : List Shared) (i : ℕ) (node : Shared) → AreNodesOf config nodes → i < length nodes → node ≡ get_or nodes i node →
+pub his_node : (config : Config) (tenant : TenantConfig) (slot : ℕ) (nodes : List Shared) (i : ℕ) (node : Shared) → IsCluster (shape_of config) nodes → i < length nodes → node ≡ get_or nodes i node →
     slice_get (his_nodes config nodes tenant slot) i ≡ Some (solo_of slot (place_of tenant (id_of config.shards i)) node)
 his_node config tenant slot nodes i node are below is =
     let id = numbered config nodes i node are below is in
@@ -177,3 +177,19 @@ tenants_text_one_more config nodes tenants i tenant e =
     ∙ tenants_text-append config nodes 0 (take i tenants) (tenant ∷ [])
     ∙ ap (λ n. tenants_text config nodes 0 (take i tenants) ++ tenants_text config nodes n (tenant ∷ [])) here
     ∙ ap (λ l. tenants_text config nodes 0 (take i tenants) ++ l) (append-nil (records_text tenant.name (records_of (tenant_config config tenant) (nodes (tenant_config config tenant) i))))
+
+-- where each tenant has the same nodes, the records are the same
+pub tenants_text-same : (config : Config) (one other : TenantConfig → ℕ → List SoloNode) (slot : ℕ) (tenants : List Tenant) →
+    ((k : ℕ) (tenant : Tenant) → slice_get tenants k ≡ Some tenant → one (tenant_config config tenant) (slot + k) ≡ other (tenant_config config tenant) (slot + k)) →
+    tenants_text config one slot tenants ≡ tenants_text config other slot tenants
+tenants_text-same config one other slot [] h = refl
+tenants_text-same config one other slot (tenant ∷ tenants) h =
+    let mine = tenant_config config tenant in
+    let here : one mine slot ≡ other mine slot = subst (λ n. one mine n ≡ other mine n) (omega arith) (h 0 tenant refl) in
+    let later = tenants_text-same config one other (slot + 1) tenants (λ k t e. subst (λ n. one (tenant_config config t) n ≡ other (tenant_config config t) n) (omega arith) (h (suc k) t e)) in
+    λ i. records_text tenant.name (records_of mine (here i)) ++ later i
+
+pub audit_text-same : (config : Config) (one other : TenantConfig → ℕ → List SoloNode) →
+    ((k : ℕ) (tenant : Tenant) → slice_get config.tenants k ≡ Some tenant → one (tenant_config config tenant) k ≡ other (tenant_config config tenant) k) → audit_text config one ≡ audit_text config other
+audit_text-same config one other h =
+    ap (λ l. head_text config ++ l) (tenants_text-same config one other 0 config.tenants (λ k tenant e. subst (λ n. one (tenant_config config tenant) n ≡ other (tenant_config config tenant) n) (omega arith) (h k tenant e)))

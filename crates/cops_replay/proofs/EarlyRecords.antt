@@ -13,7 +13,6 @@ use Rattle.cops_types.specs.Version.{Timestamp}
 use Rattle.cops_types.specs.Words.{first_word, number_of, parts_at, space}
 use Rattle.cops_types.proofs.WordLemmas.{both}
 use Rattle.cops_node.specs.SoloNode.{SoloNode}
-use Rattle.cops_world.specs.Script.{alone_lines}
 use Rattle.cops_replay.specs.declared.Record.{Record}
 use Rattle.cops_replay.specs.declared.Replayed.{Replayed}
 use Rattle.cops_replay.specs.declared.layouts.Layout.{Layout}
@@ -21,6 +20,7 @@ use Rattle.cops_replay.specs.declared.layouts.Layout.TheVariants.{Today, Early}
 use Rattle.cops_replay.specs.declared.refusals.ReplayRefusal.{ReplayRefusal}
 use Rattle.cops_replay.specs.declared.refusals.ReplayRefusal.TheVariants.{BadConfig, ClockTooGreat, UnknownTenant}
 use Rattle.cops_replay.specs.OldRecords.{early_version_of, is_early, is_old_record, last_early_clock, old_record_in}
+use Rattle.cops_replay.specs.OwnLines.{alone_lines}
 use Rattle.cops_replay.specs.Replaying.{fresh_nodes, nodes_after}
 use Rattle.cops_replay.specs.ReplayText.{FindsBy, IsEarlyLine, IsRefusedBy, IsReplayBy, has_great_clock, head_by, is_great_in, longest_record, starts_great_in, told_of}
 use Rattle.cops_replay.specs.RecordLines.{call_of_verb, read_ack, read_call, read_check, read_commit, read_entry, read_found, read_get, read_line, read_mark, read_pulled, read_put, read_reply, read_stored, read_told, record_by, record_in, reply_of_verb, sign_of, whole}

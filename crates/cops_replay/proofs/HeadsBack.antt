@@ -116,7 +116,7 @@ lines_within config = cluster_line config ∷ map written_tenant config.tenants
 abbrev pub written_head : Config → List (List ℕ)
 written_head config = lines_within config ++ begin_line ∷ []
 
-tenant_written : (tenant : Tenant) → IsToken tenant.token → IsTrue (is_tenant tenant) → IsTenantLine (written_tenant tenant) tenant
+pub tenant_written : (tenant : Tenant) → IsToken tenant.token → IsTrue (is_tenant tenant) → IsTenantLine (written_tenant tenant) tenant
 tenant_written tenant token is =
     let text = hyphenated_text lower tenant.token in
     let parses : parsed text ≡ Some tenant.token = sym (parses_hyphenated lower tenant.token (inl refl) token.size token.fit) in

@@ -11,7 +11,6 @@ use Rattle.cops_types.specs.Lines.{cut_line}
 use Rattle.cops_types.specs.TenantConfig.{TenantConfig}
 use Rattle.cops_types.specs.Words.{first_word, newline}
 use Rattle.cops_node.specs.Clusters.{nodes_of}
-use Rattle.cops_world.specs.Script.{alone_lines}
 use Rattle.cops_world.proofs.CutLemmas.{same_first_at}
 use Rattle.cops_replay.specs.declared.layouts.Layout.{Layout}
 use Rattle.cops_replay.specs.declared.layouts.Layout.TheVariants.{Today, Early, Old}
@@ -22,6 +21,7 @@ use Rattle.cops_replay.specs.declared.replay_machine.ReplayScript.{ReplayScript}
 use Rattle.cops_replay.specs.declared.replay_machine.ReplayStage.{ReplayStage}
 use Rattle.cops_replay.specs.declared.replay_machine.ReplayStage.TheVariants.{Running}
 use Rattle.cops_replay.specs.OldRecords.{is_old_record, old_record_in, versions_in}
+use Rattle.cops_replay.specs.OwnLines.{alone_lines}
 use Rattle.cops_replay.specs.RecordLines.{record_by}
 use Rattle.cops_replay.specs.Replayings.{Differs, IsReplayedLine, Passes, Standing, found_of, found_so_far}
 use Rattle.cops_replay.specs.ReplayRules.{ReplaysOwn, replay_answers_in, replay_rules}

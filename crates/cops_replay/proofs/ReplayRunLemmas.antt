@@ -13,15 +13,15 @@ use Rattle.cops_types.specs.LineRules.{Run}
 use Rattle.cops_types.specs.LineRuns.{AnswersAll, IfRunRefused, IsWhole, StopsEarly}
 use Rattle.cops_types.specs.Lines.{lines_of, cut_line, cut_lines}
 use Rattle.cops_types.specs.Sink.{AppendsFront}
+use Rattle.cops_types.specs.Slots.{AreNamed, slot_of_name}
 use Rattle.cops_types.specs.TenantConfig.{TenantConfig, tenant_config}
 use Rattle.cops_types.specs.Words.{first_word}
 use Rattle.cops_types.proofs.KnownLemmas.{AppendsFront-nil, input_is, known_lines, known_whole}
 use Rattle.cops_types.proofs.WordLemmas.{bytes_from_test}
 use Rattle.cops_node.specs.SoloNode.{SoloNode}
-use Rattle.cops_world.specs.Script.{AreNamed, alone_lines, slot_of_name}
 use Rattle.cops_world.proofs.ApartTenants.{found_at}
 use Rattle.cops_world.proofs.HeadRuns.{real_lines}
-use Rattle.cops_world.proofs.SoloLemmas.{name_of, short_name}
+use Rattle.cops_world.proofs.ApartTenants.{name_of, short_name}
 use Rattle.cops_replay.specs.declared.layouts.Layout.{Layout}
 use Rattle.cops_replay.specs.declared.layouts.Layout.TheVariants.{Today, Early, Old}
 use Rattle.cops_replay.specs.declared.old_heads.OldHeadSoFar.{OldHeadSoFar}
@@ -33,6 +33,7 @@ use Rattle.cops_replay.specs.declared.replay_machine.ReplayScript.{ReplayScript}
 use Rattle.cops_replay.specs.declared.replay_machine.ReplayStage.{ReplayStage}
 use Rattle.cops_replay.specs.declared.replay_machine.ReplayStage.TheVariants.{OldHead, Head, Running}
 use Rattle.cops_replay.specs.AuditText.{layout_line}
+use Rattle.cops_replay.specs.OwnLines.{alone_lines}
 use Rattle.cops_replay.specs.Replaying.{fresh_nodes, nodes_after}
 use Rattle.cops_replay.specs.Replayings.{Standing, found_of}
 use Rattle.cops_replay.specs.ReplayRules.{HeadRefusesBy, IsBadAfter, IsHeadBy, OldHeadAnswers, OldHeadRefuses, SaysAtEnd, StartsFor, front_by, replay_answers_in, replay_end_answers, replay_end_refuses, replay_end_refuses_in, replay_refuses, replay_refuses_in, replay_rules, tells_today}

@@ -1,6 +1,6 @@
 -- No line in the audit of a script is too long.
-use Rattle.std.proofs.Common.{◌≡◌, ℕ, ◌+◌, ◌≤◌, List, [], ◌∷◌, ◌++◌, length, map, arith}
-use Rattle.std.specs.Prelude.{IsTrue, Some, nat_le, slice_get}
+use Rattle.std.proofs.Common.{◌≡◌, ℕ, ◌+◌, ◌≤◌, List, [], ◌∷◌, ◌++◌, length, map, sym, subst, arith}
+use Rattle.std.specs.Prelude.{IsTrue, Some, nat_le, slice_get, slice_index_or}
 use Rattle.std.specs.List.{AllByRecursion}
 use Rattle.std.proofs.lemmas.Bool.Decides.{nat_tests}
 use Rattle.cops_types.specs.declared.configs.Config.{Config}
@@ -12,18 +12,26 @@ use Rattle.cops_node.specs.declared.AuditEntry.{AuditEntry}
 use Rattle.cops_node.specs.declared.NodeId.{NodeId}
 use Rattle.cops_node.specs.Clusters.{id_of}
 use Rattle.cops_node.specs.SoloNode.{SoloNode}
-use Rattle.cops_world.specs.Events.{own}
-use Rattle.cops_world.specs.Script.{events_in, said_in}
+use Rattle.cops_world.specs.Events.{config_at, own}
+use Rattle.cops_world.specs.Laws.{cluster_of}
+use Rattle.cops_world.specs.Lives.{of_lives, with_all_lives}
+use Rattle.cops_world.specs.Script.{events_in, said_by_lines}
+use Rattle.cops_world.specs.ScriptWorlds.{life_left, setup_left}
 use Rattle.cops_world.specs.ListLimits.{HasFew, HasFewInAudit}
 use Rattle.cops_world.proofs.AuditLists.{audits_few, few_deps}
 use Rattle.cops_world.proofs.WholeHeads.{shards_of}
 use Rattle.cops_replay.specs.declared.Record.{Record}
 use Rattle.cops_replay.specs.Audits.{record_of, records_from}
+use Rattle.cops_replay.specs.OpenAudits.{left_config, left_nodes, open_slots}
 use Rattle.cops_replay.specs.RecordText.{is_record, record_line}
 use Rattle.cops_replay.specs.ReplayText.{HasLine, longest_record}
-use Rattle.cops_replay.specs.WrittenAudits.{AreFormed, HaveLines, his_records, nodes_left}
+use Rattle.cops_replay.specs.WrittenAudits.{AreFormed, HaveLines, his_records}
 use Rattle.cops_replay.proofs.AuditLines.{head_known, name_at}
+use Rattle.cops_replay.proofs.HeadsBack.{written_head}
 use Rattle.cops_replay.proofs.LineLengths.{line_short}
+use Rattle.cops_replay.proofs.OpenHeads.{open_head}
+use Rattle.cops_replay.proofs.OpenLists.{open_there}
+use Rattle.cops_replay.proofs.OpenLives.{config_of_life}
 use Rattle.cops_replay.proofs.WrittenForms.{AllFormed}
 
 halves : {A : Type 0} (P : A → Type 0) (xs ys : List A) → AllByRecursion P (xs ++ ys) → AllByRecursion P xs × AllByRecursion P ys
@@ -61,12 +69,22 @@ abbrev AreShort : Config → (TenantConfig → ℕ → List SoloNode) → Type 0
 AreShort config nodes =
     (slot : ℕ) (tenant : Tenant) → slice_get config.tenants slot ≡ Some tenant → AllByRecursion (λ (told : Record). IsTrue (nat_le (length (record_line tenant.name told)) longest_record)) (his_records config nodes slot tenant)
 
-script_short : (lines rest : List (List ℕ)) (config : Config) → head_of lines ≡ Whole config rest → AreFormed config (nodes_left config rest) → AreShort config (nodes_left config rest)
-script_short lines rest config head formed slot tenant e =
-    let his = tenant_config config tenant in
-    let named = name_at config.tenants slot tenant (head_known lines rest config head).named e in
-    nodes_short his (few_deps lines config rest slot tenant head e) tenant.name named his.shards 0 (nodes_left config rest his slot) (formed slot tenant e)
-    (audits_few his (shards_of lines config rest head) (own slot (events_in (map (said_in config.tenants) rest))))
+-- of the tenants who are open behind a script
+left_short : (lines rest : List (List ℕ)) (config : Config) → head_of lines ≡ Whole config rest → AreFormed (left_config config rest) (left_nodes config rest) → AreShort (left_config config rest) (left_nodes config rest)
+left_short lines rest config head formed place tenant e =
+    let left = left_config config rest in
+    let stands = open_head lines rest config head in
+    let his = tenant_config left tenant in
+    let named = name_at left.tenants place tenant (head_known (written_head left) [] left stands).named e in
+    let tenants = (setup_left config rest).tenants in
+    let slot = slice_index_or (open_slots tenants) place 0 in
+    let life = life_left config rest slot in
+    let said = said_by_lines config rest in
+    let acts = own life (events_in (of_lives config said)) in
+    let same : config_at (with_all_lives config said) life ≡ his = config_of_life config rest slot tenant (open_there tenants place tenant e) in
+    let few : AllByRecursion (HasFewInAudit his) (left_nodes config rest his place) =
+    subst (λ (c : TenantConfig). AllByRecursion (HasFewInAudit his) (cluster_of c acts).nodes) (sym same) (audits_few his (shards_of (written_head left) left [] stands) acts) in
+    nodes_short his (few_deps (written_head left) left [] place tenant stands e) tenant.name named his.shards 0 (left_nodes config rest his place) (formed place tenant e) few
 
 -- each record has a line where it has a form and its line is not too long
 lines_of_both : (tenant : List ℕ) (records : List Record) → AllByRecursion (λ (told : Record). IsTrue (is_record told)) records →
@@ -75,6 +93,6 @@ lines_of_both tenant [] formed short = tt
 lines_of_both tenant (told ∷ records) formed short = (record { formed = formed.0; short = short.0 }, lines_of_both tenant records formed.1 short.1)
 
 -- so each record has a line
-pub script_lines : (lines rest : List (List ℕ)) (config : Config) → head_of lines ≡ Whole config rest → AreFormed config (nodes_left config rest) → HaveLines config (nodes_left config rest)
-script_lines lines rest config head formed slot tenant e =
-    lines_of_both tenant.name (his_records config (nodes_left config rest) slot tenant) (formed slot tenant e) (script_short lines rest config head formed slot tenant e)
+pub left_lines : (lines rest : List (List ℕ)) (config : Config) → head_of lines ≡ Whole config rest → AreFormed (left_config config rest) (left_nodes config rest) → HaveLines (left_config config rest) (left_nodes config rest)
+left_lines lines rest config head formed place tenant e =
+    lines_of_both tenant.name (his_records (left_config config rest) (left_nodes config rest) place tenant) (formed place tenant e) (left_short lines rest config head formed place tenant e)

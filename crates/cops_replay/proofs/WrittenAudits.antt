@@ -1,5 +1,5 @@
 -- A replay of a written audit says that all is the same.
-use Rattle.std.proofs.Common.{◌≡◌, ℕ, List, length, map, refl, sym, subst}
+use Rattle.std.proofs.Common.{◌≡◌, ℕ, List, [], length, map, refl, sym, subst}
 use Rattle.std.specs.Prelude.{Some, slice_get}
 use Rattle.cops_types.specs.declared.configs.Config.{Config}
 use Rattle.cops_types.specs.declared.configs.Tenant.{Tenant}
@@ -7,21 +7,25 @@ use Rattle.cops_types.specs.Head.{HeadReading, Whole, BadAt, head_of}
 use Rattle.cops_types.specs.Lines.{lines_of}
 use Rattle.cops_types.specs.TenantConfig.{TenantConfig, tenant_config}
 use Rattle.cops_node.specs.SoloNode.{SoloNode}
-use Rattle.cops_world.specs.Script.{Written, alone_lines}
+use Rattle.cops_world.specs.Script.{Written}
 use Rattle.cops_replay.specs.declared.layouts.Layout.TheVariants.{Today}
 use Rattle.cops_replay.specs.declared.Replayed.TheVariants.{Same}
 use Rattle.cops_replay.specs.Audits.{ReplaysSame}
 use Rattle.cops_replay.specs.AuditRuns.{ReplaysSameFor, audit_after, audit_out}
 use Rattle.cops_replay.specs.AuditText.{audit_text, tenants_text}
+use Rattle.cops_replay.specs.OpenAudits.{left_config, left_nodes}
+use Rattle.cops_replay.specs.OwnLines.{alone_lines}
 use Rattle.cops_replay.specs.RecordText.{record_line}
 use Rattle.cops_replay.specs.Replaying.{fresh_nodes}
 use Rattle.cops_replay.specs.ReplayText.{FindsBy, IsReplayBy, IsReplayOf, replayed_text}
-use Rattle.cops_replay.specs.WrittenAudits.{AreFormed, AreFormedFor, HaveLines, SaysSame, SaysSameFor, his_records, nodes_left}
+use Rattle.cops_replay.specs.WrittenAudits.{AreFormed, AreFormedFor, HaveLines, SaysSame, SaysSameFor, his_records}
 use Rattle.cops_replay.proofs.AuditLines.{head_known, lines_his, name_at, named_at}
 use Rattle.cops_replay.proofs.EarlyRecords.{none_great_today}
+use Rattle.cops_replay.proofs.HeadsBack.{written_head}
 use Rattle.cops_replay.proofs.HeadTexts.{text_is_todays, text_reads_back}
 use Rattle.cops_replay.proofs.LineReplays.{all_formed, found_in}
-use Rattle.cops_replay.proofs.ShortLines.{script_lines}
+use Rattle.cops_replay.proofs.OpenHeads.{open_head}
+use Rattle.cops_replay.proofs.ShortLines.{left_lines}
 
 pub formed : (config : Config) (nodes : TenantConfig → ℕ → List SoloNode) → HaveLines config nodes → AreFormed config nodes
 formed config nodes all slot tenant e = all_formed tenant.name (his_records config nodes slot tenant) (all slot tenant e)
@@ -62,8 +66,10 @@ same_text text other e = cc
 
 by_head : (lines : List (List ℕ)) (reading : HeadReading) (text : List ℕ) → head_of lines ≡ reading → audit_after reading ≡ Written text → AreFormedFor reading → ReplaysSameFor reading → SaysSameFor reading text
 by_head lines (Whole config rest) text head is formed same =
-    subst (SaysSame config (nodes_left config rest)) (same_text (audit_text config (nodes_left config rest)) text is)
-    (λ slot tenant e. says_same lines rest config (nodes_left config rest) slot tenant head (script_lines lines rest config head formed) e (same slot tenant e))
+    let left = left_config config rest in
+    let nodes = left_nodes config rest in
+    subst (SaysSame left nodes) (same_text (audit_text left nodes) text is)
+    (λ place tenant e. says_same (written_head left) [] left nodes place tenant (open_head lines rest config head) (left_lines lines rest config head formed) e (same place tenant e))
 by_head lines (BadAt number) text head is formed same = tt
 
 pub script_says_same : (bytes text : List ℕ) → audit_out bytes ≡ Written text → AreFormedFor (head_of (lines_of bytes)) → ReplaysSameFor (head_of (lines_of bytes)) → SaysSameFor (head_of (lines_of bytes)) text

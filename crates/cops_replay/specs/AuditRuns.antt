@@ -1,25 +1,28 @@
 -- What becomes of a script of which the audit is asked for.
 use Rattle.std.specs.Prelude.{◌≡◌, ℕ, ⊤, List, Option, Some, slice_get}
 use Rattle.std.specs.Io.KnownBytes.{Appends}
+use Rattle.cops_types.specs.declared.configs.Config.{Config}
 use Rattle.cops_types.specs.declared.configs.Tenant.{Tenant}
 use Rattle.cops_types.specs.declared.line_runs.fault.RunFault.{RunFault}
 use Rattle.cops_types.specs.declared.line_runs.fault.RunFault.TheVariants.{OutOfMemory, WriteFault}
 use Rattle.cops_types.specs.Head.{HeadReading, Whole, BadAt, head_of}
 use Rattle.cops_types.specs.Lines.{lines_of}
+use Rattle.cops_types.specs.OpenSlots.{open_at}
 use Rattle.cops_types.specs.Sink.{AppendsFront}
-use Rattle.cops_types.specs.TenantConfig.{tenant_config}
+use Rattle.cops_types.specs.TenantConfig.{TenantConfig, tenant_config}
 use Rattle.cops_node.specs.Clusters.{HasTenant}
+use Rattle.cops_node.specs.SoloNode.{SoloNode}
 use Rattle.cops_world.specs.declared.scripts.BadConfig.{BadConfig as BadHead}
 use Rattle.cops_world.specs.Script.{Output, Written, BadConfig}
 use Rattle.cops_world.specs.ScriptRuns.{text_in}
-use Rattle.cops_world.specs.ScriptWorlds.{cluster_left}
-use Rattle.cops_world.specs.Worlds.{KeptWorld, setup_of}
+use Rattle.cops_world.specs.Worlds.{KeptWorld}
 use Rattle.cops_replay.specs.Audits.{ReplaysSame}
 use Rattle.cops_replay.specs.AuditText.{audit_text}
+use Rattle.cops_replay.specs.OpenAudits.{left_config, left_nodes, nodes_at, open_slots, open_tenants, with_tenants}
 
--- the audit of the nodes that each tenant's lines leave him, who has a cluster to himself
+-- the audit of the nodes that each open tenant's lines leave him, who has a cluster to himself
 abbrev pub audit_after : HeadReading → Output
-audit_after (Whole config lines) = Written (audit_text config (λ tenant slot. (cluster_left config lines tenant slot).nodes))
+audit_after (Whole config lines) = Written (audit_text (left_config config lines) (left_nodes config lines))
 audit_after (BadAt number) = BadConfig number
 
 abbrev pub audit_out : List ℕ → Output
@@ -38,12 +41,19 @@ WritesAuditFront bytes old_contents new_contents = AppendsFront old_contents new
 -- a replay of the records of any tenant in the audit of a script finds that all are the same
 abbrev pub ReplaysSameFor : HeadReading → Type 0
 ReplaysSameFor (Whole config lines) =
-    (slot : ℕ) (tenant : Tenant) → slice_get config.tenants slot ≡ Some tenant → ReplaysSame (tenant_config config tenant) (cluster_left config lines (tenant_config config tenant) slot).nodes
+    (place : ℕ) (tenant : Tenant) → slice_get (left_config config lines).tenants place ≡ Some tenant → ReplaysSame (tenant_config config tenant) (left_nodes config lines (tenant_config config tenant) place)
 ReplaysSameFor (BadAt number) = ⊤
+
+-- the configuration of a world with the tenants who are open, and their nodes by place among them
+abbrev pub open_config : KeptWorld → Config
+open_config world = with_tenants world.setup.head (open_tenants world.setup.tenants)
+
+abbrev pub open_nodes : KeptWorld → TenantConfig → ℕ → List SoloNode
+open_nodes world = nodes_at world.setup.head (open_slots world.setup.tenants) world.nodes.nodes
 
 -- each slot of the world's nodes is that of its tenant
 abbrev pub HasItsTenants : KeptWorld → Type 0
-HasItsTenants world = (slot : ℕ) (tenant : Tenant) → slice_get (setup_of world).tenants slot ≡ Some tenant → HasTenant (tenant_config (setup_of world) tenant) slot world.nodes
+HasItsTenants world = (slot : ℕ) (tenant : Tenant) → open_at slot world.setup.tenants ≡ Some tenant → HasTenant (tenant_config world.setup.head tenant) slot world.nodes
 
 -- memory was refused, or the writer failed
 abbrev pub IsOfWriting : RunFault BadHead → Type 0

@@ -8,9 +8,9 @@ use Rattle.cops_types.specs.Counts.{counted}
 use Rattle.cops_types.specs.Head.{Front, AtStart, Within, Begun, front_after}
 use Rattle.cops_types.specs.LineRules.{LineRules}
 use Rattle.cops_types.specs.OldHead.{old_front_after}
+use Rattle.cops_types.specs.Slots.{slot_of_name}
 use Rattle.cops_types.specs.TenantConfig.{tenant_config}
 use Rattle.cops_types.specs.Words.{first_word}
-use Rattle.cops_world.specs.Script.{slot_of_name}
 use Rattle.cops_replay.specs.declared.layouts.Layout.{Layout}
 use Rattle.cops_replay.specs.declared.layouts.Layout.TheVariants.{Today, Early, Old}
 use Rattle.cops_replay.specs.declared.old_heads.OldHeadSoFar.{OldHeadSoFar}

@@ -6,10 +6,10 @@ use Rattle.cops_types.specs.declared.configs.Tenant.{Tenant}
 use Rattle.cops_types.specs.Head.{HeadReading, Whole, BadAt}
 use Rattle.cops_types.specs.TenantConfig.{TenantConfig, tenant_config}
 use Rattle.cops_node.specs.SoloNode.{SoloNode}
-use Rattle.cops_world.specs.ScriptWorlds.{cluster_left}
 use Rattle.cops_replay.specs.declared.Record.{Record}
 use Rattle.cops_replay.specs.declared.Replayed.TheVariants.{Same}
 use Rattle.cops_replay.specs.Audits.{records_of}
+use Rattle.cops_replay.specs.OpenAudits.{left_config, left_nodes}
 use Rattle.cops_replay.specs.RecordText.{is_record}
 use Rattle.cops_replay.specs.ReplayText.{HasLine, IsReplayOf, replayed_text}
 
@@ -33,15 +33,12 @@ abbrev pub SaysSame : Config → (TenantConfig → ℕ → List SoloNode) → Li
 SaysSame config nodes text =
     (slot : ℕ) (tenant : Tenant) → slice_get config.tenants slot ≡ Some tenant → IsReplayOf tenant.name text (replayed_text (Same (length (his_records config nodes slot tenant))))
 
--- ---- of a script, which leaves each tenant the nodes that he would have alone
-
-abbrev pub nodes_left : Config → List (List ℕ) → TenantConfig → ℕ → List SoloNode
-nodes_left config lines tenant slot = (cluster_left config lines tenant slot).nodes
+-- ---- of a script, which leaves each open tenant the nodes that his life would have alone
 
 abbrev pub AreFormedFor : HeadReading → Type 0
-AreFormedFor (Whole config lines) = AreFormed config (nodes_left config lines)
+AreFormedFor (Whole config lines) = AreFormed (left_config config lines) (left_nodes config lines)
 AreFormedFor (BadAt number) = ⊤
 
 abbrev pub SaysSameFor : HeadReading → List ℕ → Type 0
-SaysSameFor (Whole config lines) text = SaysSame config (nodes_left config lines) text
+SaysSameFor (Whole config lines) text = SaysSame (left_config config lines) (left_nodes config lines) text
 SaysSameFor (BadAt number) text = ⊤

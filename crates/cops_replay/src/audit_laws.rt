@@ -6,11 +6,12 @@ ghost use Rattle.cops_types.specs.Head.{Whole, head_of};
 ghost use Rattle.cops_types.specs.Lines.{lines_of};
 ghost use Rattle.cops_types.specs.TenantConfig.{TenantConfig, tenant_config};
 ghost use Rattle.cops_node.specs.SoloNode.{SoloNode};
-ghost use Rattle.cops_world.specs.Script.{Written, alone_lines};
+ghost use Rattle.cops_world.specs.Script.{Written};
 ghost use Rattle.cops_replay.specs.declared.Replayed.TheVariants.{Same};
 ghost use Rattle.cops_replay.specs.Audits.{ReplaysSame};
 ghost use Rattle.cops_replay.specs.AuditRuns.{ReplaysSameFor, audit_out};
 ghost use Rattle.cops_replay.specs.AuditText.{audit_text, tenants_text};
+ghost use Rattle.cops_replay.specs.OwnLines.{alone_lines};
 ghost use Rattle.cops_replay.specs.RecordText.{record_line};
 ghost use Rattle.cops_replay.specs.ReplayText.{IsReplayOf, replayed_text};
 ghost use Rattle.cops_replay.specs.WrittenAudits.{AreFormed, AreFormedFor, HaveLines, SaysSameFor, his_records};
@@ -32,7 +33,7 @@ pub fn audits_replay_as_they_were_written()
         ReplaysSame (tenant_config config tenant) (nodes (tenant_config config tenant) slot) →
         IsReplayOf tenant.name (audit_text config nodes) (replayed_text (Same (length (his_records config nodes slot tenant)))) }
 
-    // Of the audit of a script, for each tenant. No record's line is too long there.
+    // Of the audit of a script, for each tenant who is open at its end. No record's line is too long there.
     ensures script { (bytes text : List ℕ) → audit_out bytes ≡ Written text →
         AreFormedFor (head_of (lines_of bytes)) → ReplaysSameFor (head_of (lines_of bytes)) → SaysSameFor (head_of (lines_of bytes)) text }
 {}

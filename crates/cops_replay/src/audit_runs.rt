@@ -1,6 +1,7 @@
 //! The audit of a script, over any reader and any writer.
-ghost use Rattle.std.specs.Prelude.{◌≡◌, ◌⊎◌, ℕ, List, IfErr, IfSome, IsErrOf, OnErr, OnOk};
+ghost use Rattle.std.specs.Prelude.{◌≡◌, ◌⊎◌, ℕ, List, IfErr, IfOk, IfSome, IsErrOf, OnErr, OnOk};
 ghost use Rattle.std.specs.Io.KnownBytes.{Appends, IsAtEnd, Keeps};
+ghost use Rattle.cops_types.specs.declared.faults.Fault.TheVariants.{OutOfMemory, WriteFault};
 ghost use Rattle.cops_types.specs.Counts.{HasRisen, HasRisenBy};
 ghost use Rattle.cops_types.specs.Head.{BadAt, head_of};
 ghost use Rattle.cops_types.specs.LineRuns.{IfRunRefused};
@@ -10,18 +11,68 @@ ghost use Rattle.cops_types.specs.Source.{source_failures, source_reader, source
 ghost use Rattle.cops_types.specs.TenantConfig.{TenantConfig};
 ghost use Rattle.cops_node.specs.Clusters.{nodes_of, shape_of};
 ghost use Rattle.cops_world.specs.Script.{Written};
-ghost use Rattle.cops_world.specs.Worlds.{setup_of};
 ghost use Rattle.cops_replay.specs.Audits.{HasShape, ReplaysSame};
-ghost use Rattle.cops_replay.specs.AuditText.{audit_of, his_nodes};
-ghost use Rattle.cops_replay.specs.AuditRuns.{HasItsTenants, IsOfWriting, ReplaysSameFor, WritesAudit, WritesAuditFront, audit_out};
+ghost use Rattle.cops_replay.specs.AuditText.{audit_text};
+ghost use Rattle.cops_replay.specs.AuditRuns.{HasItsTenants, IsOfWriting, ReplaysSameFor, WritesAudit, WritesAuditFront, audit_out, open_config, open_nodes};
+ghost use Rattle.cops_replay.specs.OpenAudits.{open_slots, open_tenants};
 ghost use Rattle.cops_replay.specs.WrittenAudits.{AreFormed, SaysSameFor};
 
-use crate::audits::write_audit;
-use cops_types::{Fault, RunFault, Sink, Source};
+use crate::audits::write_audit_at;
+use cops_types::{Fault, RunFault, Sink, Source, Tenant};
 use cops_world::{BadConfig, World, script_world};
-use std::alloc::Global;
+use std::alloc::{AllocError, Global};
 use std::io::{Read, Write};
 use std::mem;
+
+/// The tenants who are open, by slot.
+fn open_tenants(alloc: Global, tenants: &[Option<Tenant>]) -> Result<Vec<Tenant>, AllocError>
+    ensures { IfOk result (λ found. found.items ≡ open_tenants tenants.now) }
+{
+    let mut found = Vec::new(alloc);
+    for tenant in tenants {
+        if let Some(tenant) = tenant {
+            found.push(*tenant)?;
+        }
+    }
+    Ok(found)
+}
+
+/// The slots that have a tenant, rising.
+fn open_slots(alloc: Global, tenants: &[Option<Tenant>]) -> Result<Vec<u64>, AllocError>
+    ensures { IfOk result (λ slots. slots.items ≡ open_slots tenants.now) }
+{
+    let mut slots = Vec::new(alloc);
+    for slot in 0..tenants.len() {
+        if tenants[slot].is_some() {
+            slots.push(slot as u64)?;
+        }
+    }
+    Ok(slots)
+}
+
+/// Writes the audit of the tenants of a world who are open, by slot.
+fn write_open<O: Write>(alloc: Global, sink: &mut Sink<O>, world: &World) -> Result<(), Fault>
+    requires { HasItsTenants world.now }
+    ensures ok { OnOk result (Appends (O.contents (sink_writer sink.old)) (O.contents (sink_writer sink.new)) (audit_text (open_config world.now) (open_nodes world.now))) }
+    ensures front { AppendsFront (O.contents (sink_writer sink.old)) (O.contents (sink_writer sink.new)) (audit_text (open_config world.now) (open_nodes world.now)) }
+    ensures replays { (config : TenantConfig) (slot : ℕ) → HasShape config (shape_of world.now.setup.head) → ReplaysSame config (nodes_of config slot world.now.nodes) }
+    ensures formed { OnOk result (AreFormed (open_config world.now) (open_nodes world.now)) }
+    ensures fault { IfErr result (λ fault. (fault ≡ OutOfMemory) ⊎ (fault ≡ WriteFault)) }
+    ensures write_fault { IsErrOf result Fault.WriteFault → HasRisen (sink_failures sink.old) (sink_failures sink.new) }
+{
+    let nodes = world.nodes();
+    let by_slot = world.tenants().as_slice();
+    let tenants = open_tenants(alloc, by_slot)?;
+    let slots = open_slots(alloc, by_slot)?;
+    write_audit_at(
+        alloc,
+        sink,
+        world.config(),
+        tenants.as_slice(),
+        slots.as_slice(),
+        nodes,
+    )
+}
 
 /// Writes the audit of the nodes of a world.
 fn write_world<O: Write>(
@@ -30,14 +81,14 @@ fn write_world<O: Write>(
     world: &World,
 ) -> Result<(), RunFault<BadConfig>>
     requires { HasItsTenants world.now }
-    ensures ok { OnOk result (Appends (O.contents (sink_writer sink.old)) (O.contents (sink_writer sink.new)) (audit_of (setup_of world.now) world.now.nodes.nodes)) }
-    ensures front { AppendsFront (O.contents (sink_writer sink.old)) (O.contents (sink_writer sink.new)) (audit_of (setup_of world.now) world.now.nodes.nodes) }
-    ensures replays { (config : TenantConfig) (slot : ℕ) → HasShape config (shape_of (setup_of world.now)) → ReplaysSame config (nodes_of config slot world.now.nodes) }
-    ensures formed { OnOk result (AreFormed (setup_of world.now) (his_nodes (setup_of world.now) world.now.nodes.nodes)) }
+    ensures ok { OnOk result (Appends (O.contents (sink_writer sink.old)) (O.contents (sink_writer sink.new)) (audit_text (open_config world.now) (open_nodes world.now))) }
+    ensures front { AppendsFront (O.contents (sink_writer sink.old)) (O.contents (sink_writer sink.new)) (audit_text (open_config world.now) (open_nodes world.now)) }
+    ensures replays { (config : TenantConfig) (slot : ℕ) → HasShape config (shape_of world.now.setup.head) → ReplaysSame config (nodes_of config slot world.now.nodes) }
+    ensures formed { OnOk result (AreFormed (open_config world.now) (open_nodes world.now)) }
     ensures fault { IfErr result IsOfWriting }
     ensures write_fault { IsErrOf result RunFault.WriteFault → HasRisen (sink_failures sink.old) (sink_failures sink.new) }
 {
-    match write_audit(alloc, sink, world.config(), world.nodes()) {
+    match write_open(alloc, sink, world) {
         Ok(()) => Ok(()),
         Err(Fault::WriteFault) => Err(RunFault::WriteFault),
         Err(_) => Err(RunFault::OutOfMemory),
@@ -45,7 +96,8 @@ fn write_world<O: Write>(
 }
 
 /// Writes the audit of a script: reads it to its end as `run_script` does, does what it says, and
-/// then writes what the audits of the nodes hold, with the head in its one form.
+/// then writes what the audits of the nodes hold of the tenants who are open, in slot order, with
+/// the head in its one form.
 ///
 /// It keeps the world, and no copy of the text. It ends where a reply would say that memory was
 /// refused, and nothing is written then.

@@ -1,17 +1,19 @@
 //! Audits as text.
-ghost use Rattle.std.specs.Prelude.{◌≡◌, ◌<◌, ◌++◌, ◌⊎◌, map, slice_get, flat_map, OnOk, IfErr, IsErrOf, IsTrue, Some};
-ghost use Rattle.std.specs.List.{AllByRecursion};
+ghost use Rattle.std.specs.Prelude.{◌≡◌, ◌<◌, ◌++◌, ◌⊎◌, map, flat_map, length, IfOk, OnOk, IfErr, IsErrOf, IsTrue, Some};
+ghost use Rattle.std.specs.List.{AllByRecursion, range_with_len};
 ghost use Rattle.std.specs.Io.KnownBytes.{Appends};
 ghost use Rattle.cops_types.specs.declared.faults.Fault.TheVariants.{OutOfMemory, WriteFault};
 ghost use Rattle.cops_types.specs.Counts.{HasRisen};
 ghost use Rattle.cops_types.specs.HeadLines.{are_sizes};
 ghost use Rattle.cops_types.specs.Sink.{AppendsFront, sink_failures, sink_writer};
 ghost use Rattle.cops_types.specs.TenantConfig.{tenant_config};
+ghost use Rattle.cops_node.specs.Clusters.{HasTenant, IsCluster, shape_of};
 ghost use Rattle.cops_node.specs.Parts.{place_at, solo_of};
 ghost use Rattle.cops_node.specs.Place.{place_of};
 ghost use Rattle.cops_replay.specs.declared.Record.{Record};
 ghost use Rattle.cops_replay.specs.Audits.{record_of, records_of};
 ghost use Rattle.cops_replay.specs.AuditText.{AreNodesOf, audit_of, config_text, ended, head_text, his_nodes, records_text, tenants_text, tenant_text};
+ghost use Rattle.cops_replay.specs.OpenAudits.{AreNodesAt, audit_at, nodes_at, with_tenants};
 ghost use Rattle.cops_replay.specs.Pages.{PutsText, page};
 ghost use Rattle.cops_replay.specs.RecordText.{has_form, is_record, record_line};
 ghost use Rattle.cops_replay.specs.WrittenAudits.{AreFormed};
@@ -95,8 +97,8 @@ fn put_tenant<W: Write>(
     nodes: &[Node],
 ) -> Result<(), Fault>
     requires sizes { IsTrue (are_sizes config.now) }
-    requires tenant { slice_get config.now.tenants slot ≡ Some tenant.now }
-    requires nodes { AreNodesOf config.now nodes.now }
+    requires nodes { IsCluster (shape_of config.now) nodes.now }
+    requires tenant { HasTenant (tenant_config config.now tenant.now) slot (record { shape = shape_of config.now; nodes = nodes.now }) }
     ensures text { PutsText (records_text tenant.now.name (records_of (tenant_config config.now tenant.now) (his_nodes config.now nodes.now (tenant_config config.now tenant.now) slot)))
         (page out.old.items (W.contents (sink_writer sink.old)) (sink_failures sink.old)) result
         (page out.new.items (W.contents (sink_writer sink.new)) (sink_failures sink.new)) }
@@ -117,24 +119,26 @@ fn put_tenant<W: Write>(
     Ok(())
 }
 
-/// Puts the lines of all tenants' calls, by tenant.
+/// Puts the lines of all tenants' calls, by tenant. Each has the slot of his place.
 fn put_records<W: Write>(
     out: &mut Vec<u8>,
     sink: &mut Sink<W>,
     config: &Config,
+    tenants: &[Tenant],
+    slots: &[u64],
     nodes: &[Node],
 ) -> Result<(), Fault>
     requires sizes { IsTrue (are_sizes config.now) }
-    requires nodes { AreNodesOf config.now nodes.now }
-    ensures text { PutsText (tenants_text config.now (his_nodes config.now nodes.now) 0 config.now.tenants)
+    requires nodes { AreNodesAt config.now tenants.now slots.now nodes.now }
+    ensures text { PutsText (tenants_text (with_tenants config.now tenants.now) (nodes_at config.now slots.now nodes.now) 0 tenants.now)
         (page out.old.items (W.contents (sink_writer sink.old)) (sink_failures sink.old)) result
         (page out.new.items (W.contents (sink_writer sink.new)) (sink_failures sink.new)) }
-    ensures formed { OnOk result (AreFormed config.now (his_nodes config.now nodes.now)) }
+    ensures formed { OnOk result (AreFormed (with_tenants config.now tenants.now) (nodes_at config.now slots.now nodes.now)) }
 {
-    let tenants = config.tenants.as_slice();
-    for slot in 0..tenants.len() {
-        let tenant = &tenants[slot];
-        if let Err(fault) = put_tenant(out, sink, config, tenant, slot as u64, nodes) {
+    for place in 0..tenants.len() {
+        let tenant = &tenants[place];
+        let slot = slots[place];
+        if let Err(fault) = put_tenant(out, sink, config, tenant, slot, nodes) {
             return Err(fault);
         }
     }
@@ -173,14 +177,19 @@ fn put_tenant_lines<W: Write>(
     Ok(())
 }
 
-/// Puts the head as a script has it.
-fn put_config<W: Write>(out: &mut Vec<u8>, sink: &mut Sink<W>, config: &Config) -> Result<(), Fault>
-    ensures { PutsText (config_text config.now)
+/// Puts the head of these tenants as a script has it.
+fn put_config<W: Write>(
+    out: &mut Vec<u8>,
+    sink: &mut Sink<W>,
+    config: &Config,
+    tenants: &[Tenant],
+) -> Result<(), Fault>
+    ensures { PutsText (config_text (with_tenants config.now tenants.now))
         (page out.old.items (W.contents (sink_writer sink.old)) (sink_failures sink.old)) result
         (page out.new.items (W.contents (sink_writer sink.new)) (sink_failures sink.new)) }
 {
     push_cluster(out, config)?;
-    if let Err(fault) = put_tenant_lines(out, sink, config.tenants.as_slice()) {
+    if let Err(fault) = put_tenant_lines(out, sink, tenants) {
         return Err(fault);
     }
     push_begin(out)?;
@@ -188,13 +197,68 @@ fn put_config<W: Write>(out: &mut Vec<u8>, sink: &mut Sink<W>, config: &Config) 
 }
 
 /// Puts the line of the layout, and then the head.
-fn put_head<W: Write>(out: &mut Vec<u8>, sink: &mut Sink<W>, config: &Config) -> Result<(), Fault>
-    ensures { PutsText (head_text config.now)
+fn put_head<W: Write>(
+    out: &mut Vec<u8>,
+    sink: &mut Sink<W>,
+    config: &Config,
+    tenants: &[Tenant],
+) -> Result<(), Fault>
+    ensures { PutsText (head_text (with_tenants config.now tenants.now))
         (page out.old.items (W.contents (sink_writer sink.old)) (sink_failures sink.old)) result
         (page out.new.items (W.contents (sink_writer sink.new)) (sink_failures sink.new)) }
 {
     push_layout(out)?;
-    put_config(out, sink, config)
+    put_config(out, sink, config, tenants)
+}
+
+/// Writes the audit of a configuration's nodes for these tenants, of whom each has the slot of his
+/// place: the line of the layout, the head in its one form, and then a line for each call, by tenant,
+/// then by node, then by place in the audit.
+///
+/// A few kilobytes of it wait at most, beside one line. At an `Err` a front of it is written. The
+/// writer is not flushed.
+pub(crate) fn write_audit_at<W: Write>(
+    alloc: Global,
+    sink: &mut Sink<W>,
+    config: &Config,
+    tenants: &[Tenant],
+    slots: &[u64],
+    nodes: &[Node],
+) -> Result<(), Fault>
+    requires sizes { IsTrue (are_sizes config.now) }
+    requires nodes { AreNodesAt config.now tenants.now slots.now nodes.now }
+
+    // All is written, or a front of it.
+    ensures ok { OnOk result (Appends (W.contents (sink_writer sink.old)) (W.contents (sink_writer sink.new)) (audit_at config.now tenants.now slots.now nodes.now)) }
+    ensures front { AppendsFront (W.contents (sink_writer sink.old)) (W.contents (sink_writer sink.new)) (audit_at config.now tenants.now slots.now nodes.now) }
+
+    // Each record that is written has the form of a line.
+    ensures formed { OnOk result (AreFormed (with_tenants config.now tenants.now) (nodes_at config.now slots.now nodes.now)) }
+
+    // Memory was refused, or the writer failed in this call.
+    ensures fault { IfErr result (λ fault. (fault ≡ OutOfMemory) ⊎ (fault ≡ WriteFault)) }
+    ensures same { OnOk result (sink_failures sink.new ≡ sink_failures sink.old) }
+    ensures write_fault { IsErrOf result Fault.WriteFault → HasRisen (sink_failures sink.old) (sink_failures sink.new) }
+{
+    let mut out = Vec::new(alloc);
+    if let Err(fault) = put_head(&mut out, sink, config, tenants) {
+        return Err(fault);
+    }
+    if let Err(fault) = put_records(&mut out, sink, config, tenants, slots, nodes) {
+        return Err(fault);
+    }
+    drain(&mut out, sink)
+}
+
+/// So many slots, from the first on.
+fn first_slots(alloc: Global, count: usize) -> Result<Vec<u64>, AllocError>
+    ensures { IfOk result (λ slots. slots.items ≡ range_with_len 0 count) }
+{
+    let mut slots = Vec::new(alloc);
+    for slot in 0..count {
+        slots.push(slot as u64)?;
+    }
+    Ok(slots)
 }
 
 /// Writes the audit of a configuration's nodes, which come by number: the line of the layout, the
@@ -223,12 +287,7 @@ pub fn write_audit<W: Write>(
     ensures same { OnOk result (sink_failures sink.new ≡ sink_failures sink.old) }
     ensures write_fault { IsErrOf result Fault.WriteFault → HasRisen (sink_failures sink.old) (sink_failures sink.new) }
 {
-    let mut out = Vec::new(alloc);
-    if let Err(fault) = put_head(&mut out, sink, config) {
-        return Err(fault);
-    }
-    if let Err(fault) = put_records(&mut out, sink, config, nodes) {
-        return Err(fault);
-    }
-    drain(&mut out, sink)
+    let tenants = config.tenants.as_slice();
+    let slots = first_slots(alloc, tenants.len())?;
+    write_audit_at(alloc, sink, config, tenants, slots.as_slice(), nodes)
 }

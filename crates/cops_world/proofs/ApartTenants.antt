@@ -1,13 +1,15 @@
 -- Tenants of whom no two have one name, and one of them alone.
 use Rattle.std.proofs.Common.{◌≡◌, ℕ, zero, suc, ◌+◌, ◌<◌, ◌≤◌, Bool, true, false, not, ◌||◌, List, [], ◌∷◌, ◌++◌, length, refl, sym, subst, ap, ◌∙◌, true≢false, length-append, arith}
-use Rattle.std.specs.Prelude.{Some, filter, slice_get, IsTrue}
+use Rattle.std.specs.Prelude.{Some, filter, nat_le, slice_get, IsTrue}
+use Rattle.std.proofs.lemmas.Bool.Decides.{nat_tests}
 use Rattle.std.specs.List.{list_any}
 use Rattle.std.specs.Str.{bytes_eq}
 use Rattle.std.proofs.lemmas.List.Elements.{filter-append}
 use Rattle.std.proofs.lemmas.List.Quantifiers.{position-Some}
 use Rattle.std.proofs.lemmas.Option.{get_or_from_slice_get}
 use Rattle.cops_types.specs.declared.configs.Tenant.{Tenant}
-use Rattle.cops_types.specs.Slots.{slot_of_name}
+use Rattle.cops_types.specs.Key.{is_key, is_name}
+use Rattle.cops_types.specs.Slots.{AreNamed, slot_of_name}
 use Rattle.cops_world.proofs.WorldKeeps.{tenant_at}
 use Rattle.cops_types.specs.HeadLines.{is_distinct}
 use Rattle.cops_types.proofs.WordLemmas.{both, bytes_from_test, same_value}
@@ -94,3 +96,12 @@ found_at (t ∷ tenants) name slot e =
     let found = position-Some (λ (t : Tenant). bytes_eq t.name name) (t ∷ tenants) slot t e in
     let at = tenant_at (t ∷ tenants) slot found.0 in
     (at.0, at.1, ap (λ (x : Tenant). bytes_eq x.name name) (sym (get_or_from_slice_get (t ∷ tenants) slot at.0 t at.1)) ∙ found.1)
+
+-- a tenant of a whole head has a name
+pub name_of : (tenants : List Tenant) (slot : ℕ) (tenant : Tenant) → AreNamed tenants → slice_get tenants slot ≡ Some tenant → IsTrue (is_name tenant.name)
+name_of [] slot tenant named at = cc
+name_of (t ∷ tenants) zero tenant named at = subst (λ (x : Tenant). IsTrue (is_name x.name)) (same_value t tenant at) named.0
+name_of (t ∷ tenants) (suc slot) tenant named at = name_of tenants slot tenant named.1 at
+
+pub short_name : (name : List ℕ) → IsTrue (is_name name) → length name ≤ 16
+short_name name named = grind (arith, nat_tests, (both (is_key name) (nat_le (length name) 16) named).1)

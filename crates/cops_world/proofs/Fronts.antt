@@ -1,24 +1,22 @@
--- What a tenant is told before memory is refused him is what he is told alone.
+-- What a tenant is told before memory is refused him is what he is told alone. Tenants are told apart by their numbers.
 use Rattle.std.proofs.Common.{◌≡◌, ℕ, Bool, true, false, cond, ◌||◌, ◌==◌, List, [], ◌∷◌, map, refl, sym, ap, ◌∙◌, true≢false}
-use Rattle.std.specs.Prelude.{Option, Some, None}
 use Rattle.std.specs.List.{list_any}
 use Rattle.std.proofs.lemmas.Bool.Decides.{Decides-eqb}
 use Rattle.cops_types.specs.declared.configs.Config.{Config}
-use Rattle.cops_types.specs.declared.configs.Tenant.{Tenant}
 use Rattle.cops_types.specs.declared.faults.Fault.TheVariants.{Syntax}
-use Rattle.cops_types.specs.TenantConfig.{TenantConfig}
-use Rattle.cops_types.specs.Words.{first_word}
-use Rattle.cops_world.specs.declared.acts.Act.{Act}
+use Rattle.cops_types.specs.TenantConfig.{TenantConfig, tenant_config}
 use Rattle.cops_world.specs.declared.acts.Event.{Event}
+use Rattle.cops_world.specs.declared.replies.HostReply.{HostReply}
 use Rattle.cops_world.specs.declared.replies.Reply.{Reply}
 use Rattle.cops_world.specs.declared.replies.Reply.TheVariants.{Refused}
-use Rattle.cops_world.specs.ActLines.{act_in}
 use Rattle.cops_world.specs.Cluster.{SoloCluster, cluster_step}
 use Rattle.cops_world.specs.Events.{IsFrontOf, IsSpared, before_lack, config_at, is_out_of_memory, own, replies, replies_from, with_cluster}
-use Rattle.cops_world.specs.Script.{Said, OfNobody, Unformed, Acts, answers_to, events_in, said_by, said_in, slot_of_name}
-use Rattle.cops_world.specs.ScriptRuns.{AddressedReplies, act_replies, named_in, replies_to}
-use Rattle.cops_world.proofs.AnswersTo.{answers_to-from, new_at}
-use Rattle.cops_world.proofs.Sequence.{answers_from}
+use Rattle.cops_world.specs.Answers.{Answer, ToHost, ToTenant, reply_to_host}
+use Rattle.cops_world.specs.Said.{HostDeed, Said, OfHost, Unformed, Acts}
+use Rattle.cops_world.specs.Script.{answers_of, events_in}
+use Rattle.cops_world.specs.ScriptRuns.{act_replies, replies_to}
+use Rattle.cops_world.proofs.AnswersTo.{answers_of-from, new_at}
+use Rattle.cops_world.proofs.Sequence.{AreThere, answers_from}
 
 by_test : {C : Type 0} (b : Bool) → (b ≡ true → C) → (b ≡ false → C) → C
 by_test {C} true holds fails = holds refl
@@ -29,7 +27,7 @@ by_test {C} false holds fails = fails refl
 -- the replies to the tenant of a slot, where his cluster is kept
 abbrev pub replies_along : TenantConfig → ℕ → List Said → SoloCluster → List Reply
 replies_along config slot [] cluster = []
-replies_along config slot (OfNobody ∷ said) cluster = replies_along config slot said cluster
+replies_along config slot (OfHost deed ∷ said) cluster = replies_along config slot said cluster
 replies_along config slot (Unformed other ∷ said) cluster = cond (other == slot) (Refused Syntax ∷ replies_along config slot said cluster) (replies_along config slot said cluster)
 replies_along config slot (Acts event ∷ said) cluster =
     cond (event.slot == slot)
@@ -40,7 +38,7 @@ replies_along config slot (Acts event ∷ said) cluster =
 pub along : (configs : ℕ → TenantConfig) (slot : ℕ) (said : List Said) (clusters : ℕ → SoloCluster) →
     replies_to slot (answers_from configs said clusters) ≡ replies_along (configs slot) slot said (clusters slot)
 along configs slot [] clusters = refl
-along configs slot (OfNobody ∷ said) clusters = along configs slot said clusters
+along configs slot (OfHost deed ∷ said) clusters = along configs slot said clusters
 along configs slot (Unformed other ∷ said) clusters =
     let rest = along configs slot said clusters in
     λ i. cond (other == slot) (Refused Syntax ∷ rest i) (rest i)
@@ -58,27 +56,9 @@ along configs slot (Acts e ∷ said) clusters =
     (λ apart. rw apart (rest ∙ (λ i. replies_along (configs slot) slot said (cond (apart i) turn.after (clusters slot)))))
 
 -- to each tenant the definition's answers are the replies in a cluster of his own
-pub answers_to-along : (config : Config) (lines : List (List ℕ)) (slot : ℕ) →
-    replies_to slot (answers_to config lines) ≡ replies_along (config_at config slot) slot (map (said_in config.tenants) lines) (new_at config slot)
-answers_to-along config lines slot = ap (replies_to slot) (answers_to-from config lines) ∙ along (config_at config) slot (map (said_in config.tenants) lines) (new_at config)
-
--- ---- whom a line names
-
-abbrev pub named_by : Said → Option ℕ
-named_by OfNobody = None
-named_by (Unformed slot) = Some slot
-named_by (Acts event) = Some event.slot
-
-pub said_in-named : (tenants : List Tenant) (line : List ℕ) → named_by (said_in tenants line) ≡ named_in tenants line
-said_in-named tenants line = by_slot (slot_of_name tenants (first_word line))
-  where
-    by_act : (slot : ℕ) (act : Option Act) → named_by (said_by slot act) ≡ Some slot
-    by_act slot None = refl
-    by_act slot (Some act) = refl
-
-    by_slot : (found : Option ℕ) → named_by (elim found [ None ↦ OfNobody | Some slot ↦ said_by slot (act_in (first_word line) line) ]) ≡ found
-    by_slot None = refl
-    by_slot (Some slot) = by_act slot (act_in (first_word line) line)
+pub answers_of-along : (config : Config) (said : List Said) (slot : ℕ) → AreThere (map (tenant_config config) config.tenants) said →
+    replies_to slot (answers_of config said) ≡ replies_along (config_at config slot) slot said (new_at config slot)
+answers_of-along config said slot there = ap (replies_to slot) (answers_of-from config said there) ∙ along (config_at config) slot said (new_at config)
 
 -- ---- fronts
 
@@ -98,26 +78,26 @@ one_reply r s told whole right =
 -- ---- one more line
 
 -- a line that acts on nothing
-abbrev pub KeepsFronts : Option (ℕ × Reply) → Said → Type 0
-KeepsFronts answer said = (config : TenantConfig) (slot : ℕ) (told : AddressedReplies) (more : List Said) (cluster : SoloCluster) →
+abbrev pub KeepsFronts : Answer → Said → Type 0
+KeepsFronts answer said = (config : TenantConfig) (slot : ℕ) (told : List Answer) (more : List Said) (cluster : SoloCluster) →
     IsFrontOf (before_lack (replies_to slot told)) (replies_along config slot more cluster) →
     IsFrontOf (before_lack (replies_to slot (answer ∷ told))) (replies_along config slot (said ∷ more) cluster)
 
-pub nobody_keeps : KeepsFronts None OfNobody
-nobody_keeps config slot told more cluster h = h
+pub host_keeps : (reply : HostReply) (deed : HostDeed) → KeepsFronts (ToHost reply) (OfHost deed)
+host_keeps reply deed config slot told more cluster h = h
 
-pub unformed_keeps : (other : ℕ) → KeepsFronts (Some (other, Refused Syntax)) (Unformed other)
+pub unformed_keeps : (other : ℕ) → KeepsFronts (ToTenant other (Refused Syntax)) (Unformed other)
 unformed_keeps other config slot told more cluster h =
     by_test (other == slot)
     (λ is. rw is (one_reply (Refused Syntax) (Refused Syntax) (replies_to slot told) (replies_along config slot more cluster) (λ spared. (refl, h))))
     (λ apart. rw apart h)
 
 -- a line that acts
-pub act_keeps : (config : TenantConfig) (slot : ℕ) (e : Event) (reply : Reply) (told : AddressedReplies) (more : List Said) (cluster : SoloCluster) →
+pub act_keeps : (config : TenantConfig) (slot : ℕ) (e : Event) (reply : Reply) (told : List Answer) (more : List Said) (cluster : SoloCluster) →
     (e.slot ≡ slot → is_out_of_memory reply ≡ false → (reply ≡ (cluster_step config e.act cluster).reply)
     × IsFrontOf (before_lack (replies_to slot told)) (replies_along config slot more (cluster_step config e.act cluster).after)) →
     ((e.slot ≡ slot → ⊥) → IsFrontOf (before_lack (replies_to slot told)) (replies_along config slot more cluster)) →
-    IsFrontOf (before_lack (replies_to slot (Some (e.slot, reply) ∷ told))) (replies_along config slot (Acts e ∷ more) cluster)
+    IsFrontOf (before_lack (replies_to slot (ToTenant e.slot reply ∷ told))) (replies_along config slot (Acts e ∷ more) cluster)
 act_keeps config slot e reply told more cluster mine others =
     let turn = cluster_step config e.act cluster in
     by_test (e.slot == slot)
@@ -131,7 +111,7 @@ abbrev pub AreTold : List Reply → List Reply → Type 0
 AreTold told whole = IsFrontOf (before_lack told) whole × (IsSpared told → told ≡ whole)
 
 -- so the tenant of a slot was told, by the acts among these lines, where his cluster is kept
-abbrev pub ActsAreTold : TenantConfig → ℕ → List Said → AddressedReplies → SoloCluster → Type 0
+abbrev pub ActsAreTold : TenantConfig → ℕ → List Said → List Answer → SoloCluster → Type 0
 ActsAreTold config slot said told cluster = AreTold (replies slot (events_in said) (act_replies said told)) (replies_from config (own slot (events_in said)) cluster)
 
 first_spared : (a b : Bool) → (a || b) ≡ false → a ≡ false
@@ -152,22 +132,22 @@ told_one r s told whole right = (
 )
 
 -- a line that acts on nothing
-abbrev pub KeepsActs : Option (ℕ × Reply) → Said → Type 0
+abbrev pub KeepsActs : Answer → Said → Type 0
 KeepsActs answer said =
-    (config : TenantConfig) (slot : ℕ) (told : AddressedReplies) (more : List Said) (cluster : SoloCluster) →
+    (config : TenantConfig) (slot : ℕ) (told : List Answer) (more : List Said) (cluster : SoloCluster) →
     ActsAreTold config slot more told cluster → ActsAreTold config slot (said ∷ more) (answer ∷ told) cluster
 
-pub nobody_keeps_acts : KeepsActs None OfNobody
-nobody_keeps_acts config slot told more cluster h = h
+pub host_keeps_acts : (reply : HostReply) (deed : HostDeed) → KeepsActs (ToHost reply) (OfHost deed)
+host_keeps_acts reply deed config slot told more cluster h = h
 
-pub unformed_keeps_acts : (other : ℕ) → KeepsActs (Some (other, Refused Syntax)) (Unformed other)
+pub unformed_keeps_acts : (other : ℕ) → KeepsActs (ToTenant other (Refused Syntax)) (Unformed other)
 unformed_keeps_acts other config slot told more cluster h = h
 
 -- a line that acts
-pub act_keeps_acts : (config : TenantConfig) (slot : ℕ) (e : Event) (reply : Reply) (told : AddressedReplies) (more : List Said) (cluster : SoloCluster) →
+pub act_keeps_acts : (config : TenantConfig) (slot : ℕ) (e : Event) (reply : Reply) (told : List Answer) (more : List Said) (cluster : SoloCluster) →
     (e.slot ≡ slot → is_out_of_memory reply ≡ false → (reply ≡ (cluster_step config e.act cluster).reply) × ActsAreTold config slot more told (cluster_step config e.act cluster).after) →
     ((e.slot ≡ slot → ⊥) → ActsAreTold config slot more told cluster) →
-    ActsAreTold config slot (Acts e ∷ more) (Some (e.slot, reply) ∷ told) cluster
+    ActsAreTold config slot (Acts e ∷ more) (ToTenant e.slot reply ∷ told) cluster
 act_keeps_acts config slot e reply told more cluster mine others =
     let turn = cluster_step config e.act cluster in
     let rs = replies slot (events_in more) (act_replies more told) in

@@ -20,7 +20,7 @@ use Rattle.cops_world.specs.declared.scripts.Script.{Script}
 use Rattle.cops_world.specs.declared.scripts.Script.TheVariants.{Head, Running}
 use Rattle.cops_world.specs.declared.scripts.BadConfig.{BadConfig}
 use Rattle.cops_world.specs.HeadRules.{GoesOn, HeadAnswers, HeadRefuses, IsHeadAt}
-use Rattle.cops_world.specs.Script.{AreNamed}
+use Rattle.cops_types.specs.Slots.{AreNamed}
 use Rattle.cops_world.proofs.ApartTenants.{AreApart, apart_push, none_apart}
 
 take_all : (n : ℕ) (xs : List ℕ) → length xs ≤ n → take n xs ≡ xs

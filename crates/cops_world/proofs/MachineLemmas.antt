@@ -1,62 +1,92 @@
 -- What a machine has answered keeps to the rules of a script.
-use Rattle.std.proofs.Common.{◌≡◌, ℕ, List, [], ◌++◌, map, refl, sym, subst, ap, ◌∙◌, append-nil}
-use Rattle.std.specs.Prelude.{Option, Some, None, slice_get}
-use Rattle.std.specs.Option.{option_map}
-use Rattle.std.proofs.lemmas.Option.{get_or_from_slice_get, slice_get-map}
+use Rattle.std.proofs.Common.{◌≡◌, ℕ, Bool, true, false, List, [], ◌++◌, refl, sym, subst, ap, ◌∙◌, append-nil, true≢false}
+use Rattle.std.specs.Prelude.{is_err, is_some, IsTrue, OnOk, Option, Some, None, Result, Ok, Err}
+use Rattle.std.specs.Str.{bytes_eq}
 use Rattle.cops_types.specs.declared.configs.Config.{Config}
 use Rattle.cops_types.specs.declared.configs.Tenant.{Tenant}
+use Rattle.cops_types.specs.declared.faults.Fault.TheVariants.{UnknownTenant}
 use Rattle.cops_types.specs.Head.{Begun}
 use Rattle.cops_types.specs.HeadReader.{front_with}
+use Rattle.cops_types.specs.HostLines.{admitted_in, closed_in}
 use Rattle.cops_types.specs.LineAnswers.{Answers}
+use Rattle.cops_types.specs.OpenSlots.{open_at, open_slot_of_name}
 use Rattle.cops_types.specs.Words.{first_word}
+use Rattle.cops_world.specs.declared.replies.HostReply.{HostReply}
+use Rattle.cops_world.specs.declared.replies.HostReply.TheVariants.{Denied}
 use Rattle.cops_world.specs.declared.replies.Reply.{Reply}
 use Rattle.cops_world.specs.declared.scripts.HeadSoFar.{HeadSoFar}
 use Rattle.cops_world.specs.declared.scripts.Script.{Script}
 use Rattle.cops_world.specs.declared.scripts.Script.TheVariants.{Head, Running}
-use Rattle.cops_world.specs.Acting.{IsNew}
+use Rattle.cops_world.specs.Acting.{HasStayed, IsNew}
 use Rattle.cops_world.specs.ActLines.{act_in}
+use Rattle.cops_world.specs.Answers.{ToHost, ToTenant, host_line, open_name, reply_line, slot_line}
 use Rattle.cops_world.specs.Cluster.{SoloCluster}
-use Rattle.cops_world.specs.Script.{OfNobody, answer_line, name_at, said_by, said_in, slot_of_name}
+use Rattle.cops_world.specs.Doing.{IsDone, IsHosted}
+use Rattle.cops_world.specs.Said.{Said, OfHost, admission_of, begins_admission, begins_closing, closing_of, said_found, said_by, said_in}
 use Rattle.cops_world.specs.ScriptRules.{IsAnswered, line_answers}
+use Rattle.cops_world.specs.Setups.{Setup}
+use Rattle.cops_world.proofs.SaidLines.{named_open}
 
-name_there : (tenants : List Tenant) (slot : ℕ) (tenant : Tenant) → slice_get tenants slot ≡ Some tenant → name_at tenants slot ≡ tenant.name
-name_there tenants slot tenant e = get_or_from_slice_get (map (λ (t : Tenant). t.name) tenants) slot tenant.name [] (slice_get-map (λ (t : Tenant). t.name) tenants slot ∙ ap (option_map (λ (t : Tenant). t.name)) e)
+-- a tenant who is found by name is open
+pub open_found : (tenants : List (Option Tenant)) (word : List ℕ) (slot : ℕ) → open_slot_of_name tenants word ≡ Some slot → IsTrue (is_some (open_at slot tenants))
+open_found tenants word slot e = ap is_some (named_open tenants word slot e).1
 
--- what a line says, once its slot is found
-pub said_at_slot : (tenants : List Tenant) (line : List ℕ) (found : Option ℕ) → slot_of_name tenants (first_word line) ≡ found →
-    said_in tenants line ≡ elim found [ None ↦ OfNobody | Some slot ↦ said_by slot (act_in (first_word line) line) ]
-said_at_slot tenants line found e = ap (λ found. elim found [ None ↦ OfNobody | Some slot ↦ said_by slot (act_in (first_word line) line) ]) e
+-- what holds of an answer holds where it did not fail
+pub answered_ok : {T E P : Type 0} (result : Result T E) (failed : Bool) → failed ≡ is_err result → failed ≡ false → OnOk result P → P
+answered_ok (Ok done) failed is e held = held
+answered_ok (Err lack) failed is e held = absurd (true≢false (sym is ∙ e))
 
-module _ {W : Type 0} (setup : W → Config) (StandsFor : W → ℕ → SoloCluster → Type 0) where
-  abbrev MayAnswer : W → List ℕ → List ℕ → W → Type 0
-  MayAnswer old line text new = IsAnswered setup StandsFor old (said_in (setup old).tenants line) text new
+-- whether the line begins with this word, as it was tested
+pub first_is : {t : Bool} (line word literal sign : List ℕ) (tested : Bool) → word ≡ first_word line → literal ≡ sign → tested ≡ bytes_eq word literal → tested ≡ t → bytes_eq (first_word line) sign ≡ t
+first_is line word literal sign tested is_first is_literal is_tested e = (λ i. bytes_eq (sym is_first i) (sym is_literal i)) ∙ sym is_tested ∙ e
 
-  -- the slot of the line's tenant, as the machine looks it up
-  found_is : (old : W) (config : Config) (line word : List ℕ) (found searched : Option ℕ) → config ≡ setup old → word ≡ first_word line → searched ≡ slot_of_name config.tenants word → searched ≡ found →
-      slot_of_name (setup old).tenants (first_word line) ≡ found
-  found_is old config line word found searched is_of is_first is_found e = (λ i. slot_of_name (sym is_of i).tenants (sym is_first i)) ∙ sym is_found ∙ e
+-- what a line of the host says
+pub admission_said : (tenants : List (Option Tenant)) (line : List ℕ) → begins_admission line ≡ true → said_in tenants line ≡ OfHost (admission_of tenants (admitted_in line))
+admission_said tenants line is = rw is refl
 
-  pub answers_nobody : (old : W) (config : Config) (line word : List ℕ) (searched : Option ℕ) (out new_out : List ℕ) → config ≡ setup old → word ≡ first_word line → searched ≡ slot_of_name config.tenants word → searched ≡ None →
-      ((tenants : List Tenant) → new_out ≡ out ++ answer_line tenants None) → Answers (MayAnswer old line) old out new_out
-  answers_nobody old config line word searched out new_out is_of is_first is_found e appended =
-      let says = said_at_slot (setup old).tenants line None (found_is old config line word None searched is_of is_first is_found e) in
+pub closing_said : (tenants : List (Option Tenant)) (line : List ℕ) → begins_admission line ≡ false → begins_closing line ≡ true → said_in tenants line ≡ OfHost (closing_of tenants (closed_in line))
+closing_said tenants line other is = rw other (rw is refl)
+
+-- what another line says
+pub tenant_said : (tenants : List (Option Tenant)) (line : List ℕ) → begins_admission line ≡ false → begins_closing line ≡ false → said_in tenants line ≡ said_found line (open_slot_of_name tenants (first_word line))
+tenant_said tenants line other another = rw other (rw another refl)
+
+module _ {W : Type 0} (setup : W → Setup) (StandsFor : W → ℕ → SoloCluster → Type 0) where
+  pub stays_as_it_is : (old : W) → HasStayed setup StandsFor old old
+  stays_as_it_is old = record { same = refl; clusters = λ slot cluster h. h }
+
+  -- it may be answered so
+  abbrev pub MayAnswer : W → Said → List ℕ → W → Type 0
+  MayAnswer old said text new = IsAnswered setup StandsFor old said text new
+
+  -- no tenant has the name
+  pub answers_nobody : (old : W) (line word : List ℕ) (tenants : List (Option Tenant)) (searched : Option ℕ) (out new_out : List ℕ) → tenants ≡ (setup old).tenants → word ≡ first_word line →
+      searched ≡ open_slot_of_name tenants word → searched ≡ None → new_out ≡ out ++ host_line (Denied UnknownTenant) → Answers (MayAnswer old (said_found line (open_slot_of_name (setup old).tenants (first_word line)))) old out new_out
+  answers_nobody old line word tenants searched out new_out is_of is_first is_found e appended =
+      let found : open_slot_of_name (setup old).tenants (first_word line) ≡ None = (λ i. open_slot_of_name (sym is_of i) (sym is_first i)) ∙ sym is_found ∙ e in
       record {
-        text = answer_line (setup old).tenants None;
-        answered = subst (λ said. IsAnswered setup StandsFor old said (answer_line (setup old).tenants None) old) (sym says) (refl, refl);
-        appended = appended (setup old).tenants;
+        text = host_line (Denied UnknownTenant);
+        answered = subst (λ o. MayAnswer old (said_found line o) (host_line (Denied UnknownTenant)) old) (sym found) (ToHost (Denied UnknownTenant), (refl, stays_as_it_is old), refl);
+        appended = appended;
       }
 
-  pub answers_told : (old new : W) (config : Config) (line word : List ℕ) (searched : Option ℕ) (slot : ℕ) (tenant : Tenant) (reply : Reply) (out new_out : List ℕ) →
-      config ≡ setup old → word ≡ first_word line → searched ≡ slot_of_name config.tenants word → searched ≡ Some slot → slice_get config.tenants slot ≡ Some tenant →
-      IsAnswered setup StandsFor old (said_by slot (act_in (first_word line) line)) (answer_line (setup old).tenants (Some (slot, reply))) new →
-      ((tenants : List Tenant) (slot : ℕ) → name_at tenants slot ≡ tenant.name → new_out ≡ out ++ answer_line tenants (Some (slot, reply))) → Answers (MayAnswer old line) new out new_out
-  answers_told old new config line word searched slot tenant reply out new_out is_of is_first is_found e there told appended =
-      let says = said_at_slot (setup old).tenants line (Some slot) (found_is old config line word (Some slot) searched is_of is_first is_found e) in
+  -- the tenant is told
+  pub answers_told : (old new : W) (line word : List ℕ) (tenants : List (Option Tenant)) (searched : Option ℕ) (slot : ℕ) (name : List ℕ) (reply : Reply) (out new_out : List ℕ) → tenants ≡ (setup old).tenants → word ≡ first_word line →
+      searched ≡ open_slot_of_name tenants word → searched ≡ Some slot → name ≡ open_name tenants slot → IsDone setup StandsFor old (said_by slot (act_in (first_word line) line)) (ToTenant slot reply) new →
+      new_out ≡ out ++ reply_line name reply → Answers (MayAnswer old (said_found line (open_slot_of_name (setup old).tenants (first_word line)))) new out new_out
+  answers_told old new line word tenants searched slot name reply out new_out is_of is_first is_found e is_name done appended =
+      let found : open_slot_of_name (setup old).tenants (first_word line) ≡ Some slot = (λ i. open_slot_of_name (sym is_of i) (sym is_first i)) ∙ sym is_found ∙ e in
+      let text = slot_line (setup old).tenants (ToTenant slot reply) in
+      let same : reply_line name reply ≡ text = ap (λ n. reply_line n reply) (is_name ∙ ap (λ ts. open_name ts slot) is_of) in
       record {
-        text = answer_line (setup old).tenants (Some (slot, reply));
-        answered = subst (λ said. IsAnswered setup StandsFor old said (answer_line (setup old).tenants (Some (slot, reply))) new) (sym says) told;
-        appended = appended (setup old).tenants slot (name_there (setup old).tenants slot tenant (ap (λ (c : Config). slice_get c.tenants slot) (sym is_of) ∙ there));
+        text = text;
+        answered = subst (λ o. MayAnswer old (said_found line o) text new) (sym found) (ToTenant slot reply, done, refl);
+        appended = appended ∙ ap (λ t. out ++ t) same;
       }
+
+  -- the host is told
+  pub answers_host : (old new : W) (said : Said) (reply : HostReply) (out new_out : List ℕ) → IsDone setup StandsFor old said (ToHost reply) new → new_out ≡ out ++ host_line reply → Answers (MayAnswer old said) new out new_out
+  answers_host old new said reply out new_out done appended = record { text = host_line reply; answered = (ToHost reply, done, refl); appended = appended }
 
   -- the line ends the head, and the script runs in a new world
   pub begins_running : (state : Script W) (head : HeadSoFar) (line : List ℕ) (config : Config) (world : W) → state ≡ Head head → front_with head.reader line ≡ Some (Begun config) → IsNew setup StandsFor config world →
@@ -67,3 +97,11 @@ module _ {W : Type 0} (setup : W → Config) (StandsFor : W → ℕ → SoloClus
   -- nothing is written where the answer is empty
   pub answers_nothing : (old new : Script W) (line out : List ℕ) → line_answers setup StandsFor old line [] new → Answers (line_answers setup StandsFor old line) new out out
   answers_nothing old new line out answered = record { text = []; answered = answered; appended = sym (append-nil out) }
+
+  -- a line after the head is answered
+  pub answers_running : (state : Script W) (old new : W) (line out new_out : List ℕ) → state ≡ Running old → Answers (MayAnswer old (said_in (setup old).tenants line)) new out new_out → Answers (line_answers setup StandsFor state line) (Running new) out new_out
+  answers_running state old new line out new_out at p = record {
+    text = p.text;
+    answered = subst (λ s. line_answers setup StandsFor s line p.text (Running new)) (sym at) (new, p.answered, refl);
+    appended = p.appended;
+  }

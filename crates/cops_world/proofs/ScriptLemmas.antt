@@ -1,12 +1,9 @@
 -- What the rules of a script come to over a whole text.
-use Rattle.std.proofs.Common.{◌≡◌, ℕ, suc, ◌+◌, ◌<◌, Bool, true, false, ◌||◌, ◌==◌, List, [], ◌∷◌, ◌++◌, length, map, inl, inr, refl, sym, subst, ap, ◌∙◌, append_assoc, append-nil, true≢false}
+use Rattle.std.proofs.Common.{◌≡◌, ℕ, suc, ◌+◌, ◌<◌, List, [], ◌∷◌, ◌++◌, length, map, inl, inr, refl, sym, subst, ap, ◌∙◌, append_assoc, append-nil}
 use Rattle.std.specs.Prelude.{Option, Some, None, IfSome, flat_map}
-use Rattle.std.specs.List.{list_any}
 use Rattle.std.specs.Io.KnownBytes.{Appends, Keeps}
-use Rattle.std.proofs.lemmas.Bool.Decides.{Decides-eqb}
 use Rattle.std.proofs.lemmas.List.Concat.{flat_map-append}
 use Rattle.cops_types.specs.declared.configs.Config.{Config}
-use Rattle.cops_types.specs.declared.faults.Fault.TheVariants.{Syntax}
 use Rattle.cops_types.specs.declared.line_runs.fault.RunFault.{RunFault}
 use Rattle.cops_types.specs.declared.line_runs.fault.RunFault.TheVariants as fault
 use Rattle.cops_types.specs.Counts.{counted}
@@ -14,188 +11,87 @@ use Rattle.cops_types.specs.Head.{Front, AtStart, Begun, front_after, Whole, Bad
 use Rattle.cops_types.specs.LineRules.{Run}
 use Rattle.cops_types.specs.LineRuns.{AnswersAll, IfRunRefused, StopsEarly}
 use Rattle.cops_types.specs.Lines.{lines_of, cut_line, cut_lines, longest_line}
+use Rattle.cops_types.specs.OpenSlots.{begun_with}
 use Rattle.cops_types.specs.Sink.{AppendsFront}
 use Rattle.cops_types.proofs.HeadLengths.{AreGood}
 use Rattle.cops_types.proofs.KnownLemmas.{AppendsFront-more, AppendsFront-nil, input_is, known_lines, known_whole}
-use Rattle.cops_world.specs.declared.acts.Event.{Event}
-use Rattle.cops_world.specs.declared.replies.Reply.{Reply}
-use Rattle.cops_world.specs.declared.replies.Reply.TheVariants.{Refused}
 use Rattle.cops_world.specs.declared.scripts.BadConfig.{BadConfig}
+use Rattle.cops_world.specs.declared.scripts.HeadSoFar.{HeadSoFar}
 use Rattle.cops_world.specs.declared.scripts.Script.{Script}
 use Rattle.cops_world.specs.declared.scripts.Script.TheVariants.{Head, Running}
-use Rattle.cops_world.specs.Cluster.{SoloCluster, cluster_step}
-use Rattle.cops_world.specs.Events.{IsFrontOf, before_lack, config_at, is_out_of_memory, with_cluster}
-use Rattle.cops_world.specs.Script.{Said, OfNobody, Unformed, Acts, AreNamed, said_in, answer_line, answers_to, script_after, script_out}
-use Rattle.cops_world.specs.Acting.{IsNew, HasActed}
-use Rattle.cops_world.specs.declared.scripts.HeadSoFar.{HeadSoFar}
+use Rattle.cops_world.specs.Acting.{IsNew}
+use Rattle.cops_world.specs.Answers.{Answer, answer_line, slot_line}
+use Rattle.cops_world.specs.Cluster.{SoloCluster}
+use Rattle.cops_world.specs.Doing.{IsDone}
 use Rattle.cops_world.specs.HeadRules.{HeadAnswers, IsHeadAt}
-use Rattle.cops_world.specs.ScriptRules.{IsAnswered, line_answers, line_refuses, end_answers, end_refuses, script_rules}
-use Rattle.cops_world.specs.ScriptRuns.{AddressedReplies, AreAnswered, AreSpared, WritesFront, WritesScript, acts_in, addressee, events_of, is_lack, named_in, replies_in, replies_to, text_in, text_of}
-use Rattle.cops_world.proofs.AnswersTo.{IsThere, said_in-there, new_at, answers_to-from}
+use Rattle.cops_world.specs.Lives.{Lives, first_lives, lives_after, with_all_lives}
+use Rattle.cops_world.specs.OpenNames.{AreOpenNamed}
+use Rattle.cops_world.specs.Said.{said_in, tenants_after}
+use Rattle.cops_world.specs.Script.{all_tenants, answers_to, said_by_lines, script_after, script_out}
+use Rattle.cops_world.specs.ScriptRules.{line_answers, line_refuses, end_answers, end_refuses, script_rules}
+use Rattle.cops_world.specs.ScriptRuns.{AreAnswered, AreSpared, WritesFront, WritesScript, config_told, heard, lives_told, said_from, said_told, text_in, text_of}
+use Rattle.cops_world.specs.Setups.{Setup}
 use Rattle.cops_world.proofs.CutLemmas.{said_in-cut}
-use Rattle.cops_world.proofs.Fronts.{ActsAreTold, KeepsActs, KeepsFronts, act_keeps, act_keeps_acts, answers_to-along, named_by, no_replies, nobody_keeps, nobody_keeps_acts, replies_along, said_in-named, unformed_keeps, unformed_keeps_acts}
 use Rattle.cops_world.proofs.HeadRuns.{HeadRun, InHead, PastHead, bad_end, bad_first, cut_in_head, counted-small, heads, named_of, real_lines, start, refused_line as refused_in_head, wide}
-use Rattle.cops_world.proofs.MainLemmas.{holds_for, keeps_causality}
-use Rattle.cops_world.proofs.Sequence.{answers_from}
+use Rattle.cops_world.proofs.LifeAnswers.{all_are_told, answers_go_on, are_answered, for_all}
+use Rattle.cops_world.proofs.LifeLines.{done_setup, heard_named, heard_placed, line_of_life}
+use Rattle.cops_world.proofs.LifeRuns.{AreFor, AreGiven, answer_of, for_next, given_nothing, given_one}
+use Rattle.cops_world.proofs.Numbered.{ArePlaced}
+use Rattle.cops_world.proofs.SaidLines.{named_after, named_begun, said_in-named, said_in-placed}
 use Rattle.cops_world.proofs.WholeHeads.{shards_of}
-use Rattle.cops_world.proofs.WorldKeeps.{sizes_at}
-
-by_test : {C : Type 0} (b : Bool) → (b ≡ true → C) → (b ≡ false → C) → C
-by_test {C} true holds fails = holds refl
-by_test {C} false holds fails = fails refl
 
 -- ---- the answers after the head
 
-module _ {W : Type 0} (setup : W → Config) (StandsFor : W → ℕ → SoloCluster → Type 0) where
-  -- each tenant's part of the world is his cluster
-  abbrev pub AllStand : W → (ℕ → SoloCluster) → Type 0
-  AllStand world clusters = (slot : ℕ) → slot < length (setup world).tenants → StandsFor world slot (clusters slot)
-
-  -- answers that were given, one after another
-  pub record AreGiven (config : Config) (old : W) (lines : List (List ℕ)) (text : List ℕ) (new : W) : Type 0 where
-    pub told : AddressedReplies
+module _ {W : Type 0} (setup : W → Setup) (StandsFor : W → ℕ → SoloCluster → Type 0) where
+  -- what was answered to lines, by lives, and what was written
+  pub record RunsOn (old : W) (lives : Lives) (lines : List (List ℕ)) (text : List ℕ) (new : W) : Type 0 where
+    pub told : List Answer
     pub each : length told ≡ length lines
-    pub whole : text ≡ text_of config.tenants told
-    pub same : setup new ≡ config
-    pub addressed : map addressee told ≡ map (named_in config.tenants) lines
-    pub fronts : (slot : ℕ) → slot < length config.tenants → (cluster : SoloCluster) → StandsFor old slot cluster →
-        IsFrontOf (before_lack (replies_to slot told)) (replies_along (config_at config slot) slot (map (said_in config.tenants) lines) cluster)
-    pub acts : (slot : ℕ) → slot < length config.tenants → (cluster : SoloCluster) → StandsFor old slot cluster →
-        ActsAreTold (config_at config slot) slot (map (said_in config.tenants) lines) told cluster
-    pub right : AreSpared told → (clusters : ℕ → SoloCluster) → AllStand old clusters →
-        (later : ℕ → SoloCluster) × AllStand new later
-        × ((others : List (List ℕ)) → answers_from (config_at config) (map (said_in config.tenants) (lines ++ others)) clusters
-        ≡ told ++ answers_from (config_at config) (map (said_in config.tenants) others) later)
+    pub given : AreGiven setup StandsFor old lives (said_from (setup old).tenants lines told) told new
+    pub placed : ArePlaced (setup old).tenants (said_from (setup old).tenants lines told)
+    pub whole : (config : Config) → AreFor config (setup old) lives (said_from (setup old).tenants lines told) → text ≡ text_of config.tenants told
 
-  first_spared : (a b : Bool) → (a || b) ≡ false → a ≡ false
-  first_spared true b e = e
-  first_spared false b e = refl
+  abbrev pub one_more : (line : List ℕ) (lines : List (List ℕ)) (first later text : List ℕ) (old after new : W) (lives : Lives) (answer : Answer) → IsDone setup StandsFor old (said_in (setup old).tenants line) answer after →
+      first ≡ slot_line (setup old).tenants answer → text ≡ first ++ later → RunsOn after (lives_after lives (heard (said_in (setup old).tenants line) (answer_of lives answer))) lines later new → RunsOn old lives (line ∷ lines) text new
+  one_more line lines first later text old after new lives answer done is whole p =
+      let said = said_in (setup old).tenants line in
+      let one = heard said (answer_of lives answer) in
+      let moved = done_setup setup StandsFor old after lives said answer done in
+      let more = said_from (tenants_after (setup old).tenants one) lines p.told in
+      let placed = heard_placed (setup old).tenants said (answer_of lives answer) (said_in-placed (setup old).tenants line) in
+      let given = subst (λ (s : Setup). AreGiven setup StandsFor after (lives_after lives one) (said_from s.tenants lines p.told) p.told new) moved p.given in
+      record {
+        told = answer_of lives answer ∷ p.told;
+        each = ap suc p.each;
+        given = given_one setup StandsFor old after new lives more p.told said answer done given;
+        placed = (placed, subst (λ (s : Setup). ArePlaced s.tenants (said_from s.tenants lines p.told)) moved p.placed);
+        whole = λ config for.
+            let here = is ∙ line_of_life setup StandsFor old after lives said answer config done (said_in-placed (setup old).tenants line) for.numbered in
+            let next = for_next config (setup old) (setup after) lives one more moved for in
+            let rest = p.whole config (subst (λ (s : Setup). AreFor config (setup after) (lives_after lives one) (said_from s.tenants lines p.told)) (sym moved) next) in
+            whole ∙ (λ i. here i ++ rest i);
+      }
 
-  later_spared : (a b : Bool) → (a || b) ≡ false → b ≡ false
-  later_spared true b e = absurd (true≢false e)
-  later_spared false b e = e
-
-  module _ (config : Config) (line : List ℕ) (lines : List (List ℕ)) (later : List ℕ) (mid new : W) (p : AreGiven config mid lines later new) where
-    -- the first answer is to the tenant that the line names
-    addressed_first : (answer : Option (ℕ × Reply)) (said : Said) → said_in config.tenants line ≡ said → addressee answer ≡ named_by said →
-        map addressee (answer ∷ p.told) ≡ map (named_in config.tenants) (line ∷ lines)
-    addressed_first answer said says names =
-        let first : addressee answer ≡ named_in config.tenants line = names ∙ ap named_by (sym says) ∙ said_in-named config.tenants line in
-        λ i. first i ∷ p.addressed i
-
-    fronts_first : (answer : Option (ℕ × Reply)) (said : Said) → said_in config.tenants line ≡ said → (slot : ℕ) (cluster : SoloCluster) →
-        IsFrontOf (before_lack (replies_to slot (answer ∷ p.told))) (replies_along (config_at config slot) slot (said ∷ map (said_in config.tenants) lines) cluster) →
-        IsFrontOf (before_lack (replies_to slot (answer ∷ p.told))) (replies_along (config_at config slot) slot (map (said_in config.tenants) (line ∷ lines)) cluster)
-    fronts_first answer said says slot cluster h =
-        let Is : Said → Type 0 = λ s. IsFrontOf (before_lack (replies_to slot (answer ∷ p.told))) (replies_along (config_at config slot) slot (s ∷ map (said_in config.tenants) lines) cluster) in
-        subst Is (sym says) h
-
-    acts_first : (answer : Option (ℕ × Reply)) (said : Said) → said_in config.tenants line ≡ said → (slot : ℕ) (cluster : SoloCluster) →
-        ActsAreTold (config_at config slot) slot (said ∷ map (said_in config.tenants) lines) (answer ∷ p.told) cluster →
-        ActsAreTold (config_at config slot) slot (map (said_in config.tenants) (line ∷ lines)) (answer ∷ p.told) cluster
-    acts_first answer said says slot cluster h =
-        subst (λ s. ActsAreTold (config_at config slot) slot (s ∷ map (said_in config.tenants) lines) (answer ∷ p.told) cluster) (sym says) h
-
-    -- a line that acts on nothing
-    given_idle : (old : W) (answer : Option (ℕ × Reply)) (said : Said) (first text : List ℕ) → said_in config.tenants line ≡ said → mid ≡ old → first ≡ answer_line config.tenants answer → text ≡ first ++ later → is_lack answer ≡ false → addressee answer ≡ named_by said → KeepsFronts answer said → KeepsActs answer said →
-        ((more : List Said) (clusters : ℕ → SoloCluster) → answers_from (config_at config) (said ∷ more) clusters ≡ answer ∷ answers_from (config_at config) more clusters) →
-        AreGiven config old (line ∷ lines) text new
-    given_idle old answer said first text says stays is whole fine names keeps keeps_acts step = record {
-      told = answer ∷ p.told;
-      each = ap suc p.each;
-      whole = whole ∙ (λ i. is i ++ p.whole i);
-      same = p.same;
-      addressed = addressed_first answer said says names;
-      fronts = λ slot below cluster stood.
-          fronts_first answer said says slot cluster
-          (keeps (config_at config slot) slot p.told (map (said_in config.tenants) lines) cluster (p.fronts slot below cluster (subst (λ w. StandsFor w slot cluster) (sym stays) stood)));
-      acts = λ slot below cluster stood.
-          acts_first answer said says slot cluster
-          (keeps_acts (config_at config slot) slot p.told (map (said_in config.tenants) lines) cluster (p.acts slot below cluster (subst (λ w. StandsFor w slot cluster) (sym stays) stood)));
-      right = λ spared clusters stand.
-          let rest = p.right (later_spared (is_lack answer) (list_any is_lack p.told) spared) clusters (subst (λ w. AllStand w clusters) (sym stays) stand) in (
-            rest.0,
-            rest.1,
-            λ others.
-                ap (λ s. answers_from (config_at config) (s ∷ map (said_in config.tenants) (lines ++ others)) clusters) says
-                ∙ step (map (said_in config.tenants) (lines ++ others)) clusters ∙ ap (λ told. answer ∷ told) (rest.2 others),
-          );
-    }
-
-    -- a line that acts
-    given_act : (old : W) (event : Event) (reply : Reply) (first text : List ℕ) → said_in config.tenants line ≡ Acts event → setup old ≡ config → event.slot < length config.tenants →
-        HasActed setup StandsFor old event reply mid → first ≡ answer_line config.tenants (Some (event.slot, reply)) → text ≡ first ++ later →
-        AreGiven config old (line ∷ lines) text new
-    given_act old event reply first text says is_of there acted is whole = record {
-      told = Some (event.slot, reply) ∷ p.told;
-      each = ap suc p.each;
-      whole = whole ∙ (λ i. is i ++ p.whole i);
-      same = p.same;
-      addressed = addressed_first (Some (event.slot, reply)) (Acts event) says refl;
-      fronts = λ slot below cluster stood.
-          let One : Config → ℕ → Type 0 = λ c s. (k : SoloCluster) → StandsFor old s k →
-          (reply ≡ (cluster_step (config_at c s) event.act k).reply) × StandsFor mid s (cluster_step (config_at c s) event.act k).after in
-          let own : event.slot ≡ slot → is_out_of_memory reply ≡ false → One config slot =
-          λ same spared. subst (One config) same (subst (λ c. One c event.slot) is_of (acted.own spared)) in
-          fronts_first (Some (event.slot, reply)) (Acts event) says slot cluster
-          (act_keeps (config_at config slot) slot event reply p.told (map (said_in config.tenants) lines) cluster
-          (λ same spared. let turn = own same spared cluster stood in (turn.0, p.fronts slot below (cluster_step (config_at config slot) event.act cluster).after turn.1))
-          (λ apart. p.fronts slot below cluster (acted.others slot apart cluster stood)));
-      acts = λ slot below cluster stood.
-          let One : Config → ℕ → Type 0 = λ c s. (k : SoloCluster) → StandsFor old s k →
-          (reply ≡ (cluster_step (config_at c s) event.act k).reply) × StandsFor mid s (cluster_step (config_at c s) event.act k).after in
-          let own : event.slot ≡ slot → is_out_of_memory reply ≡ false → One config slot =
-          λ same spared. subst (One config) same (subst (λ c. One c event.slot) is_of (acted.own spared)) in
-          acts_first (Some (event.slot, reply)) (Acts event) says slot cluster
-          (act_keeps_acts (config_at config slot) slot event reply p.told (map (said_in config.tenants) lines) cluster
-          (λ same spared. let turn = own same spared cluster stood in (turn.0, p.acts slot below (cluster_step (config_at config slot) event.act cluster).after turn.1))
-          (λ apart. p.acts slot below cluster (acted.others slot apart cluster stood)));
-      right = λ spared clusters stand.
-          let turn = cluster_step (config_at config event.slot) event.act (clusters event.slot) in
-          let mine = acted.own (first_spared (is_out_of_memory reply) (list_any is_lack p.told) spared) (clusters event.slot)
-          (stand event.slot (subst (λ c. event.slot < length c.tenants) (sym is_of) there)) in
-          let own = subst (λ (c : Config). let t = cluster_step (config_at c event.slot) event.act (clusters event.slot) in (reply ≡ t.reply) × StandsFor mid event.slot t.after) is_of mine in
-          let stand_mid : AllStand mid (with_cluster event.slot turn.after clusters) = λ slot below. by_test (event.slot == slot)
-          (λ same_slot.
-          let same = (Decides-eqb event.slot slot).0 same_slot in
-          rw same_slot (subst (λ s. StandsFor mid s turn.after) same own.1))
-          (λ apart. rw apart (acted.others slot (λ same. true≢false (sym ((Decides-eqb event.slot slot).1 same) ∙ apart)) (clusters slot) (stand slot (subst (λ c. slot < length c.tenants) acted.same below)))) in
-          let rest = p.right (later_spared (is_out_of_memory reply) (list_any is_lack p.told) spared) (with_cluster event.slot turn.after clusters) stand_mid in (
-            rest.0,
-            rest.1,
-            λ others.
-                ap (λ s. answers_from (config_at config) (s ∷ map (said_in config.tenants) (lines ++ others)) clusters) says
-                ∙ ap (λ r. Some (event.slot, r) ∷ answers_from (config_at config) (map (said_in config.tenants) (lines ++ others)) (with_cluster event.slot turn.after clusters)) (sym own.0)
-                ∙ ap (λ told. Some (event.slot, reply) ∷ told) (rest.2 others),
-          );
-    }
-
-  -- what a line says stays the configuration
-  pub setup_after : (old : W) (said : Said) (first : List ℕ) (after : W) → IsAnswered setup StandsFor old said first after → setup after ≡ setup old
-  setup_after old OfNobody first after h = ap setup h.1
-  setup_after old (Unformed slot) first after h = ap setup h.1
-  setup_after old (Acts event) first after h = h.1.same
-
-  pub given_line : (config : Config) (line : List ℕ) (lines : List (List ℕ)) (first later text : List ℕ) (old after new : W) (said : Said) → said_in config.tenants line ≡ said → IsThere config.tenants said →
-      setup old ≡ config → IsAnswered setup StandsFor old said first after → text ≡ first ++ later → AreGiven config after lines later new → AreGiven config old (line ∷ lines) text new
-  given_line config line lines first later text old after new OfNobody says there is_of h whole p =
-      given_idle config line lines later after new p old None OfNobody first text says h.1 (h.0 ∙ ap (λ c. answer_line c.tenants None) is_of) whole refl refl nobody_keeps nobody_keeps_acts (λ more clusters. refl)
-  given_line config line lines first later text old after new (Unformed slot) says there is_of h whole p =
-      given_idle config line lines later after new p old (Some (slot, Refused Syntax)) (Unformed slot) first text says h.1 (h.0 ∙ ap (λ c. answer_line c.tenants (Some (slot, Refused Syntax))) is_of) whole refl refl (unformed_keeps slot) (unformed_keeps_acts slot) (λ more clusters. refl)
-  given_line config line lines first later text old after new (Acts event) says there is_of (reply, acted, is) whole p =
-      given_act config line lines later after new p old event reply first text says is_of there acted (is ∙ ap (λ c. answer_line c.tenants (Some (event.slot, reply))) is_of) whole
+  abbrev pub runs_nothing : (old : W) (lives : Lives) → RunsOn old lives [] [] old
+  runs_nothing old lives = record { told = []; each = refl; given = given_nothing setup StandsFor old lives; placed = tt; whole = λ config for. refl }
 
   -- from here on each line is answered
-  running : (config : Config) → AreNamed config.tenants → (lines : List (List ℕ)) (old : W) (text : List ℕ) (state : Script W) → setup old ≡ config →
-      Run (script_rules setup StandsFor) (Running old) (map (cut_line longest_line) lines) text state → (new : W) × (state ≡ Running new) × AreGiven config old lines text new
-  running config named [] old text state is_of h =
-      (old, h.1, record { told = []; each = refl; whole = h.0; same = is_of; addressed = refl; fronts = λ slot below cluster stood. no_replies []; acts = λ slot below cluster stood. (no_replies [], λ spared. refl); right = λ spared clusters stand. (clusters, stand, λ others. refl) })
-  running config named (line ∷ lines) old text state is_of (first, mid, later, (after, answered, mid_is), run, whole) =
-      let cut = said_in-cut config.tenants line named in
-      let said = subst (λ s. IsAnswered setup StandsFor old s first after) (ap (λ c. said_in c.tenants (cut_line longest_line line)) is_of ∙ cut) answered in
-      let stays = setup_after old (said_in config.tenants line) first after said ∙ is_of in
-      let rest = running config named lines after later state stays (subst (λ m. Run (script_rules setup StandsFor) m (map (cut_line longest_line) lines) later state) mid_is run) in
-      (rest.0, rest.1, given_line config line lines first later text old after rest.0 (said_in config.tenants line) refl (said_in-there config.tenants line) is_of said whole rest.2)
+  running : (lines : List (List ℕ)) (old : W) (lives : Lives) (text : List ℕ) (state : Script W) → AreOpenNamed (setup old).tenants →
+      Run (script_rules setup StandsFor) (Running old) (map (cut_line longest_line) lines) text state → (new : W) × (state ≡ Running new) × RunsOn old lives lines text new
+  running [] old lives text state named h =
+      (old, h.1, subst (λ t. RunsOn old lives [] t old) (sym h.0) (runs_nothing old lives))
+  running (line ∷ lines) old lives text state named (first, mid, later, (after, (answer, done, is), mid_is), run, whole) =
+      let said = said_in (setup old).tenants line in
+      let done' = subst (λ s. IsDone setup StandsFor old s answer after) (said_in-cut (setup old).tenants line named) done in
+      let one = heard said (answer_of lives answer) in
+      let moved = done_setup setup StandsFor old after lives said answer done' in
+      let named' = subst (λ (s : Setup). AreOpenNamed s.tenants) (sym moved) (named_after (setup old).tenants one named (heard_named (setup old).tenants said (answer_of lives answer) (said_in-named (setup old).tenants line))) in
+      let rest = running lines after (lives_after lives one) later state named' (subst (λ m. Run (script_rules setup StandsFor) m (map (cut_line longest_line) lines) later state) mid_is run) in
+      (rest.0, rest.1, one_more line lines first later text old after rest.0 lives answer done' is whole rest.2)
+
+  -- the tenants of a new world have names
+  pub named_at : (config : Config) (world : W) → IsNew setup StandsFor config world → AreGood (Begun config) → AreOpenNamed (setup world).tenants
+  named_at config world fresh good = subst (λ (s : Setup). AreOpenNamed s.tenants) (sym fresh.setup_is) (named_begun config.tenants (named_of config good))
 
   -- ---- the whole script
 
@@ -209,33 +105,36 @@ module _ {W : Type 0} (setup : W → Config) (StandsFor : W → ℕ → SoloClus
   from_head : (lines : List (List ℕ)) (m : Script W) (text : List ℕ) (state : Script W) → IsHeadAt AtStart 0 m → Run (script_rules setup StandsFor) m (map (cut_line longest_line) lines) text state → RunFromHead lines text state
   from_head lines m text state here = heads longest_line wide (script_rules setup StandsFor) (λ s. s) (λ s. Unit {0}) (IsNew setup StandsFor) steps lines AtStart 0 m text state start refl tt here
 
-  -- a new world's clusters are new
-  stands_new : (config : Config) (world : W) → IsNew setup StandsFor config world → AllStand world (new_at config)
-  stands_new config world fresh = λ slot below. fresh.empty slot (subst (λ c. slot < length c.tenants) fresh.setup_is below)
+  -- what was said in a new world was said by lines after a head
+  module _ (config : Config) (world : W) (rest : List (List ℕ)) (text : List ℕ) (new : W) (fresh : IsNew setup StandsFor config world) (p : RunsOn world (first_lives config) rest text new) where
+    pub given_at : AreGiven setup StandsFor world (first_lives config) (said_told config rest p.told) p.told new
+    given_at = subst (λ (s : Setup). AreGiven setup StandsFor world (first_lives config) (said_from s.tenants rest p.told) p.told new) fresh.setup_is p.given
+
+    pub placed_at : ArePlaced (begun_with config.tenants) (said_told config rest p.told)
+    placed_at = subst (λ (s : Setup). ArePlaced s.tenants (said_from s.tenants rest p.told)) fresh.setup_is p.placed
+
+    back : (whole : Config) → AreFor whole (setup world) (first_lives config) (said_told config rest p.told) → AreFor whole (setup world) (first_lives config) (said_from (setup world).tenants rest p.told)
+    back whole for = subst (λ (s : Setup). AreFor whole (setup world) (first_lives config) (said_from s.tenants rest p.told)) (sym fresh.setup_is) for
 
   -- the answers after the head are the definition's, and go on as it does
-  pub given_right : (config : Config) (world : W) (rest : List (List ℕ)) (text : List ℕ) (new : W) → IsNew setup StandsFor config world → (p : AreGiven config world rest text new) → AreSpared p.told →
-      (others : List (List ℕ)) → (more : AddressedReplies) × (answers_to config (rest ++ others) ≡ p.told ++ more)
+  pub given_right : (config : Config) (world : W) (rest : List (List ℕ)) (text : List ℕ) (new : W) → IsNew setup StandsFor config world → (p : RunsOn world (first_lives config) rest text new) → AreSpared p.told →
+      (others : List (List ℕ)) → (more : List Answer) × (answers_to config (rest ++ others) ≡ p.told ++ more) × (text ≡ text_of (all_tenants config (rest ++ others)) p.told)
   given_right config world rest text new fresh p spared others =
-      let found = p.right spared (new_at config) (stands_new config world fresh) in
-      (answers_from (config_at config) (map (said_in config.tenants) others) found.0, answers_to-from config (rest ++ others) ∙ found.2 others)
+      let found = answers_go_on setup StandsFor config world rest p.told new fresh (given_at config world rest text new fresh p) p.each spared others in
+      (found.0, found.1, p.whole (with_all_lives config (said_by_lines config (rest ++ others))) (back config world rest text new fresh p (with_all_lives config (said_by_lines config (rest ++ others))) found.2))
 
-  -- each answer is to whom its line names, and right until memory is refused him
-  pub given_answered : (config : Config) (world : W) (rest : List (List ℕ)) (text : List ℕ) (new : W) → 0 < config.shards → IsNew setup StandsFor config world → (p : AreGiven config world rest text new) → AreAnswered config rest p.told
-  given_answered config world rest text new some fresh p = record {
-    addressed = p.addressed;
-    right = λ slot below.
-        subst (IsFrontOf (before_lack (replies_to slot p.told))) (sym (answers_to-along config rest slot)) (p.fronts slot below (new_at config slot) (fresh.empty slot below));
-    causal = λ slot below. keeps_causality (config_at config slot) (acts_in config rest slot) (subst (λ n. 0 < n) (sym (sizes_at config slot below).shards) some);
-    theorem = λ slot below.
-        let told = p.acts slot below (new_at config slot) (fresh.empty slot below) in
-        holds_for config (events_of config rest) (replies_in config rest p.told) slot some below told.1 told.0;
-  }
+  pub given_answered : (config : Config) (world : W) (rest : List (List ℕ)) (text : List ℕ) (new : W) → 0 < config.shards → IsNew setup StandsFor config world → (p : RunsOn world (first_lives config) rest text new) →
+      AreAnswered (config_told config rest p.told) (lives_told config rest p.told) p.told
+  given_answered config world rest text new some fresh p = are_answered setup StandsFor config world rest p.told new some fresh (given_at config world rest text new fresh p) (placed_at config world rest text new fresh p)
 
-  pub given_whole : (config : Config) (world : W) (rest : List (List ℕ)) (text : List ℕ) (new : W) → IsNew setup StandsFor config world → (p : AreGiven config world rest text new) → AreSpared p.told → p.told ≡ answers_to config rest
-  given_whole config world rest text new fresh p spared =
-      let found = p.right spared (new_at config) (stands_new config world fresh) in
-      sym (ap (answers_to config) (sym (append-nil rest)) ∙ answers_to-from config (rest ++ []) ∙ found.2 [] ∙ append-nil p.told)
+  pub given_text : (config : Config) (world : W) (rest : List (List ℕ)) (text : List ℕ) (new : W) → IsNew setup StandsFor config world → (p : RunsOn world (first_lives config) rest text new) →
+      text ≡ text_of (config_told config rest p.told).tenants p.told
+  given_text config world rest text new fresh p =
+      p.whole (config_told config rest p.told)
+      (back config world rest text new fresh p (config_told config rest p.told) (for_all setup StandsFor config world rest p.told fresh (placed_at config world rest text new fresh p)))
+
+  pub given_whole : (config : Config) (world : W) (rest : List (List ℕ)) (text : List ℕ) (new : W) → IsNew setup StandsFor config world → (p : RunsOn world (first_lives config) rest text new) → AreSpared p.told → p.told ≡ answers_to config rest
+  given_whole config world rest text new fresh p spared = all_are_told setup StandsFor config world rest p.told new fresh (given_at config world rest text new fresh p) p.each spared
 
   -- a run stops in its head or past it
   not_ended : (front : Front) (count : ℕ) (state new : Script W) (last : List ℕ) → IsHeadAt front count state → end_answers setup StandsFor state last new → ⊥
@@ -257,7 +156,7 @@ module _ {W : Type 0} (setup : W → Config) (StandsFor : W → ℕ → SoloClus
         WritesScript bytes old_contents new_contents
     ended bytes new text last machine (InHead next later n still is same silent reads) ends written = absurd (not_ended next later machine new last is ends)
     ended bytes new text last machine (PastHead config rest state world good apart at same fresh run reads) ends written =
-        let done = running config (named_of config good) rest world text machine fresh.setup_is (subst (λ (m : Script W). Run (script_rules setup StandsFor) m (map (cut_line longest_line) rest) text machine) at run) in
+        let done = running rest world (first_lives config) text machine (named_at config world fresh good) (subst (λ (m : Script W). Run (script_rules setup StandsFor) m (map (cut_line longest_line) rest) text machine) at run) in
         let p = done.2 in
         let last_is : last ≡ [] = (subst (λ m. end_answers setup StandsFor m last new) done.1 ends).0 in
         let head : head_of (lines_of bytes) ≡ Whole config rest = ap head_of (sym (append-nil (lines_of bytes))) ∙ reads [] ∙ ap (Whole config) (append-nil rest) in
@@ -269,7 +168,7 @@ module _ {W : Type 0} (setup : W → Config) (StandsFor : W → ℕ → SoloClus
           each = p.each;
           answered = given_answered config world rest text done.0 (shards_of (lines_of bytes) config rest head) fresh p;
           right = given_whole config world rest text done.0 fresh p;
-          written = subst (Appends old_contents new_contents) (ap (λ l. text ++ l) last_is ∙ append-nil text ∙ p.whole) written;
+          written = subst (Appends old_contents new_contents) (ap (λ l. text ++ l) last_is ∙ append-nil text ∙ given_text config world rest text done.0 fresh p) written;
         }
 
     pub all_written : (new : Script W) (known : Option (List ℕ)) → AnswersAll (script_rules setup StandsFor) longest_line known new_remaining begins new old_contents new_contents →
@@ -311,9 +210,8 @@ module _ {W : Type 0} (setup : W → Config) (StandsFor : W → ℕ → SoloClus
         by_run : RunFromHead s.front text machine → WritesFront bytes old_contents new_contents
         by_run (InHead next later n still is same silent reads) = nothing_written bytes text silent written
         by_run (PastHead config rest state world good apart at same fresh run reads) =
-            let done = running config (named_of config good) rest world text machine fresh.setup_is (subst (λ (m : Script W). Run (script_rules setup StandsFor) m (map (cut_line longest_line) rest) text machine) at run) in
+            let done = running rest world (first_lives config) text machine (named_at config world fresh good) (subst (λ (m : Script W). Run (script_rules setup StandsFor) m (map (cut_line longest_line) rest) text machine) at run) in
             let p = done.2 in
-            let kept = subst (AppendsFront old_contents new_contents) p.whole written in
             let head : head_of (lines_of bytes) ≡ Whole config (rest ++ s.rest) = ap head_of s.whole ∙ reads s.rest in
             inr (record {
               config = config;
@@ -321,14 +219,17 @@ module _ {W : Type 0} (setup : W → Config) (StandsFor : W → ℕ → SoloClus
               others = s.rest;
               head = head;
               told = p.told;
+              each = p.each;
               answered = given_answered config world rest text done.0 (shards_of (lines_of bytes) config (rest ++ s.rest) head) fresh p;
-              written = kept;
+              written = subst (AppendsFront old_contents new_contents) (given_text config world rest text done.0 fresh p) written;
               right = λ spared.
                   let more = given_right config world rest text done.0 fresh p spared s.rest in
-                  let out : text_in (script_out bytes) ≡ text_of config.tenants p.told ++ text_of config.tenants more.0 =
+                  let tenants = all_tenants config (rest ++ s.rest) in
+                  let out : text_in (script_out bytes) ≡ text_of tenants p.told ++ text_of tenants more.0 =
                   ap (λ ls. text_in (script_after (head_of ls))) s.whole ∙ ap (λ r. text_in (script_after r)) (reads s.rest)
-                  ∙ ap (flat_map (answer_line config.tenants)) more.1 ∙ flat_map-append (answer_line config.tenants) p.told more.0 in
-                  subst (AppendsFront old_contents new_contents) (sym out) (AppendsFront-more old_contents new_contents (text_of config.tenants p.told) (text_of config.tenants more.0) kept);
+                  ∙ ap (flat_map (answer_line tenants)) more.1 ∙ flat_map-append (answer_line tenants) p.told more.0 in
+                  subst (AppendsFront old_contents new_contents) (sym out)
+                  (AppendsFront-more old_contents new_contents (text_of tenants p.told) (text_of tenants more.0) (subst (AppendsFront old_contents new_contents) more.2 written));
             })
 
     last_is_nothing : (machine : Script W) (last : List ℕ) (new : Script W) → end_answers setup StandsFor machine last new → last ≡ []
@@ -348,7 +249,7 @@ module _ {W : Type 0} (setup : W → Config) (StandsFor : W → ℕ → SoloClus
 
     no_refusal : (config : Config) (rest : List (List ℕ)) (world : W) (text : List ℕ) (machine : Script W) → AreGood (Begun config) → IsNew setup StandsFor config world →
         Run (script_rules setup StandsFor) (Running world) (map (cut_line longest_line) rest) text machine → (new : W) × (machine ≡ Running new)
-    no_refusal config rest world text machine good fresh run = let done = running config (named_of config good) rest world text machine fresh.setup_is run in (done.0, done.1)
+    no_refusal config rest world text machine good fresh run = let done = running rest world (first_lives config) text machine (named_at config world fresh good) run in (done.0, done.1)
 
     bad_line : (bytes : List ℕ) (bad : BadConfig) → (p : StopsEarly (script_rules setup StandsFor) longest_line (Some bytes) new_remaining begins old_contents new_contents (fault.Refused bad)) →
         (head_of (lines_of bytes) ≡ BadAt bad.line) × (p.text ≡ [])

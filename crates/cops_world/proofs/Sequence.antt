@@ -10,7 +10,9 @@ use Rattle.cops_world.specs.declared.replies.Reply.{Reply}
 use Rattle.cops_world.specs.declared.replies.Reply.TheVariants.{Refused}
 use Rattle.cops_world.specs.Cluster.{SoloCluster, cluster_step}
 use Rattle.cops_world.specs.Events.{own, replies_from, with_cluster}
-use Rattle.cops_world.specs.Script.{Said, OfNobody, Unformed, Acts, events_in, first_reply, answers}
+use Rattle.cops_world.specs.Answers.{Answer, ToHost, ToTenant, reply_to_host}
+use Rattle.cops_world.specs.Said.{Said, OfHost, Unformed, Acts}
+use Rattle.cops_world.specs.Script.{events_in, first_reply, answers}
 
 -- what each tenant is still to be told, from this slot on
 abbrev pub left_from : ℕ → List TenantConfig → (ℕ → SoloCluster) → List Event → List (List Reply)
@@ -75,33 +77,33 @@ takes_first base (c ∷ configs) clusters e events config (suc k) at found =
 -- ---- one line after another
 
 -- the answer to each line, where each tenant's cluster is kept
-abbrev pub answers_from : (ℕ → TenantConfig) → List Said → (ℕ → SoloCluster) → List (Option (ℕ × Reply))
+abbrev pub answers_from : (ℕ → TenantConfig) → List Said → (ℕ → SoloCluster) → List Answer
 answers_from configs [] clusters = []
-answers_from configs (OfNobody ∷ said) clusters = None ∷ answers_from configs said clusters
-answers_from configs (Unformed slot ∷ said) clusters = Some (slot, Refused Syntax) ∷ answers_from configs said clusters
+answers_from configs (OfHost deed ∷ said) clusters = ToHost (reply_to_host deed) ∷ answers_from configs said clusters
+answers_from configs (Unformed slot ∷ said) clusters = ToTenant slot (Refused Syntax) ∷ answers_from configs said clusters
 answers_from configs (Acts e ∷ said) clusters =
     let turn = cluster_step (configs e.slot) e.act (clusters e.slot) in
-    Some (e.slot, turn.reply) ∷ answers_from configs said (with_cluster e.slot turn.after clusters)
+    ToTenant e.slot turn.reply ∷ answers_from configs said (with_cluster e.slot turn.after clusters)
 
 -- the tenants who act are there
 abbrev pub AreThere : List TenantConfig → List Said → Type 0
 AreThere list [] = Unit {0}
-AreThere list (OfNobody ∷ said) = AreThere list said
+AreThere list (OfHost deed ∷ said) = AreThere list said
 AreThere list (Unformed slot ∷ said) = AreThere list said
 AreThere list (Acts e ∷ said) = ((config : TenantConfig) × (slice_get list e.slot ≡ Some config)) × AreThere list said
 
 pub answers-left : (configs : ℕ → TenantConfig) (list : List TenantConfig) → ((k : ℕ) (config : TenantConfig) → slice_get list k ≡ Some config → configs k ≡ config) →
     (said : List Said) (clusters : ℕ → SoloCluster) → AreThere list said → answers said (left_from 0 list clusters (events_in said)) ≡ answers_from configs said clusters
 answers-left configs list agree [] clusters there = refl
-answers-left configs list agree (OfNobody ∷ said) clusters there = ap (λ told. None ∷ told) (answers-left configs list agree said clusters there)
-answers-left configs list agree (Unformed slot ∷ said) clusters there = ap (λ told. Some (slot, Refused Syntax) ∷ told) (answers-left configs list agree said clusters there)
+answers-left configs list agree (OfHost deed ∷ said) clusters there = ap (λ told. ToHost (reply_to_host deed) ∷ told) (answers-left configs list agree said clusters there)
+answers-left configs list agree (Unformed slot ∷ said) clusters there = ap (λ told. ToTenant slot (Refused Syntax) ∷ told) (answers-left configs list agree said clusters there)
 answers-left configs list agree (Acts e ∷ said) clusters ((config, found), there) =
     let same = agree e.slot config found in
     let events = events_in said in
     let taken = takes_first 0 list clusters e events config e.slot (omega arith) found in
     let turn = cluster_step config e.act (clusters e.slot) in
-    let Rest : List Reply → List (Option (ℕ × Reply)) = λ told. Some (e.slot, first_reply told) ∷ answers said (slice_set (left_from 0 list clusters (e ∷ events)) e.slot (drop 1 told)) in
+    let Rest : List Reply → List Answer = λ told. ToTenant e.slot (first_reply told) ∷ answers said (slice_set (left_from 0 list clusters (e ∷ events)) e.slot (drop 1 told)) in
     ap Rest taken.first
-    ∙ ap (λ lists. Some (e.slot, turn.reply) ∷ answers said lists) taken.others
-    ∙ ap (λ told. Some (e.slot, turn.reply) ∷ told) (answers-left configs list agree said (with_cluster e.slot turn.after clusters) there)
-    ∙ ap (λ c. let turn = cluster_step c e.act (clusters e.slot) in Some (e.slot, turn.reply) ∷ answers_from configs said (with_cluster e.slot turn.after clusters)) (sym same)
+    ∙ ap (λ lists. ToTenant e.slot turn.reply ∷ answers said lists) taken.others
+    ∙ ap (λ told. ToTenant e.slot turn.reply ∷ told) (answers-left configs list agree said (with_cluster e.slot turn.after clusters) there)
+    ∙ ap (λ c. let turn = cluster_step c e.act (clusters e.slot) in ToTenant e.slot turn.reply ∷ answers_from configs said (with_cluster e.slot turn.after clusters)) (sym same)

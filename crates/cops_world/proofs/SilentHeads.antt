@@ -2,7 +2,6 @@
 use Rattle.std.proofs.Common.{◌≡◌, ℕ, inl, inr, List, [], ◌∷◌, ◌++◌, subst, ap, ◌∙◌}
 use Rattle.std.specs.Prelude.{Option}
 use Rattle.std.specs.Io.KnownBytes.{Keeps}
-use Rattle.cops_types.specs.declared.configs.Config.{Config}
 use Rattle.cops_types.specs.declared.line_runs.fault.RunFault.{RunFault}
 use Rattle.cops_types.specs.declared.line_runs.fault.RunFault.TheVariants as fault
 use Rattle.cops_types.specs.LineRules.{Run}
@@ -15,8 +14,9 @@ use Rattle.cops_world.specs.declared.scripts.Script.{Script}
 use Rattle.cops_world.specs.declared.scripts.Script.TheVariants.{Head, Running}
 use Rattle.cops_world.specs.Cluster.{SoloCluster}
 use Rattle.cops_world.specs.ScriptRules.{line_answers, line_refuses, end_refuses, script_rules}
+use Rattle.cops_world.specs.Setups.{Setup}
 
-module _ {W : Type 0} (setup : W → Config) (StandsFor : W → ℕ → SoloCluster → Type 0) where
+module _ {W : Type 0} (setup : W → Setup) (StandsFor : W → ℕ → SoloCluster → Type 0) where
   abbrev IsInHead : Script W → Type 0
   IsInHead (Head head) = Unit {0}
   IsInHead (Running world) = ⊥

@@ -1,8 +1,8 @@
 -- What a script whose replies are not written leaves.
-use Rattle.std.proofs.Common.{◌≡◌, ℕ, ◌+◌, ◌<◌, Bool, true, false, ◌==◌, List, [], ◌∷◌, ◌++◌, length, map, inl, inr, refl, sym, subst, ap, ◌∙◌, append_assoc, append-nil, true≢false}
-use Rattle.std.specs.Prelude.{Option, Some, None, IfSome, IsFalse}
+use Rattle.std.proofs.Common.{◌≡◌, ℕ, ◌+◌, Bool, true, false, ◌||◌, List, [], ◌∷◌, ◌++◌, length, map, inl, inr, refl, sym, subst, ap, ◌∙◌, append_assoc, append-nil}
+use Rattle.std.specs.Prelude.{Option, Some, None, IfSome}
+use Rattle.std.specs.List.{list_any}
 use Rattle.std.specs.Io.KnownBytes.{Consumes}
-use Rattle.std.proofs.lemmas.Bool.Decides.{Decides-eqb}
 use Rattle.cops_types.specs.declared.configs.Config.{Config}
 use Rattle.cops_types.specs.declared.line_runs.fault.RunFault.{RunFault}
 use Rattle.cops_types.specs.declared.line_runs.fault.RunFault.TheVariants as fault
@@ -13,101 +13,68 @@ use Rattle.cops_types.specs.LineRuns.{AnswersAll, IfRunRefused, StopsEarly}
 use Rattle.cops_types.specs.Lines.{lines_of, cut_line, cut_lines, longest_line}
 use Rattle.cops_types.proofs.HeadLengths.{AreGood}
 use Rattle.cops_types.proofs.KnownLemmas.{input_is, known_lines, known_whole, no_write_fault}
-use Rattle.cops_world.specs.declared.acts.Event.{Event}
-use Rattle.cops_world.specs.declared.replies.Reply.{Reply}
 use Rattle.cops_world.specs.declared.scripts.BadConfig.{BadConfig}
 use Rattle.cops_world.specs.declared.scripts.HeadSoFar.{HeadSoFar}
 use Rattle.cops_world.specs.declared.scripts.Script.{Script}
 use Rattle.cops_world.specs.declared.scripts.Script.TheVariants.{Head, Running}
 use Rattle.cops_world.specs.declared.silent_machine.SilentScript.{SilentScript}
-use Rattle.cops_world.specs.Acting.{IsNew, HasActed}
-use Rattle.cops_world.specs.Cluster.{SoloCluster, cluster_step}
-use Rattle.cops_world.specs.Events.{cluster_after, config_at, is_out_of_memory, own}
+use Rattle.cops_world.specs.Acting.{IsNew}
+use Rattle.cops_world.specs.Answers.{Answer, is_lack, slot_line}
+use Rattle.cops_world.specs.Cluster.{SoloCluster}
+use Rattle.cops_world.specs.Doing.{IsDone}
 use Rattle.cops_world.specs.HeadRules.{HeadAnswers, IsHeadAt}
-use Rattle.cops_world.specs.Script.{Said, OfNobody, Unformed, Acts, AreNamed, events_in, said_in}
+use Rattle.cops_world.specs.Lives.{Lives, first_lives, lives_after}
+use Rattle.cops_world.specs.OpenNames.{AreOpenNamed}
+use Rattle.cops_world.specs.Said.{said_in}
+use Rattle.cops_world.specs.ScriptRuns.{AreSpared, heard}
 use Rattle.cops_world.specs.ScriptWorlds.{IsLeftBy, IsLeftByRead, IsRunning}
-use Rattle.cops_world.specs.SilentRules.{IsDone, silent_answers, silent_answers_in, silent_end_answers, silent_end_answers_in, silent_end_refuses_in, silent_refuses_in, silent_rules}
-use Rattle.cops_world.proofs.AnswersTo.{IsThere, said_in-there, new_at}
+use Rattle.cops_world.specs.SilentRules.{IsDoneWhole, silent_answers, silent_answers_in, silent_end_answers, silent_end_answers_in, silent_end_refuses_in, silent_refuses_in, silent_rules}
 use Rattle.cops_world.proofs.CutLemmas.{said_in-cut}
-use Rattle.cops_world.proofs.HeadRuns.{HeadRun, InHead, PastHead, bad_end, bad_first, cut_in_head, counted-small, heads, named_of, real_lines, start, refused_line as refused_in_head, wide}
+use Rattle.cops_world.proofs.HeadRuns.{HeadRun, InHead, PastHead, bad_end, bad_first, cut_in_head, counted-small, heads, real_lines, start, refused_line as refused_in_head, wide}
+use Rattle.cops_world.specs.Setups.{Setup}
+use Rattle.cops_world.proofs.LifeAnswers.{left_standing}
+use Rattle.cops_world.proofs.LifeLines.{done_setup, heard_named, lack_of_life}
+use Rattle.cops_world.proofs.LifeRuns.{answer_of}
+use Rattle.cops_world.proofs.SaidLines.{named_after, said_in-named}
+use Rattle.cops_world.proofs.ScriptLemmas.{RunsOn, given_at, named_at, one_more, runs_nothing}
 
-by_test : {C : Type 0} (b : Bool) → (b ≡ true → C) → (b ≡ false → C) → C
-by_test {C} true holds fails = holds refl
-by_test {C} false holds fails = fails refl
+module _ {W : Type 0} (setup : W → Setup) (StandsFor : W → ℕ → SoloCluster → Type 0) where
+  -- lines were done, and memory was not refused; this would have been written
+  record AreDone (old : W) (lives : Lives) (lines : List (List ℕ)) (new : W) : Type 0 where
+    text : List ℕ
+    run : RunsOn setup StandsFor old lives lines text new
+    spared : AreSpared run.told
 
-module _ {W : Type 0} (setup : W → Config) (StandsFor : W → ℕ → SoloCluster → Type 0) where
-  -- each tenant's part of the world is this cluster
-  abbrev Stand : Config → W → (ℕ → SoloCluster) → Type 0
-  Stand config world clusters = (slot : ℕ) → slot < length config.tenants → StandsFor world slot (clusters slot)
+  both_spared : (a b : Bool) → a ≡ false → b ≡ false → (a || b) ≡ false
+  both_spared true b e f = e
+  both_spared false b e f = f
 
-  -- what is left of the clusters after some said lines
-  abbrev after_all : Config → List Said → (ℕ → SoloCluster) → ℕ → SoloCluster
-  after_all config said clusters slot = cluster_after (config_at config slot) (own slot (events_in said)) (clusters slot)
-
-  -- from these clusters the lines leave the world so
-  record Leaves (config : Config) (old : W) (lines : List (List ℕ)) (new : W) : Type 0 where
-    same : setup new ≡ config
-    stand : (clusters : ℕ → SoloCluster) → Stand config old clusters → Stand config new (after_all config (map (said_in config.tenants) lines) clusters)
-
-  -- a line that acts on nothing
-  idle : (config : Config) (old mid new : W) (line : List ℕ) (lines : List (List ℕ)) (said : Said) → said_in config.tenants line ≡ said → mid ≡ old →
-      ((more : List Said) (clusters : ℕ → SoloCluster) (slot : ℕ) → after_all config (said ∷ more) clusters slot ≡ after_all config more clusters slot) → Leaves config mid lines new → Leaves config old (line ∷ lines) new
-  idle config old mid new line lines said says is step p = record {
-    same = p.same;
-    stand = λ clusters stands slot below.
-        subst (StandsFor new slot) (sym (ap (λ s. after_all config (s ∷ map (said_in config.tenants) lines) clusters slot) says ∙ step (map (said_in config.tenants) lines) clusters slot))
-        (p.stand clusters (subst (λ w. Stand config w clusters) (sym is) stands) slot below);
-  }
-
-  -- the clusters after one act
-  abbrev after_act : Config → Event → (ℕ → SoloCluster) → ℕ → SoloCluster
-  after_act config event clusters slot = cluster_after (config_at config slot) (own slot (event ∷ [])) (clusters slot)
-
-  one_first : (config : Config) (event : Event) (events : List Event) (clusters : ℕ → SoloCluster) (slot : ℕ) →
-      cluster_after (config_at config slot) (own slot (event ∷ events)) (clusters slot) ≡ cluster_after (config_at config slot) (own slot events) (after_act config event clusters slot)
-  one_first config event events clusters slot = by_test (event.slot == slot) (λ is. rw is refl) (λ is. rw is refl)
-
-  acts : (config : Config) (old mid new : W) (line : List ℕ) (lines : List (List ℕ)) (event : Event) (reply : Reply) → said_in config.tenants line ≡ Acts event → setup old ≡ config →
-      event.slot < length config.tenants → HasActed setup StandsFor old event reply mid → IsFalse (is_out_of_memory reply) → Leaves config mid lines new → Leaves config old (line ∷ lines) new
-  acts config old mid new line lines event reply says is_of there acted spared p = record {
-    same = p.same;
-    stand = λ clusters stands slot below.
-        let said = map (said_in config.tenants) lines in
-        let first : Stand config mid (after_act config event clusters) = λ other within. by_test (event.slot == other)
-        (λ is.
-        let same : event.slot ≡ other = (Decides-eqb event.slot other).0 is in
-        let own_turn = (acted.own spared (clusters event.slot) (stands event.slot there)).1 in
-        let mine = subst (λ (c : Config). StandsFor mid event.slot (cluster_step (config_at c event.slot) event.act (clusters event.slot)).after) is_of own_turn in
-        rw is (subst (λ s. StandsFor mid s (cluster_step (config_at config s) event.act (clusters s)).after) same mine))
-        (λ is. rw is (acted.others other (λ same. true≢false (sym ((Decides-eqb event.slot other).1 same) ∙ is)) (clusters other) (stands other within))) in
-        subst (StandsFor new slot)
-        (sym (ap (λ s. after_all config (s ∷ said) clusters slot) says ∙ one_first config event (events_in said) clusters slot))
-        (p.stand (after_act config event clusters) first slot below);
-  }
-
-  done_same : (old : W) (said : Said) (after : W) → IsDone setup StandsFor old said after → setup after ≡ setup old
-  done_same old OfNobody after h = ap setup h
-  done_same old (Unformed slot) after h = ap setup h
-  done_same old (Acts event) after h = h.1.same
-
-  one_line : (config : Config) (old mid new : W) (line : List ℕ) (lines : List (List ℕ)) (said : Said) → said_in config.tenants line ≡ said → IsThere config.tenants said → setup old ≡ config →
-      IsDone setup StandsFor old said mid → Leaves config mid lines new → Leaves config old (line ∷ lines) new
-  one_line config old mid new line lines OfNobody says there is_of h p = idle config old mid new line lines OfNobody says h (λ more clusters slot. refl) p
-  one_line config old mid new line lines (Unformed other) says there is_of h p = idle config old mid new line lines (Unformed other) says h (λ more clusters slot. refl) p
-  one_line config old mid new line lines (Acts event) says there is_of (reply, acted, spared) p = acts config old mid new line lines event reply says is_of there acted spared p
+  done_more : (line : List ℕ) (lines : List (List ℕ)) (old after new : W) (lives : Lives) (answer : Answer) → IsDone setup StandsFor old (said_in (setup old).tenants line) answer after → is_lack answer ≡ false →
+      AreDone after (lives_after lives (heard (said_in (setup old).tenants line) (answer_of lives answer))) lines new → AreDone old lives (line ∷ lines) new
+  done_more line lines old after new lives answer done fine p =
+      let first = slot_line (setup old).tenants answer in
+      record {
+        text = first ++ p.text;
+        run = one_more setup StandsFor line lines first p.text (first ++ p.text) old after new lives answer done refl refl p.run;
+        spared = both_spared (is_lack (answer_of lives answer)) (list_any is_lack p.run.told) (lack_of_life lives answer ∙ fine) p.spared;
+      }
 
   -- from here on each line is done
-  running : (config : Config) → AreNamed config.tenants → (lines : List (List ℕ)) (old : W) (m : SilentScript W) (text : List ℕ) (state : SilentScript W) → m.script ≡ Running old → setup old ≡ config →
-      Run (silent_rules setup StandsFor) m (map (cut_line longest_line) lines) text state → (new : W) × (state.script ≡ Running new) × Leaves config old lines new
-  running config named [] old m text state at is_of h =
-      (old, ap (λ (s : SilentScript W). s.script) h.1 ∙ at, record { same = is_of; stand = λ clusters stands. stands })
-  running config named (line ∷ lines) old m text state at is_of (first, mid, later, answered, run, whole) =
+  running : (lines : List (List ℕ)) (old : W) (lives : Lives) (m : SilentScript W) (text : List ℕ) (state : SilentScript W) → AreOpenNamed (setup old).tenants → m.script ≡ Running old →
+      Run (silent_rules setup StandsFor) m (map (cut_line longest_line) lines) text state → (new : W) × (state.script ≡ Running new) × AreDone old lives lines new
+  running [] old lives m text state named at h =
+      (old, ap (λ (s : SilentScript W). s.script) h.1 ∙ at, record { text = []; run = runs_nothing setup StandsFor old lives; spared = refl })
+  running (line ∷ lines) old lives m text state named at (first, mid, later, answered, run, whole) =
       let here = subst (λ (s : Script W). silent_answers_in setup StandsFor s (cut_line longest_line line) first mid.script) at answered in
-      let cut = said_in-cut config.tenants line named in
-      let done = subst (λ s. IsDone setup StandsFor old s here.1) (ap (λ c. said_in c.tenants (cut_line longest_line line)) is_of ∙ cut) here.2 in
-      let stays = done_same old (said_in config.tenants line) here.1 done ∙ is_of in
-      let rest = running config named lines here.1 mid later state here.3 stays run in
-      (rest.0, rest.1, one_line config old here.1 rest.0 line lines (said_in config.tenants line) refl (said_in-there config.tenants line) is_of done rest.2)
+      let after = here.1 in
+      let said = said_in (setup old).tenants line in
+      let done = subst (λ s. IsDoneWhole setup StandsFor old s after) (said_in-cut (setup old).tenants line named) here.2 in
+      let answer = done.0 in
+      let one = heard said (answer_of lives answer) in
+      let moved = done_setup setup StandsFor old after lives said answer done.1 in
+      let named' = subst (λ (s : Setup). AreOpenNamed s.tenants) (sym moved) (named_after (setup old).tenants one named (heard_named (setup old).tenants said (answer_of lives answer) (said_in-named (setup old).tenants line))) in
+      let rest = running lines after (lives_after lives one) mid later state named' here.3 run in
+      (rest.0, rest.1, done_more line lines old after rest.0 lives answer done.1 done.2 rest.2)
 
   -- ---- the whole script
 
@@ -119,9 +86,6 @@ module _ {W : Type 0} (setup : W → Config) (StandsFor : W → ℕ → SoloClus
 
   from_head : (lines : List (List ℕ)) (m : SilentScript W) (text : List ℕ) (state : SilentScript W) → IsHeadAt AtStart 0 m.script → Run (silent_rules setup StandsFor) m (map (cut_line longest_line) lines) text state → RunFromHead lines text state
   from_head lines m text state here = heads longest_line wide (silent_rules setup StandsFor) (λ s. s.script) (λ s. Unit {0}) (IsNew setup StandsFor) steps lines AtStart 0 m text state start refl tt here
-
-  stands_new : (config : Config) (world : W) → IsNew setup StandsFor config world → Stand config world (new_at config)
-  stands_new config world fresh = λ slot below. fresh.empty slot below
 
   not_in_head : (front : Front) (count : ℕ) (state new : Script W) (last : List ℕ) → IsHeadAt front count state → silent_end_answers_in setup StandsFor state last new → ⊥
   not_in_head front count (Head head) new last here ends = ends
@@ -135,16 +99,18 @@ module _ {W : Type 0} (setup : W → Config) (StandsFor : W → ℕ → SoloClus
       (world : W) → new.script ≡ Running world → IsLeftBy setup StandsFor bytes world
   left_at bytes lines text last machine new same (InHead next later n still is tied silent reads) ends world running_is = absurd (not_in_head next later machine.script new.script last is ends)
   left_at bytes lines text last machine new same (PastHead config rest state begun good apart at tied fresh run reads) ends world running_is =
-      let done = running config (named_of config good) rest begun state text machine at fresh.setup_is run in
+      let done = running rest begun (first_lives config) state text machine (named_at setup StandsFor config begun fresh good) at run in
       let end = subst (λ (m : Script W). silent_end_answers_in setup StandsFor m last new.script) done.1 ends in
       let one : done.0 ≡ world = let whole : Running done.0 ≡ Running world = sym end.1 ∙ running_is in cc in
+      let p = done.2.run in
+      let left = left_standing setup StandsFor config begun rest p.told done.0 fresh (given_at setup StandsFor config begun rest done.2.text done.0 fresh p) p.each done.2.spared in
       subst (IsLeftBy setup StandsFor bytes) one
       (record {
         config = config;
         lines = rest;
         head = ap head_of (same ∙ sym (append-nil lines)) ∙ reads [] ∙ ap (Whole config) (append-nil rest);
-        setup_is = done.2.same;
-        clusters = done.2.stand (new_at config) (stands_new config begun fresh);
+        setup_is = left.0;
+        clusters = left.1;
       })
 
   module _ (begins : SilentScript W) (begun : IsHeadAt AtStart 0 begins.script) (old_remaining new_remaining old_contents new_contents : Option (List ℕ)) where
@@ -202,7 +168,7 @@ module _ {W : Type 0} (setup : W → Config) (StandsFor : W → ℕ → SoloClus
 
     runs_on : (config : Config) (rest : List (List ℕ)) (world : W) (s : SilentScript W) (text : List ℕ) (machine : SilentScript W) → AreGood (Begun config) → IsNew setup StandsFor config world → s.script ≡ Running world →
         Run (silent_rules setup StandsFor) s (map (cut_line longest_line) rest) text machine → (new : W) × (machine.script ≡ Running new)
-    runs_on config rest world s text machine good fresh at run = let done = running config (named_of config good) rest world s text machine at fresh.setup_is run in (done.0, done.1)
+    runs_on config rest world s text machine good fresh at run = let done = running rest world (first_lives config) s text machine (named_at setup StandsFor config world fresh good) at run in (done.0, done.1)
 
     bad_line : (bytes : List ℕ) (bad : BadConfig) → StopsEarly (silent_rules setup StandsFor) longest_line (Some bytes) new_remaining begins old_contents new_contents (fault.Refused bad) → head_of (lines_of bytes) ≡ BadAt bad.line
     bad_line bytes bad p = elim p.refused.1 [

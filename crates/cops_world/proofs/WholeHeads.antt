@@ -1,20 +1,17 @@
--- What a whole head says of its tenants, and the lines of one of them.
+-- What a whole head says of its tenants.
 use Rattle.std.proofs.Common.{◌≡◌, ℕ, ◌+◌, ◌<◌, List, [], ◌∷◌, inl, inr, refl, sym, subst, ap, ◌∙◌}
-use Rattle.std.specs.Prelude.{IsTrue, Option, Some, None, filter, flat_map, nat_lt, length}
+use Rattle.std.specs.Prelude.{IsTrue, Option, Some, None, nat_lt, length}
 use Rattle.cops_types.specs.declared.configs.Config.{Config}
 use Rattle.cops_types.specs.Head.{Front, AtStart, Within, Begun, Follows, Whole, BadAt, front_after, head_of, reading_from}
 use Rattle.cops_types.specs.HeadLines.{is_distinct}
 use Rattle.cops_types.specs.HeadReader.{front_with}
-use Rattle.cops_types.specs.Lines.{lines_of}
 use Rattle.cops_types.proofs.FrontLemmas.{front_after-is}
-use Rattle.cops_types.proofs.WordLemmas.{both, bytes_from_test}
+use Rattle.cops_types.proofs.WordLemmas.{both}
 use Rattle.cops_world.specs.GoodHeads.{is_good, is_front_good}
-use Rattle.cops_world.specs.Script.{NoTenant, Written, answer_line, answers_to, is_to, slot_of_name, solo_after, solo_out, solo_text}
-use Rattle.cops_world.proofs.ApartTenants.{AreApart, apart_push, found_at, none_apart, only_one}
+use Rattle.cops_world.proofs.ApartTenants.{AreApart, apart_push, none_apart}
 use Rattle.cops_world.proofs.GoodFronts.{front_with_good}
 use Rattle.cops_world.proofs.HeadRuns.{tenants_in}
 use Rattle.cops_world.proofs.MainLemmas.{some_shard}
-use Rattle.cops_world.proofs.SoloLines.{solo_text-is}
 
 follows_apart : (front : Front) (line : List ℕ) (next : Front) → AreApart (tenants_in front) → Follows front line next → AreApart (tenants_in next)
 follows_apart AtStart line next apart h = subst AreApart (sym (ap tenants_in h.2 ∙ h.1.bare)) none_apart
@@ -40,13 +37,9 @@ whole_apart (line ∷ lines) number (Within old) config rest apart e = by (front
     by None is on e = cc
     by (Some next) is on e = on next (follows_apart (Within old) line next apart (front_after-is (Within old) line next is)) e
 
-pub lines_alone : (bytes name : List ℕ) (config : Config) (lines : List (List ℕ)) (slot : ℕ) → head_of (lines_of bytes) ≡ Whole config lines → slot_of_name config.tenants name ≡ Some slot →
-    solo_out name bytes ≡ Written (flat_map (answer_line config.tenants) (filter (is_to slot) (answers_to config lines)))
-lines_alone bytes name config lines slot head there =
-    let found = found_at config.tenants name slot there in
-    let only = only_one name config.tenants slot found.0 found.1 found.2 (whole_apart (lines_of bytes) 1 AtStart config lines none_apart head name) in
-    ap (solo_after name) head ∙ ap (λ o. elim o [ None ↦ NoTenant | Some slot ↦ Written (solo_text config name lines) ]) there
-    ∙ ap Written (solo_text-is config name slot found.0 lines there found.1 only (bytes_from_test found.0.name name found.2))
+-- nor two tenants of the head of a text
+pub head_apart : (lines : List (List ℕ)) (config : Config) (rest : List (List ℕ)) → head_of lines ≡ Whole config rest → AreApart config.tenants
+head_apart lines config rest head = whole_apart lines 1 AtStart config rest none_apart head
 
 -- a whole head is within the limits
 whole_good : (lines : List (List ℕ)) (number : ℕ) (front : Front) (config : Config) (rest : List (List ℕ)) → IsTrue (is_front_good (Some front)) → reading_from lines number front ≡ Whole config rest → IsTrue (is_good config)

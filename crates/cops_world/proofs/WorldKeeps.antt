@@ -26,11 +26,12 @@ use Rattle.cops_world.specs.declared.actors.Actor.{Actor as Kept}
 use Rattle.cops_world.specs.declared.actors.ActorId.{ActorId}
 use Rattle.cops_world.specs.ActorsStand.{RunsAt}
 use Rattle.cops_world.specs.ActorTables.{same_actor}
-use Rattle.cops_world.specs.Events.{config_at, no_config}
-use Rattle.cops_world.specs.Setups.{Setup, config_in, config_of, is_open_at}
+use Rattle.cops_world.specs.Events.{config_at}
+use Rattle.cops_world.specs.Setups.{Setup, config_in, config_of, is_open_at, new_setup}
 use Rattle.cops_world.specs.Cluster.{new_cluster}
-use Rattle.cops_world.specs.Worlds.{AreSitesIn, HasCluster, HasSizes, IsSiteIn, IsKeptWorld, IsWorld, KeptWorld, World, world_of}
+use Rattle.cops_world.specs.Worlds.{AreSitesIn, HasOpenCluster, HasSizes, IsSiteIn, IsKeptWorld, IsWorld, KeptWorld, World, world_of}
 use Rattle.cops_world.proofs.ActorTableLemmas.{same_actor-is}
+use Rattle.cops_world.proofs.BegunSetups.{config_begun, open_begun, open_within}
 use Rattle.cops_world.proofs.WorldJoins.{quota_at}
 use Rattle.cops_world.proofs.WorldSteps.{table_after}
 
@@ -224,28 +225,6 @@ no_count (suc tenants) (suc slot) = no_count tenants slot
 
 -- ---- the tenants of the head are open at first
 
-begun_at : (tenants : List Tenant) (free slot : ℕ) → open_at slot (map Some tenants ++ replicate free None) ≡ slice_get tenants slot
-begun_at [] zero slot = refl
-begun_at [] (suc free) zero = refl
-begun_at [] (suc free) (suc slot) = begun_at [] free slot
-begun_at (t ∷ tenants) free zero = refl
-begun_at (t ∷ tenants) free (suc slot) = begun_at tenants free slot
-
-pub open_begun : (tenants : List Tenant) (slot : ℕ) → open_at slot (begun_with tenants) ≡ slice_get tenants slot
-open_begun tenants slot = begun_at tenants (most_tenants - length tenants) slot
-
-config_found : (head : Config) (tenants : List Tenant) (slot : ℕ) → config_of head (slice_get tenants slot) ≡ slice_index_or (map (tenant_config head) tenants) slot no_config
-config_found head [] slot = refl
-config_found head (t ∷ tenants) zero = refl
-config_found head (t ∷ tenants) (suc slot) = config_found head tenants slot
-
-pub config_begun : (setup : Setup) (slot : ℕ) → setup.tenants ≡ begun_with setup.head.tenants → config_in setup slot ≡ config_at setup.head slot
-config_begun setup slot begun =
-    ap (λ ts. config_of setup.head (open_at slot ts)) begun ∙ ap (config_of setup.head) (open_begun setup.head.tenants slot) ∙ config_found setup.head setup.head.tenants slot
-
-pub open_in_head : (setup : Setup) (slot : ℕ) → setup.tenants ≡ begun_with setup.head.tenants → slot < length setup.head.tenants → IsTrue (is_open_at setup slot)
-open_in_head setup slot begun within = ap (λ ts. is_some (open_at slot ts)) begun ∙ ap is_some (open_begun setup.head.tenants slot ∙ (tenant_at setup.head.tenants slot within).1)
-
 long_begun : (tenants : List Tenant) (free : ℕ) → length (map (λ (t : Tenant). Some t) tenants ++ replicate free None) ≡ length tenants + free
 long_begun [] zero = refl
 long_begun [] (suc free) = let more = long_begun [] free in omega (arith, more)
@@ -254,33 +233,27 @@ long_begun (t ∷ tenants) free = let more = long_begun tenants free in omega (a
 pub enough_begun : (tenants : List Tenant) → most_tenants ≤ length (begun_with tenants)
 enough_begun tenants = let long = long_begun tenants (most_tenants - length tenants) in omega (arith, long)
 
-abbrev pub begun_setup : Config → Setup
-begun_setup config = record { head = config; tenants = begun_with config.tenants }
-
 -- each tenant of a new world has a new cluster
-pub new_stands : (config : Config) (nodes : Cluster) (kept : KeptWorld) → kept.setup ≡ begun_setup config → kept.nodes ≡ nodes → kept.entries ≡ [] → (free : ℕ) → kept.counts ≡ replicate free 0 →
+pub new_stands : (config : Config) (nodes : Cluster) (kept : KeptWorld) → kept.setup ≡ new_setup config → kept.nodes ≡ nodes → kept.entries ≡ [] → (free : ℕ) → kept.counts ≡ replicate free 0 →
     ((slot : ℕ) (tenant : Tenant) → slice_get config.tenants slot ≡ Some tenant → HasTenant (tenant_config config tenant) slot nodes) →
     ((slot : ℕ) (tenant : Tenant) → slice_get config.tenants slot ≡ Some tenant → nodes_of (tenant_config config tenant) slot nodes ≡ replicate (config.data_centres * config.shards) (new_node config.data_centres)) →
-    (slot : ℕ) → slot < length config.tenants → HasCluster kept slot (new_cluster (config_at config slot))
+    (slot : ℕ) → slot < length config.tenants → HasOpenCluster kept slot (new_cluster (config_at config slot))
 new_stands config nodes kept setup_is nodes_are no_entries free no_counts tenants fresh slot within =
     let at = tenant_at config.tenants slot within in
     let quota = quota_at config slot at.0 at.1 in
-    let own = config_begun (begun_setup config) slot refl in
+    let own = config_begun config slot in
     let Fresh : TenantConfig → Type 0 = λ c. HasTenant c slot nodes × (nodes_of c slot nodes ≡ (new_cluster (config_at config slot)).nodes) in
     let his : Fresh (tenant_config config at.0) = subst (λ c. HasTenant (tenant_config config at.0) slot nodes × (nodes_of (tenant_config config at.0) slot nodes ≡ (new_cluster c).nodes)) (sym quota) (tenants slot at.0 at.1, fresh slot at.0 at.1) in
     let stood = subst Fresh (sym (own ∙ quota)) his in
-    let new : KeptWorld = record { setup = begun_setup config; nodes = nodes; entries = []; counts = replicate free 0 } in
-    subst (λ (k : KeptWorld). HasCluster k slot (new_cluster (config_at config slot)))
+    let new : KeptWorld = record { setup = new_setup config; nodes = nodes; entries = []; counts = replicate free 0 } in
+    subst (λ (k : KeptWorld). HasOpenCluster k slot (new_cluster (config_at config slot)))
     (λ i. record { setup = sym setup_is i; nodes = sym nodes_are i; entries = sym no_entries i; counts = sym no_counts i })
     (record {
-      tenants_are = refl;
-      stands = record {
-        open_there = open_in_head (begun_setup config) slot refl within;
-        has = stood.0;
-        nodes_are = stood.1;
-        actors_are = record { same = λ name. tt; distinct = tt };
-        count_is = no_count free slot;
-      };
+      open_there = open_within config slot within;
+      has = stood.0;
+      nodes_are = stood.1;
+      actors_are = record { same = λ name. tt; distinct = tt };
+      count_is = no_count free slot;
     })
 
 -- ---- the nodes stay those of the configuration
@@ -307,14 +280,14 @@ place_begun config id (t ∷ tenants) zero = refl
 place_begun config id (t ∷ tenants) (suc slot) = place_begun config id tenants slot
 
 -- the sites of a configuration's nodes
-sites_begun : (config : Config) → AreSitesIn (begun_setup config) (sites (new_nodes config))
+sites_begun : (config : Config) → AreSitesIn (new_setup config) (sites (new_nodes config))
 sites_begun config = record { all = count 0 (config.data_centres * config.shards); each = each (range_with_len 0 (config.data_centres * config.shards)) }
   where
     count : (at n : ℕ) → length (map site_in (map (new_shared config) (range_with_len at n))) ≡ n
     count at zero = refl
     count at (suc n) = ap suc (count (at + 1) n)
 
-    each : (numbers : List ℕ) → AllByRecursion (IsSiteIn (begun_setup config)) (map site_in (map (new_shared config) numbers))
+    each : (numbers : List ℕ) → AllByRecursion (IsSiteIn (new_setup config)) (map site_in (map (new_shared config) numbers))
     each [] = tt
     each (number ∷ numbers) = (
       record {
@@ -331,7 +304,7 @@ pub kept_at_first : (config : Config) (tenants : List (Option Tenant)) (nodes : 
     counts ≡ replicate (length tenants) 0 → IsKeptWorld (record { setup = record { head = config; tenants = tenants }; nodes = nodes; entries = entries; counts = counts })
 kept_at_first config tenants nodes entries counts good begun nodes_are none counts_are =
     let free = length tenants in
-    let first : KeptWorld = record { setup = begun_setup config; nodes = new_nodes config; entries = []; counts = replicate free 0 } in
+    let first : KeptWorld = record { setup = new_setup config; nodes = new_nodes config; entries = []; counts = replicate free 0 } in
     let whole : IsWorld (world_of first) = record {
       shape_is = refl;
       sites_are = sites_begun config;

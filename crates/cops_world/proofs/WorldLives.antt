@@ -1,6 +1,6 @@
 -- A tenant comes to a world, or goes from it.
-use Rattle.std.proofs.Common.{◌≡◌, ◌≢◌, inl, inr, ℕ, zero, suc, ◌<◌, ◌≤◌, Bool, true, false, true≢false, not, ◌&&◌, ◌||◌, List, [], ◌∷◌, length, map, set, refl, sym, subst, ap, ◌∙◌, arith}
-use Rattle.std.specs.Prelude.{Option, Some, None, IsTrue, IfNone, IfSome, is_none, is_ok, is_some, nat_le, nat_lt, replicate, slice_index, Result, Ok, Err, IsOk, OnOk}
+use Rattle.std.proofs.Common.{◌≡◌, ◌≢◌, ◌⊎◌, inl, inr, ℕ, zero, suc, ◌<◌, ◌≤◌, Bool, true, false, true≢false, not, ◌&&◌, ◌||◌, List, [], ◌∷◌, length, map, set, refl, sym, subst, ap, ◌∙◌, arith}
+use Rattle.std.specs.Prelude.{Option, Some, None, IsTrue, IfErr, IfNone, IfOk, IfSome, is_none, is_ok, is_some, nat_le, nat_lt, replicate, slice_index, Result, Ok, Err, IsOk, OnErr, OnOk}
 use Rattle.std.specs.List.{AllByRecursion, list_any}
 use Rattle.std.specs.Option.{option_map}
 use Rattle.std.proofs.Math.ListN.{length-set}
@@ -9,10 +9,10 @@ use Rattle.std.proofs.lemmas.Bool.Decides.{eqb_tells, nat_tests}
 use Rattle.std.proofs.lemmas.List.{get_or-set_same, get_or-set_other}
 use Rattle.cops_types.specs.declared.configs.Tenant.{Tenant}
 use Rattle.cops_types.specs.declared.faults.Fault.{Fault}
-use Rattle.cops_types.specs.declared.faults.Fault.TheVariants.{NameTaken, NoSlot}
+use Rattle.cops_types.specs.declared.faults.Fault.TheVariants.{NameTaken, NoSlot, OutOfMemory}
 use Rattle.cops_types.specs.HeadLines.{is_name, is_quota, is_tenant, most_tenants}
 use Rattle.cops_types.specs.Version.{last_clock}
-use Rattle.cops_types.specs.OpenSlots.{admission_refusal, begun_with, is_new, open_at}
+use Rattle.cops_types.specs.OpenSlots.{admission_refusal, is_new, open_at}
 use Rattle.cops_types.specs.Search.{first_refusal}
 use Rattle.cops_types.specs.TenantConfig.{TenantConfig, tenant_config}
 use Rattle.cops_node.specs.Clusters.{Cluster, HasTenant, nodes_of}
@@ -26,47 +26,24 @@ use Rattle.cops_world.specs.declared.actors.Actor.{Actor as Kept}
 use Rattle.cops_world.specs.declared.actors.ActorId.{ActorId}
 use Rattle.cops_world.specs.declared.replies.Reply.{Reply}
 use Rattle.cops_world.specs.declared.replies.Reply.TheVariants.{Refused}
-use Rattle.cops_world.specs.Acting.{HasActed}
+use Rattle.cops_world.specs.Acting.{HasActed, HasClosed, IsAdmission}
 use Rattle.cops_world.specs.Actors.{ActorsStandFor, AreSame}
 use Rattle.cops_world.specs.ActorsStand.{ActorStandsFor}
 use Rattle.cops_world.specs.Cluster.{ActEffect, SoloCluster, cluster_step, new_cluster}
-use Rattle.cops_world.specs.Events.{config_at}
 use Rattle.cops_world.specs.Lacks.{Lacks}
-use Rattle.cops_world.specs.Setups.{Setup, config_in, config_of, is_open_at}
-use Rattle.cops_world.specs.Worlds.{Admits, AreSitesIn, ClusterStandsAt, Closes, HasCluster, IsSiteIn, IsWorld, KeptWorld, Leaves, Moves, StaysOpen, World, setup_of, world_of}
+use Rattle.cops_world.specs.Setups.{Setup, config_in, config_of, is_open_at, next_slot}
+use Rattle.cops_world.specs.Worlds.{Admits, AreSitesIn, ClusterStandsAt, Closes, HasOpenCluster, IsSiteIn, IsWorld, KeptWorld, Leaves, Moves, StaysOpen, World, open_setup, world_of}
+use Rattle.cops_world.proofs.OpenSets.{MayBeGiven, may_be_given, open_set_other, open_set_same}
 use Rattle.cops_world.proofs.WorldJoins.{refused_moves}
-use Rattle.cops_world.proofs.WorldKeeps.{AllHosted, below_in, config_begun}
+use Rattle.cops_world.proofs.WorldKeeps.{AllHosted, below_in}
 use Rattle.cops_world.proofs.WorldMoves.{kept_alike}
 
 -- ---- while no tenant comes or goes
 
--- an act of a tenant of the head
+-- an act of a tenant
 pub has_acted : (old : KeptWorld) (event : Event) (reply : Reply) (new : KeptWorld) → Moves (λ config. cluster_step config event.act) (world_of old) event.slot reply (world_of new) →
-    Leaves (λ config. Lacks config event.act) (world_of old) event.slot reply (world_of new) → HasActed setup_of HasCluster old event reply new
-has_acted old event reply new moves leaves = record {
-  same = ap (λ (s : Setup). s.head) moves.same;
-  own = λ spared cluster has.
-      let turned = moves.own spared cluster has.stands in
-      subst (λ (c : TenantConfig). let turn = cluster_step c event.act cluster in (reply ≡ turn.reply) × HasCluster new event.slot turn.after) (config_begun old.setup event.slot has.tenants_are)
-      (turned.0, record { tenants_are = still has.tenants_are; stands = turned.1 });
-  lack = λ lacking cluster has.
-      let left = leaves lacking cluster has.stands in (
-        left.0,
-        subst (λ (c : TenantConfig). Lacks c event.act cluster left.0) (config_begun old.setup event.slot has.tenants_are) left.1,
-        record { tenants_are = still has.tenants_are; stands = left.2 },
-      );
-  others = λ other differ cluster has. record { tenants_are = still has.tenants_are; stands = moves.others other differ cluster has.stands };
-}
-  where
-    still : old.setup.tenants ≡ begun_with old.setup.head.tenants → new.setup.tenants ≡ begun_with new.setup.head.tenants
-    still = subst (λ (s : Setup). s.tenants ≡ begun_with s.head.tenants) (sym moves.same)
-
--- what a tenant of the head has at the nodes
-pub his_tenant : (kept : KeptWorld) (slot : ℕ) (cluster : SoloCluster) → HasCluster kept slot cluster → HasTenant (config_at (setup_of kept) slot) slot kept.nodes
-his_tenant kept slot cluster has = subst (λ (c : TenantConfig). HasTenant c slot kept.nodes) (config_begun kept.setup slot has.tenants_are) has.stands.has
-
-pub his_nodes_are : (kept : KeptWorld) (slot : ℕ) (cluster : SoloCluster) → HasCluster kept slot cluster → nodes_of (config_at (setup_of kept) slot) slot kept.nodes ≡ cluster.nodes
-his_nodes_are kept slot cluster has = subst (λ (c : TenantConfig). nodes_of c slot kept.nodes ≡ cluster.nodes) (config_begun kept.setup slot has.tenants_are) has.stands.nodes_are
+    Leaves (λ config. Lacks config event.act) (world_of old) event.slot reply (world_of new) → HasActed open_setup HasOpenCluster old event reply new
+has_acted old event reply new moves leaves = record { same = moves.same; own = moves.own; lack = leaves; others = moves.others }
 
 -- at a slot without a tenant nothing is done
 pub vacant_moves : (turn_of : TenantConfig → SoloCluster → ActEffect) (old : World) (slot : ℕ) (fault : Fault) → is_open_at old.setup slot ≡ false → Moves turn_of old slot (Refused fault) old
@@ -74,44 +51,12 @@ vacant_moves turn_of old slot fault vacant = refused_moves turn_of old slot faul
 
 -- ---- slots
 
-pub open_set_same : (tenants : List (Option Tenant)) (slot : ℕ) (o : Option Tenant) → slot < length tenants → open_at slot (set tenants slot o) ≡ o
-open_set_same [] slot o within = absurd (omega arith)
-open_set_same (t ∷ tenants) zero o within = refl
-open_set_same (t ∷ tenants) (suc slot) o within = open_set_same tenants slot o (omega arith)
-
-pub open_set_other : (tenants : List (Option Tenant)) (slot other : ℕ) (o : Option Tenant) → other ≢ slot → open_at other (set tenants slot o) ≡ open_at other tenants
-open_set_other [] slot other o differ = refl
-open_set_other (t ∷ tenants) zero zero o differ = absurd (differ refl)
-open_set_other (t ∷ tenants) zero (suc other) o differ = refl
-open_set_other (t ∷ tenants) (suc slot) zero o differ = refl
-open_set_other (t ∷ tenants) (suc slot) (suc other) o differ = open_set_other tenants slot other o (λ e. differ (ap suc e))
-
 -- given and taken again
 pub set_back : (tenants : List (Option Tenant)) (slot : ℕ) (o : Option Tenant) → open_at slot tenants ≡ None → set (set tenants slot o) slot None ≡ tenants
 set_back [] slot o vacant = refl
 set_back (None ∷ tenants) zero o vacant = refl
 set_back (Some t ∷ tenants) zero o vacant = absurd (true≢false (ap is_some vacant))
 set_back (t ∷ tenants) (suc slot) o vacant = ap (λ ts. t ∷ ts) (set_back tenants slot o vacant)
-
--- a slot that may be given
-pub record MayBeGiven (tenants : List (Option Tenant)) (slot : ℕ) : Type 0 where
-  pub low : slot < most_tenants
-  pub vacant : open_at slot tenants ≡ None
-
-pub may_be_given : (tenants : List (Option Tenant)) (slot : ℕ) (tenant : Tenant) → admission_refusal tenants slot tenant ≡ None → MayBeGiven tenants slot
-may_be_given tenants slot tenant e =
-    let all = by (is_new tenants tenant) (nat_lt slot most_tenants) (is_none (open_at slot tenants)) e in
-    record { low = (let test = all.0 in grind (arith, nat_tests)); vacant = none (open_at slot tenants) all.1 }
-  where
-    by : (a b c : Bool) → first_refusal ((not a, NameTaken) ∷ (not (b && c), NoSlot) ∷ []) ≡ None → (b ≡ true) × (c ≡ true)
-    by false b c e = absurd cc
-    by true true true e = (refl, refl)
-    by true true false e = absurd cc
-    by true false c e = absurd cc
-
-    none : (o : Option Tenant) → is_none o ≡ true → o ≡ None
-    none None h = refl
-    none (Some t) h = absurd (true≢false (sym h))
 
 -- there was a tenant where the slot was taken from him
 abbrev pub OkIsErr : Unit {0} → Fault → Type 0
@@ -173,6 +118,36 @@ refused_too (Some other) fault h = let same : fault ≡ other = cc in ap (λ f. 
 
 abbrev pub SlotIsErr : ℕ → Fault → Type 0
 SlotIsErr slot fault = let result : Result ℕ Fault = Ok slot in result ≡ Err fault
+
+-- ---- admissions and closes, as any world of many tenants tells them
+
+-- what an admission found is what any world's may
+pub is_admission : (old : KeptWorld) (tenant : Tenant) (result : Result ℕ Fault) (new : KeptWorld) → let refusal = admission_refusal old.setup.tenants (next_slot old.setup.tenants) tenant in
+    IfOk result (λ slot. slot ≡ next_slot old.setup.tenants) → IfOk result (λ slot. Admits slot tenant old new) → IfSome refusal (λ fault. result ≡ Err fault) →
+    IfErr result (λ fault. (refusal ≡ Some fault) ⊎ (fault ≡ OutOfMemory)) → OnErr result (StaysOpen old new) → IsAdmission open_setup HasOpenCluster old tenant result new
+is_admission old tenant (Ok slot) new least admits refused faults stays = (
+  least,
+  subst (λ n. admission_refusal old.setup.tenants n tenant ≡ None) (sym least) (none (admission_refusal old.setup.tenants (next_slot old.setup.tenants) tenant) refused),
+  record { setup_is = admits.setup_is; begins = admits.begins; others = admits.others },
+)
+  where
+    none : (refusal : Option Fault) → IfSome refusal (SlotIsErr slot) → refusal ≡ None
+    none None h = refl
+    none (Some fault) h = absurd cc
+is_admission old tenant (Err fault) new least admits refused faults stays = (
+  by (admission_refusal old.setup.tenants (next_slot old.setup.tenants) tenant) refused faults,
+  record { same = stays.setup_is; clusters = stays.clusters },
+)
+  where
+    by : (refusal : Option Fault) → IfSome refusal (IsErrOfSlot fault) → (refusal ≡ Some fault) ⊎ (fault ≡ OutOfMemory) → (refusal ≡ Some fault) ⊎ ((refusal ≡ None) × (fault ≡ OutOfMemory))
+    by None h (inl is) = inl is
+    by None h (inr lack) = inr (refl, lack)
+    by (Some other) h found = let same : fault ≡ other = cc in inl (ap Some (sym same))
+
+-- a slot that had a tenant was closed
+pub has_closed : (slot : ℕ) (old new : KeptWorld) (result : Result (Unit {0}) Fault) → OnOk result (Closes slot old new) → IsOk result → HasClosed open_setup HasOpenCluster slot old new
+has_closed slot old new (Ok done) closes there = record { setup_is = closes.setup_is; others = closes.others }
+has_closed slot old new (Err fault) closes there = absurd (true≢false (sym there))
 
 -- ---- what no call changes of the nodes
 

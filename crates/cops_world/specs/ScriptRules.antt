@@ -1,30 +1,27 @@
 -- What is answered to each line of a script, and what is left after it.
-use Rattle.std.specs.Prelude.{◌≡◌, ℕ, List, [], Some, None, ⊤}
-use Rattle.cops_types.specs.declared.configs.Config.{Config}
-use Rattle.cops_types.specs.declared.faults.Fault.TheVariants.{Syntax}
+use Rattle.std.specs.Prelude.{◌≡◌, ℕ, List, [], ⊤}
 use Rattle.cops_types.specs.Counts.{counted}
 use Rattle.cops_types.specs.LineRules.{LineRules}
-use Rattle.cops_world.specs.declared.replies.Reply.{Reply}
-use Rattle.cops_world.specs.declared.replies.Reply.TheVariants.{Refused}
 use Rattle.cops_world.specs.declared.scripts.BadConfig.{BadConfig}
 use Rattle.cops_world.specs.declared.scripts.Script.{Script}
 use Rattle.cops_world.specs.declared.scripts.Script.TheVariants.{Head, Running}
 use Rattle.cops_world.specs.Cluster.{SoloCluster}
 use Rattle.cops_world.specs.HeadRules.{HeadAnswers, HeadRefuses}
-use Rattle.cops_world.specs.Acting.{IsNew, HasActed}
-use Rattle.cops_world.specs.Script.{Said, OfNobody, Unformed, Acts, said_in, answer_line}
+use Rattle.cops_world.specs.Acting.{IsNew}
+use Rattle.cops_world.specs.Answers.{Answer, slot_line}
+use Rattle.cops_world.specs.Doing.{IsDone}
+use Rattle.cops_world.specs.Said.{Said, said_in}
+use Rattle.cops_world.specs.Setups.{Setup}
 
 -- no line has ended the head
 abbrev pub IsInHead : {W : Type 0} → Script W → Type 0
 IsInHead (Head head) = ⊤
 IsInHead (Running world) = ⊥
 
-module _ {W : Type 0} (setup : W → Config) (StandsFor : W → ℕ → SoloCluster → Type 0) where
-  -- what a line says is answered so
+module _ {W : Type 0} (setup : W → Setup) (StandsFor : W → ℕ → SoloCluster → Type 0) where
+  -- what a line says is done, and answered so
   abbrev pub IsAnswered : W → Said → List ℕ → W → Type 0
-  IsAnswered old OfNobody text new = (text ≡ answer_line (setup old).tenants None) × (new ≡ old)
-  IsAnswered old (Unformed slot) text new = (text ≡ answer_line (setup old).tenants (Some (slot, Refused Syntax))) × (new ≡ old)
-  IsAnswered old (Acts event) text new = (reply : Reply) × HasActed setup StandsFor old event reply new × (text ≡ answer_line (setup old).tenants (Some (event.slot, reply)))
+  IsAnswered old said text new = (answer : Answer) × IsDone setup StandsFor old said answer new × (text ≡ slot_line (setup old).tenants answer)
 
   abbrev pub line_answers : Script W → List ℕ → List ℕ → Script W → Type 0
   line_answers (Head head) line text new = HeadAnswers (IsNew setup StandsFor) head line text new

@@ -1,34 +1,47 @@
 -- The world that a script leaves.
-use Rattle.std.specs.Prelude.{◌≡◌, ℕ, ◌<◌, List, length, map, Option}
+use Rattle.std.specs.Prelude.{◌≡◌, ℕ, List, IsTrue, Option}
 use Rattle.std.specs.Io.KnownBytes.{Consumes}
 use Rattle.cops_types.specs.declared.configs.Config.{Config}
+use Rattle.cops_types.specs.declared.configs.Tenant.{Tenant}
 use Rattle.cops_types.specs.Head.{Whole, head_of}
 use Rattle.cops_types.specs.Lines.{lines_of}
-use Rattle.cops_types.specs.TenantConfig.{TenantConfig}
+use Rattle.cops_types.specs.OpenSlots.{begun_with}
 use Rattle.cops_world.specs.declared.scripts.Script.{Script}
 use Rattle.cops_world.specs.declared.scripts.Script.TheVariants.{Head, Running}
 use Rattle.cops_world.specs.Cluster.{SoloCluster}
 use Rattle.cops_world.specs.Events.{config_at, own}
 use Rattle.cops_world.specs.Laws.{cluster_of}
-use Rattle.cops_world.specs.Script.{events_in, said_in}
+use Rattle.cops_world.specs.Lives.{first_lives, lives_past, of_lives, with_all_lives}
+use Rattle.cops_world.specs.Said.{tenants_past}
+use Rattle.cops_world.specs.Script.{events_in, said_by_lines}
+use Rattle.cops_world.specs.Setups.{Setup, is_open_at}
 
--- the cluster that the lines after a head leave to the tenant of a slot, who has it to himself
-abbrev pub cluster_left : Config → List (List ℕ) → TenantConfig → ℕ → SoloCluster
-cluster_left config lines tenant slot = cluster_of tenant (own slot (events_in (map (said_in config.tenants) lines)))
+-- the head, and the tenants who are open after the lines behind it
+abbrev pub setup_left : Config → List (List ℕ) → Setup
+setup_left config lines = record { head = config; tenants = tenants_past (begun_with config.tenants) (said_by_lines config lines) }
+
+-- the life that began last at a slot
+abbrev pub life_left : Config → List (List ℕ) → ℕ → ℕ
+life_left config lines slot = (lives_past (first_lives config) (said_by_lines config lines)).last_at slot
+
+-- the cluster that the lines leave to a life, which has it to itself
+abbrev pub cluster_left : Config → List (List ℕ) → ℕ → SoloCluster
+cluster_left config lines life =
+    let said = said_by_lines config lines in cluster_of (config_at (with_all_lives config said) life) (own life (events_in (of_lives config said)))
 
 -- it is past its head
 abbrev pub IsRunning : {W : Type 0} → Script W → Type 0
 IsRunning (Head head) = ⊥
 IsRunning (Running world) = Unit {0}
 
-module _ {W : Type 0} (setup : W → Config) (StandsFor : W → ℕ → SoloCluster → Type 0) where
-  -- the bytes are a script, and each tenant's part of the world is the cluster that his lines leave
+module _ {W : Type 0} (setup : W → Setup) (StandsFor : W → ℕ → SoloCluster → Type 0) where
+  -- the bytes are a script, and each open tenant's part of the world is the cluster that his life's lines leave
   pub record IsLeftBy (bytes : List ℕ) (world : W) : Type 0 where
     pub config : Config
     pub lines : List (List ℕ)
     pub head : head_of (lines_of bytes) ≡ Whole config lines
-    pub setup_is : setup world ≡ config
-    pub clusters : (slot : ℕ) → slot < length config.tenants → StandsFor world slot (cluster_left config lines (config_at config slot) slot)
+    pub setup_is : setup world ≡ setup_left config lines
+    pub clusters : (slot : ℕ) → IsTrue (is_open_at (setup_left config lines) slot) → StandsFor world slot (cluster_left config lines (life_left config lines slot))
 
   -- some bytes were read, and they are such a script
   pub record IsLeftByRead (old_remaining new_remaining : Option (List ℕ)) (world : W) : Type 0 where

@@ -1,9 +1,9 @@
 -- The configuration of a head, and the tenants that are open now.
-use Rattle.std.specs.Prelude.{ℕ, Bool, is_some, unwrap_or, position, is_none, take, List, Option, Some, None}
+use Rattle.std.specs.Prelude.{ℕ, Bool, is_some, unwrap_or, position, is_none, slice_set, take, List, Option, Some, None}
 use Rattle.cops_types.specs.declared.configs.Config.{Config}
 use Rattle.cops_types.specs.declared.configs.Tenant.{Tenant}
 use Rattle.cops_types.specs.HeadLines.{most_tenants}
-use Rattle.cops_types.specs.OpenSlots.{open_at}
+use Rattle.cops_types.specs.OpenSlots.{begun_with, open_at}
 use Rattle.cops_types.specs.TenantConfig.{TenantConfig, tenant_config}
 use Rattle.cops_world.specs.Events.{no_config}
 
@@ -11,6 +11,14 @@ use Rattle.cops_world.specs.Events.{no_config}
 pub record Setup : Type 0 where
   pub head : Config
   pub tenants : List (Option Tenant)
+
+-- the tenants of the head are open, each at the slot of his place
+abbrev pub new_setup : Config → Setup
+new_setup config = record { head = config; tenants = begun_with config.tenants }
+
+-- the slot is this tenant's, or nobody's
+abbrev pub with_slot : ℕ → Option Tenant → Setup → Setup
+with_slot slot tenant setup = record { head = setup.head; tenants = slice_set setup.tenants slot tenant }
 
 -- a tenant is open at the slot
 abbrev pub is_open_at : Setup → ℕ → Bool

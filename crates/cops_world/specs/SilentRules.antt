@@ -1,29 +1,27 @@
 -- What is done with each line of a script whose replies are not written, and what is left after it.
 use Rattle.std.specs.Prelude.{◌≡◌, ℕ, IsFalse, List, []}
-use Rattle.cops_types.specs.declared.configs.Config.{Config}
 use Rattle.cops_types.specs.Counts.{counted}
 use Rattle.cops_types.specs.LineRules.{LineRules}
-use Rattle.cops_world.specs.declared.replies.Reply.{Reply}
 use Rattle.cops_world.specs.declared.scripts.BadConfig.{BadConfig}
 use Rattle.cops_world.specs.declared.scripts.Script.{Script}
 use Rattle.cops_world.specs.declared.scripts.Script.TheVariants.{Head, Running}
 use Rattle.cops_world.specs.declared.silent_machine.SilentScript.{SilentScript}
-use Rattle.cops_world.specs.Acting.{IsNew, HasActed}
+use Rattle.cops_world.specs.Acting.{IsNew}
+use Rattle.cops_world.specs.Answers.{Answer, is_lack}
 use Rattle.cops_world.specs.Cluster.{SoloCluster}
-use Rattle.cops_world.specs.Events.{is_out_of_memory}
+use Rattle.cops_world.specs.Doing.{IsDone}
 use Rattle.cops_world.specs.HeadRules.{HeadAnswers, HeadRefuses}
-use Rattle.cops_world.specs.Script.{Said, OfNobody, Unformed, Acts, said_in}
+use Rattle.cops_world.specs.Said.{Said, said_in}
+use Rattle.cops_world.specs.Setups.{Setup}
 
-module _ {W : Type 0} (setup : W → Config) (StandsFor : W → ℕ → SoloCluster → Type 0) where
-  -- an act was done, and not for want of memory; any other line changes nothing
-  abbrev pub IsDone : W → Said → W → Type 0
-  IsDone old OfNobody new = new ≡ old
-  IsDone old (Unformed slot) new = new ≡ old
-  IsDone old (Acts event) new = (reply : Reply) × HasActed setup StandsFor old event reply new × IsFalse (is_out_of_memory reply)
+module _ {W : Type 0} (setup : W → Setup) (StandsFor : W → ℕ → SoloCluster → Type 0) where
+  -- it is done, and memory was not refused
+  abbrev pub IsDoneWhole : W → Said → W → Type 0
+  IsDoneWhole old said new = (answer : Answer) × IsDone setup StandsFor old said answer new × IsFalse (is_lack answer)
 
   abbrev pub silent_answers_in : Script W → List ℕ → List ℕ → Script W → Type 0
   silent_answers_in (Head head) line text new = HeadAnswers (IsNew setup StandsFor) head line text new
-  silent_answers_in (Running world) line text new = (text ≡ []) × (after : W) × IsDone world (said_in (setup world).tenants line) after × (new ≡ Running after)
+  silent_answers_in (Running world) line text new = (text ≡ []) × (after : W) × IsDoneWhole world (said_in (setup world).tenants line) after × (new ≡ Running after)
 
   abbrev pub silent_answers : SilentScript W → List ℕ → List ℕ → SilentScript W → Type 0
   silent_answers old line text new = silent_answers_in old.script line text new.script

@@ -6,7 +6,7 @@ use Rattle.std.specs.Option.{option_map}
 use Rattle.cops_types.specs.declared.configs.Config.{Config}
 use Rattle.cops_types.specs.declared.configs.Tenant.{Tenant}
 use Rattle.cops_types.specs.HeadLines.{is_tenant, most_tenants}
-use Rattle.cops_types.specs.OpenSlots.{begun_with, open_at}
+use Rattle.cops_types.specs.OpenSlots.{open_at}
 use Rattle.cops_types.specs.TenantConfig.{TenantConfig, tenant_config}
 use Rattle.cops_node.specs.Clusters.{Cluster, HasTenant, nodes_of, shape_of}
 use Rattle.cops_node.specs.Parts.{Site, place_at, place_under, site_in, trail_of}
@@ -73,14 +73,13 @@ pub record ClusterStandsAt (world : World) (slot : ℕ) (cluster : SoloCluster) 
   pub actors_are : ActorsStandFor (ActorStandsFor (config_in world.setup slot)) (λ name. world.actors (record { slot = slot; name = name })) cluster
   pub count_is : slice_index world.counts slot ≡ length cluster.actors
 
--- the configuration of a world as it is kept
-abbrev pub setup_of : KeptWorld → Config
-setup_of kept = kept.setup.head
+-- the configuration of a world as it is kept, and the tenants who are open
+abbrev pub open_setup : KeptWorld → Setup
+open_setup kept = kept.setup
 
--- the tenants who are open are those of the head, and the tenant of a slot has this cluster
-pub record HasCluster (kept : KeptWorld) (slot : ℕ) (cluster : SoloCluster) : Type 0 where
-  pub tenants_are : kept.setup.tenants ≡ begun_with kept.setup.head.tenants
-  pub stands : ClusterStandsAt (world_of kept) slot cluster
+-- the tenant who is open at the slot has this cluster
+abbrev pub HasOpenCluster : KeptWorld → ℕ → SoloCluster → Type 0
+HasOpenCluster kept slot cluster = ClusterStandsAt (world_of kept) slot cluster
 
 -- a tenant's configuration has the sizes of the whole one
 pub record HasSizes (config : TenantConfig) (setup : Config) : Type 0 where

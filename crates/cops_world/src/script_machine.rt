@@ -1,24 +1,28 @@
 //! The machine that answers the lines of a script.
-ghost use Rattle.std.specs.Prelude.{◌<◌, [], length, IfErr, IfOk, OnOk, Some};
+ghost use Rattle.std.specs.Prelude.{◌≡◌, [], is_some, IfErr, IfOk, IsTrue, OnOk};
 ghost use Rattle.cops_types.specs.LineAnswers.{Answers, IfRefused};
 ghost use Rattle.cops_types.specs.Words.{first_word};
 ghost use Rattle.cops_world.specs.ActLines.{act_in};
-ghost use Rattle.cops_world.specs.Script.{answer_line, said_by, said_in};
+ghost use Rattle.cops_types.specs.OpenSlots.{open_at, open_slot_of_name};
+ghost use Rattle.cops_world.specs.Answers.{ToTenant, open_name};
+ghost use Rattle.cops_world.specs.Doing.{IsDone};
+ghost use Rattle.cops_world.specs.Said.{said_found, said_by, said_in};
 ghost use Rattle.cops_world.specs.ScriptRules.{IsAnswered, IsInHead, line_answers, line_refuses};
+ghost use Rattle.cops_world.specs.Setups.{is_open_at};
 
+use crate::host_machine::{admit, close};
 use crate::lines::parse_act;
 use crate::scripts::{BadConfig, Script, read_head};
-use crate::texts::{push_answer, push_nobody};
+use crate::texts::{push_answer, push_host, push_nobody};
 use crate::{Event, Reply, Tenancy};
 use cops_types::words::split_word;
-use cops_types::{Fault, LineMachine, Stop};
+use cops_types::{Fault, LineMachine, Name, OpenTenants, Stop};
 use std::alloc::{AllocError, Global};
 
-/// What the tenant of the slot is told of the act that the line writes.
+/// What the tenant who is open at the slot is told of the act that the line writes.
 fn reply_to<W: Tenancy>(world: &mut W, slot: u64, line: &[u8]) -> Reply
-    requires { slot < length (W.setup world.old).tenants }
-    ensures { IsAnswered W.setup W.StandsFor world.old (said_by slot (act_in (first_word line.now) line.now))
-        (answer_line (W.setup world.old).tenants (Some (slot, result))) world.new }
+    requires { IsTrue (is_open_at (W.setup world.old) slot) }
+    ensures { IsDone W.setup W.StandsFor world.old (said_by slot (act_in (first_word line.now) line.now)) (ToTenant slot result) world.new }
 {
     let Some(act) = parse_act(line) else {
         return Reply::Refused(Fault::Syntax);
@@ -26,22 +30,50 @@ fn reply_to<W: Tenancy>(world: &mut W, slot: u64, line: &[u8]) -> Reply
     world.apply(&Event { slot, act })
 }
 
-/// Answers a line after the head at the end of the output.
-pub(crate) fn answer<W: Tenancy>(
+/// The name of the tenant who is open at a slot.
+fn name_at(tenants: &OpenTenants, slot: u64) -> Name
+    requires { IsTrue (is_some (open_at slot tenants.now)) }
+    ensures { result ≡ open_name tenants.now slot }
+{
+    match tenants.tenant(slot) {
+        Some(tenant) => tenant.name,
+        None => unreachable!(),
+    }
+}
+
+/// Answers a line that names a tenant, at the end of the output.
+pub(crate) fn answer_tenant<W: Tenancy>(
     world: &mut W,
+    word: &[u8],
     line: &[u8],
     out: &mut Vec<u8>,
 ) -> Result<(), AllocError>
-    ensures { OnOk result (Answers (λ text new. IsAnswered W.setup W.StandsFor world.old (said_in (W.setup world.old).tenants line.now) text new) world.new out.old.items out.new.items) }
+    requires { word.now ≡ first_word line.now }
+    ensures { OnOk result (Answers (λ text new. IsAnswered W.setup W.StandsFor world.old (said_found line.now (open_slot_of_name (W.setup world.old).tenants (first_word line.now))) text new) world.new out.old.items out.new.items) }
 {
-    let (name, _rest) = split_word(line);
-    let tenants = &world.setup().tenants;
-    let Some(slot) = tenants.slot_of_name(name) else {
+    let tenants = world.tenants();
+    let Some(slot) = tenants.slot_of_name(word) else {
         return push_nobody(out);
     };
-    let name = tenants.tenant(slot).name;
+    let name = name_at(tenants, slot);
     let reply = reply_to(world, slot, line);
     push_answer(out, &name, &reply)
+}
+
+/// Answers a line after the head at the end of the output.
+fn answer<W: Tenancy>(world: &mut W, line: &[u8], out: &mut Vec<u8>) -> Result<(), AllocError>
+    ensures { OnOk result (Answers (λ text new. IsAnswered W.setup W.StandsFor world.old (said_in (W.setup world.old).tenants line.now) text new) world.new out.old.items out.new.items) }
+{
+    let (word, _rest) = split_word(line);
+    if word == b"+".as_slice() {
+        let reply = admit(world, line);
+        return push_host(out, &reply);
+    }
+    if word == b"-".as_slice() {
+        let reply = close(world, line);
+        return push_host(out, &reply);
+    }
+    answer_tenant(world, word, line, out)
 }
 
 /// Reads one more line of a script that is in its head. Where it is the last, the script runs from

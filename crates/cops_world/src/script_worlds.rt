@@ -9,7 +9,7 @@ ghost use Rattle.cops_types.specs.Source.{source_failures, source_reader, source
 ghost use Rattle.cops_world.specs.HeadRules.{IsHeadAt};
 ghost use Rattle.cops_world.specs.ScriptWorlds.{IsLeftBy, IsLeftByRead, IsRunning};
 ghost use Rattle.cops_world.specs.declared.scripts.Script.TheVariants.{Running};
-ghost use Rattle.cops_world.specs.Worlds.{HasCluster, setup_of};
+ghost use Rattle.cops_world.specs.Worlds.{HasOpenCluster, open_setup};
 
 use crate::script_runs::{LONGEST_LINE, TURNS};
 use crate::scripts::{BadConfig, HeadSoFar, Script};
@@ -81,8 +81,8 @@ pub fn script_world<R: Read>(
 ) -> Result<World, RunFault<BadConfig>>
     // All is read, and the world is what it leaves.
     ensures end { OnOk result (IsAtEnd (R.remaining (source_reader source.new))) }
-    ensures ok { IfOk result (λ world. IfSome (R.remaining (source_reader source.old)) (λ bytes. IsLeftBy setup_of HasCluster bytes world)) }
-    ensures read { IfOk result (IsLeftByRead setup_of HasCluster (R.remaining (source_reader source.old)) (R.remaining (source_reader source.new))) }
+    ensures ok { IfOk result (λ world. IfSome (R.remaining (source_reader source.old)) (λ bytes. IsLeftBy open_setup HasOpenCluster bytes world)) }
+    ensures read { IfOk result (IsLeftByRead open_setup HasOpenCluster (R.remaining (source_reader source.old)) (R.remaining (source_reader source.new))) }
 
     // A head is refused where it is bad.
     ensures bad_head { IfErr result (λ fault. IfRunRefused fault (λ bad.

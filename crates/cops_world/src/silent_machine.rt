@@ -1,17 +1,21 @@
 //! The machine that does what the lines of a script say, and writes nothing.
-ghost use Rattle.std.specs.Prelude.{◌≡◌, ◌<◌, length, IsTrue, OnOk};
+ghost use Rattle.std.specs.Prelude.{◌≡◌, IsTrue};
+ghost use Rattle.cops_types.specs.OpenSlots.{open_slot_of_name};
 ghost use Rattle.cops_types.specs.Words.{first_word};
 ghost use Rattle.cops_world.specs.ActLines.{act_in};
 ghost use Rattle.cops_world.specs.Events.{is_out_of_memory};
-ghost use Rattle.cops_world.specs.Script.{said_by, said_in};
-ghost use Rattle.cops_world.specs.SilentRules.{IsDone};
+ghost use Rattle.cops_world.specs.Answers.{ToHost, is_lack};
+ghost use Rattle.cops_world.specs.Said.{said_found, said_by, said_in};
+ghost use Rattle.cops_world.specs.Setups.{is_open_at};
+ghost use Rattle.cops_world.specs.SilentRules.{IsDoneWhole};
 
+use crate::host_machine::{admit, close};
 use crate::lines::parse_act;
 use crate::scripts::{BadConfig, Script, read_head};
-use crate::{Event, Reply, Tenancy};
+use crate::{Event, HostReply, Reply, Tenancy};
 use cops_types::words::split_word;
 use cops_types::{Fault, LineMachine, Stop};
-use std::alloc::{AllocError, Global};
+use std::alloc::Global;
 
 /// A script whose replies are not written.
 #[derive(Drop)]
@@ -29,31 +33,53 @@ fn is_out_of_memory(reply: &Reply) -> bool
     }
 }
 
-/// Has the tenant of the slot do what the line says.
-fn act_for<W: Tenancy>(world: &mut W, slot: u64, line: &[u8]) -> Result<(), AllocError>
-    requires { slot < length (W.setup world.old).tenants }
-    ensures { OnOk result (IsDone W.setup W.StandsFor world.old (said_by slot (act_in (first_word line.now) line.now)) world.new) }
+/// Whether a reply to the host says so.
+fn is_lack(reply: &HostReply) -> bool
+    ensures { result ≡ is_lack (ToHost reply.now) }
 {
-    let Some(act) = parse_act(line) else {
-        return Ok(());
-    };
-    let reply = world.apply(&Event { slot, act });
-    if is_out_of_memory(&reply) {
-        return Err(AllocError);
+    match reply {
+        HostReply::Denied(fault) => *fault == Fault::OutOfMemory,
+        _ => false,
     }
-    Ok(())
 }
 
-/// Does what a line after the head says.
-fn act<W: Tenancy>(world: &mut W, line: &[u8]) -> Result<(), AllocError>
-    ensures { OnOk result (IsDone W.setup W.StandsFor world.old (said_in (W.setup world.old).tenants line.now) world.new) }
+/// Has the tenant who is open at the slot do what the line says. Whether memory was there for it.
+fn act_for<W: Tenancy>(world: &mut W, slot: u64, line: &[u8]) -> bool
+    requires { IsTrue (is_open_at (W.setup world.old) slot) }
+    ensures { IsTrue result → IsDoneWhole W.setup W.StandsFor world.old (said_by slot (act_in (first_word line.now) line.now)) world.new }
 {
-    let (name, _rest) = split_word(line);
-    let tenants = &world.setup().tenants;
-    let Some(slot) = tenants.slot_of_name(name) else {
-        return Ok(());
+    let Some(act) = parse_act(line) else {
+        return true;
+    };
+    let reply = world.apply(&Event { slot, act });
+    !is_out_of_memory(&reply)
+}
+
+/// Has the tenant whom a line names do what it says. Whether memory was there for it.
+fn act_tenant<W: Tenancy>(world: &mut W, word: &[u8], line: &[u8]) -> bool
+    requires { word.now ≡ first_word line.now }
+    ensures { IsTrue result → IsDoneWhole W.setup W.StandsFor world.old (said_found line.now (open_slot_of_name (W.setup world.old).tenants (first_word line.now))) world.new }
+{
+    let Some(slot) = world.tenants().slot_of_name(word) else {
+        return true;
     };
     act_for(world, slot, line)
+}
+
+/// Does what a line after the head says. Whether memory was there for it.
+fn act<W: Tenancy>(world: &mut W, line: &[u8]) -> bool
+    ensures { IsTrue result → IsDoneWhole W.setup W.StandsFor world.old (said_in (W.setup world.old).tenants line.now) world.new }
+{
+    let (word, _rest) = split_word(line);
+    if word == b"+".as_slice() {
+        let reply = admit(world, line);
+        return !is_lack(&reply);
+    }
+    if word == b"-".as_slice() {
+        let reply = close(world, line);
+        return !is_lack(&reply);
+    }
+    act_tenant(world, word, line)
 }
 
 impl<W: Tenancy + Drop> LineMachine for SilentScript<W> {
@@ -80,7 +106,7 @@ impl<W: Tenancy + Drop> LineMachine for SilentScript<W> {
                 self.script = Script::Running(world);
             }
             Script::Running(world) => {
-                if act(world, line).is_err() {
+                if !act(world, line) {
                     return Err(Stop::OutOfMemory);
                 }
             }

@@ -9,14 +9,17 @@ ghost use Rattle.cops_world.specs.SoloRuns.{IsRefusedFor, WritesSolo, WritesSolo
 
 use crate::World;
 use crate::script_runs::{LONGEST_LINE, TURNS};
-use crate::solo_machine::{SoloRefusal, SoloScript, new_solo_script};
+use crate::solo_machine::{SoloRefusal, new_solo_script};
+use crate::solo_scripts::SoloScript;
 use cops_types::{RunFault, Sink, Source, run_lines};
 use std::alloc::Global;
 use std::io::{Read, Write};
 use std::mem;
 
-/// Answers the lines of one tenant of a script, in a cluster that he has to himself: reads the whole
-/// head, and writes one line for each line that names him.
+/// Answers the lines of one name's tenants of a script, each in a cluster that he has to himself: reads
+/// all of it, and writes one line for each line that a tenant of the name says while he is open.
+///
+/// Tenants come and go by the lines of the host, for which nothing is written.
 ///
 /// It reads and writes as `run_script` does.
 pub fn solo_script<R: Read, O: Write>(
@@ -25,14 +28,14 @@ pub fn solo_script<R: Read, O: Write>(
     sink: &mut Sink<O>,
     tenant: &[u8],
 ) -> Result<(), RunFault<SoloRefusal>>
-    // All is read, and each of the tenant's lines is answered, or a front of the answers is written.
+    // All is read, and each line of these tenants is answered, or a front of the answers is written.
     ensures end { OnOk result (IsAtEnd (R.remaining (source_reader source.new))) }
     ensures ok { OnOk result (IfSome (R.remaining (source_reader source.old)) (λ bytes.
         WritesSolo tenant.now bytes (O.contents (sink_writer sink.old)) (O.contents (sink_writer sink.new)))) }
     ensures err { OnErr result (IfSome (R.remaining (source_reader source.old)) (λ bytes.
         WritesSoloFront tenant.now bytes (O.contents (sink_writer sink.old)) (O.contents (sink_writer sink.new)))) }
 
-    // The head is refused where it is bad, and the tenant where it has none of the name; nothing is written then.
+    // The head is refused where it is bad, and the name where no tenant of it was ever open; nothing is written then.
     ensures refused { IfErr result (λ fault. IfRunRefused fault (λ refusal.
         IfSome (R.remaining (source_reader source.old)) (λ bytes. IsRefusedFor tenant.now bytes refusal))) }
     ensures unwritten { IfErr result (λ fault. IfRunRefused fault (λ refusal.

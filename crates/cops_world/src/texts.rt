@@ -1,13 +1,14 @@
 //! Texts of replies, put at the end of a vector.
 ghost use Rattle.std.specs.Prelude.{◌≡◌, ◌++◌, [], ◌∷◌, ℕ, List, decimal, map, OnOk};
-ghost use Rattle.cops_types.specs.declared.configs.Tenant.{Tenant};
 ghost use Rattle.cops_types.specs.Words.{spaced};
 ghost use Rattle.cops_world.specs.declared.replies.Reply.TheVariants.{Carried, Lists, OutOfOrder};
 ghost use Rattle.cops_world.specs.ReplyText.{pair_words, read_text, text_of_reply, value_text};
 ghost use Rattle.cops_world.specs.ReplyWords.{later_texts};
-ghost use Rattle.cops_world.specs.Script.{answer_line, name_at};
+ghost use Rattle.cops_world.specs.Answers.{host_line, reply_line};
+ghost use Rattle.cops_world.specs.declared.replies.HostReply.TheVariants.{Denied};
+ghost use Rattle.cops_types.specs.declared.faults.Fault.TheVariants.{UnknownTenant};
 
-use crate::Reply;
+use crate::{HostReply, Reply};
 use cops_types::texts::{push_deps, push_fault, push_near, push_number, push_version};
 use cops_types::{Deps, Name, Near, Pair, Read, Value, Version};
 use std::alloc::AllocError;
@@ -38,8 +39,7 @@ pub(crate) fn push_reply(out: &mut Vec<u8>, reply: &Reply) -> Result<(), AllocEr
 /// Puts a tenant's name, a space, the text of a reply and a newline at the end. After an `Err` a
 /// front of it may be there.
 pub(crate) fn push_answer(out: &mut Vec<u8>, name: &Name, reply: &Reply) -> Result<(), AllocError>
-    ensures { OnOk result ((tenants : List Tenant) (slot : ℕ) → name_at tenants slot ≡ name.now →
-        out.new.items ≡ out.old.items ++ answer_line tenants (Some (slot, reply.now))) }
+    ensures { OnOk result (out.new.items ≡ out.old.items ++ reply_line name.now reply.now) }
 {
     push_word(out, name.bytes())?;
     out.push(b' ')?;
@@ -51,9 +51,34 @@ pub(crate) fn push_answer(out: &mut Vec<u8>, name: &Name, reply: &Reply) -> Resu
 /// Puts the answer to a line that names no tenant, and a newline, at the end. After an `Err` a
 /// front of it may be there.
 pub(crate) fn push_nobody(out: &mut Vec<u8>) -> Result<(), AllocError>
-    ensures { OnOk result ((tenants : List Tenant) → out.new.items ≡ out.old.items ++ answer_line tenants None) }
+    ensures { OnOk result (out.new.items ≡ out.old.items ++ host_line (Denied UnknownTenant)) }
 {
     push_word(out, b"- E02\n")
+}
+
+/// Puts a hyphen, a space, the text of a reply to the host and a newline at the end. After an `Err` a
+/// front of it may be there.
+#[inline(never)]
+pub(crate) fn push_host(out: &mut Vec<u8>, reply: &HostReply) -> Result<(), AllocError>
+    ensures { OnOk result (out.new.items ≡ out.old.items ++ host_line reply.now) }
+{
+    push_word(out, b"- ")?;
+    match reply {
+        HostReply::Admitted(name) => push_name_after(out, b"admitted", name)?,
+        HostReply::Closed(name) => push_name_after(out, b"closed", name)?,
+        HostReply::Denied(fault) => push_fault(out, *fault)?,
+    }
+    out.push(b'\n')?;
+    Ok(())
+}
+
+/// Puts a word and a name at the end.
+fn push_name_after(out: &mut Vec<u8>, word: &[u8], name: &Name) -> Result<(), AllocError>
+    ensures { OnOk result (out.new.items ≡ out.old.items ++ word.now ++ 32 ∷ name.now) }
+{
+    push_word(out, word)?;
+    out.push(b' ')?;
+    push_word(out, name.bytes())
 }
 
 /// Puts these bytes at the end.

@@ -1,14 +1,14 @@
 //! Runs of events in a new world: of all tenants, and of one alone.
-ghost use Rattle.std.specs.Prelude.{◌≡◌, ◌<◌, ℕ, All, IfOk, IsTrue, length, slice_get, Some};
-ghost use Rattle.cops_types.specs.declared.configs.Tenant.{Tenant};
+ghost use Rattle.std.specs.Prelude.{◌≡◌, ◌<◌, ℕ, All, IfOk, IsTrue, length};
 ghost use Rattle.cops_world.specs.Events.{config_at, own, replies, solo_replies, before_lack, IsFrontOf, IsSpared};
 ghost use Rattle.cops_world.specs.GoodHeads.{is_good};
 ghost use Rattle.cops_world.specs.Laws.{cluster_of};
-ghost use Rattle.cops_world.specs.Worlds.{HasCluster, setup_of};
+ghost use Rattle.cops_world.specs.Setups.{new_setup};
+ghost use Rattle.cops_world.specs.Worlds.{HasOpenCluster, open_setup};
 ghost use Rattle.cops_world.specs.MainTheorem.{MainTheorem, with_tenant_alone};
 
 use crate::{Event, Reply, World, run_all};
-use cops_types::{Config, Tenants};
+use cops_types::{Config, Tenant, Tenants};
 use std::alloc::{AllocError, Global};
 
 /// A new world of a configuration after events in a row, and the replies to them. What its audits
@@ -21,10 +21,10 @@ pub fn run_world(
     requires good { IsTrue (is_good config) }
     requires slots { All (λ e. e.slot < length config.tenants) events.now }
     ensures length { IfOk result (λ run. length run.1.items ≡ length events.now) }
-    ensures setup { IfOk result (λ run. setup_of run.0 ≡ config) }
+    ensures setup { IfOk result (λ run. open_setup run.0 ≡ new_setup config) }
     ensures theorem { IfOk result (λ run. MainTheorem config events.now run.1.items) }
     ensures clusters { IfOk result (λ run. (slot : ℕ) → slot < length config.tenants → IsSpared (replies slot events.now run.1.items) →
-        HasCluster run.0 slot (cluster_of (config_at config slot) (own slot events.now))) }
+        HasOpenCluster run.0 slot (cluster_of (config_at config slot) (own slot events.now))) }
 {
     let mut world = World::new(alloc, config)?;
     let told = run_all(alloc, &mut world, events)?;
@@ -42,17 +42,16 @@ pub fn run(alloc: Global, config: Config, events: &[Event]) -> Result<Vec<Reply>
     Ok(told)
 }
 
-/// A configuration with one of its tenants alone.
+/// A configuration with this tenant alone.
 pub(crate) fn with_tenant_alone(
     alloc: Global,
     config: &Config,
-    slot: u64,
+    tenant: &Tenant,
 ) -> Result<Config, AllocError>
-    requires { slot < length config.now.tenants }
-    ensures { IfOk result (λ alone. (tenant : Tenant) → slice_get config.now.tenants slot ≡ Some tenant → alone ≡ with_tenant_alone config.now tenant) }
+    ensures { IfOk result (λ alone. alone ≡ with_tenant_alone config.now tenant.now) }
 {
     let mut tenants = Tenants::new(alloc);
-    tenants.push(*config.tenants.tenant(slot))?;
+    tenants.push(*tenant)?;
     Ok(Config {
         data_centres: config.data_centres,
         shards: config.shards,
@@ -75,7 +74,8 @@ pub fn solo(
     ensures alone { IfOk result (λ told. IsSpared told.items → told.items ≡ solo_replies (config_at config.now slot) (own slot events.now)) }
     ensures at_first { IfOk result (λ told. IsFrontOf (before_lack told.items) (solo_replies (config_at config.now slot) (own slot events.now))) }
 {
-    let mut world = World::new(alloc, with_tenant_alone(alloc, config, slot)?)?;
+    let alone = with_tenant_alone(alloc, config, config.tenants.tenant(slot))?;
+    let mut world = World::new(alloc, alone)?;
     let mut told = Vec::new(alloc);
     for event in events {
         if event.slot == slot {

@@ -18,11 +18,10 @@ ghost use Rattle.cops_world.specs.GoodHeads.{is_good};
 ghost use Rattle.cops_world.specs.ActorsStand.{ActorStandsFor, RunsAt};
 ghost use Rattle.cops_world.specs.Cluster.{Actor as Solo, SoloCluster, actor_step, actor_steps, cluster_step, goes_on, has_node, has_stream, most_steps, reply_of_collect};
 ghost use Rattle.cops_world.specs.Deeds.{deed_step};
-ghost use Rattle.cops_world.specs.Events.{config_at};
 ghost use Rattle.cops_world.specs.Setups.{config_in, is_open_at, next_slot};
 ghost use Rattle.cops_world.specs.Lacks.{Lacks, Stays, StepStops, StepsStop};
 ghost use Rattle.cops_world.specs.Trails.{audited_at};
-ghost use Rattle.cops_world.specs.Worlds.{Admits, AreSitesIn, ClusterStandsAt, Closes, HasCluster, HasSizes, Leaves, Moves, StaysOpen, setup_of, join_step, world_of};
+ghost use Rattle.cops_world.specs.Worlds.{Admits, AreSitesIn, ClusterStandsAt, Closes, HasOpenCluster, HasSizes, Leaves, Moves, StaysOpen, open_setup, join_step, world_of};
 ghost use Rattle.cops_world.specs.ActorTables.{same_actor};
 ghost use Rattle.cops_world.specs.declared.acts.Act.TheVariants as acts;
 ghost use Rattle.cops_world.specs.declared.replies.Reply.TheVariants.{Refused};
@@ -402,9 +401,7 @@ impl World {
     ///
     /// On a slot without a tenant it is `UnknownTenant`, and nothing changes.
     pub fn apply(&mut self, event: &Event) -> Reply
-        ensures acted { HasActed setup_of HasCluster self.old event.now result self.new }
-        ensures moves { Moves (λ config. cluster_step config event.now.act) (world_of self.old) event.now.slot result (world_of self.new) }
-        ensures lack { Leaves (λ config. Lacks config event.now.act) (world_of self.old) event.now.slot result (world_of self.new) }
+        ensures acted { HasActed open_setup HasOpenCluster self.old event.now result self.new }
         ensures vacant { IsFalse (is_open_at self.old.setup event.now.slot) → (result ≡ Refused UnknownTenant) × (self.new ≡ self.old) }
     {
         self.act_for(event.slot, &event.act)
@@ -520,7 +517,7 @@ impl World {
     /// A new world of a configuration.
     pub fn new(alloc: Global, config: Config) -> Result<Self, AllocError>
         requires { IsTrue (is_good config) }
-        ensures { IfOk result (IsNew setup_of HasCluster config) }
+        ensures { IfOk result (IsNew open_setup HasOpenCluster config) }
     {
         let nodes = Cluster0::new(alloc, &config)?;
         let tenants = OpenTenants::of(alloc, &config.tenants)?;
@@ -540,8 +537,8 @@ impl World {
 
     /// The configuration of the head, whoever is open now.
     pub fn config(&self) -> &Config
-        ensures value { result.now ≡ setup_of self.now }
-        ensures good { IsTrue (is_good (setup_of self.now)) }
+        ensures value { result.now ≡ self.now.setup.head }
+        ensures good { IsTrue (is_good self.now.setup.head) }
     {
         &self.config
     }
@@ -550,7 +547,7 @@ impl World {
     pub fn nodes(&self) -> &[Node]
         ensures value { result.now ≡ self.now.nodes.nodes }
         ensures sites { AreSitesIn self.now.setup (map site_in self.now.nodes.nodes) }
-        ensures in_order { IsCluster (shape_of (setup_of self.now)) self.now.nodes.nodes }
+        ensures in_order { IsCluster (shape_of self.now.setup.head) self.now.nodes.nodes }
         ensures fitting { AllByRecursion AuditFits self.now.nodes.nodes }
     {
         self.nodes.nodes()
@@ -558,10 +555,9 @@ impl World {
 
     /// The call at a place of the audit of a node, for the tenant of a slot.
     pub fn audit(&self, id: NodeId, slot: u64, place: u64) -> Option<&AuditRow>
-        requires dc { id.dc < (setup_of self.now).data_centres }
-        requires shard { id.shard < (setup_of self.now).shards }
-        ensures begun { (cluster : SoloCluster) → HasCluster self.now slot cluster → option_copied result ≡ audited_at (config_at (setup_of self.now) slot) id place cluster }
-        ensures open_now { (cluster : SoloCluster) → ClusterStandsAt (world_of self.now) slot cluster → option_copied result ≡ audited_at (config_in self.now.setup slot) id place cluster }
+        requires dc { id.dc < self.now.setup.head.data_centres }
+        requires shard { id.shard < self.now.setup.head.shards }
+        ensures shows { (cluster : SoloCluster) → ClusterStandsAt (world_of self.now) slot cluster → option_copied result ≡ audited_at (config_in self.now.setup slot) id place cluster }
     {
         let cluster = &self.nodes;
         let nodes = cluster.nodes();
@@ -571,19 +567,27 @@ impl World {
 }
 
 impl Tenancy for World {
-    ghost setup = { setup_of };
+    ghost setup = { open_setup };
 
-    ghost StandsFor = { HasCluster };
+    ghost StandsFor = { HasOpenCluster };
 
     fn begin(alloc: Global, config: Config) -> Result<Self, AllocError> {
         World::new(alloc, config)
     }
 
-    fn setup(&self) -> &Config {
-        self.config()
+    fn tenants(&self) -> &OpenTenants {
+        World::tenants(self)
     }
 
     fn apply(&mut self, event: &Event) -> Reply {
-        self.act_for(event.slot, &event.act)
+        World::apply(self, event)
+    }
+
+    fn admit(&mut self, tenant: Tenant) -> Result<u64, Fault> {
+        World::admit(self, tenant)
+    }
+
+    fn close(&mut self, slot: u64) {
+        let _closed = World::close(self, slot);
     }
 }

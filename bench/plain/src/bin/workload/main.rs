@@ -13,7 +13,7 @@ sessions whose requests overlap: puts gets mixed deep wide audit growth crowd se
   options: --events --tenants --dcs --shards --keys --group --value --reads
            --get-keys --sessions --carry --collect --renew --trans-time --seed
 requests one after another: many_keys few_keys long_lists many_gets two_data_centres many_tenants
-                            collected beside alone
+                            collected beside alone lives lives_beside
   options: --requests --seed";
 
 /// The greatest quota.

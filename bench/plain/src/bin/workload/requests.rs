@@ -18,6 +18,8 @@ pub enum Case {
     Collected,
     Beside,
     Alone,
+    Lives,
+    LivesBeside,
 }
 
 impl Case {
@@ -32,14 +34,18 @@ impl Case {
             "collected" => Case::Collected,
             "beside" => Case::Beside,
             "alone" => Case::Alone,
+            "lives" => Case::Lives,
+            "lives_beside" => Case::LivesBeside,
             _ => return None,
         })
     }
 
+    /// How many requests there are where no option says so; in `lives` and
+    /// `lives_beside`, how many lives.
     fn usual_requests(self) -> u64 {
         match self {
             Case::ManyKeys | Case::FewKeys => 1_000_000,
-            Case::LongLists => 100_000,
+            Case::LongLists | Case::Lives | Case::LivesBeside => 100_000,
             Case::ManyGets => 250_000,
             Case::TwoDataCentres => 400_000,
             Case::ManyTenants => 500_000,
@@ -97,6 +103,8 @@ impl Plan {
             Case::Collected => script.collected(requests),
             Case::Beside => script.beside(requests, 100_000),
             Case::Alone => script.beside(requests, 0),
+            Case::Lives => script.lives(requests, 0),
+            Case::LivesBeside => script.lives(requests, 5_000),
         }
     }
 }
@@ -128,10 +136,16 @@ impl<W: Write> Script<W> {
         let shards = self.shards;
         writeln!(self.out, "cluster {data_centres} {shards} 5000 1")?;
         for (number, tenant) in tenants.iter().enumerate() {
-            let quotas = format!("{MOST} {MOST} {MOST} {MOST} 1024 {MOST} {MOST}");
-            writeln!(self.out, "tenant {tenant} {number:032x} 0 {quotas}")?;
+            write!(self.out, "tenant ")?;
+            self.terms(tenant, number as u64)?;
         }
         writeln!(self.out, "begin")
+    }
+
+    /// The ten words of a tenant.
+    fn terms(&mut self, tenant: &str, token: u64) -> io::Result<()> {
+        let quotas = format!("{MOST} {MOST} {MOST} {MOST} 1024 {MOST} {MOST}");
+        writeln!(self.out, "{tenant} {token:032x} 0 {quotas}")
     }
 
     fn client(&mut self, tenant: &str, session: &'static str, dc: u64) -> io::Result<Client> {
@@ -286,6 +300,46 @@ impl<W: Write> Script<W> {
             self.put(&client, &key)?;
             if number % 50 == 49 {
                 self.collect("acme", 1)?;
+            }
+        }
+        Ok(())
+    }
+
+    /// Tenants one after another, each of whom comes, puts, gets and goes. Beside them there may be a tenant with so
+    /// many sessions, each of which has put once; one of them puts again after every ten lives.
+    fn lives(&mut self, lives: u64, sessions: u64) -> io::Result<()> {
+        let others: &[String] = if sessions > 0 {
+            &["acme".to_string()]
+        } else {
+            &[]
+        };
+        self.head(1, others)?;
+        for number in 0..sessions {
+            let key = key(self.random.below(1_000));
+            self.moment += 1;
+            let moment = self.moment;
+            writeln!(self.out, "acme open s{number} 0\nacme ctx s{number}")?;
+            writeln!(
+                self.out,
+                "acme put s{number} 1 {key} {VALUE}\nacme step s{number} {moment}"
+            )?;
+        }
+        for number in 0..lives {
+            write!(self.out, "+ ")?;
+            self.terms("guest", number + 1)?;
+            let guest = self.client("guest", "a", 0)?;
+            self.moment += 1;
+            let key = key(self.random.below(1_000));
+            self.put(&guest, &key)?;
+            let moment = self.moment;
+            writeln!(self.out, "guest get a 1 {key}\nguest done a {moment}")?;
+            writeln!(self.out, "- guest")?;
+            if sessions > 0 && number % 10 == 9 {
+                let (session, moment) = (self.random.below(sessions), self.moment);
+                writeln!(
+                    self.out,
+                    "acme put s{session} 1 {key} {VALUE}\nacme step s{session} {moment}"
+                )?;
             }
         }
         Ok(())

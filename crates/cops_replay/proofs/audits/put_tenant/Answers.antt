@@ -48,4 +48,4 @@ loop-place-preserved g c =
 
 pub put_node-requires : goal.put_node-requires
 put_node-requires g c =
-    place_there c.args.config.now c.args.tenant.now c.args.slot c.args.nodes.now c.loop-place.place c.index-nodes-place.result c.requires.nodes (omega arith) c.index-nodes-place.is c.requires.tenant
+    place_there c.args.config.now (tenant_config c.args.config.now c.args.tenant.now) c.args.slot c.args.nodes.now c.loop-place.place c.index-nodes-place.result c.requires.nodes (omega arith) c.index-nodes-place.is c.requires.tenant

@@ -1,56 +1,37 @@
-use Rattle.std.proofs.Common.{◌++◌, [], Ok, Err, append-nil, subst}
+use Rattle.std.proofs.Common.{subst, ◌∙◌}
+use Rattle.std.specs.Io.KnownBytes.{Appends}
 use Rattle.std.proofs.lemmas.Result.{on_ok_weaker}
-use Rattle.cops_types.specs.Sink.{AppendsFront, sink_failures, sink_writer}
-use Rattle.cops_replay.specs.AuditText.{head_text, his_nodes, tenants_text}
-use Rattle.cops_replay.specs.Pages.{page}
-use Rattle.cops_replay.proofs.PageLemmas.{Puts-then, front_of_put, front_put, whole_put}
+use Rattle.cops_types.specs.Sink.{AppendsFront, sink_writer}
+use Rattle.cops_replay.specs.AuditText.{audit_of}
+use Rattle.cops_replay.proofs.OpenLists.{AreFirst, formed_of_first, nodes_of_first, text_of_first}
+use Rattle.cops_replay.proofs.PageLemmas.{front_of_none}
 use Rattle.cops_replay.proofs.audits.write_audit.Goals as goal
 
-pub returns-in-Err-clause-front : goal.returns-in-Err-clause-front
-returns-in-Err-clause-front g c =
-    let head = head_text c.args.config.now in
-    let records = tenants_text c.args.config.now (his_nodes c.args.config.now c.args.nodes.now) 0 c.args.config.now.tenants in
-    let contents = g.W.Write.contents (sink_writer c.args.sink.now) in
-    let failures = sink_failures c.args.sink.now in
-    let old = page c.new-out.result.items contents failures in
-    let headed = page c.put_head.new.out.items (g.W.Write.contents (sink_writer c.put_head.new.sink)) (sink_failures c.put_head.new.sink) in
-    front_of_put head records c.new-out.result.items contents failures c.in-Err.fault headed c.new-out.ensures.items c.in-Err.ensures
+pub returns-in_err-slots-clause-front : goal.returns-in_err-slots-clause-front
+returns-in_err-slots-clause-front g c = front_of_none (g.W.Write.contents (sink_writer c.args.sink.now)) (audit_of c.args.config.now c.args.nodes.now)
 
-pub returns-in-Err-put_records-clause-front : goal.returns-in-Err-put_records-clause-front
-returns-in-Err-put_records-clause-front g c =
-    let head = head_text c.args.config.now in
-    let records = tenants_text c.args.config.now (his_nodes c.args.config.now c.args.nodes.now) 0 c.args.config.now.tenants in
-    let contents = g.W.Write.contents (sink_writer c.args.sink.now) in
-    let failures = sink_failures c.args.sink.now in
-    let old = page c.new-out.result.items contents failures in
-    let headed = page c.put_head.new.out.items (g.W.Write.contents (sink_writer c.put_head.new.sink)) (sink_failures c.put_head.new.sink) in
-    let told = page c.put_records.new.out.items (g.W.Write.contents (sink_writer c.put_records.new.sink)) (sink_failures c.put_records.new.sink) in
-    let all = Puts-then head records old headed tt (Err c.in-Err-put_records.fault) told c.in_default.ensures c.in-Err-put_records.ensures.text in
-    subst (AppendsFront contents told.contents) (append-nil (head ++ records)) (front_of_put (head ++ records) [] c.new-out.result.items contents failures c.in-Err-put_records.fault told c.new-out.ensures.items all)
+are_first : (g : _) (c : goal.After-drop-slots g) → AreFirst c.args.config.now c.as_slice-tenants.result.now c.as_slice.result.now
+are_first g c = record {
+  tenants_are = c.as_slice-tenants.ensures.value;
+  slots_are = c.as_slice.ensures.value ∙ c.in_ok-slots.ensures;
+}
+
+pub write_audit_at-requires-clause-nodes : goal.write_audit_at-requires-clause-nodes
+write_audit_at-requires-clause-nodes g c =
+    nodes_of_first c.args.config.now c.args.nodes.now c.as_slice-tenants.result.now c.as_slice.result.now
+    (record { tenants_are = c.as_slice-tenants.ensures.value; slots_are = c.as_slice.ensures.value ∙ c.in_ok-slots.ensures }) c.requires.nodes
 
 pub returns-clause-ok : goal.returns-clause-ok
 returns-clause-ok g c =
-    let head = head_text c.args.config.now in
-    let records = tenants_text c.args.config.now (his_nodes c.args.config.now c.args.nodes.now) 0 c.args.config.now.tenants in
-    let contents = g.W.Write.contents (sink_writer c.args.sink.now) in
-    let failures = sink_failures c.args.sink.now in
-    let old = page c.new-out.result.items contents failures in
-    let headed = page c.put_head.new.out.items (g.W.Write.contents (sink_writer c.put_head.new.sink)) (sink_failures c.put_head.new.sink) in
-    let told = page c.put_records.new.out.items (g.W.Write.contents (sink_writer c.put_records.new.sink)) (sink_failures c.put_records.new.sink) in
-    let all = Puts-then head records old headed tt (Ok tt) told c.in_default.ensures c.in_default-put_records.ensures.text in
-    on_ok_weaker c.drain.result (whole_put (head ++ records) c.new-out.result.items contents (g.W.Write.contents (sink_writer c.drain.new.sink)) failures tt told c.new-out.ensures.items all) c.drain.ensures.written
+    on_ok_weaker c.write_audit_at.result
+    (subst (Appends (g.W.Write.contents (sink_writer c.args.sink.now)) (g.W.Write.contents (sink_writer c.write_audit_at.new.sink)))
+    (text_of_first c.args.config.now c.args.nodes.now c.as_slice-tenants.result.now c.as_slice.result.now (are_first g c))) c.write_audit_at.ensures.ok
 
 pub returns-clause-front : goal.returns-clause-front
 returns-clause-front g c =
-    let head = head_text c.args.config.now in
-    let records = tenants_text c.args.config.now (his_nodes c.args.config.now c.args.nodes.now) 0 c.args.config.now.tenants in
-    let contents = g.W.Write.contents (sink_writer c.args.sink.now) in
-    let failures = sink_failures c.args.sink.now in
-    let old = page c.new-out.result.items contents failures in
-    let headed = page c.put_head.new.out.items (g.W.Write.contents (sink_writer c.put_head.new.sink)) (sink_failures c.put_head.new.sink) in
-    let told = page c.put_records.new.out.items (g.W.Write.contents (sink_writer c.put_records.new.sink)) (sink_failures c.put_records.new.sink) in
-    let all = Puts-then head records old headed tt (Ok tt) told c.in_default.ensures c.in_default-put_records.ensures.text in
-    front_put (head ++ records) c.new-out.result.items contents (g.W.Write.contents (sink_writer c.drain.new.sink)) failures tt told c.new-out.ensures.items all c.drain.ensures.front
+    subst (AppendsFront (g.W.Write.contents (sink_writer c.args.sink.now)) (g.W.Write.contents (sink_writer c.write_audit_at.new.sink)))
+    (text_of_first c.args.config.now c.args.nodes.now c.as_slice-tenants.result.now c.as_slice.result.now (are_first g c)) c.write_audit_at.ensures.front
 
 pub returns-clause-formed : goal.returns-clause-formed
-returns-clause-formed g c = on_ok_weaker c.drain.result (λ written. c.in_default-put_records.ensures.formed) c.drain.ensures.written
+returns-clause-formed g c =
+    on_ok_weaker c.write_audit_at.result (formed_of_first c.args.config.now c.args.nodes.now c.as_slice-tenants.result.now c.as_slice.result.now (are_first g c)) c.write_audit_at.ensures.formed

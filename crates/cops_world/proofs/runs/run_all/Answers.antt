@@ -1,10 +1,10 @@
 use Rattle.std.proofs.Common.{◌≡◌, ℕ, ◌+◌, length, length-append, take, List, [], ◌∷◌, ◌++◌, sym, ◌∙◌, ap, subst, arith, length-take}
 use Rattle.std.proofs.lemmas.List.{take_more}
-use Rattle.cops_types.specs.declared.configs.Config.{Config}
 use Rattle.cops_world.specs.declared.acts.Event.{Event}
 use Rattle.cops_world.specs.declared.replies.Reply.{Reply}
 use Rattle.cops_world.specs.Cluster.{SoloCluster, cluster_step}
-use Rattle.cops_world.specs.Events.{own, replies, replies_from, config_at, before_lack, IsFrontOf, IsSpared, ToldAlone}
+use Rattle.cops_world.specs.Events.{own, replies, replies_from, before_lack, IsFrontOf, IsSpared, ToldAlone}
+use Rattle.cops_world.specs.Setups.{Setup, config_in}
 use Rattle.cops_world.proofs.RunLaws.{front_step, told_step}
 use Rattle.cops_world.proofs.runs.run_all.Goals as goal
 
@@ -27,27 +27,27 @@ loop-event-preserved g c =
       as_long = ap length items ∙ length-append told (reply ∷ []) ∙ ap (λ n. n + 1) invariant.as_long;
       alone = λ slot cluster stood.
           let Told : List Event → List Reply → Type 0 =
-          λ es rs. IsSpared (replies slot es rs) → ToldAlone (config_at (setup c.args.world.now) slot) cluster (own slot es) (replies slot es rs) (After slot) in
+          λ es rs. IsSpared (replies slot es rs) → ToldAlone (config_in (setup c.args.world.now) slot) cluster (own slot es) (replies slot es rs) (After slot) in
           subst (λ es. Told es c.push.new.self.items) (sym takes)
           (subst (λ rs. Told (take i xs ++ e ∷ []) rs) (sym items)
-          (told_step (config_at (setup c.args.world.now) slot) slot cluster (take i xs) e told reply (Before slot) (After slot)
+          (told_step (config_in (setup c.args.world.now) slot) slot cluster (take i xs) e told reply (Before slot) (After slot)
           (let taken = length-take i xs in omega arith)
           (λ same_slot spared.
-          let One : Config → ℕ → Type 0 =
-          λ config s. (c : SoloCluster) → Before s c → (reply ≡ (cluster_step (config_at config s) e.act c).reply) × After s (cluster_step (config_at config s) e.act c).after in
-          subst (One (setup c.args.world.now)) same_slot (subst (λ config. One config e.slot) invariant.same (acted.own spared)))
+          let One : Setup → ℕ → Type 0 =
+          λ setup s. (c : SoloCluster) → Before s c → (reply ≡ (cluster_step (config_in setup s) e.act c).reply) × After s (cluster_step (config_in setup s) e.act c).after in
+          subst (One (setup c.args.world.now)) same_slot (subst (λ s. One s e.slot) invariant.same (acted.own spared)))
           (λ differ. acted.others slot differ)
           (invariant.alone slot cluster stood)));
       front = λ slot cluster stood.
-          let config = config_at (setup c.args.world.now) slot in
+          let config = config_in (setup c.args.world.now) slot in
           let Told : List Event → List Reply → Type 0 = λ es rs. IsFrontOf (before_lack (replies slot es rs)) (replies_from config (own slot es) cluster) in
           subst (λ es. Told es c.push.new.self.items) (sym takes)
           (subst (λ rs. Told (take i xs ++ e ∷ []) rs) (sym items)
           (front_step config slot cluster (take i xs) e told reply (Before slot)
           (let taken = length-take i xs in omega arith)
           (λ same_slot spared cluster_now stood_now.
-          let One : Config → ℕ → Type 0 = λ config s. (c : SoloCluster) → Before s c → reply ≡ (cluster_step (config_at config s) e.act c).reply in
+          let One : Setup → ℕ → Type 0 = λ setup s. (c : SoloCluster) → Before s c → reply ≡ (cluster_step (config_in setup s) e.act c).reply in
           let own_reply : One (setup c.loop-event.world) e.slot = λ k stands. (acted.own spared k stands).0 in
-          subst (One (setup c.args.world.now)) same_slot (subst (λ config. One config e.slot) invariant.same own_reply) cluster_now stood_now)
+          subst (One (setup c.args.world.now)) same_slot (subst (λ s. One s e.slot) invariant.same own_reply) cluster_now stood_now)
           (invariant.alone slot cluster stood) (invariant.front slot cluster stood)));
     }

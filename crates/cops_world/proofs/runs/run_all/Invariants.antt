@@ -1,6 +1,7 @@
 use Rattle.std.proofs.Common.{◌≡◌, ℕ, length, take}
 use Rattle.cops_world.specs.Cluster.{SoloCluster}
-use Rattle.cops_world.specs.Events.{own, replies, replies_from, config_at, before_lack, IsFrontOf, IsSpared, ToldAlone}
+use Rattle.cops_world.specs.Events.{own, replies, replies_from, before_lack, IsFrontOf, IsSpared, ToldAlone}
+use Rattle.cops_world.specs.Setups.{config_in}
 use Rattle.cops_world.proofs.runs.run_all.Given as goal
 
 -- each tenant was told so far what he is told alone, and his part of the world is as it is then
@@ -12,7 +13,7 @@ invariant-loop-event g l =
       same : setup l.world ≡ setup l.fn.world;
       as_long : length l.told.items ≡ l.event-index;
       alone : (slot : ℕ) (cluster : SoloCluster) → g.W.Tenancy.StandsFor l.fn.world slot cluster → IsSpared (replies slot past l.told.items) →
-          ToldAlone (config_at (setup l.fn.world) slot) cluster (own slot past) (replies slot past l.told.items) (g.W.Tenancy.StandsFor l.world slot);
+          ToldAlone (config_in (setup l.fn.world) slot) cluster (own slot past) (replies slot past l.told.items) (g.W.Tenancy.StandsFor l.world slot);
       front : (slot : ℕ) (cluster : SoloCluster) → g.W.Tenancy.StandsFor l.fn.world slot cluster →
-          IsFrontOf (before_lack (replies slot past l.told.items)) (replies_from (config_at (setup l.fn.world) slot) (own slot past) cluster);
+          IsFrontOf (before_lack (replies slot past l.told.items)) (replies_from (config_in (setup l.fn.world) slot) (own slot past) cluster);
     }

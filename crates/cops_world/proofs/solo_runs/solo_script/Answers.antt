@@ -1,5 +1,5 @@
 use Rattle.std.proofs.lemmas.Result.{MatchResult-weaker, on_ok_weaker}
-use Rattle.cops_world.specs.Worlds.{HasCluster, setup_of}
+use Rattle.cops_world.specs.Worlds.{HasOpenCluster, open_setup}
 use Rattle.cops_world.proofs.SoloLemmas.{all_written, front_written, nothing_done, refused_for, unwritten_alone}
 use Rattle.cops_world.proofs.solo_runs.solo_script.Goals as goal
 
@@ -8,16 +8,16 @@ returns-in_default-clause-err g c = nothing_done c.args.tenant.now _ _
 
 pub returns-clause-ok : goal.returns-clause-ok
 returns-clause-ok g c =
-    on_ok_weaker c.run_lines-ended.result (all_written setup_of HasCluster c.args.tenant.now _ _ _ c.in-Ok.solo c.in-Ok.ensures.name c.in-Ok.ensures.head _ _) c.run_lines-ended.ensures.ok
+    on_ok_weaker c.run_lines-ended.result (all_written open_setup HasOpenCluster c.args.tenant.now _ _ _ c.in-Ok.solo c.in-Ok.ensures.name c.in-Ok.ensures.head _ _) c.run_lines-ended.ensures.ok
 
 pub returns-clause-err : goal.returns-clause-err
 returns-clause-err g c =
-    MatchResult-weaker c.run_lines-ended.result c.run_lines-ended.ensures.err (λ x h. tt) (λ fault. front_written setup_of HasCluster c.args.tenant.now _ _ _ c.in-Ok.solo c.in-Ok.ensures.name c.in-Ok.ensures.head _ fault)
+    MatchResult-weaker c.run_lines-ended.result c.run_lines-ended.ensures.err (λ x h. tt) (λ fault. front_written open_setup HasOpenCluster c.args.tenant.now _ _ _ c.in-Ok.solo c.in-Ok.ensures.name c.in-Ok.ensures.head _ fault)
 
 pub returns-clause-refused : goal.returns-clause-refused
 returns-clause-refused g c =
-    MatchResult-weaker c.run_lines-ended.result c.run_lines-ended.ensures.err (λ x h. tt) (λ fault. refused_for setup_of HasCluster c.args.tenant.now _ _ _ c.in-Ok.solo c.in-Ok.ensures.name c.in-Ok.ensures.head _ fault)
+    MatchResult-weaker c.run_lines-ended.result c.run_lines-ended.ensures.err (λ x h. tt) (λ fault. refused_for open_setup HasOpenCluster c.args.tenant.now _ _ _ c.in-Ok.solo c.in-Ok.ensures.name c.in-Ok.ensures.head _ fault)
 
 pub returns-clause-unwritten : goal.returns-clause-unwritten
 returns-clause-unwritten g c =
-    MatchResult-weaker c.run_lines-ended.result c.run_lines-ended.ensures.err (λ x h. tt) (λ fault. unwritten_alone setup_of HasCluster _ _ _ _ _ fault)
+    MatchResult-weaker c.run_lines-ended.result c.run_lines-ended.ensures.err (λ x h. tt) (λ fault. unwritten_alone open_setup HasOpenCluster c.args.tenant.now _ _ _ _ _ fault)

@@ -1,6 +1,5 @@
 use Rattle.std.proofs.Common.{◌≡◌, ◌+◌, ◌*◌, ◌<◌, List, length, sym, ap, ◌∙◌, subst, get_or}
 use Rattle.std.specs.Option.{option_copied}
-use Rattle.cops_types.specs.TenantConfig.{TenantConfig}
 use Rattle.cops_node.specs.Clusters.{shape_of}
 use Rattle.cops_node.specs.Parts.{Shared}
 use Rattle.cops_node.specs.declared.Shape.{Shape}
@@ -9,12 +8,12 @@ use Rattle.cops_world.specs.Cluster.{SoloCluster}
 use Rattle.cops_world.specs.Setups.{config_in}
 use Rattle.cops_world.specs.Trails.{audited_at}
 use Rattle.cops_world.specs.Worlds.{ClusterStandsAt, KeptWorld, world_of}
-use Rattle.cops_world.proofs.WorldKeeps.{config_begun, sizes_in}
+use Rattle.cops_world.proofs.WorldKeeps.{sizes_in}
 use Rattle.cops_world.proofs.WorldTrails.{shows_own}
 use Rattle.cops_world.proofs.world.World.audit.Goals as goal
 
-pub returns-clause-open_now : goal.returns-clause-open_now
-returns-clause-open_now c =
+pub returns : goal.returns
+returns c =
     let config = c.self.inside.config in
     let nodes = c.self.inside.nodes in
     let id = c.args.id in
@@ -27,11 +26,7 @@ returns-clause-open_now c =
     let all = c.nodes-nodes.ensures.in_order.all ∙ ap (λ (s : Shape). s.data_centres * s.shards) c.self.invariant.whole.shape_is in
     let within : number < length nodes.nodes = subst (λ n. number < n) (sym all) (number_within (shape_of config) id dc shard) in
     let read : node ≡ get_or nodes.nodes number node = c.index-nodes-id.is ∙ ap (λ (ns : List Shared). get_or ns number node) c.nodes-nodes.ensures.value in
-    subst (λ (k : KeptWorld). (cluster : SoloCluster) → ClusterStandsAt (world_of k) slot cluster → option_copied c.audit.result ≡ audited_at (config_in k.setup slot) id c.args.place cluster) c.self.view_is
-    (λ cluster stood. shows_own (world_of old) slot id c.args.place node (option_copied c.audit.result) (sizes_in old.setup slot stood.open_there).shards within read c.audit.ensures.solo cluster stood)
-
-pub returns-clause-begun : goal.returns-clause-begun
-returns-clause-begun c = λ cluster has.
-    let kept = c.args.self.now in
-    subst (λ (config : TenantConfig). option_copied c.audit.result ≡ audited_at config c.args.id c.args.place cluster) (config_begun kept.setup c.args.slot has.tenants_are)
-    (returns-clause-open_now c cluster has.stands)
+    record {
+      shows = subst (λ (k : KeptWorld). (cluster : SoloCluster) → ClusterStandsAt (world_of k) slot cluster → option_copied c.audit.result ≡ audited_at (config_in k.setup slot) id c.args.place cluster) c.self.view_is
+          (λ cluster stood. shows_own (world_of old) slot id c.args.place node (option_copied c.audit.result) (sizes_in old.setup slot stood.open_there).shards within read c.audit.ensures.solo cluster stood);
+    }

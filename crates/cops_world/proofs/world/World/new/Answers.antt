@@ -1,6 +1,6 @@
-use Rattle.std.proofs.Common.{refl, ap, ◌∙◌}
+use Rattle.std.proofs.Common.{◌≡◌, refl, ap, ◌∙◌}
 use Rattle.std.specs.Prelude.{length, replicate}
-use Rattle.cops_world.specs.Setups.{Setup}
+use Rattle.cops_world.specs.Setups.{Setup, new_setup}
 use Rattle.cops_world.proofs.WorldKeeps.{clocks_of_good, kept_at_first, new_stands, nothing_in}
 use Rattle.cops_world.proofs.world.World.new.Goals as goal
 
@@ -10,10 +10,11 @@ new-requires-clause-clocks c = clocks_of_good c.args.config c.requires
 pub returns : goal.returns
 returns c =
     let setup : Setup = record { head = c.args.config; tenants = c.in_ok-tenants.tenants } in
+    let begun : setup ≡ new_setup c.args.config = ap (λ ts. record { head = c.args.config; tenants = ts }) c.in_ok-tenants.ensures in
     record {
-      setup_is = refl;
+      setup_is = begun;
       empty = new_stands c.args.config c.in_ok-nodes.nodes (record { setup = setup; nodes = c.in_ok-nodes.nodes; entries = c.with_hasher.result.entries; counts = c.in_ok-counts.counts.items })
-          (ap (λ ts. record { head = c.args.config; tenants = ts }) c.in_ok-tenants.ensures) refl (nothing_in c.with_hasher.result.entries c.with_hasher.ensures.len)
+          begun refl (nothing_in c.with_hasher.result.entries c.with_hasher.ensures.len)
           (length c.in_ok-tenants.tenants) (c.in_ok-counts.ensures.items_if_clones_equal (λ y same. same) ∙ ap (λ n. replicate n 0) (ap length c.as_slice.ensures.value))
           c.in_ok-nodes.ensures.tenants c.in_ok-nodes.ensures.fresh;
     }

@@ -1,0 +1,309 @@
+-- The tenants who are open behind the lines of a script could stand in a head.
+use Rattle.std.proofs.Common.{◌≡◌, ℕ, zero, suc, ◌+◌, ◌-◌, ◌<◌, ◌≤◌, Bool, true, false, cond, not, ◌&&◌, ◌==◌, List, [], ◌∷◌, ◌++◌, length, map, set, inl, inr, refl, sym, subst, ap, ◌∙◌, append_assoc, append-nil, length-append, arith}
+use Rattle.std.specs.Prelude.{IsTrue, codes, is_none, nat_lt, replicate, slice_get, Option, Some, None}
+use Rattle.std.specs.List.{AllByRecursion, list_any}
+use Rattle.std.specs.Str.{bytes_eq}
+use Rattle.std.proofs.Math.ListN.{length-set}
+use Rattle.std.proofs.lemmas.Bool.Decides.{nat_tests}
+use Rattle.cops_types.specs.declared.configs.Config.{Config}
+use Rattle.cops_types.specs.declared.configs.Tenant.{Tenant}
+use Rattle.cops_types.specs.declared.faults.Fault.{Fault}
+use Rattle.cops_types.specs.declared.faults.Fault.TheVariants.{NameTaken, NoSlot}
+use Rattle.cops_types.specs.Head.{Front, AtStart, Within, Begun, Follows, Leads, Whole, Says, head_of}
+use Rattle.cops_types.specs.HeadLines.{are_sizes, begin_line, is_distinct, is_tenant, most_tenants, tenant_in}
+use Rattle.cops_types.specs.HostLines.{admitted_in, closed_in, plus}
+use Rattle.cops_types.specs.OpenSlots.{admission_refusal, begun_with, has_name, has_token, open_at, open_slot_of_name}
+use Rattle.cops_types.specs.Search.{first_refusal}
+use Rattle.cops_types.specs.TenantTexts.{AreApart, has_text}
+use Rattle.cops_types.specs.Words.{first_word}
+use Rattle.cops_types.proofs.BegunSlots.{apart_behind, apart_more}
+use Rattle.cops_types.proofs.FrontLemmas.{head_of-says}
+use Rattle.cops_types.proofs.HeadLemmas.{tenant_in-is}
+use Rattle.cops_types.proofs.HostLineLemmas.{admitted-good}
+use Rattle.cops_types.proofs.OpenSlotLemmas.{apart_left, apart_put, both_fail, left_fails, right_fails, swapped}
+use Rattle.cops_types.proofs.WordLemmas.{both}
+use Rattle.cops_world.specs.declared.acts.Act.{Act}
+use Rattle.cops_world.specs.ActLines.{act_in}
+use Rattle.cops_world.specs.Said.{Said, OfHost, admission_of, admission_unless, begins_admission, begins_closing, closing_at, closing_of, said_found, said_by, said_in, tenants_after, tenants_past}
+use Rattle.cops_world.specs.Script.{said_to}
+use Rattle.cops_world.specs.Setups.{next_slot}
+use Rattle.cops_world.proofs.OpenSets.{may_be_given}
+use Rattle.cops_replay.specs.OpenAudits.{left_config, open_tenants, with_tenants}
+use Rattle.cops_replay.proofs.HeadsBack.{IsToken, head_read, parsed_token, tenant_written, written_head, written_tenant}
+
+-- ---- tenants of a head
+
+-- the tenant is within the limits, and has a token
+record IsFit (tenant : Tenant) : Type 0 where
+  good : IsTrue (is_tenant tenant)
+  token : IsToken tenant.token
+
+abbrev AreFit : List Tenant → Type 0
+AreFit tenants = AllByRecursion IsFit tenants
+
+-- no two tenants have one name or one token
+record AreAllApart (slots : List (Option Tenant)) : Type 0 where
+  names : AreApart (λ tenant. tenant.name) slots
+  tokens : AreApart (λ tenant. tenant.token) slots
+
+record IsOfHead (config : Config) : Type 0 where
+  sizes : IsTrue (are_sizes config)
+  few : length config.tenants ≤ most_tenants
+  fit : AreFit config.tenants
+  apart : AreAllApart (map Some config.tenants)
+
+abbrev StandsIn : Front → Type 0
+StandsIn AtStart = Unit {0}
+StandsIn (Within config) = IsOfHead config
+StandsIn (Begun config) = IsOfHead config
+
+bare_stands : (config : Config) → IsTrue (are_sizes config) → config.tenants ≡ [] → IsOfHead config
+bare_stands config sizes bare = record {
+  sizes = sizes;
+  few = (let none = ap (λ (ts : List Tenant). length ts) bare in omega (arith, none));
+  fit = subst AreFit (sym bare) tt;
+  apart = subst (λ (ts : List Tenant). AreAllApart (map Some ts)) (sym bare) (record { names = tt; tokens = tt });
+}
+
+fit_more : (tenants : List Tenant) (tenant : Tenant) → AreFit tenants → IsFit tenant → AreFit (tenants ++ tenant ∷ [])
+fit_more [] tenant fit is = (is, tt)
+fit_more (first ∷ tenants) tenant fit is = (fit.0, fit_more tenants tenant fit.1 is)
+
+neither : (a b : Bool) → (not a && not b) ≡ true → (a ≡ false) × (b ≡ false)
+neither true b h = absurd cc
+neither false true h = absurd cc
+neither false false h = (refl, refl)
+
+follows_stands : (front : Front) (line : List ℕ) (next : Front) → StandsIn front → Follows front line next → StandsIn next
+follows_stands AtStart line next stands (config, is, e) = subst StandsIn (sym e) (bare_stands config is.within is.bare)
+follows_stands (Within old) line next stands (inl joins) =
+    let may = both (nat_lt (length old.tenants) 64) (is_distinct old.tenants joins.tenant) joins.may in
+    let fresh = neither (list_any (λ (other : Tenant). bytes_eq other.name joins.tenant.name) old.tenants) (list_any (λ (other : Tenant). bytes_eq other.token joins.tenant.token) old.tenants) may.1 in
+    let below : length old.tenants < 64 = (let test = may.0 in grind (arith, nat_tests)) in
+    let longer = length-append old.tenants (joins.tenant ∷ []) in
+    subst StandsIn (sym joins.after) (record {
+      sizes = stands.sizes;
+      few = omega (arith, below, longer);
+      fit = fit_more old.tenants joins.tenant stands.fit (record { good = joins.said.within; token = parsed_token joins.said.token joins.tenant.token joins.said.parses });
+      apart = record {
+        names = apart_more (λ t. t.name) old.tenants joins.tenant stands.apart.names fresh.0;
+        tokens = apart_more (λ t. t.token) old.tenants joins.tenant stands.apart.tokens fresh.1;
+      };
+    })
+follows_stands (Within old) line next stands (inr ends) = subst StandsIn (sym ends.after) stands
+follows_stands (Begun old) line next stands follows = absurd follows
+
+leads_stands : (front : Front) (lines : List (List ℕ)) (last : Front) → StandsIn front → Leads front lines last → StandsIn last
+leads_stands front [] last stands e = subst StandsIn (sym e) stands
+leads_stands front (line ∷ lines) last stands (next, follows, leads) = leads_stands next lines last (follows_stands front line next stands follows) leads
+
+of_head : (lines rest : List (List ℕ)) (config : Config) → head_of lines ≡ Whole config rest → IsOfHead config
+of_head lines rest config e =
+    let (head, is, whole) = subst (Says lines) e (head_of-says lines) in
+    leads_stands AtStart head (Begun config) tt is
+
+-- ---- tenants who are open
+
+abbrev IsFitThere : Option Tenant → Type 0
+IsFitThere None = Unit {0}
+IsFitThere (Some tenant) = IsFit tenant
+
+-- each slot that may be given is there, who is open is fit for a head, and no two have one name or one token
+record CanStand (tenants : List (Option Tenant)) : Type 0 where
+  all : length tenants ≡ most_tenants
+  fit : AllByRecursion IsFitThere tenants
+  apart : AreAllApart tenants
+
+begun_stands : (config : Config) → IsOfHead config → CanStand (begun_with config.tenants)
+begun_stands config is = record {
+  all = (let long = long_behind config.tenants (most_tenants - length config.tenants) in let few = is.few in omega (arith, long, few));
+  fit = fit_behind config.tenants (most_tenants - length config.tenants) is.fit;
+  apart = record {
+    names = apart_behind (λ t. t.name) config.tenants (most_tenants - length config.tenants) is.apart.names;
+    tokens = apart_behind (λ t. t.token) config.tenants (most_tenants - length config.tenants) is.apart.tokens;
+  };
+}
+  where
+    long_behind : (tenants : List Tenant) (free : ℕ) → length (map (λ (t : Tenant). Some t) tenants ++ replicate free None) ≡ length tenants + free
+    long_behind [] zero = refl
+    long_behind [] (suc free) = let more = long_behind [] free in omega (arith, more)
+    long_behind (x ∷ tenants) free = let more = long_behind tenants free in omega (arith, more)
+
+    fit_behind : (tenants : List Tenant) (free : ℕ) → AreFit tenants → AllByRecursion IsFitThere (map Some tenants ++ replicate free None)
+    fit_behind [] zero fit = tt
+    fit_behind [] (suc free) fit = (tt, fit_behind [] free fit)
+    fit_behind (x ∷ tenants) free fit = (fit.0, fit_behind tenants free fit.1)
+
+fit_set : (tenants : List (Option Tenant)) (slot : ℕ) (o : Option Tenant) → AllByRecursion IsFitThere tenants → IsFitThere o → AllByRecursion IsFitThere (set tenants slot o)
+fit_set [] slot o fit own = tt
+fit_set (t ∷ tenants) zero o fit own = (own, fit.1)
+fit_set (t ∷ tenants) (suc slot) o fit own = (fit.0, fit_set tenants slot o fit.1 own)
+
+free_there : (tenants : List (Option Tenant)) (slot : ℕ) → slot < length tenants → open_at slot tenants ≡ None → slice_get tenants slot ≡ Some None
+free_there [] slot below vacant = absurd (omega arith)
+free_there (t ∷ tenants) zero below vacant = ap Some vacant
+free_there (t ∷ tenants) (suc slot) below vacant = free_there tenants slot (omega arith) vacant
+
+-- nobody who is open has his name, or his token
+fresh_to : (tenants : List (Option Tenant)) (slot : ℕ) (tenant : Tenant) → admission_refusal tenants slot tenant ≡ None → (list_any (has_name tenant.name) tenants ≡ false) × (list_any (has_token tenant.token) tenants ≡ false)
+fresh_to tenants slot tenant e = by (list_any (has_name tenant.name) tenants) (list_any (has_token tenant.token) tenants) (nat_lt slot most_tenants && is_none (open_at slot tenants)) e
+  where
+    by : (a b c : Bool) → first_refusal ((not (not a && not b), NameTaken) ∷ (not c, NoSlot) ∷ []) ≡ None → (a ≡ false) × (b ≡ false)
+    by true b c e = absurd cc
+    by false true c e = absurd cc
+    by false false c e = (refl, refl)
+
+admitted_token : (line : List ℕ) (tenant : Tenant) → admitted_in line ≡ Some tenant → IsToken tenant.token
+admitted_token [] tenant e = absurd cc
+admitted_token (sign ∷ rest) tenant e = by (sign == plus) e
+  where
+    by : (t : Bool) → cond t (tenant_in (codes "tenant" ++ rest)) None ≡ Some tenant → IsToken tenant.token
+    by true e = let is = tenant_in-is (codes "tenant" ++ rest) tenant e in parsed_token is.token tenant.token is.parses
+    by false e = absurd cc
+
+-- ---- one line more
+
+module _ (tenants : List (Option Tenant)) (can : CanStand tenants) where
+  abbrev After : Said → Type 0
+  After said = CanStand (tenants_after tenants said)
+
+  unless_stands : (tenant : Tenant) (refusal : Option Fault) → IsFit tenant → admission_refusal tenants (next_slot tenants) tenant ≡ refusal → After (OfHost (admission_unless tenants tenant refusal))
+  unless_stands tenant None fit e =
+      let slot = next_slot tenants in
+      let given = may_be_given tenants slot tenant e in
+      let low = given.low in
+      let many = can.all in
+      let there = free_there tenants slot (omega (arith, low, many)) given.vacant in
+      let fresh = fresh_to tenants slot tenant e in
+      record {
+        all = length-set tenants slot (Some tenant) ∙ can.all;
+        fit = fit_set tenants slot (Some tenant) can.fit fit;
+        apart = record {
+          names = apart_put (λ t. t.name) tenants slot tenant there can.apart.names fresh.0;
+          tokens = apart_put (λ t. t.token) tenants slot tenant there can.apart.tokens fresh.1;
+        };
+      }
+  unless_stands tenant (Some fault) fit e = can
+
+  admission_stands : (line : List ℕ) (found : Option Tenant) → admitted_in line ≡ found → After (OfHost (admission_of tenants found))
+  admission_stands line None e = can
+  admission_stands line (Some tenant) e =
+      unless_stands tenant (admission_refusal tenants (next_slot tenants) tenant) (record { good = admitted-good line tenant e; token = admitted_token line tenant e }) refl
+
+  closing_stands : (found : Option (List ℕ)) → After (OfHost (closing_of tenants found))
+  closing_stands None = can
+  closing_stands (Some name) = by (open_slot_of_name tenants name)
+    where
+      by : (slot : Option ℕ) → After (OfHost (closing_at name slot))
+      by None = can
+      by (Some slot) = record {
+        all = length-set tenants slot None ∙ can.all;
+        fit = fit_set tenants slot None can.fit tt;
+        apart = record { names = apart_left (λ t. t.name) tenants slot can.apart.names; tokens = apart_left (λ t. t.token) tenants slot can.apart.tokens };
+      }
+
+  at_stands : (line : List ℕ) (found : Option ℕ) → After (said_found line found)
+  at_stands line None = can
+  at_stands line (Some slot) = by (act_in (first_word line) line)
+    where
+      by : (act : Option Act) → After (said_by slot act)
+      by None = can
+      by (Some act) = can
+
+  after_stands : (line : List ℕ) → After (said_in tenants line)
+  after_stands line =
+      by (begins_admission line) (begins_closing line) (OfHost (admission_of tenants (admitted_in line))) (OfHost (closing_of tenants (closed_in line))) (said_found line (open_slot_of_name tenants (first_word line)))
+      (admission_stands line (admitted_in line) refl) (closing_stands (closed_in line)) (at_stands line (open_slot_of_name tenants (first_word line)))
+    where
+      by : (a b : Bool) (x y z : Said) → After x → After y → After z → After (cond a x (cond b y z))
+      by true b x y z p q r = p
+      by false true x y z p q r = q
+      by false false x y z p q r = r
+
+past_stands : (tenants : List (Option Tenant)) (lines : List (List ℕ)) → CanStand tenants → CanStand (tenants_past tenants (said_to tenants lines))
+past_stands tenants [] can = can
+past_stands tenants (line ∷ lines) can = past_stands (tenants_after tenants (said_in tenants line)) lines (after_stands tenants can line)
+
+-- ---- who is open, in a head of his own
+
+fit_open : (tenants : List (Option Tenant)) → AllByRecursion IsFitThere tenants → AreFit (open_tenants tenants)
+fit_open [] fit = tt
+fit_open (None ∷ tenants) fit = fit_open tenants fit.1
+fit_open (Some t ∷ tenants) fit = (fit.0, fit_open tenants fit.1)
+
+few_open : (tenants : List (Option Tenant)) → length (open_tenants tenants) ≤ length tenants
+few_open [] = omega arith
+few_open (None ∷ tenants) = let few = few_open tenants in omega (arith, few)
+few_open (Some t ∷ tenants) = let few = few_open tenants in omega (arith, few)
+
+module _ (text_of : Tenant → List ℕ) where
+  none_open : (text : List ℕ) (tenants : List (Option Tenant)) → list_any (has_text text_of text) tenants ≡ false → list_any (has_text text_of text) (map Some (open_tenants tenants)) ≡ false
+  none_open text [] h = refl
+  none_open text (None ∷ tenants) h = none_open text tenants h
+  none_open text (Some t ∷ tenants) h =
+      let mine = bytes_eq (text_of t) text in
+      both_fail mine (list_any (has_text text_of text) (map Some (open_tenants tenants))) (left_fails mine (list_any (has_text text_of text) tenants) h)
+      (none_open text tenants (right_fails mine (list_any (has_text text_of text) tenants) h))
+
+  apart_open : (tenants : List (Option Tenant)) → AreApart text_of tenants → AreApart text_of (map Some (open_tenants tenants))
+  apart_open [] apart = tt
+  apart_open (None ∷ tenants) apart = apart_open tenants apart
+  apart_open (Some t ∷ tenants) apart = (none_open (text_of t) tenants apart.0, apart_open tenants apart.1)
+
+  -- one among them has another text than one before him
+  differs : (text : List ℕ) (front : List Tenant) (tenant : Tenant) (more : List Tenant) → list_any (has_text text_of text) (map Some (front ++ tenant ∷ more)) ≡ false → bytes_eq (text_of tenant) text ≡ false
+  differs text [] tenant more h = left_fails (bytes_eq (text_of tenant) text) (list_any (has_text text_of text) (map Some more)) h
+  differs text (x ∷ front) tenant more h = differs text front tenant more (right_fails (bytes_eq (text_of x) text) (list_any (has_text text_of text) (map Some (front ++ tenant ∷ more))) h)
+
+  fresh_behind : (front : List Tenant) (tenant : Tenant) (more : List Tenant) → AreApart text_of (map Some (front ++ tenant ∷ more)) → list_any (λ (other : Tenant). bytes_eq (text_of other) (text_of tenant)) front ≡ false
+  fresh_behind [] tenant more apart = refl
+  fresh_behind (x ∷ front) tenant more apart =
+      both_fail (bytes_eq (text_of x) (text_of tenant)) (list_any (λ (other : Tenant). bytes_eq (text_of other) (text_of tenant)) front)
+      (swapped (text_of x) (text_of tenant) ∙ differs (text_of x) front tenant more apart.0) (fresh_behind front tenant more apart.1)
+
+both_true : (a b : Bool) → a ≡ true → b ≡ true → (a && b) ≡ true
+both_true true true p q = refl
+both_true true false p q = q
+both_true false b p q = p
+
+is_new_among : (a b : Bool) → a ≡ false → b ≡ false → (not a && not b) ≡ true
+is_new_among false false p q = refl
+is_new_among false true p q = absurd cc
+is_new_among true b p q = absurd cc
+
+below_test : (n : ℕ) → n < most_tenants → nat_lt n most_tenants ≡ true
+below_test n h = grind (arith, nat_tests)
+
+-- behind these tenants the others join, and then the head ends
+tenants_lead : (config : Config) (front more : List Tenant) → length (front ++ more) ≤ most_tenants → AreFit more → AreAllApart (map Some (front ++ more)) →
+    Leads (Within (with_tenants config front)) (map written_tenant more ++ begin_line ∷ []) (Begun (with_tenants config (front ++ more)))
+tenants_lead config front [] few fit apart = (Begun (with_tenants config front), inr (record { said = refl; after = refl }), ap (λ (ts : List Tenant). Begun (with_tenants config ts)) (append-nil front))
+tenants_lead config front (tenant ∷ more) few fit apart =
+    let together = append_assoc front (tenant ∷ []) more in
+    let long = length-append front (tenant ∷ more) in
+    let may = both_true (nat_lt (length front) most_tenants) (is_distinct front tenant) (below_test (length front) (omega (arith, long, few)))
+    (is_new_among (list_any (λ (other : Tenant). bytes_eq other.name tenant.name) front) (list_any (λ (other : Tenant). bytes_eq other.token tenant.token) front)
+    (fresh_behind (λ t. t.name) front tenant more apart.names) (fresh_behind (λ t. t.token) front tenant more apart.tokens)) in
+    let rest = tenants_lead config (front ++ tenant ∷ []) more (subst (λ (ts : List Tenant). length ts ≤ most_tenants) (sym together) few) fit.1 (subst (λ (ts : List Tenant). AreAllApart (map Some ts)) (sym together) apart) in (
+      Within (with_tenants config (front ++ tenant ∷ [])),
+      inl (record { tenant = tenant; said = tenant_written tenant fit.0.token fit.0.good; may = may; after = refl }),
+      subst (λ (ts : List Tenant). Leads (Within (with_tenants config (front ++ tenant ∷ []))) (map written_tenant more ++ begin_line ∷ []) (Begun (with_tenants config ts))) together rest,
+    )
+
+head_leads : (config : Config) (tenants : List Tenant) → IsTrue (are_sizes config) → length tenants ≤ most_tenants → AreFit tenants → AreAllApart (map Some tenants) →
+    Leads AtStart (written_head (with_tenants config tenants)) (Begun (with_tenants config tenants))
+head_leads config tenants sizes few fit apart =
+    (Within (with_tenants config []), (with_tenants config [], record { spelled = refl; within = sizes; bare = refl }, refl), tenants_lead config [] tenants few fit apart)
+
+-- the lines of such a head
+pub open_head : (lines rest : List (List ℕ)) (config : Config) → head_of lines ≡ Whole config rest → head_of (written_head (left_config config rest)) ≡ Whole (left_config config rest) []
+open_head lines rest config head =
+    let is = of_head lines rest config head in
+    let begun = begun_with config.tenants in
+    let tenants = tenants_past begun (said_to begun rest) in
+    let can = past_stands begun rest (begun_stands config is) in
+    let few = few_open tenants in
+    let all = can.all in
+    let leads = head_leads config (open_tenants tenants) is.sizes (omega (arith, few, all)) (fit_open tenants can.fit)
+    (record { names = apart_open (λ t. t.name) tenants can.apart.names; tokens = apart_open (λ t. t.token) tenants can.apart.tokens }) in
+    ap head_of (sym (append-nil (written_head (left_config config rest)))) ∙ head_read (written_head (left_config config rest)) [] 1 AtStart (left_config config rest) leads

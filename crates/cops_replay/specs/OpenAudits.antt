@@ -1,0 +1,59 @@
+-- The audit of tenants who are open: those of some slots, in slot order.
+use Rattle.std.specs.Prelude.{◌≡◌, ℕ, ◌+◌, List, [], ◌∷◌, length, filter_map, slice_get, slice_index_or, Option, Some, None}
+use Rattle.cops_types.specs.declared.configs.Config.{Config}
+use Rattle.cops_types.specs.declared.configs.Tenant.{Tenant}
+use Rattle.cops_types.specs.TenantConfig.{TenantConfig, tenant_config}
+use Rattle.cops_node.specs.Clusters.{HasTenant, IsCluster, shape_of}
+use Rattle.cops_node.specs.Parts.{Shared}
+use Rattle.cops_node.specs.SoloNode.{SoloNode}
+use Rattle.cops_world.specs.ScriptWorlds.{cluster_left, life_left, setup_left}
+use Rattle.cops_replay.specs.AuditText.{audit_text, his_nodes}
+
+-- ---- who is open
+
+-- by slot
+abbrev pub open_tenants : List (Option Tenant) → List Tenant
+open_tenants tenants = filter_map (λ tenant. tenant) tenants
+
+-- the slots that have a tenant, where the list begins with the slot of this number
+abbrev pub slots_from : ℕ → List (Option Tenant) → List ℕ
+slots_from n [] = []
+slots_from n (None ∷ tenants) = slots_from (n + 1) tenants
+slots_from n (Some tenant ∷ tenants) = n ∷ slots_from (n + 1) tenants
+
+-- rising
+abbrev pub open_slots : List (Option Tenant) → List ℕ
+open_slots tenants = slots_from 0 tenants
+
+-- ---- the audit of some tenants, of whom each has the slot of his place
+
+-- the sizes and limits are the configuration's
+abbrev pub with_tenants : Config → List Tenant → Config
+with_tenants config tenants = record config { tenants = tenants }
+
+-- from nodes by slot to nodes by place in the list of slots
+abbrev pub at_slots : List ℕ → (TenantConfig → ℕ → List SoloNode) → TenantConfig → ℕ → List SoloNode
+at_slots slots nodes tenant place = nodes tenant (slice_index_or slots place 0)
+
+-- a tenant's nodes among those that tenants share
+abbrev pub nodes_at : Config → List ℕ → List Shared → TenantConfig → ℕ → List SoloNode
+nodes_at config slots nodes = at_slots slots (his_nodes config nodes)
+
+abbrev pub audit_at : Config → List Tenant → List ℕ → List Shared → List ℕ
+audit_at config tenants slots nodes = audit_text (with_tenants config tenants) (nodes_at config slots nodes)
+
+-- these are the configuration's nodes, by number, and the slot of each place is that of the tenant of that place in them
+pub record AreNodesAt (config : Config) (tenants : List Tenant) (slots : List ℕ) (nodes : List Shared) : Type 0 where
+  pub by_number : IsCluster (shape_of config) nodes
+  pub each_slot : length slots ≡ length tenants
+  pub each_tenant : (place : ℕ) (tenant : Tenant) → slice_get tenants place ≡ Some tenant →
+      HasTenant (tenant_config config tenant) (slice_index_or slots place 0) (record { shape = shape_of config; nodes = nodes })
+
+-- ---- of a script: who is open behind its lines, each with the nodes that his life's lines leave him
+
+abbrev pub left_config : Config → List (List ℕ) → Config
+left_config config lines = with_tenants config (open_tenants (setup_left config lines).tenants)
+
+-- by place among them
+abbrev pub left_nodes : Config → List (List ℕ) → TenantConfig → ℕ → List SoloNode
+left_nodes config lines = at_slots (open_slots (setup_left config lines).tenants) (λ tenant slot. (cluster_left config lines (life_left config lines slot)).nodes)

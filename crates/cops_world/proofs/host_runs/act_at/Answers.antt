@@ -1,0 +1,11 @@
+use Rattle.std.proofs.Common.{◌∙◌, ap, sym}
+use Rattle.std.specs.Prelude.{is_some}
+use Rattle.cops_types.specs.OpenSlots.{open_at}
+use Rattle.cops_world.proofs.HostRunLemmas.{acted_at, some_copied}
+use Rattle.cops_world.proofs.host_runs.act_at.Goals as goal
+
+pub returns : goal.returns
+returns c =
+    acted_at c.args.world.now c.act_for.new.self c.args.slot c.args.act.now c.act_for.result
+    (ap (λ ts. is_some (open_at c.args.slot ts)) (sym c.tenants.ensures) ∙ ap is_some (sym c.tenant.ensures) ∙ some_copied c.tenant.result ∙ c.if-is_none.ensures)
+    c.act_for.ensures.moves c.act_for.ensures.lack
