@@ -1,6 +1,6 @@
 /* Names of eight letters that share a hash in a table of the toolchain that has no seeds of its own.
    usage: collide COUNT BITS
-   It writes COUNT names, one a line. As names of actors in slot 0 they have one place in a table of up to 2^BITS groups
+   It writes COUNT names, one a line. As names of a tenant's actors they have one place in a table of up to 2^BITS groups
    whose hashes begin with the toolchain's fixed state. */
 #include <stdint.h>
 #include <stdio.h>
@@ -23,8 +23,8 @@ int main(int count_of_words, char **words)
     }
     const long count = strtol(words[1], NULL, 10);
     const uint64_t mask = ((uint64_t)1 << strtol(words[2], NULL, 10)) - 1;
-    /* The slot is read as one word of 8 bytes, and then a name's 16 bytes as two, the second of them zeros. */
-    const uint64_t before = folded_multiply(STATE, MULTIPLIER ^ 2 * 8) + 16;
+    /* A name's 16 bytes are read as two words, the second of them zeros. */
+    const uint64_t before = STATE + 16;
     const int letters = sizeof LETTERS - 1;
     int places[8] = {0};
     uint64_t name = 0;

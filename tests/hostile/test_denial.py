@@ -151,7 +151,7 @@ class Denial(unittest.TestCase):
             check_replays(self, service.audit(), [ACME, BETA])
 
     def test_names_chosen_to_collide_take_no_longer_than_others(self):
-        """The table of actors is hashed with seeds that rest on the tokens; without them this takes some fifteen times as long."""
+        """A tenant's table of actors is hashed with seeds that rest on the tokens; without them this takes many times as long."""
         count, lines, taken = 30_000, 30_000, []
         told = b"acme opened\n" * count + b"beta opened\n" * 100 + b"beta E06\n" * lines
         for names in (collisions.other_names(count), collisions.colliding_names(count, 13)):

@@ -1,20 +1,24 @@
--- The table of actors: what is found, and what follows when one is put in another's place.
-use Rattle.std.proofs.Common.{◌≡◌, ◌≢◌, ℕ, zero, suc, ◌+◌, ◌<◌, nat_lt, lt-ltb, not, unwrap_or, Bool, true, false, cond, ◌&&◌, List, [], ◌∷◌, filter, length, get_or, nat_eq, refl, sym, subst, ap, ◌∙◌, true≢false, arith}
-use Rattle.std.specs.Prelude.{IsTrue, OnOk, Option, Some, None, is_some, Result, Ok, Err, slice_get, position}
+-- The tables of actors: what is found, and what follows when one is put in another's place.
+use Rattle.std.proofs.Common.{◌≡◌, ◌≢◌, inl, inr, ℕ, zero, suc, ◌+◌, ◌<◌, nat_lt, lt-ltb, not, unwrap_or, Bool, true, false, cond, ◌&&◌, List, [], ◌∷◌, length, get_or, set, nat_eq, refl, sym, subst, ap, ◌∙◌, true≢false, arith}
+use Rattle.std.specs.Prelude.{IfOk, IsTrue, OnOk, Option, Some, None, is_some, Result, Ok, Err, slice_get, position}
 use Rattle.std.specs.Result.{is_ok}
-use Rattle.std.specs.Cmp.{IsEquivalence}
+use Rattle.std.specs.Cmp.Lexicographic.{nat_list_eq_equiv}
 use Rattle.std.specs.List.{AllByRecursion, IsDistinct, position_or_len}
 use Rattle.std.specs.Map.{keys_of, lookup, values_of}
-use Rattle.std.proofs.lemmas.Bool.Decides.{Decides-eqb}
+use Rattle.std.proofs.Math.ListN.{length-set}
+use Rattle.std.proofs.lemmas.Bool.Decides.{Decides-eqb, eqb_tells}
+use Rattle.std.proofs.lemmas.List.{get_or-set_same, get_or-set_other}
 use Rattle.std.proofs.lemmas.List.Quantifiers.{position-Some}
 use Rattle.std.proofs.lemmas.Option.{slice_get_within}
 use Rattle.std.proofs.lemmas.Map.Keys.{IsDistinct-head, IsDistinct-tail}
-use Rattle.std.proofs.lemmas.Slice.Eq.{bytes_eq-Decides}
 use Rattle.indexmap.specs.IndexMap.{IndexMap, keys, with_value_at, IsUnique, Updates}
+use Rattle.indexmap.proofs.MapLemmas.{Found-position}
 use Rattle.indexmap.proofs.CallerLemmas.{updates-with_value_at, keys-with_value_at}
+use Rattle.cops_types.proofs.KeyTests.{key_eq-true, key_eq-refl}
 use Rattle.cops_types.specs.Key.{key_eq}
+use Rattle.cops_world.specs.declared.actors.Actor.{Actor}
 use Rattle.cops_world.specs.declared.actors.ActorId.{ActorId}
-use Rattle.cops_world.specs.ActorTables.{same_actor}
+use Rattle.cops_world.specs.ActorTables.{Table, Places, PlacesIn, actor_at, count_at, same_actor, table_of}
 
 and_left : (a b : Bool) → (a && b) ≡ true → a ≡ true
 and_left true b h = refl
@@ -31,11 +35,11 @@ both false b h k = absurd (true≢false (sym h))
 pub same_actor-is : (a b : ActorId) → same_actor a b ≡ true → a ≡ b
 same_actor-is a b h =
     let slot = (Decides-eqb a.slot b.slot).0 (and_left _ _ h) in
-    let name = (bytes_eq-Decides a.name b.name).0 (and_right (nat_eq a.slot b.slot) _ h) in
+    let name = key_eq-true a.name b.name (and_right (nat_eq a.slot b.slot) _ h) in
     (λ i. record { slot = slot i; name = name i })
 
 pub same_actor-refl : (a : ActorId) → same_actor a a ≡ true
-same_actor-refl a = both _ _ ((Decides-eqb a.slot a.slot).1 refl) ((bytes_eq-Decides a.name a.name).1 refl)
+same_actor-refl a = both _ _ ((Decides-eqb a.slot a.slot).1 refl) (key_eq-refl a.name)
 
 -- another slot, or another name
 pub other_slot : (a b : ActorId) → a.slot ≢ b.slot → same_actor a b ≡ false
@@ -52,104 +56,132 @@ other_name slot name other apart = by (same_actor (record { slot = slot; name = 
     by true e = sym (and_right (nat_eq slot slot) (key_eq name other) e) ∙ apart
     by false e = refl
 
-pub actor_laws : IsEquivalence same_actor
-actor_laws = record {
-  refl = same_actor-refl;
-  symm = λ a b. turned a b (same_actor a b) refl;
-  congr = λ a b c e. ap (λ x. same_actor x c) (same_actor-is a b e);
-}
-  where
-    not_back : (a b : ActorId) → same_actor a b ≡ false → (t : Bool) → same_actor b a ≡ t → false ≡ t
-    not_back a b e true is = absurd (true≢false (sym (same_actor-refl a) ∙ ap (same_actor a) (sym (same_actor-is b a is)) ∙ e))
-    not_back a b e false is = refl
-
-    turned : (a b : ActorId) (t : Bool) → same_actor a b ≡ t → same_actor a b ≡ same_actor b a
-    turned a b true e = let same = same_actor-is a b e in λ i. same_actor (same i) (sym same i)
-    turned a b false e = e ∙ not_back a b e (same_actor b a) refl
+-- ---- one table
 
 -- the entry at an index that was found
-record Here {V : Type 0} (id : ActorId) (es : List (ActorId × V)) (i : ℕ) : Type 0 where
+record Here {V : Type 0} (name : List ℕ) (es : List (List ℕ × V)) (i : ℕ) : Type 0 where
   value : V
-  entry : slice_get es i ≡ Some (id, value)
+  entry : slice_get es i ≡ Some (name, value)
   found : slice_get (values_of es) i ≡ Some value
 
-length-keys : {V : Type 0} (es : List (ActorId × V)) → length (keys_of es) ≡ length es
+length-keys : {V : Type 0} (es : List (List ℕ × V)) → length (keys_of es) ≡ length es
 length-keys [] = refl
 length-keys (e ∷ es) = ap suc (length-keys es)
 
-here_at : {V : Type 0} (id : ActorId) (es : List (ActorId × V)) (i : ℕ) → i < length es → same_actor id (get_or (keys_of es) i id) ≡ true → Here id es i
-here_at id [] i below h = absurd (omega arith)
-here_at id (e ∷ es) zero below h = record { value = e.1; entry = (let same = same_actor-is id e.0 h in λ j. Some (sym same j, e.1)); found = refl }
-here_at id (e ∷ es) (suc i) below h = let rest = here_at id es i (omega arith) h in record { value = rest.value; entry = rest.entry; found = rest.found }
+here_at : {V : Type 0} (name : List ℕ) (es : List (List ℕ × V)) (i : ℕ) → i < length es → key_eq name (get_or (keys_of es) i name) ≡ true → Here name es i
+here_at name [] i below h = absurd (omega arith)
+here_at name (e ∷ es) zero below h = record { value = e.1; entry = (let same = key_eq-true name e.0 h in λ j. Some (sym same j, e.1)); found = refl }
+here_at name (e ∷ es) (suc i) below h = let rest = here_at name es i (omega arith) h in record { value = rest.value; entry = rest.entry; found = rest.found }
 
-here : {V : Type 0} (id : ActorId) (es : List (ActorId × V)) (i : ℕ) → Some i ≡ position (same_actor id) (keys_of es) → Here id es i
-here id es i h =
-    let found = position-Some (same_actor id) (keys_of es) i id (sym h) in
-    here_at id es i (subst (λ n. i < n) (length-keys es) found.0) found.1
+here : {V : Type 0} (name : List ℕ) (es : List (List ℕ × V)) (i : ℕ) → Some i ≡ position (key_eq name) (keys_of es) → Here name es i
+here name es i h =
+    let found = position-Some (key_eq name) (keys_of es) i name (sym h) in
+    here_at name es i (subst (λ n. i < n) (length-keys es) found.0) found.1
 
--- where no two entries are of one actor, one that is at an index is at none before it
-pub guessed_place : {V : Type 0} (id : ActorId) (es : List (ActorId × V)) (i : ℕ) (e : ActorId × V) → IsDistinct same_actor (keys_of es) → slice_get es i ≡ Some e → same_actor id e.0 ≡ true → position (same_actor id) (keys_of es) ≡ Some i
-guessed_place {V} id es i e distinct reads same =
+-- where no two entries have one name, one that is at an index is at none before it
+pub guessed_place : {V : Type 0} (name : List ℕ) (es : List (List ℕ × V)) (i : ℕ) (e : List ℕ × V) → IsDistinct key_eq (keys_of es) → slice_get es i ≡ Some e → key_eq name e.0 ≡ true → position (key_eq name) (keys_of es) ≡ Some i
+guessed_place {V} name es i e distinct reads same =
     ap (λ n. cond (nat_lt n (length (keys_of es))) (Some n) None) (is_first es i distinct reads)
     ∙ ap (λ b. cond b (Some i) None) (lt-ltb i (length (keys_of es)) (subst (λ n. i < n) (sym (length-keys es)) (slice_get_within es i e reads)))
   where
-    apart : (a : ActorId) (es : List (ActorId × V)) (i : ℕ) → AllByRecursion (λ b. same_actor a b ≡ false) (keys_of es) → slice_get es i ≡ Some e → same_actor a e.0 ≡ false
+    apart : (a : List ℕ) (es : List (List ℕ × V)) (i : ℕ) → AllByRecursion (λ b. key_eq a b ≡ false) (keys_of es) → slice_get es i ≡ Some e → key_eq a e.0 ≡ false
     apart a [] i all reads = absurd (true≢false (sym (ap is_some reads)))
-    apart a (x ∷ es) zero all reads = ap (λ o. same_actor a (unwrap_or o x).0) (sym reads) ∙ all.0
+    apart a (x ∷ es) zero all reads = ap (λ o. key_eq a (unwrap_or o x).0) (sym reads) ∙ all.0
     apart a (x ∷ es) (suc i) all reads = apart a es i all.1 reads
 
-    is_first : (es : List (ActorId × V)) (i : ℕ) → IsDistinct same_actor (keys_of es) → slice_get es i ≡ Some e → position_or_len (same_actor id) (keys_of es) ≡ i
+    is_first : (es : List (List ℕ × V)) (i : ℕ) → IsDistinct key_eq (keys_of es) → slice_get es i ≡ Some e → position_or_len (key_eq name) (keys_of es) ≡ i
     is_first [] i distinct reads = absurd (true≢false (sym (ap is_some reads)))
-    is_first (x ∷ es) zero distinct reads = ap (λ b. cond (not b) (1 + position_or_len (same_actor id) (keys_of es)) 0) (ap (λ o. same_actor id (unwrap_or o x).0) reads ∙ same)
+    is_first (x ∷ es) zero distinct reads = ap (λ b. cond (not b) (1 + position_or_len (key_eq name) (keys_of es)) 0) (ap (λ o. key_eq name (unwrap_or o x).0) reads ∙ same)
     is_first (x ∷ es) (suc i) distinct reads =
-        let other = sym (actor_laws.symm x.0 id) ∙ (ap (λ q. same_actor x.0 q) (same_actor-is id e.0 same) ∙ apart x.0 es i (IsDistinct-head same_actor x.0 (keys_of es) distinct) reads) in
-        ap (λ b. cond (not b) (1 + position_or_len (same_actor id) (keys_of es)) 0) other ∙ ap (λ n. 1 + n) (is_first es i (IsDistinct-tail same_actor x.0 (keys_of es) distinct) reads) ∙ omega arith
+        let other = sym (nat_list_eq_equiv.symm x.0 name) ∙ (ap (λ q. key_eq x.0 q) (key_eq-true name e.0 same) ∙ apart x.0 es i (IsDistinct-head key_eq x.0 (keys_of es) distinct) reads) in
+        ap (λ b. cond (not b) (1 + position_or_len (key_eq name) (keys_of es)) 0) other ∙ ap (λ n. 1 + n) (is_first es i (IsDistinct-tail key_eq x.0 (keys_of es) distinct) reads) ∙ omega arith
 
 -- a write at the index of an actor puts it in its place
-module _ {V Z : Type 0} (laws : IsEquivalence same_actor) (id : ActorId) (table : IndexMap ActorId V Z) (unique : IsUnique same_actor table) (i : ℕ) (index : Some i ≡ position (same_actor id) (keys table)) where
-  pub puts : (after : V) → Updates same_actor table (with_value_at table i after) id (Some after)
-  puts after = let h = here id table.entries i index in updates-with_value_at table i after laws unique id h.value h.entry
+module _ {V Z : Type 0} (name : List ℕ) (table : IndexMap (List ℕ) V Z) (unique : IsUnique key_eq table) (i : ℕ) (index : Some i ≡ position (key_eq name) (keys table)) where
+  pub puts : (after : V) → Updates key_eq table (with_value_at table i after) name (Some after)
+  puts after = let h = here name table.entries i index in updates-with_value_at table i after nat_list_eq_equiv unique name h.value h.entry
 
--- the same actor in its place
-pub put_same : {V : Type 0} (old new : ActorId → Option V) (id : ActorId) (value after : V) → ((q : ActorId) → new q ≡ cond (same_actor id q) (Some after) (old q)) → Some value ≡ old id → after ≡ value →
-    (q : ActorId) → new q ≡ old q
-put_same {V} old new id value after updates there same q = updates q ∙ by (same_actor id q) refl
-  where
-    by : (t : Bool) → same_actor id q ≡ t → cond (same_actor id q) (Some after) (old q) ≡ old q
-    by true e = ap (λ b. cond b (Some after) (old q)) e ∙ (λ i. Some (same i)) ∙ there ∙ ap old (same_actor-is id q e)
-    by false e = ap (λ b. cond b (Some after) (old q)) e
+  pub found_here : (value : V) → slice_get (values_of table.entries) i ≡ Some value → lookup (key_eq name) table.entries ≡ Some value
+  found_here value at = (Found-position (key_eq name) table.entries i (sym index)).value ∙ at
 
-pub stays_unique : {V Z : Type 0} (table : IndexMap ActorId V Z) (i : ℕ) (after : V) → IsDistinct same_actor (keys table) → IsDistinct same_actor (keys (with_value_at table i after))
-stays_unique table i after unique = subst (IsDistinct same_actor) (sym (keys-with_value_at table i after)) unique
+pub stays_unique : {V Z : Type 0} (table : IndexMap (List ℕ) V Z) (i : ℕ) (after : V) → IsDistinct key_eq (keys table) → IsDistinct key_eq (keys (with_value_at table i after))
+stays_unique table i after unique = subst (IsDistinct key_eq) (sym (keys-with_value_at table i after)) unique
 
 -- what holds on success holds where there was success
 pub ok_is : {A E : Type 0} {P : Type 0} (r : Result A E) {said : Bool} → IsTrue said → said ≡ is_ok r → OnOk r P → P
 ok_is (Ok a) holds same h = h
 ok_is (Err e) holds same h = absurd (true≢false (sym holds ∙ same))
 
--- ---- all actors of a slot are taken out
+-- one more where there was none
+pub ok_more : {A E : Type 0} (r : Result (Option A) E) {said : Bool} (new old : ℕ) (found : Option A) → IsTrue said → said ≡ is_ok r → IfOk r (λ was. new ≡ old + cond (is_some was) 0 1) → IfOk r (λ was. was ≡ found) → new ≡ old + cond (is_some found) 0 1
+ok_more (Ok was) new old found holds same more is = more ∙ ap (λ (o : Option _). old + cond (is_some o) 0 1) is
+ok_more (Err e) new old found holds same more is = absurd (true≢false (sym holds ∙ same))
 
-module _ {V : Type 0} (slot : ℕ) where
-  abbrev pub of_others : List (ActorId × V) → List (ActorId × V)
-  of_others es = filter (λ e. not (nat_eq e.0.slot slot)) es
+-- where nobody is found there is nobody
+pub nobody : (table : Table) → ((name : List ℕ) → lookup (key_eq name) table ≡ None) → table ≡ []
+nobody [] none = refl
+nobody (e ∷ table) none = absurd (true≢false (ap is_some (ap (λ b. cond b (Some e.1) (lookup (key_eq e.0) table)) (sym (key_eq-refl e.0)) ∙ none e.0)))
 
-  pub none_of_slot : (id : ActorId) → id.slot ≡ slot → (es : List (ActorId × V)) → lookup (same_actor id) (of_others es) ≡ None
-  none_of_slot id same [] = refl
-  none_of_slot id same (e ∷ es) = by (none_of_slot id same es) (nat_eq e.0.slot slot) refl
-    where
-      by : lookup (same_actor id) (of_others es) ≡ None → (t : Bool) → nat_eq e.0.slot slot ≡ t → lookup (same_actor id) (cond (not t) (e ∷ of_others es) (of_others es)) ≡ None
-      by rest true own = rest
-      by rest false own =
-          let apart : same_actor id e.0 ≡ false = other_slot id e.0 (λ is. true≢false (sym ((Decides-eqb e.0.slot slot).1 (sym is ∙ same)) ∙ own)) in
-          ap (λ t. cond t (Some e.1) (lookup (same_actor id) (of_others es))) apart ∙ rest
+-- ---- all tables
 
-  pub others_of_slot : (id : ActorId) → slot ≢ id.slot → (es : List (ActorId × V)) → lookup (same_actor id) (of_others es) ≡ lookup (same_actor id) es
-  others_of_slot id differ [] = refl
-  others_of_slot id differ (e ∷ es) = by (others_of_slot id differ es) (nat_eq e.0.slot slot) refl
-    where
-      by : lookup (same_actor id) (of_others es) ≡ lookup (same_actor id) es → (t : Bool) → nat_eq e.0.slot slot ≡ t →
-          lookup (same_actor id) (cond (not t) (e ∷ of_others es) (of_others es)) ≡ lookup (same_actor id) (e ∷ es)
-      by rest true own =
-          let apart : same_actor id e.0 ≡ false = other_slot id e.0 (λ is. differ (sym (is ∙ (Decides-eqb e.0.slot slot).0 own))) in
-          rest ∙ sym (ap (λ t. cond t (Some e.1) (lookup (same_actor id) es)) apart)
-      by rest false own = ap (cond (same_actor id e.0) (Some e.1)) rest
+-- an item that was read with any other in its place
+pub item_is : {A : Type 0} (xs : List A) (i : ℕ) (x d : A) → i < length xs → x ≡ get_or xs i x → get_or xs i d ≡ x
+item_is [] i x d below h = absurd (omega arith)
+item_is (y ∷ xs) zero x d below h = sym h
+item_is (y ∷ xs) (suc i) x d below h = item_is xs i x d (omega arith) h
+
+-- another table in the place of a slot's
+module _ (tables : List Table) (slot : ℕ) (table : Table) (within : slot < length tables) where
+  pub table_here : table_of slot (set tables slot table) ≡ table
+  table_here = get_or-set_same tables slot table [] within
+
+  pub table_elsewhere : (other : ℕ) → slot ≢ other → table_of other (set tables slot table) ≡ table_of other tables
+  table_elsewhere other differ = get_or-set_other tables slot other table [] (λ same. differ (sym same))
+
+  pub actor_elsewhere : (id : ActorId) → slot ≢ id.slot → actor_at (set tables slot table) id ≡ actor_at tables id
+  actor_elsewhere id differ = ap (lookup (key_eq id.name)) (table_elsewhere id.slot differ)
+
+  pub count_elsewhere : (other : ℕ) → slot ≢ other → count_at (set tables slot table) other ≡ count_at tables other
+  count_elsewhere other differ = ap length (table_elsewhere other differ)
+
+  pub count_stays : length table ≡ count_at tables slot → (other : ℕ) → count_at (set tables slot table) other ≡ count_at tables other
+  count_stays same other = elim (eqb_tells slot other) [
+    | inl is ↦ ap (count_at (set tables slot table)) (sym is.1) ∙ ap length table_here ∙ same ∙ ap (count_at tables) is.1
+    | inr apart ↦ count_elsewhere other apart.1
+  ]
+
+-- what is done in the table of a slot, of all tables
+module _ (tables : List Table) (id : ActorId) (within : id.slot < length tables) (table : Table) (after : Option Actor) (placed : PlacesIn (table_of id.slot tables) id.name after table) where
+  pub places : Places tables id after (set tables id.slot table)
+  places = record {
+    at = λ q. elim (eqb_tells id.slot q.slot) [
+      | inl is ↦
+          ap (λ n. lookup (key_eq q.name) (table_of n (set tables id.slot table))) (sym is.1)
+          ∙ ap (lookup (key_eq q.name)) (table_here tables id.slot table within)
+          ∙ placed q.name
+          ∙ ap (λ n. cond (key_eq id.name q.name) after (lookup (key_eq q.name) (table_of n tables))) is.1
+          ∙ ap (λ b. cond (b && key_eq id.name q.name) after (actor_at tables q)) (sym is.0)
+      | inr apart ↦
+          actor_elsewhere tables id.slot table within q apart.1
+          ∙ ap (λ b. cond b after (actor_at tables q)) (sym (other_slot id q apart.1))
+    ];
+    tables = length-set tables id.slot table;
+    others = count_elsewhere tables id.slot table within;
+  }
+
+-- the same, where the table was read before it was changed
+module _ (tables : List Table) (id : ActorId) (within : id.slot < length tables) (table : Table) (read : table ≡ get_or tables id.slot table) where
+  own : table_of id.slot tables ≡ table
+  own = item_is tables id.slot table [] within read
+
+  pub actor_read : actor_at tables id ≡ lookup (key_eq id.name) table
+  actor_read = ap (lookup (key_eq id.name)) own
+
+  pub count_read : count_at tables id.slot ≡ length table
+  count_read = ap length own
+
+  pub counts_now : (new : Table) → length new ≡ length table → (slot : ℕ) → count_at (set tables id.slot new) slot ≡ count_at tables slot
+  counts_now new same = count_stays tables id.slot new within (same ∙ sym count_read)
+
+  pub places_now : (new : Table) (after : Option Actor) → PlacesIn table id.name after new → Places tables id after (set tables id.slot new)
+  places_now new after placed = places tables id within new after (subst (λ (t : Table). PlacesIn t id.name after new) (sym own) placed)

@@ -76,6 +76,13 @@ too_long value false e = by (is_value value) refl
     by true h = h
     by false h = absurd (true≢false (sym (lt-ltb 4096 (length value) (leb-false (length value) 4096 h)) ∙ e))
 
+pub short_value : (value : List ℕ) → refused_if (is_too_long value) ValueTooLong ≡ None → is_value value ≡ true
+short_value value none = by (is_too_long value) refl none
+  where
+    by : (t : Bool) → is_too_long value ≡ t → cond t (Some ValueTooLong) None ≡ None → is_value value ≡ true
+    by true e h = cc
+    by false e h = too_long value false e
+
 -- ---- puts
 
 module _ (old : World) (slot : ℕ) (name : List ℕ) (number : ℕ) (key value : List ℕ) where

@@ -24,8 +24,8 @@ use Rattle.cops_world.specs.Cluster.{ActEffect, Actor, SoloCluster, actor_refusa
 use Rattle.cops_world.specs.Setups.{config_in, is_open_at}
 use Rattle.cops_world.specs.Worlds.{World, IsWorld, HasSizes, Moves, join_step}
 use Rattle.cops_world.proofs.WorldJoins.{refused_moves, same_moves, taken_moves}
-use Rattle.cops_world.proofs.WorldKeeps.{below_counts, sizes_in}
-use Rattle.cops_world.proofs.WorldSteps.{HasSteppedAt, counts_after, step_moves, table_after}
+use Rattle.cops_world.proofs.WorldKeeps.{sizes_in}
+use Rattle.cops_world.proofs.WorldSteps.{CountsAfter, HasSteppedAt, step_moves, table_after}
 
 and_left : (a b : Bool) → (a && b) ≡ true → a ≡ true
 and_left true b h = refl
@@ -105,12 +105,12 @@ id_of slot name = record { slot = slot; name = name }
 
 -- the world after a step
 pub steps_world : (old : World) → IsWorld old → (slot : ℕ) (name : List ℕ) (moment : ℕ) (stepped : Stepped) (nodes : Cluster) (before after : Kept) → HasSteppedAt old slot name moment stepped nodes before after →
-    (new : World) → ((q : ActorId) → new.actors q ≡ table_after stepped.is_over old.actors (id_of slot name) after q) → new.setup ≡ old.setup → new.nodes ≡ nodes → new.counts ≡ counts_after stepped.is_over old.counts slot →
+    (new : World) → ((q : ActorId) → new.actors q ≡ table_after stepped.is_over old.actors (id_of slot name) after q) → new.setup ≡ old.setup → new.nodes ≡ nodes → CountsAfter stepped.is_over old.count slot new.count →
     IsTrue (is_open_at old.setup slot) → Moves (λ config. actor_step config name moment) old slot stepped.reply new
-steps_world old whole slot name moment stepped nodes before after h new actors setup_is nodes_are counts_are within =
+steps_world old whole slot name moment stepped nodes before after h new actors setup_is nodes_are counts within =
     let sizes = sizes_in old.setup slot within in
-    subst (Moves (λ config. actor_step config name moment) old slot stepped.reply) (λ i. record { setup = sym setup_is i; nodes = sym nodes_are i; actors = new.actors; counts = sym counts_are i })
-    (step_moves old whole slot name moment stepped nodes before after h new.actors actors (below_counts old whole slot within) (sizes.shards ∙ sym (ap (λ (s : Shape). s.shards) whole.shape_is)))
+    subst (Moves (λ config. actor_step config name moment) old slot stepped.reply) (λ i. record { setup = sym setup_is i; nodes = sym nodes_are i; actors = new.actors; count = new.count })
+    (step_moves old whole slot name moment stepped nodes before after h new.actors actors new.count counts (sizes.shards ∙ sym (ap (λ (s : Shape). s.shards) whole.shape_is)))
 
 -- ---- acts
 

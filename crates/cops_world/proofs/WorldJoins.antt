@@ -1,8 +1,7 @@
 -- A new actor in the world, and a refusal.
-use Rattle.std.proofs.Common.{◌≡◌, ℕ, ◌+◌, ◌<◌, zero, suc, true, false, cond, not, List, [], ◌∷◌, length, map, refl, sym, subst, ap, ◌∙◌, true≢false}
-use Rattle.std.specs.Prelude.{Option, Some, None, is_some, nat_le, slice_get, slice_index, slice_set}
+use Rattle.std.proofs.Common.{◌≡◌, ◌≢◌, ℕ, ◌+◌, zero, suc, true, false, cond, not, List, [], ◌∷◌, length, map, refl, sym, subst, ap, ◌∙◌, true≢false}
+use Rattle.std.specs.Prelude.{Option, Some, None, is_some, nat_le, slice_get}
 use Rattle.std.specs.Option.{option_map}
-use Rattle.std.proofs.lemmas.List.{get_or-set_same, get_or-set_other}
 use Rattle.cops_types.specs.declared.configs.Config.{Config}
 use Rattle.cops_types.specs.declared.configs.Tenant.{Tenant}
 use Rattle.cops_types.specs.declared.faults.Fault.{Fault}
@@ -70,14 +69,14 @@ module _ (old : World) (slot : ℕ) (name : List ℕ) (solo : Actor) (reply : Re
       let found = found_too (ActorStandsFor (config_in old.setup slot)) name (λ n. old.actors (id_of slot n)) (λ n. old.actors (id_of slot n)) cluster h.actors_are kept there in
       ap (λ o. unless_refused (first_refusal ((not true, NoSuchPlace) ∷ (is_some o, NameTaken) ∷ (nat_le (config_in old.setup slot).quota.actors (length cluster.actors), ActorsFull) ∷ [])) cluster (reply_with reply (with_new_actor name solo cluster))) found.1
 
-  full_refuses : old.actors (id_of slot name) ≡ None → nat_le (config_in old.setup slot).quota.actors (slice_index old.counts slot) ≡ true → (cluster : SoloCluster) → ClusterStandsAt old slot cluster →
+  full_refuses : old.actors (id_of slot name) ≡ None → nat_le (config_in old.setup slot).quota.actors (old.count slot) ≡ true → (cluster : SoloCluster) → ClusterStandsAt old slot cluster →
       join_step name solo reply (config_in old.setup slot) cluster ≡ reply_with (Refused ActorsFull) cluster
   full_refuses none full cluster h =
       let gone = absent_too (ActorStandsFor (config_in old.setup slot)) name (λ n. old.actors (id_of slot n)) (λ n. old.actors (id_of slot n)) cluster h.actors_are none in
       (λ i. unless_refused (first_refusal ((not true, NoSuchPlace) ∷ (is_some (gone i), NameTaken) ∷ (nat_le (config_in old.setup slot).quota.actors (sym h.count_is i), ActorsFull) ∷ [])) cluster (reply_with reply (with_new_actor name solo cluster)))
       ∙ ap (λ b. unless_refused (first_refusal ((not true, NoSuchPlace) ∷ (false, NameTaken) ∷ (b, ActorsFull) ∷ [])) cluster (reply_with reply (with_new_actor name solo cluster))) full
 
-  room_joins : old.actors (id_of slot name) ≡ None → nat_le (config_in old.setup slot).quota.actors (slice_index old.counts slot) ≡ false → (cluster : SoloCluster) → ClusterStandsAt old slot cluster →
+  room_joins : old.actors (id_of slot name) ≡ None → nat_le (config_in old.setup slot).quota.actors (old.count slot) ≡ false → (cluster : SoloCluster) → ClusterStandsAt old slot cluster →
       join_step name solo reply (config_in old.setup slot) cluster ≡ reply_with reply (with_new_actor name solo cluster)
   room_joins none room cluster h =
       let gone = absent_too (ActorStandsFor (config_in old.setup slot)) name (λ n. old.actors (id_of slot n)) (λ n. old.actors (id_of slot n)) cluster h.actors_are none in
@@ -87,14 +86,14 @@ module _ (old : World) (slot : ℕ) (name : List ℕ) (solo : Actor) (reply : Re
   pub taken_moves : (kept : Kept) → old.actors (id_of slot name) ≡ Some kept → Moves (join_step name solo reply) old slot (Refused NameTaken) old
   taken_moves kept there = refused_moves (join_step name solo reply) old slot NameTaken (taken_refuses kept there)
 
-  pub full_moves : old.actors (id_of slot name) ≡ None → nat_le (config_in old.setup slot).quota.actors (slice_index old.counts slot) ≡ true → Moves (join_step name solo reply) old slot (Refused ActorsFull) old
+  pub full_moves : old.actors (id_of slot name) ≡ None → nat_le (config_in old.setup slot).quota.actors (old.count slot) ≡ true → Moves (join_step name solo reply) old slot (Refused ActorsFull) old
   full_moves none full = refused_moves (join_step name solo reply) old slot ActorsFull (full_refuses none full)
 
-  pub join_moves : (kept : Kept) (actors : ActorId → Option Kept) → ActorStandsFor (config_in old.setup slot) kept solo → old.actors (id_of slot name) ≡ None →
-      nat_le (config_in old.setup slot).quota.actors (slice_index old.counts slot) ≡ false → slot < length old.counts →
+  pub join_moves : (kept : Kept) (actors : ActorId → Option Kept) (count : ℕ → ℕ) → ActorStandsFor (config_in old.setup slot) kept solo → old.actors (id_of slot name) ≡ None →
+      nat_le (config_in old.setup slot).quota.actors (old.count slot) ≡ false → count slot ≡ old.count slot + 1 → ((other : ℕ) → slot ≢ other → count other ≡ old.count other) →
       ((q : ActorId) → actors q ≡ cond (same_actor (id_of slot name) q) (Some kept) (old.actors q)) →
-      Moves (join_step name solo reply) old slot reply (record old { actors = actors; counts = slice_set old.counts slot (slice_index old.counts slot + 1) })
-  join_moves kept actors stands none room within updates = record {
+      Moves (join_step name solo reply) old slot reply (record old { actors = actors; count = count })
+  join_moves kept actors count stands none room more others_count updates = record {
     same = refl;
     own = λ spared cluster h.
         let is = room_joins none room cluster h in
@@ -102,15 +101,14 @@ module _ (old : World) (slot : ℕ) (name : List ℕ) (solo : Actor) (reply : Re
         let joined = joins (ActorStandsFor (config_in old.setup slot)) name (λ n. old.actors (id_of slot n)) (λ n. actors (id_of slot n)) cluster h.actors_are kept solo none here
         (λ other apart. updates (id_of slot other) ∙ rw (other_name slot name other apart) refl) stands in (
           ap (λ (t : ActEffect). t.reply) (sym is),
-          subst (λ (t : ActEffect). ClusterStandsAt (record old { actors = actors; counts = slice_set old.counts slot (slice_index old.counts slot + 1) }) slot t.after) (sym is) (record {
+          subst (λ (t : ActEffect). ClusterStandsAt (record old { actors = actors; count = count }) slot t.after) (sym is) (record {
             open_there = h.open_there;
             has = h.has;
             nodes_are = h.nodes_are;
             actors_are = joined;
-            count_is = get_or-set_same old.counts slot (slice_index old.counts slot + 1) 0 within ∙ ap (λ n. n + 1) h.count_is ∙ sym (count-joined name solo cluster);
+            count_is = more ∙ ap (λ n. n + 1) h.count_is ∙ sym (count-joined name solo cluster);
           }),
         );
-    others = λ other differ. others_stay old old.nodes actors (slice_set old.counts slot (slice_index old.counts slot + 1)) slot other differ (λ config. refl) (λ config has. has)
-        (λ q apart. updates q ∙ rw (other_slot (id_of slot name) q apart) refl)
-        (get_or-set_other old.counts slot other (slice_index old.counts slot + 1) 0 (λ same. differ (sym same)));
+    others = λ other differ. others_stay old old.nodes actors count slot other differ (λ config. refl) (λ config has. has)
+        (λ q apart. updates q ∙ rw (other_slot (id_of slot name) q apart) refl) (others_count other differ);
   }

@@ -1,10 +1,12 @@
 -- What a world keeps whatever its tenants do: its actors run at its nodes, and its tenants have its sizes.
-use Rattle.std.proofs.Common.{◌≡◌, ℕ, zero, suc, ◌+◌, ◌-◌, ◌*◌, ◌<◌, ◌≤◌, Bool, true, false, true≢false, ◌&&◌, cond, get_or, Fits, w64, List, [], ◌∷◌, ◌++◌, length, map, ◌⊎◌, inl, inr, refl, sym, subst, ap, ◌∙◌, arith}
-use Rattle.std.specs.Prelude.{Option, Some, None, IsTrue, is_some, nat_le, replicate, slice_get, slice_index, slice_index_or}
+use Rattle.std.proofs.Common.{◌≡◌, ℕ, zero, suc, ◌+◌, ◌-◌, ◌*◌, ◌<◌, ◌≤◌, Bool, true, false, true≢false, ◌&&◌, cond, List, [], ◌∷◌, ◌++◌, length, map, ◌⊎◌, inl, inr, refl, sym, subst, ap, ◌∙◌, arith}
+use Rattle.std.specs.Prelude.{Option, Some, None, IsFalse, IsTrue, is_some, nat_le, replicate, slice_get, slice_index_or}
 use Rattle.std.specs.Option.{option_map}
-use Rattle.std.specs.List.{AllByRecursion, IsDistinct, list_all, range_with_len}
-use Rattle.std.proofs.lemmas.Bool.{leb-false, leb-true}
+use Rattle.std.specs.List.{AllByRecursion, list_all, range_with_len}
+use Rattle.std.specs.Map.{lookup}
+use Rattle.std.proofs.lemmas.Bool.{leb-true}
 use Rattle.std.proofs.lemmas.List.{length-replicate}
+use Rattle.cops_types.specs.Key.{key_eq}
 use Rattle.cops_types.specs.HeadLines.{are_sizes, greatest_quota, is_between, is_name, is_quota, is_tenant, most_shards, most_tenants}
 use Rattle.cops_types.specs.OpenSlots.{begun_with, open_at}
 use Rattle.cops_types.specs.Version.{last_clock}
@@ -14,7 +16,7 @@ use Rattle.cops_types.proofs.WordLemmas.{same_value}
 use Rattle.cops_types.specs.declared.configs.Config.{Config}
 use Rattle.cops_types.specs.declared.configs.Tenant.{Tenant}
 use Rattle.cops_types.specs.TenantConfig.{TenantConfig, tenant_config}
-use Rattle.cops_node.specs.Clusters.{Cluster, HasTenant, IsCall, id_of, new_nodes, new_shared, nodes_of}
+use Rattle.cops_node.specs.Clusters.{Cluster, HasTenant, IsCall, id_of, new_nodes, new_shared, nodes_of, shape_of}
 use Rattle.cops_node.specs.declared.NodeCall.{NodeCall}
 use Rattle.cops_node.specs.declared.NodeId.{NodeId}
 use Rattle.cops_node.specs.declared.NodeReply.{NodeReply}
@@ -24,16 +26,17 @@ use Rattle.cops_node.specs.declared.Shape.{Shape}
 use Rattle.cops_node.specs.SoloNode.{new_node}
 use Rattle.cops_world.specs.declared.actors.Actor.{Actor as Kept}
 use Rattle.cops_world.specs.declared.actors.ActorId.{ActorId}
-use Rattle.cops_world.specs.ActorsStand.{RunsAt}
-use Rattle.cops_world.specs.ActorTables.{same_actor}
+use Rattle.cops_world.specs.Actors.{AreSame}
+use Rattle.cops_world.specs.ActorsStand.{ActorStandsFor, RunsAt}
+use Rattle.cops_world.specs.ActorTables.{Places, PutsBack, Table, actor_at, count_at, same_actor, table_of}
 use Rattle.cops_world.specs.Events.{config_at}
 use Rattle.cops_world.specs.Setups.{Setup, config_in, config_of, is_open_at, new_setup}
 use Rattle.cops_world.specs.Cluster.{new_cluster}
-use Rattle.cops_world.specs.Worlds.{AreSitesIn, HasOpenCluster, HasSizes, IsSiteIn, IsKeptWorld, IsWorld, KeptWorld, World, world_of}
-use Rattle.cops_world.proofs.ActorTableLemmas.{same_actor-is}
+use Rattle.cops_world.specs.Worlds.{AreSitesIn, HasOpenCluster, HasSizes, IsSiteIn, IsKeptWorld, IsWorld, KeptWorld, world_of}
+use Rattle.cops_world.proofs.ActorTableLemmas.{same_actor-is, same_actor-refl}
 use Rattle.cops_world.proofs.BegunSetups.{config_begun, open_begun, open_within}
 use Rattle.cops_world.proofs.WorldJoins.{quota_at}
-use Rattle.cops_world.proofs.WorldSteps.{table_after}
+use Rattle.cops_world.proofs.WorldSteps.{CountsAfter, table_after}
 
 and_left : (a b : Bool) → (a && b) ≡ true → a ≡ true
 and_left true b h = refl
@@ -77,8 +80,8 @@ below_in [] slot there = absurd (true≢false (sym there))
 below_in (o ∷ tenants) zero there = omega arith
 below_in (o ∷ tenants) (suc slot) there = let rest = below_in tenants slot there in omega (arith, rest)
 
-pub below_counts : (world : World) → IsWorld world → (slot : ℕ) → IsTrue (is_open_at world.setup slot) → slot < length world.counts
-below_counts world whole slot there = subst (λ n. slot < n) (sym whole.counted) (below_in world.setup.tenants slot there)
+pub below_tables : (kept : KeptWorld) → IsKeptWorld kept → (slot : ℕ) → IsTrue (is_open_at kept.setup slot) → slot < length kept.tables
+below_tables kept is slot there = subst (λ n. slot < n) (sym is.tabled) (below_in kept.setup.tenants slot there)
 
 -- ---- the actors
 
@@ -127,22 +130,9 @@ runs_after_act shape old new id before found absent = by (old id) refl
         let f = found kept e in
         runs_after shape old new id (Some f.0) f.1.0 before (λ actor same. subst (RunsAt shape id.slot) (same_value f.0 actor same) (f.1.1 shape (before id kept e)))
 
--- ---- counts
-
--- an item that was read with any other in its place
-pub item_is : (xs : List ℕ) (i x : ℕ) → i < length xs → x ≡ get_or xs i x → x ≡ slice_index xs i
-item_is [] i x below h = absurd (omega arith)
-item_is (y ∷ xs) zero x below h = h
-item_is (y ∷ xs) (suc i) x below h = item_is xs i x (omega arith) h
-
--- below a quota that fits a word there is room for one more
-pub more_fits : (quota count : ℕ) → quota ≤ greatest_quota → nat_le quota count ≡ false → Fits w64 (count + 1)
-more_fits quota count small room = let below = leb-false quota count room in omega arith
-
 -- ---- limits
 
 pub record WithinLimits (config : TenantConfig) : Type 0 where
-  pub actors : config.quota.actors ≤ greatest_quota
   pub deps : config.quota.deps ≤ 1024
   pub restarts : config.restarts ≤ 15
 
@@ -165,7 +155,6 @@ limits_of head tenant good own =
     let most = and_left (v && w && x && y && z && u) (nat_le quota.audit greatest_quota) quotas in
     let less = and_left (v && w && x && y && z) u most in
     record {
-      actors = leb-true quota.actors greatest_quota (and_right (v && w && x && y && z) u most);
       deps = leb-true quota.deps 1024 (and_right (v && w && x && y) z less);
       restarts = leb-true head.restarts 15 (and_right sizes (nat_le head.restarts 15) (and_left (are_sizes head) (list_all is_tenant head.tenants) good));
     }
@@ -175,11 +164,6 @@ limits_at setup slot good within =
     let at = tenant_at setup.tenants slot within in
     subst WithinLimits (sym (quota_at setup slot at.0 at.1))
     (limits_of setup at.0 good (tenant_within setup.tenants slot at.0 (and_right (are_sizes setup) (list_all is_tenant setup.tenants) good) at.1))
-
-pub limits_in : (world : World) → IsWorld world → (slot : ℕ) → IsTrue (is_open_at world.setup slot) → WithinLimits (config_in world.setup slot)
-limits_in world whole slot there =
-    let at = tenant_in world.setup slot there in
-    subst (λ o. WithinLimits (config_of world.setup.head o)) (sym at.1) (limits_of world.setup.head at.0 whole.good (whole.tenants_good slot at.0 at.1))
 
 -- ---- the table after a step
 
@@ -198,6 +182,66 @@ left_table old mid new id after over is puts leaves q =
     twice true = refl
     twice false = refl
 
+-- how many actors there are then: as many, or one less
+pub counts_back : (old new : List Table) (id : ActorId) (after : Kept) (over : Bool) → over ≡ false → PutsBack old id after new → CountsAfter over (count_at old) id.slot (count_at new)
+counts_back old new id after over goes_on back = record { own = none_less ∙ back.1; others = back.0.others }
+  where
+    none_less : count_at new id.slot + cond over 1 0 ≡ count_at new id.slot
+    none_less = ap (λ b. count_at new id.slot + cond b 1 0) goes_on ∙ omega arith
+
+pub counts_left : (old mid new : List Table) (id : ActorId) (after : Kept) (over : Bool) → over ≡ true → PutsBack old id after mid → Places mid id None new → count_at new id.slot + cond (is_some (actor_at mid id)) 1 0 ≡ count_at mid id.slot →
+    CountsAfter over (count_at old) id.slot (count_at new)
+counts_left old mid new id after over is back out less = record {
+  own = ap (λ b. count_at new id.slot + cond b 1 0) (is ∙ sym there) ∙ less ∙ back.1;
+  others = λ other differ. out.others other differ ∙ back.0.others other differ;
+}
+  where
+    there : is_some (actor_at mid id) ≡ true
+    there = ap is_some (back.0.at id ∙ ap (λ b. cond b (Some after) (actor_at old id)) (same_actor-refl id))
+
+-- ---- the world as it is kept
+
+-- one actor was put in, put back or taken out
+pub kept_placed : (old : KeptWorld) → IsKeptWorld old → (id : ActorId) (after : Option Kept) (tables : List Table) → Places old.tables id after tables →
+    ((actor : Kept) → after ≡ Some actor → RunsAt (shape_of old.setup.head) id.slot actor × IsTrue (is_open_at old.setup id.slot)) → IsKeptWorld (record { setup = old.setup; nodes = old.nodes; tables = tables })
+kept_placed old kept id after tables places own =
+    let whole = kept.whole in
+    record {
+      whole = record {
+        shape_is = whole.shape_is;
+        sites_are = whole.sites_are;
+        good = whole.good;
+        tenants_good = whole.tenants_good;
+        enough = whole.enough;
+        run = runs_after (shape_of old.setup.head) (actor_at old.tables) (actor_at tables) id after places.at whole.run (λ actor is. (own actor is).0);
+        hosted = hosted_after old.setup (actor_at old.tables) (actor_at tables) id after places.at whole.hosted (λ actor is. (own actor is).1);
+      };
+      tabled = places.tables ∙ kept.tabled;
+    }
+
+-- one was put in, or there was no memory for it
+pub kept_joined : (old : KeptWorld) → IsKeptWorld old → (id : ActorId) (actor : Kept) (tables : List Table) (done : Bool) → (IsTrue done → Places old.tables id (Some actor) tables) → (IsFalse done → tables ≡ old.tables) →
+    RunsAt (shape_of old.setup.head) id.slot actor → IsTrue (is_open_at old.setup id.slot) → IsKeptWorld (record { setup = old.setup; nodes = old.nodes; tables = tables })
+kept_joined old kept id actor tables true places lack runs there = kept_placed old kept id (Some actor) tables (places refl) (λ other is. (subst (RunsAt (shape_of old.setup.head) id.slot) (same_value actor other is) runs, there))
+kept_joined old kept id actor tables false places lack runs there = subst (λ ts. IsKeptWorld (record { setup = old.setup; nodes = old.nodes; tables = ts })) (sym (lack refl)) kept
+
+-- a call was made at the nodes
+pub kept_called : (old : KeptWorld) → IsKeptWorld old → (nodes : Cluster) → nodes.shape ≡ old.nodes.shape → map site_in nodes.nodes ≡ map site_in old.nodes.nodes → IsKeptWorld (record { setup = old.setup; nodes = nodes; tables = old.tables })
+kept_called old kept nodes shape same =
+    let whole = kept.whole in
+    record {
+      whole = record {
+        shape_is = shape ∙ whole.shape_is;
+        sites_are = subst (AreSitesIn old.setup) (sym same) whole.sites_are;
+        good = whole.good;
+        tenants_good = whole.tenants_good;
+        enough = whole.enough;
+        run = whole.run;
+        hosted = whole.hosted;
+      };
+      tabled = kept.tabled;
+    }
+
 -- ---- a new world
 
 pub clocks_of_tenants : (tenants : List Tenant) → list_all is_tenant tenants ≡ true → list_all (λ (tenant : Tenant). nat_le tenant.first_clock last_clock) tenants ≡ true
@@ -214,14 +258,11 @@ sizes_of_good config good = and_left (are_sizes config) (list_all is_tenant conf
 pub clocks_of_good : (config : Config) → IsTrue (is_good config) → IsTrue (are_clocks config)
 clocks_of_good config good = clocks_of_tenants config.tenants (and_right (are_sizes config) (list_all is_tenant config.tenants) good)
 
-pub nothing_in : {A : Type 0} (xs : List A) → length xs ≡ 0 → xs ≡ []
-nothing_in [] h = refl
-nothing_in (x ∷ xs) h = absurd (omega arith)
-
-pub no_count : (tenants slot : ℕ) → slice_index (replicate tenants 0) slot ≡ 0
-no_count zero slot = refl
-no_count (suc tenants) zero = refl
-no_count (suc tenants) (suc slot) = no_count tenants slot
+-- of empty tables each is empty
+pub no_table : (slots slot : ℕ) → table_of slot (replicate slots []) ≡ []
+no_table zero slot = refl
+no_table (suc slots) zero = refl
+no_table (suc slots) (suc slot) = no_table slots slot
 
 -- ---- the tenants of the head are open at first
 
@@ -234,26 +275,26 @@ pub enough_begun : (tenants : List Tenant) → most_tenants ≤ length (begun_wi
 enough_begun tenants = let long = long_begun tenants (most_tenants - length tenants) in omega (arith, long)
 
 -- each tenant of a new world has a new cluster
-pub new_stands : (config : Config) (nodes : Cluster) (kept : KeptWorld) → kept.setup ≡ new_setup config → kept.nodes ≡ nodes → kept.entries ≡ [] → (free : ℕ) → kept.counts ≡ replicate free 0 →
+pub new_stands : (config : Config) (nodes : Cluster) (kept : KeptWorld) → kept.setup ≡ new_setup config → kept.nodes ≡ nodes → (slots : ℕ) → kept.tables ≡ replicate slots [] →
     ((slot : ℕ) (tenant : Tenant) → slice_get config.tenants slot ≡ Some tenant → HasTenant (tenant_config config tenant) slot nodes) →
     ((slot : ℕ) (tenant : Tenant) → slice_get config.tenants slot ≡ Some tenant → nodes_of (tenant_config config tenant) slot nodes ≡ replicate (config.data_centres * config.shards) (new_node config.data_centres)) →
     (slot : ℕ) → slot < length config.tenants → HasOpenCluster kept slot (new_cluster (config_at config slot))
-new_stands config nodes kept setup_is nodes_are no_entries free no_counts tenants fresh slot within =
+new_stands config nodes kept setup_is nodes_are slots no_actors tenants fresh slot within =
     let at = tenant_at config.tenants slot within in
     let quota = quota_at config slot at.0 at.1 in
     let own = config_begun config slot in
     let Fresh : TenantConfig → Type 0 = λ c. HasTenant c slot nodes × (nodes_of c slot nodes ≡ (new_cluster (config_at config slot)).nodes) in
     let his : Fresh (tenant_config config at.0) = subst (λ c. HasTenant (tenant_config config at.0) slot nodes × (nodes_of (tenant_config config at.0) slot nodes ≡ (new_cluster c).nodes)) (sym quota) (tenants slot at.0 at.1, fresh slot at.0 at.1) in
     let stood = subst Fresh (sym (own ∙ quota)) his in
-    let new : KeptWorld = record { setup = new_setup config; nodes = nodes; entries = []; counts = replicate free 0 } in
+    let new : KeptWorld = record { setup = new_setup config; nodes = nodes; tables = replicate slots [] } in
     subst (λ (k : KeptWorld). HasOpenCluster k slot (new_cluster (config_at config slot)))
-    (λ i. record { setup = sym setup_is i; nodes = sym nodes_are i; entries = sym no_entries i; counts = sym no_counts i })
+    (λ i. record { setup = sym setup_is i; nodes = sym nodes_are i; tables = sym no_actors i })
     (record {
       open_there = open_within config slot within;
       has = stood.0;
       nodes_are = stood.1;
-      actors_are = record { same = λ name. tt; distinct = tt };
-      count_is = no_count free slot;
+      actors_are = record { same = λ name. subst (λ table. AreSame (ActorStandsFor (config_in (new_setup config) slot)) (lookup (key_eq name) table) None) (sym (no_table slots slot)) tt; distinct = tt };
+      count_is = ap length (no_table slots slot);
     })
 
 -- ---- the nodes stay those of the configuration
@@ -268,10 +309,6 @@ sites_stay old new slot (inl same) = ap sites same
 sites_stay old new slot (inr (id, at, call, reply, made)) = made.sites
 
 -- ---- a world without actors, at new nodes
-
-no_two : IsDistinct same_actor []
-unfolding IsDistinct
-no_two = tt
 
 place_begun : (config : Config) (id : NodeId) (tenants : List Tenant) (slot : ℕ) →
     option_map (place_under (home_of config id)) (slice_index_or (map (λ tenant. Some (terms_of tenant)) tenants) slot None) ≡ option_map (λ tenant. place_of (tenant_config config tenant) id) (slice_get tenants slot)
@@ -300,11 +337,11 @@ sites_begun config = record { all = count 0 (config.data_centres * config.shards
       each numbers,
     )
 
-pub kept_at_first : (config : Config) (tenants : List (Option Tenant)) (nodes : Cluster) (entries : List (ActorId × Kept)) (counts : List ℕ) → IsTrue (is_good config) → tenants ≡ begun_with config.tenants → nodes ≡ new_nodes config → entries ≡ [] →
-    counts ≡ replicate (length tenants) 0 → IsKeptWorld (record { setup = record { head = config; tenants = tenants }; nodes = nodes; entries = entries; counts = counts })
-kept_at_first config tenants nodes entries counts good begun nodes_are none counts_are =
-    let free = length tenants in
-    let first : KeptWorld = record { setup = new_setup config; nodes = new_nodes config; entries = []; counts = replicate free 0 } in
+pub kept_at_first : (config : Config) (tenants : List (Option Tenant)) (nodes : Cluster) (tables : List Table) → IsTrue (is_good config) → tenants ≡ begun_with config.tenants → nodes ≡ new_nodes config →
+    tables ≡ replicate (length tenants) [] → IsKeptWorld (record { setup = record { head = config; tenants = tenants }; nodes = nodes; tables = tables })
+kept_at_first config tenants nodes tables good begun nodes_are none =
+    let slots = length tenants in
+    let first : KeptWorld = record { setup = new_setup config; nodes = new_nodes config; tables = replicate slots [] } in
     let whole : IsWorld (world_of first) = record {
       shape_is = refl;
       sites_are = sites_begun config;
@@ -312,9 +349,11 @@ kept_at_first config tenants nodes entries counts good begun nodes_are none coun
       tenants_good = λ slot tenant e.
           tenant_within config.tenants slot tenant (and_right (are_sizes config) (list_all is_tenant config.tenants) good) (sym (open_begun config.tenants slot) ∙ e);
       enough = enough_begun config.tenants;
-      counted = length-replicate free 0 ∙ ap length begun;
-      run = λ id actor e. cc;
-      hosted = λ id actor e. cc;
+      run = λ id actor e. absurd (nobody_at_first slots id actor e);
+      hosted = λ id actor e. absurd (nobody_at_first slots id actor e);
     } in
-    let kept : IsKeptWorld first = record { whole = whole; distinct = no_two } in
-    subst IsKeptWorld (λ i. record { setup = record { head = config; tenants = sym begun i }; nodes = sym nodes_are i; entries = sym none i; counts = sym counts_are i }) kept
+    let kept : IsKeptWorld first = record { whole = whole; tabled = length-replicate slots [] ∙ ap length begun } in
+    subst IsKeptWorld (λ i. record { setup = record { head = config; tenants = sym begun i }; nodes = sym nodes_are i; tables = sym none i }) kept
+  where
+    nobody_at_first : (slots : ℕ) (id : ActorId) (actor : Kept) → actor_at (replicate slots []) id ≡ Some actor → ⊥
+    nobody_at_first slots id actor e = true≢false (ap is_some (sym e ∙ ap (lookup (key_eq id.name)) (no_table slots id.slot)))

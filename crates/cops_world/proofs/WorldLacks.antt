@@ -1,5 +1,5 @@
 -- What is left of a tenant's cluster in the world where memory was refused.
-use Rattle.std.proofs.Common.{◌≡◌, inl, inr, ℕ, zero, suc, ◌<◌, Bool, true, false, cond, max, List, length, refl, sym, subst, ap, ◌∙◌, true≢false}
+use Rattle.std.proofs.Common.{◌≡◌, inl, inr, ℕ, zero, suc, Bool, true, false, cond, max, List, length, refl, sym, subst, ap, ◌∙◌, true≢false}
 use Rattle.std.specs.Prelude.{IsTrue, Option, nat_lt, slice_index_or}
 use Rattle.cops_types.specs.declared.faults.Fault.TheVariants.{AuditFull}
 use Rattle.cops_types.specs.TenantConfig.{TenantConfig}
@@ -24,9 +24,9 @@ use Rattle.cops_world.specs.Setups.{Setup, config_in, is_open_at}
 use Rattle.cops_world.specs.Lacks.{Lacks, Stays, StepStops, StepsStop}
 use Rattle.cops_world.specs.Worlds.{ClusterStandsAt, IsWorld, Leaves, Moves, World}
 use Rattle.cops_world.proofs.Stops.{actor_stops}
-use Rattle.cops_world.proofs.WorldKeeps.{below_counts, sizes_in}
+use Rattle.cops_world.proofs.WorldKeeps.{sizes_in}
 use Rattle.cops_world.proofs.WorldMoves.{kept_alike}
-use Rattle.cops_world.proofs.WorldSteps.{HasSteppedAt, counts_after, goes_on-spared, solo_steps, stands_after, table_after}
+use Rattle.cops_world.proofs.WorldSteps.{CountsAfter, HasSteppedAt, goes_on-spared, solo_steps, stands_after, table_after}
 
 abbrev id_of : ℕ → List ℕ → ActorId
 id_of slot name = record { slot = slot; name = name }
@@ -41,8 +41,9 @@ pub same_leaves : (old : World) (slot : ℕ) (reply : Reply) (new : World) → n
 same_leaves old slot reply new same = λ lack cluster stands. (cluster, refl, subst (λ w. ClusterStandsAt w slot cluster) (sym same) stands)
 
 -- each actor is as it was
-pub deed_leaves : (old : World) (slot : ℕ) (reply : Reply) (actors : ActorId → Option Kept) → (IsTrue (is_out_of_memory reply) → (q : ActorId) → actors q ≡ old.actors q) → Leaves Stays old slot reply (record old { actors = actors })
-deed_leaves old slot reply actors stay = λ lack cluster stands. (
+pub deed_leaves : (old : World) (slot : ℕ) (reply : Reply) (actors : ActorId → Option Kept) (count : ℕ → ℕ) → (IsTrue (is_out_of_memory reply) → (q : ActorId) → actors q ≡ old.actors q) → count slot ≡ old.count slot →
+    Leaves Stays old slot reply (record old { actors = actors; count = count })
+deed_leaves old slot reply actors count stay same = λ lack cluster stands. (
   cluster,
   refl,
   record {
@@ -50,7 +51,7 @@ deed_leaves old slot reply actors stay = λ lack cluster stands. (
     has = stands.has;
     nodes_are = stands.nodes_are;
     actors_are = kept_alike (ActorStandsFor (config_in old.setup slot)) (λ n. old.actors (id_of slot n)) (λ n. actors (id_of slot n)) cluster (λ n. stay lack (id_of slot n)) stands.actors_are;
-    count_is = stands.count_is;
+    count_is = same ∙ stands.count_is;
   },
 )
 
@@ -79,24 +80,24 @@ collect_leaves old slot id moment answered nodes reply shards made is = λ lack 
 
 -- the step of an actor stopped
 step_leaves : (old : World) (whole : IsWorld old) (slot : ℕ) (name : List ℕ) (moment : ℕ) (stepped : Stepped) (nodes : Cluster) (before after : Kept) (h : HasSteppedAt old slot name moment stepped nodes before after)
-    (actors : ActorId → Option Kept) (updates : (q : ActorId) → actors q ≡ table_after stepped.is_over old.actors (id_of slot name) after q) → slot < length old.counts → (config_in old.setup slot).shards ≡ old.nodes.shape.shards →
-    Leaves (λ config. StepStops config name moment) old slot stepped.reply (record old { nodes = nodes; actors = actors; counts = counts_after stepped.is_over old.counts slot })
-step_leaves old whole slot name moment stepped nodes before after h actors updates within shards = λ lack cluster stands.
+    (actors : ActorId → Option Kept) (updates : (q : ActorId) → actors q ≡ table_after stepped.is_over old.actors (id_of slot name) after q) (count : ℕ → ℕ) (counts : CountsAfter stepped.is_over old.count slot count) → (config_in old.setup slot).shards ≡ old.nodes.shape.shards →
+    Leaves (λ config. StepStops config name moment) old slot stepped.reply (record old { nodes = nodes; actors = actors; count = count })
+step_leaves old whole slot name moment stepped nodes before after h actors updates count counts shards = λ lack cluster stands.
     let config = config_in old.setup slot in
-    let solo = solo_steps old whole slot name moment stepped nodes before after h actors updates shards cluster stands in
+    let solo = solo_steps old whole slot name moment stepped nodes before after h actors updates count counts shards cluster stands in
     let left = actor_stops config name cluster (nodes_of config slot nodes) moment solo.0 after stepped solo.1 lack solo.2 in (
       left.0,
       left.1,
-      stands_after old whole slot name moment stepped nodes before after h actors updates cluster solo.0 (record { reply = stepped.reply; after = left.0 }) stands within solo.1 left.2,
+      stands_after old whole slot name moment stepped nodes before after h actors updates count counts cluster solo.0 (record { reply = stepped.reply; after = left.0 }) stands solo.1 left.2,
     )
 
 pub steps_world_leaves : (old : World) → IsWorld old → (slot : ℕ) (name : List ℕ) (moment : ℕ) (stepped : Stepped) (nodes : Cluster) (before after : Kept) → HasSteppedAt old slot name moment stepped nodes before after →
-    (new : World) → ((q : ActorId) → new.actors q ≡ table_after stepped.is_over old.actors (id_of slot name) after q) → new.setup ≡ old.setup → new.nodes ≡ nodes → new.counts ≡ counts_after stepped.is_over old.counts slot →
+    (new : World) → ((q : ActorId) → new.actors q ≡ table_after stepped.is_over old.actors (id_of slot name) after q) → new.setup ≡ old.setup → new.nodes ≡ nodes → CountsAfter stepped.is_over old.count slot new.count →
     IsTrue (is_open_at old.setup slot) → Leaves (λ config. StepStops config name moment) old slot stepped.reply new
-steps_world_leaves old whole slot name moment stepped nodes before after h new actors setup_is nodes_are counts_are within =
+steps_world_leaves old whole slot name moment stepped nodes before after h new actors setup_is nodes_are counts within =
     let sizes = sizes_in old.setup slot within in
-    subst (Leaves (λ config. StepStops config name moment) old slot stepped.reply) (λ i. record { setup = sym setup_is i; nodes = sym nodes_are i; actors = new.actors; counts = sym counts_are i })
-    (step_leaves old whole slot name moment stepped nodes before after h new.actors actors (below_counts old whole slot within) (sizes.shards ∙ sym (ap (λ (s : Shape). s.shards) whole.shape_is)))
+    subst (Leaves (λ config. StepStops config name moment) old slot stepped.reply) (λ i. record { setup = sym setup_is i; nodes = sym nodes_are i; actors = new.actors; count = new.count })
+    (step_leaves old whole slot name moment stepped nodes before after h new.actors actors new.count counts (sizes.shards ∙ sym (ap (λ (s : Shape). s.shards) whole.shape_is)))
 
 -- the first step stopped
 pub steps_end_leaves : (more : ℕ) (name : List ℕ) (moment : ℕ) (old : World) (slot : ℕ) (reply : Reply) (new : World) → Leaves (λ config. StepStops config name moment) old slot reply new →

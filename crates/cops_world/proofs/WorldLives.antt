@@ -1,19 +1,19 @@
 -- A tenant comes to a world, or goes from it.
-use Rattle.std.proofs.Common.{◌≡◌, ◌≢◌, ◌⊎◌, inl, inr, ℕ, zero, suc, ◌<◌, ◌≤◌, Bool, true, false, true≢false, not, ◌&&◌, ◌||◌, List, [], ◌∷◌, length, map, set, refl, sym, subst, ap, ◌∙◌, arith}
-use Rattle.std.specs.Prelude.{Option, Some, None, IsTrue, IfErr, IfNone, IfOk, IfSome, is_none, is_ok, is_some, nat_le, nat_lt, replicate, slice_index, Result, Ok, Err, IsOk, OnErr, OnOk}
+use Rattle.std.proofs.Common.{◌≡◌, ◌≢◌, ◌⊎◌, inl, inr, ℕ, zero, suc, ◌<◌, ◌≤◌, Bool, true, false, true≢false, ◌&&◌, ◌||◌, List, [], ◌∷◌, length, map, set, refl, sym, subst, ap, ◌∙◌, arith}
+use Rattle.std.specs.Prelude.{Option, Some, None, IsTrue, IfErr, IfNone, IfOk, IfSome, is_ok, is_some, nat_le, replicate, Result, Ok, Err, IsOk, OnErr, OnOk}
 use Rattle.std.specs.List.{AllByRecursion, list_any}
 use Rattle.std.specs.Option.{option_map}
 use Rattle.std.proofs.Math.ListN.{length-set}
 use Rattle.std.proofs.lemmas.Bool.{leb-true}
 use Rattle.std.proofs.lemmas.Bool.Decides.{eqb_tells, nat_tests}
-use Rattle.std.proofs.lemmas.List.{get_or-set_same, get_or-set_other}
+use Rattle.std.specs.Map.{lookup}
 use Rattle.cops_types.specs.declared.configs.Tenant.{Tenant}
 use Rattle.cops_types.specs.declared.faults.Fault.{Fault}
-use Rattle.cops_types.specs.declared.faults.Fault.TheVariants.{NameTaken, NoSlot, OutOfMemory}
-use Rattle.cops_types.specs.HeadLines.{is_name, is_quota, is_tenant, most_tenants}
+use Rattle.cops_types.specs.declared.faults.Fault.TheVariants.{OutOfMemory}
+use Rattle.cops_types.specs.HeadLines.{is_name, is_quota, is_tenant}
+use Rattle.cops_types.specs.Key.{key_eq}
 use Rattle.cops_types.specs.Version.{last_clock}
-use Rattle.cops_types.specs.OpenSlots.{admission_refusal, is_new, open_at}
-use Rattle.cops_types.specs.Search.{first_refusal}
+use Rattle.cops_types.specs.OpenSlots.{admission_refusal, open_at}
 use Rattle.cops_types.specs.TenantConfig.{TenantConfig, tenant_config}
 use Rattle.cops_node.specs.Clusters.{Cluster, HasTenant, nodes_of}
 use Rattle.cops_node.specs.Lives.{AtEach, IsAdmitted, IsClosed}
@@ -28,14 +28,16 @@ use Rattle.cops_world.specs.declared.replies.Reply.{Reply}
 use Rattle.cops_world.specs.declared.replies.Reply.TheVariants.{Refused}
 use Rattle.cops_world.specs.Acting.{HasActed, HasClosed, IsAdmission}
 use Rattle.cops_world.specs.Actors.{ActorsStandFor, AreSame}
+use Rattle.cops_world.specs.ActorTables.{Table, table_of}
 use Rattle.cops_world.specs.ActorsStand.{ActorStandsFor}
 use Rattle.cops_world.specs.Cluster.{ActEffect, SoloCluster, cluster_step, new_cluster}
 use Rattle.cops_world.specs.Lacks.{Lacks}
 use Rattle.cops_world.specs.Setups.{Setup, config_in, config_of, is_open_at, next_slot}
-use Rattle.cops_world.specs.Worlds.{Admits, AreSitesIn, ClusterStandsAt, Closes, HasOpenCluster, IsSiteIn, IsWorld, KeptWorld, Leaves, Moves, StaysOpen, World, open_setup, world_of}
+use Rattle.cops_world.specs.Worlds.{Admits, AreSitesIn, ClusterStandsAt, Closes, HasOpenCluster, IsKeptWorld, IsSiteIn, IsWorld, KeptWorld, Leaves, Moves, StaysOpen, World, open_setup, world_of}
+use Rattle.cops_world.proofs.ActorTableLemmas.{actor_elsewhere, count_elsewhere, nobody, table_here}
 use Rattle.cops_world.proofs.OpenSets.{MayBeGiven, may_be_given, open_set_other, open_set_same}
 use Rattle.cops_world.proofs.WorldJoins.{refused_moves}
-use Rattle.cops_world.proofs.WorldKeeps.{AllHosted, below_in}
+use Rattle.cops_world.proofs.WorldKeeps.{AllHosted, below_in, below_tables}
 use Rattle.cops_world.proofs.WorldMoves.{kept_alike}
 
 -- ---- while no tenant comes or goes
@@ -93,9 +95,9 @@ clock_within tenant good =
 
 -- nothing changed
 pub stays_same : (old : KeptWorld) (tenants : List (Option Tenant)) → tenants ≡ old.setup.tenants →
-    StaysOpen old (record { setup = record { head = old.setup.head; tenants = tenants }; nodes = old.nodes; entries = old.entries; counts = old.counts })
+    StaysOpen old (record { setup = record { head = old.setup.head; tenants = tenants }; nodes = old.nodes; tables = old.tables })
 stays_same old tenants same =
-    subst (λ (ts : List (Option Tenant)). StaysOpen old (record { setup = record { head = old.setup.head; tenants = ts }; nodes = old.nodes; entries = old.entries; counts = old.counts })) (sym same)
+    subst (λ (ts : List (Option Tenant)). StaysOpen old (record { setup = record { head = old.setup.head; tenants = ts }; nodes = old.nodes; tables = old.tables })) (sym same)
     (record { setup_is = refl; clusters = λ slot cluster h. h })
 
 -- the table gave it back where memory was refused elsewhere
@@ -282,7 +284,7 @@ closed_keeps slot other differ a b is = record { slot = is.others other differ; 
 
 -- what a tenant's cluster looks at is as it was
 pub stands_still : (old new : World) (slot : ℕ) → new.setup.head ≡ old.setup.head → open_at slot new.setup.tenants ≡ open_at slot old.setup.tenants → (Is : Shared → Shared → Type 0) → ((a b : Shared) → Is a b → AreKept slot a b) →
-    AtEach Is old.nodes.nodes new.nodes.nodes → ((name : List ℕ) → new.actors (record { slot = slot; name = name }) ≡ old.actors (record { slot = slot; name = name })) → slice_index new.counts slot ≡ slice_index old.counts slot →
+    AtEach Is old.nodes.nodes new.nodes.nodes → ((name : List ℕ) → new.actors (record { slot = slot; name = name }) ≡ old.actors (record { slot = slot; name = name })) → new.count slot ≡ old.count slot →
     (cluster : SoloCluster) → ClusterStandsAt old slot cluster → ClusterStandsAt new slot cluster
 stands_still old new slot head same Is keeps each actors count cluster h = record {
   open_there = ap is_some same ∙ h.open_there;
@@ -314,14 +316,14 @@ module _ (old : KeptWorld) (whole : IsWorld (world_of old)) (slot : ℕ) (tenant
   given = record { head = old.setup.head; tenants = set old.setup.tenants slot (Some tenant) }
 
   abbrev pub admitted : Cluster → KeptWorld
-  admitted nodes = record { setup = given; nodes = nodes; entries = old.entries; counts = set old.counts slot 0 }
+  admitted nodes = record { setup = given; nodes = nodes; tables = old.tables }
 
   module _ (nodes : Cluster) (came : AtEach (IsAdmitted slot tenant.first_clock tenant.quota) old.nodes.nodes nodes.nodes) where
     sites_given : AreSitesIn given (sites nodes.nodes)
     sites_given = came_sites old.setup slot tenant old.nodes.nodes nodes.nodes within_given came whole.sites_are
 
-    within_counts : slot < length old.counts
-    within_counts = subst (λ n. slot < n) (sym whole.counted) within_given
+    nobody_there : table_of slot old.tables ≡ []
+    nobody_there = nobody (table_of slot old.tables) (no_actor old.setup (world_of old).actors slot whole.hosted may.vacant)
 
     there : open_at slot given.tenants ≡ Some tenant
     there = open_set_same old.setup.tenants slot (Some tenant) within_given
@@ -345,7 +347,6 @@ module _ (old : KeptWorld) (whole : IsWorld (world_of old)) (slot : ℕ) (tenant
         | inr apart ↦ whole.tenants_good other t (sym (open_set_other old.setup.tenants slot other (Some tenant) apart.1) ∙ e)
       ];
       enough = let enough = whole.enough in let same = length-set old.setup.tenants slot (Some tenant) in omega (arith, enough, same);
-      counted = length-set old.counts slot 0 ∙ whole.counted ∙ sym (length-set old.setup.tenants slot (Some tenant));
       run = whole.run;
       hosted = λ id actor e. still_open id.slot (whole.hosted id actor e);
     }
@@ -362,10 +363,10 @@ module _ (old : KeptWorld) (whole : IsWorld (world_of old)) (slot : ℕ) (tenant
           same = λ name. subst (λ o. AreSame (ActorStandsFor (config_in given slot)) o None) (sym (no_actor old.setup (world_of old).actors slot whole.hosted may.vacant name)) tt;
           distinct = tt;
         };
-        count_is = get_or-set_same old.counts slot 0 0 within_counts;
+        count_is = ap length nobody_there;
       };
       others = λ other differ. stands_still (world_of old) (world_of (admitted nodes)) other refl (open_set_other old.setup.tenants slot other (Some tenant) (λ e. differ (sym e)))
-          (IsAdmitted slot tenant.first_clock tenant.quota) (admitted_keeps slot tenant.first_clock tenant.quota other (λ e. differ (sym e))) came (λ name. refl) (get_or-set_other old.counts slot other 0 0 (λ e. differ (sym e)));
+          (IsAdmitted slot tenant.first_clock tenant.quota) (admitted_keeps slot tenant.first_clock tenant.quota other (λ e. differ (sym e))) came (λ name. refl) refl;
     }
       where
         own : config_in given slot ≡ config
@@ -374,16 +375,15 @@ module _ (old : KeptWorld) (whole : IsWorld (world_of old)) (slot : ℕ) (tenant
   -- the nodes gave it back, and so did the table
   module _ (nodes : Cluster) (tenants : List (Option Tenant)) (back : AtEach (IsClosed slot) old.nodes.nodes nodes.nodes) (same : tenants ≡ old.setup.tenants) where
     abbrev pub unchanged : KeptWorld
-    unchanged = record { setup = record { head = old.setup.head; tenants = tenants }; nodes = nodes; entries = old.entries; counts = old.counts }
+    unchanged = record { setup = record { head = old.setup.head; tenants = tenants }; nodes = nodes; tables = old.tables }
 
     pub whole_back : nodes.shape ≡ old.nodes.shape → IsWorld (world_of unchanged)
-    whole_back shape = subst (λ (ts : List (Option Tenant)). IsWorld (world_of (record { setup = record { head = old.setup.head; tenants = ts }; nodes = nodes; entries = old.entries; counts = old.counts }))) (sym same) (record {
+    whole_back shape = subst (λ (ts : List (Option Tenant)). IsWorld (world_of (record { setup = record { head = old.setup.head; tenants = ts }; nodes = nodes; tables = old.tables }))) (sym same) (record {
       shape_is = shape ∙ whole.shape_is;
       sites_are = gone_sites old.setup old.setup.tenants slot old.nodes.nodes nodes.nodes may.vacant (λ other differ. refl) back whole.sites_are;
       good = whole.good;
       tenants_good = whole.tenants_good;
       enough = whole.enough;
-      counted = whole.counted;
       run = whole.run;
       hosted = whole.hosted;
     })
@@ -399,50 +399,62 @@ module _ (old : KeptWorld) (whole : IsWorld (world_of old)) (slot : ℕ) (tenant
 
 -- ---- a tenant goes
 
-module _ (old : KeptWorld) (whole : IsWorld (world_of old)) (slot : ℕ) (open_there : IsTrue (is_open_at old.setup slot)) (nodes : Cluster) (entries : List (ActorId × Kept))
-    (gone : AtEach (IsClosed slot) old.nodes.nodes nodes.nodes) where
+module _ (old : KeptWorld) (kept : IsKeptWorld old) (slot : ℕ) (open_there : IsTrue (is_open_at old.setup slot)) (nodes : Cluster) (gone : AtEach (IsClosed slot) old.nodes.nodes nodes.nodes) (table : Table) (empty : table ≡ []) where
   abbrev pub left : KeptWorld
-  left = record { setup = record { head = old.setup.head; tenants = set old.setup.tenants slot None }; nodes = nodes; entries = entries; counts = old.counts }
+  left = record { setup = record { head = old.setup.head; tenants = set old.setup.tenants slot None }; nodes = nodes; tables = set old.tables slot table }
+
+  was_whole : IsWorld (world_of old)
+  was_whole = kept.whole
 
   within_left : slot < length old.setup.tenants
   within_left = below_in old.setup.tenants slot open_there
 
-  module _ (none : (id : ActorId) → id.slot ≡ slot → (world_of left).actors id ≡ None) (others : (id : ActorId) → slot ≢ id.slot → (world_of left).actors id ≡ (world_of old).actors id) where
-    -- an actor that is there was there before, and is of another slot
-    was_there : (id : ActorId) (actor : Kept) → (world_of left).actors id ≡ Some actor → (slot ≢ id.slot) × ((world_of old).actors id ≡ Some actor)
-    was_there id actor e = elim (eqb_tells id.slot slot) [
-      | inl is ↦ absurd (true≢false (ap is_some (sym e ∙ none id is.1)))
-      | inr apart ↦ let differ : slot ≢ id.slot = λ same. apart.1 (sym same) in (differ, sym (others id differ) ∙ e)
-    ]
+  within_tables : slot < length old.tables
+  within_tables = below_tables old kept slot open_there
 
-    pub whole_left : nodes.shape ≡ old.nodes.shape → IsWorld (world_of left)
-    whole_left shape = record {
-      shape_is = shape ∙ whole.shape_is;
-      sites_are = gone_sites old.setup (set old.setup.tenants slot None) slot old.nodes.nodes nodes.nodes (open_set_same old.setup.tenants slot None within_left) (λ other. open_set_other old.setup.tenants slot other None) gone whole.sites_are;
-      good = whole.good;
-      tenants_good = λ other t e. elim (eqb_tells other slot) [
-        | inl is ↦ absurd (true≢false (ap is_some (sym e ∙ ap (λ n. open_at n (set old.setup.tenants slot None)) is.1 ∙ open_set_same old.setup.tenants slot None within_left)))
-        | inr apart ↦ whole.tenants_good other t (sym (open_set_other old.setup.tenants slot other None apart.1) ∙ e)
-      ];
-      enough = let enough = whole.enough in let same = length-set old.setup.tenants slot None in omega (arith, enough, same);
-      counted = whole.counted ∙ sym (length-set old.setup.tenants slot None);
-      run = λ id actor e. whole.run id actor (was_there id actor e).1;
-      hosted = λ id actor e.
-          let was = was_there id actor e in
-          ap is_some (open_set_other old.setup.tenants slot id.slot None (λ same. was.0 (sym same))) ∙ whole.hosted id actor was.1;
-    }
+  none_left : (id : ActorId) → id.slot ≡ slot → (world_of left).actors id ≡ None
+  none_left id same = ap (λ n. lookup (key_eq id.name) (table_of n (set old.tables slot table))) same ∙ ap (lookup (key_eq id.name)) (table_here old.tables slot table within_tables ∙ empty)
 
-    pub closes : Closes slot old left
-    closes = record {
-      setup_is = refl;
-      no_actor = λ name. none (record { slot = slot; name = name }) refl;
-      nowhere = at_each old.nodes.nodes nodes.nodes gone;
-      others = λ other differ. stands_still (world_of old) (world_of left) other refl (open_set_other old.setup.tenants slot other None (λ e. differ (sym e)))
-          (IsClosed slot) (closed_keeps slot other (λ e. differ (sym e))) gone (λ name. others (record { slot = other; name = name }) differ) refl;
-    }
-      where
-        at_each : (before after : List Shared) → AtEach (IsClosed slot) before after → AllByRecursion (λ (node : Shared). (place_at slot node ≡ None) × (trail_of slot node.audit ≡ [])) after
-        at_each [] [] h = tt
-        at_each [] (b ∷ after) h = absurd h
-        at_each (a ∷ before) [] h = absurd h
-        at_each (a ∷ before) (b ∷ after) h = ((h.0.vacant, h.0.empty), at_each before after h.1)
+  others_left : (id : ActorId) → slot ≢ id.slot → (world_of left).actors id ≡ (world_of old).actors id
+  others_left = actor_elsewhere old.tables slot table within_tables
+
+  -- an actor that is there was there before, and is of another slot
+  was_there : (id : ActorId) (actor : Kept) → (world_of left).actors id ≡ Some actor → (slot ≢ id.slot) × ((world_of old).actors id ≡ Some actor)
+  was_there id actor e = elim (eqb_tells id.slot slot) [
+    | inl is ↦ absurd (true≢false (ap is_some (sym e ∙ none_left id is.1)))
+    | inr apart ↦ let differ : slot ≢ id.slot = λ same. apart.1 (sym same) in (differ, sym (others_left id differ) ∙ e)
+  ]
+
+  whole_left : nodes.shape ≡ old.nodes.shape → IsWorld (world_of left)
+  whole_left shape = record {
+    shape_is = shape ∙ was_whole.shape_is;
+    sites_are = gone_sites old.setup (set old.setup.tenants slot None) slot old.nodes.nodes nodes.nodes (open_set_same old.setup.tenants slot None within_left) (λ other. open_set_other old.setup.tenants slot other None) gone was_whole.sites_are;
+    good = was_whole.good;
+    tenants_good = λ other t e. elim (eqb_tells other slot) [
+      | inl is ↦ absurd (true≢false (ap is_some (sym e ∙ ap (λ n. open_at n (set old.setup.tenants slot None)) is.1 ∙ open_set_same old.setup.tenants slot None within_left)))
+      | inr apart ↦ was_whole.tenants_good other t (sym (open_set_other old.setup.tenants slot other None apart.1) ∙ e)
+    ];
+    enough = let enough = was_whole.enough in let same = length-set old.setup.tenants slot None in omega (arith, enough, same);
+    run = λ id actor e. was_whole.run id actor (was_there id actor e).1;
+    hosted = λ id actor e.
+        let was = was_there id actor e in
+        ap is_some (open_set_other old.setup.tenants slot id.slot None (λ same. was.0 (sym same))) ∙ was_whole.hosted id actor was.1;
+  }
+
+  pub kept_left : nodes.shape ≡ old.nodes.shape → IsKeptWorld left
+  kept_left shape = record { whole = whole_left shape; tabled = length-set old.tables slot table ∙ kept.tabled ∙ sym (length-set old.setup.tenants slot None) }
+
+  pub closes : Closes slot old left
+  closes = record {
+    setup_is = refl;
+    no_actor = λ name. none_left (record { slot = slot; name = name }) refl;
+    nowhere = at_each old.nodes.nodes nodes.nodes gone;
+    others = λ other differ. stands_still (world_of old) (world_of left) other refl (open_set_other old.setup.tenants slot other None (λ e. differ (sym e)))
+        (IsClosed slot) (closed_keeps slot other (λ e. differ (sym e))) gone (λ name. others_left (record { slot = other; name = name }) differ) (count_elsewhere old.tables slot table within_tables other differ);
+  }
+    where
+      at_each : (before after : List Shared) → AtEach (IsClosed slot) before after → AllByRecursion (λ (node : Shared). (place_at slot node ≡ None) × (trail_of slot node.audit ≡ [])) after
+      at_each [] [] h = tt
+      at_each [] (b ∷ after) h = absurd h
+      at_each (a ∷ before) [] h = absurd h
+      at_each (a ∷ before) (b ∷ after) h = ((h.0.vacant, h.0.empty), at_each before after h.1)

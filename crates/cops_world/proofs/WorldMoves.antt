@@ -1,6 +1,6 @@
 -- What a deed, a new actor, a step or a collection does to each tenant's part of the world.
 use Rattle.std.proofs.Common.{◌≡◌, ◌≢◌, ℕ, cond, List, length, refl, sym, subst, ap, ◌∙◌}
-use Rattle.std.specs.Prelude.{IsFalse, Option, Some, None, find, slice_index}
+use Rattle.std.specs.Prelude.{IsFalse, Option, Some, None, find}
 use Rattle.std.specs.Option.{option_map, option_and_then}
 use Rattle.cops_types.specs.declared.faults.Fault.{Fault}
 use Rattle.cops_types.specs.declared.faults.Fault.TheVariants.{UnknownName}
@@ -82,11 +82,11 @@ pub kept_alike : {A : Type 0} (Stands : A → Actor → Type 0) (one other : Lis
 kept_alike Stands one other cluster same h = record { same = λ name. subst (λ o. AreSame Stands o (find_actor name cluster)) (sym (same name)) (h.same name); distinct = h.distinct }
 
 -- the actors of another tenant stay where one tenant's change
-pub others_stay : (old : World) (nodes : Cluster) (actors : ActorId → Option Kept) (counts : List ℕ) (slot other : ℕ) → slot ≢ other →
+pub others_stay : (old : World) (nodes : Cluster) (actors : ActorId → Option Kept) (count : ℕ → ℕ) (slot other : ℕ) → slot ≢ other →
     ((config : TenantConfig) → nodes_of config other nodes ≡ nodes_of config other old.nodes) → ((config : TenantConfig) → HasTenant config other old.nodes → HasTenant config other nodes) →
-    ((q : ActorId) → slot ≢ q.slot → actors q ≡ old.actors q) → slice_index counts other ≡ slice_index old.counts other →
-    (cluster : SoloCluster) → ClusterStandsAt old other cluster → ClusterStandsAt (record old { nodes = nodes; actors = actors; counts = counts }) other cluster
-others_stay old nodes actors counts slot other differ same_nodes keeps same_actors same_count cluster h = record {
+    ((q : ActorId) → slot ≢ q.slot → actors q ≡ old.actors q) → count other ≡ old.count other →
+    (cluster : SoloCluster) → ClusterStandsAt old other cluster → ClusterStandsAt (record old { nodes = nodes; actors = actors; count = count }) other cluster
+others_stay old nodes actors count slot other differ same_nodes keeps same_actors same_count cluster h = record {
   open_there = h.open_there;
   has = keeps (config_in old.setup other) h.has;
   nodes_are = same_nodes (config_in old.setup other) ∙ h.nodes_are;
@@ -100,25 +100,26 @@ others_stay old nodes actors counts slot other differ same_nodes keeps same_acto
 abbrev id_of : ℕ → List ℕ → ActorId
 id_of slot name = record { slot = slot; name = name }
 
--- what was done in the table
-pub record DoneAt (old : World) (id : ActorId) (actors : ActorId → Option Kept) (deed : Deed) (reply : Reply) : Type 0 where
+-- what was done in the tables
+pub record DoneAt (old : World) (id : ActorId) (actors : ActorId → Option Kept) (count : ℕ → ℕ) (deed : Deed) (reply : Reply) : Type 0 where
   pub found : (before : Kept) → old.actors id ≡ Some before → (after : Kept) × (((q : ActorId) → actors q ≡ cond (same_actor id q) (Some after) (old.actors q))
       × ((config : TenantConfig) (solo : Actor) → ActorStandsFor config before solo → HasDone config solo (actor_does config deed solo) reply after))
   pub absent : old.actors id ≡ None → (reply ≡ Refused UnknownName) × (actors ≡ old.actors)
+  pub counts : (slot : ℕ) → count slot ≡ old.count slot
 
-module _ (old : World) (slot : ℕ) (name : List ℕ) (actors : ActorId → Option Kept) (deed : Deed) (reply : Reply) (done : DoneAt old (id_of slot name) actors deed reply) where
-  new_world : World
-  new_world = record old { actors = actors }
+module _ (old : World) (slot : ℕ) (name : List ℕ) (actors : ActorId → Option Kept) (count : ℕ → ℕ) (deed : Deed) (reply : Reply) (done : DoneAt old (id_of slot name) actors count deed reply) where
+  abbrev new_world : World
+  new_world = record old { actors = actors; count = count }
 
   deed_own : IsFalse (is_out_of_memory reply) → (cluster : SoloCluster) → ClusterStandsAt old slot cluster →
-      (reply ≡ (deed_step (config_in old.setup slot) name deed cluster).reply) × ClusterStandsAt (record old { actors = actors }) slot (deed_step (config_in old.setup slot) name deed cluster).after
+      (reply ≡ (deed_step (config_in old.setup slot) name deed cluster).reply) × ClusterStandsAt new_world slot (deed_step (config_in old.setup slot) name deed cluster).after
   deed_own spared cluster h = by_actor (old.actors (id_of slot name)) refl
     where
       config : TenantConfig
       config = config_in old.setup slot
 
       Own : ActEffect → Type 0
-      Own turn = (reply ≡ turn.reply) × ClusterStandsAt (record old { actors = actors }) slot turn.after
+      Own turn = (reply ≡ turn.reply) × ClusterStandsAt new_world slot turn.after
 
       by_actor : (o : Option Kept) → old.actors (id_of slot name) ≡ o → Own (deed_step config name deed cluster)
       by_actor None none =
@@ -131,7 +132,7 @@ module _ (old : World) (slot : ℕ) (name : List ℕ) (actors : ActorId → Opti
               has = h.has;
               nodes_are = h.nodes_are;
               actors_are = kept_alike (ActorStandsFor config) (λ n. old.actors (id_of slot n)) (λ n. actors (id_of slot n)) cluster (λ n. ap (λ f. f (id_of slot n)) same.1) h.actors_are;
-              count_is = h.count_is;
+              count_is = done.counts slot ∙ h.count_is;
             },
           )
       by_actor (Some before) there =
@@ -148,7 +149,7 @@ module _ (old : World) (slot : ℕ) (name : List ℕ) (actors : ActorId → Opti
               has = h.has;
               nodes_are = h.nodes_are ∙ sym turn.nodes_stay;
               actors_are = actors_alone (ActorStandsFor config) (λ n. actors (id_of slot n)) (with_actor name (actor_does config deed solo.0).after cluster) (deed_step config name deed cluster).after (sym turn.actors_are) placed;
-              count_is = h.count_is ∙ sym (count-with_actor name (actor_does config deed solo.0).after cluster) ∙ ap length (sym turn.actors_are);
+              count_is = done.counts slot ∙ h.count_is ∙ sym (count-with_actor name (actor_does config deed solo.0).after cluster) ∙ ap length (sym turn.actors_are);
             },
           )
 
@@ -159,9 +160,9 @@ module _ (old : World) (slot : ℕ) (name : List ℕ) (actors : ActorId → Opti
       by_actor None none = ap (λ f. f q) (done.absent none).1
       by_actor (Some before) there = (done.found before there).1.0 q ∙ rw (other_slot (id_of slot name) q differ) refl
 
-  pub deed_moves : Moves (λ config. deed_step config name deed) old slot reply (record old { actors = actors })
+  pub deed_moves : Moves (λ config. deed_step config name deed) old slot reply new_world
   deed_moves = record {
     same = refl;
     own = deed_own;
-    others = λ other differ. others_stay old old.nodes actors old.counts slot other differ (λ config. refl) (λ config has. has) deed_actors refl;
+    others = λ other differ. others_stay old old.nodes actors count slot other differ (λ config. refl) (λ config has. has) deed_actors (done.counts other);
   }

@@ -1,7 +1,6 @@
 -- A step of an actor, steps in a row, and a collection, in the world.
-use Rattle.std.proofs.Common.{◌≡◌, ◌≢◌, ◌⊎◌, inl, inr, ℕ, zero, suc, ◌+◌, ◌-◌, ◌<◌, Bool, true, false, cond, List, length, refl, sym, subst, ap, ◌∙◌, true≢false, arith}
-use Rattle.std.specs.Prelude.{IsFalse, Option, Some, None, slice_index, slice_set}
-use Rattle.std.proofs.lemmas.List.{get_or-set_same, get_or-set_other}
+use Rattle.std.proofs.Common.{◌≡◌, ◌≢◌, ◌⊎◌, inl, inr, ℕ, zero, suc, ◌+◌, Bool, true, false, cond, List, length, refl, sym, subst, ap, ◌∙◌, true≢false, arith}
+use Rattle.std.specs.Prelude.{IsFalse, Option, Some, None}
 use Rattle.cops_types.specs.declared.faults.Fault.TheVariants.{UnknownName}
 use Rattle.cops_types.specs.TenantConfig.{TenantConfig}
 use Rattle.cops_node.specs.declared.NodeCall.{NodeCall}
@@ -95,9 +94,10 @@ abbrev pub table_after : Bool → (ActorId → Option Kept) → ActorId → Kept
 table_after false actors id after q = cond (same_actor id q) (Some after) (actors q)
 table_after true actors id after q = cond (same_actor id q) None (actors q)
 
-abbrev pub counts_after : Bool → List ℕ → ℕ → List ℕ
-counts_after false counts slot = counts
-counts_after true counts slot = slice_set counts slot (slice_index counts slot - 1)
+-- how many actors each slot has then: one less where it is over
+pub record CountsAfter (over : Bool) (old : ℕ → ℕ) (slot : ℕ) (new : ℕ → ℕ) : Type 0 where
+  pub own : new slot + cond over 1 0 ≡ old slot
+  pub others : (other : ℕ) → slot ≢ other → new other ≡ old other
 
 -- what a step was
 pub record HasSteppedAt (old : World) (slot : ℕ) (name : List ℕ) (moment : ℕ) (stepped : Stepped) (nodes : Cluster) (before after : Kept) : Type 0 where
@@ -107,12 +107,13 @@ pub record HasSteppedAt (old : World) (slot : ℕ) (name : List ℕ) (moment : �
   pub once : CalledOnce old.nodes slot nodes
 
 module _ (old : World) (whole : IsWorld old) (slot : ℕ) (name : List ℕ) (moment : ℕ) (stepped : Stepped) (nodes : Cluster) (before after : Kept) (h : HasSteppedAt old slot name moment stepped nodes before after)
-    (actors : ActorId → Option Kept) (updates : (q : ActorId) → actors q ≡ table_after stepped.is_over old.actors (id_of slot name) after q) where
+    (actors : ActorId → Option Kept) (updates : (q : ActorId) → actors q ≡ table_after stepped.is_over old.actors (id_of slot name) after q)
+    (count : ℕ → ℕ) (counts : CountsAfter stepped.is_over old.count slot count) where
   abbrev config_of_slot : TenantConfig
   config_of_slot = config_in old.setup slot
 
   abbrev stepped_world : World
-  stepped_world = record old { nodes = nodes; actors = actors; counts = counts_after stepped.is_over old.counts slot }
+  stepped_world = record old { nodes = nodes; actors = actors; count = count }
 
   table_elsewhere : (over : Bool) (q : ActorId) → same_actor (id_of slot name) q ≡ false → table_after over old.actors (id_of slot name) after q ≡ old.actors q
   table_elsewhere false q apart = rw apart refl
@@ -122,14 +123,10 @@ module _ (old : World) (whole : IsWorld old) (slot : ℕ) (name : List ℕ) (mom
   table_here false = rw (same_actor-refl (id_of slot name)) refl
   table_here true = rw (same_actor-refl (id_of slot name)) refl
 
-  counts_elsewhere : (over : Bool) (other : ℕ) → slot ≢ other → slice_index (counts_after over old.counts slot) other ≡ slice_index old.counts other
-  counts_elsewhere false other differ = refl
-  counts_elsewhere true other differ = get_or-set_other old.counts slot other (slice_index old.counts slot - 1) 0 (λ same. differ (sym same))
-
   -- the tenant's own cluster
-  pub stands_after : (cluster : SoloCluster) (solo : Actor) (turn : ActEffect) → ClusterStandsAt old slot cluster → slot < length old.counts → find_actor name cluster ≡ Some solo → StepsCluster config_of_slot name cluster (nodes_of config_of_slot slot nodes) turn stepped after →
+  pub stands_after : (cluster : SoloCluster) (solo : Actor) (turn : ActEffect) → ClusterStandsAt old slot cluster → find_actor name cluster ≡ Some solo → StepsCluster config_of_slot name cluster (nodes_of config_of_slot slot nodes) turn stepped after →
       ClusterStandsAt stepped_world slot turn.after
-  stands_after cluster solo turn stood within found took = record {
+  stands_after cluster solo turn stood found took = record {
     open_there = stood.open_there;
     has = once_tenants old.nodes nodes slot slot h.once config_of_slot stood.has;
     nodes_are = sym took.nodes_are;
@@ -154,21 +151,22 @@ module _ (old : World) (whole : IsWorld old) (slot : ℕ) (name : List ℕ) (mom
           (updates (id_of slot name) ∙ table_here stepped.is_over ∙ ap (λ b. cond b None (Some after)) e)
           (λ other apart. others other (other_name slot name other apart)))
 
-      count_end : (over : Bool) → stepped.is_over ≡ over → slice_index (counts_after stepped.is_over old.counts slot) slot ≡ length turn.after.actors
+      count_end : (over : Bool) → stepped.is_over ≡ over → count slot ≡ length turn.after.actors
       count_end false e =
           let is = subst (IsAfter config_of_slot name cluster turn.after after) e took.actors_are in
-          ap (λ b. slice_index (counts_after b old.counts slot) slot) e ∙ stood.count_is ∙ sym (count-with_actor name is.0 cluster) ∙ ap length (sym is.1)
+          let same = subst (λ b. count slot + cond b 1 0 ≡ old.count slot) e counts.own in
+          none_less ∙ same ∙ stood.count_is ∙ sym (count-with_actor name is.0 cluster) ∙ ap length (sym is.1)
+        where
+          none_less : count slot ≡ count slot + 0
+          none_less = omega arith
       count_end true e =
           let is = subst (IsAfter config_of_slot name cluster turn.after after) e took.actors_are in
           let one_less = count-without name cluster solo stood.actors_are.distinct found in
-          ap (λ b. slice_index (counts_after b old.counts slot) slot) e
-          ∙ get_or-set_same old.counts slot (slice_index old.counts slot - 1) 0 within
-          ∙ ap (λ n. n - 1) (stood.count_is ∙ sym one_less)
-          ∙ minus_one (length (without_actor name cluster).actors)
-          ∙ ap length (sym is)
+          let same = subst (λ b. count slot + cond b 1 0 ≡ old.count slot) e counts.own in
+          one_more (count slot) (length (without_actor name cluster).actors) (same ∙ stood.count_is ∙ sym one_less) ∙ ap length (sym is)
         where
-          minus_one : (n : ℕ) → n + 1 - 1 ≡ n
-          minus_one n = omega arith
+          one_more : (n m : ℕ) → n + 1 ≡ m + 1 → n ≡ m
+          one_more n m h = omega arith
 
   -- the actor of the tenant's own cluster takes this step
   pub solo_steps : config_of_slot.shards ≡ old.nodes.shape.shards → (cluster : SoloCluster) → ClusterStandsAt old slot cluster → (solo : Actor) × (find_actor name cluster ≡ Some solo)
@@ -184,16 +182,16 @@ module _ (old : World) (whole : IsWorld old) (slot : ℕ) (name : List ℕ) (mom
             config_of_slot moment stepped solo.0 after (h.steps config_of_slot solo.0 solo.2),
       )
 
-  pub step_moves : slot < length old.counts → (config_in old.setup slot).shards ≡ old.nodes.shape.shards → Moves (λ config. actor_step config name moment) old slot stepped.reply stepped_world
-  step_moves within shards = record {
+  pub step_moves : (config_in old.setup slot).shards ≡ old.nodes.shape.shards → Moves (λ config. actor_step config name moment) old slot stepped.reply stepped_world
+  step_moves shards = record {
     same = refl;
     own = λ spared cluster stood.
         let solo = solo_steps shards cluster stood in
         let took = actor_turn config_of_slot name cluster (nodes_of config_of_slot slot nodes) moment solo.0 after stepped stood.actors_are.distinct solo.1 spared solo.2 in
-        (took.reply_is, stands_after cluster solo.0 (actor_step config_of_slot name moment cluster) stood within solo.1 took);
-    others = λ other differ. others_stay old nodes actors (counts_after stepped.is_over old.counts slot) slot other differ
+        (took.reply_is, stands_after cluster solo.0 (actor_step config_of_slot name moment cluster) stood solo.1 took);
+    others = λ other differ. others_stay old nodes actors count slot other differ
         (once_nodes old.nodes nodes slot other differ h.once) (once_tenants old.nodes nodes slot other h.once)
-        (λ q apart. updates q ∙ table_elsewhere stepped.is_over q (other_slot (id_of slot name) q apart)) (counts_elsewhere stepped.is_over other differ);
+        (λ q apart. updates q ∙ table_elsewhere stepped.is_over q (other_slot (id_of slot name) q apart)) (counts.others other differ);
   }
 
 -- nobody of the name is there
@@ -255,7 +253,7 @@ collect_moves old slot id moment answered nodes reply shards made is = record {
   same = refl;
   own = λ spared cluster stood. by_turn spared cluster stood (subst (λ ns. NodesTurn (config_in old.setup slot) ns (nodes_of (config_in old.setup slot) slot nodes) moment id node_call.Collect answered) stood.nodes_are
       (call_turns (config_in old.setup slot) old.nodes nodes slot moment id node_call.Collect answered shards stood.has made));
-  others = λ other differ. others_stay old nodes old.actors old.counts slot other differ (λ config. made.others config other (λ same. differ (sym same))) (λ config. made.tenants config other) (λ q apart. refl) refl;
+  others = λ other differ. others_stay old nodes old.actors old.count slot other differ (λ config. made.others config other (λ same. differ (sym same))) (λ config. made.tenants config other) (λ q apart. refl) refl;
 }
   where
     by_turn : IsFalse (is_out_of_memory reply) → (cluster : SoloCluster) → ClusterStandsAt old slot cluster → NodesTurn (config_in old.setup slot) cluster.nodes (nodes_of (config_in old.setup slot) slot nodes) moment id node_call.Collect answered →

@@ -1,7 +1,6 @@
 -- A world as contracts see it, and the cluster that a tenant's part of it stands for.
-use Rattle.std.specs.Prelude.{◌≡◌, ◌≢◌, ℕ, ◌*◌, ◌≤◌, true, IsFalse, IsTrue, List, [], length, map, slice_index, slice_index_or, slice_set, Option, Some, None}
-use Rattle.std.specs.List.{AllByRecursion, IsDistinct}
-use Rattle.std.specs.Map.{keys_of, lookup}
+use Rattle.std.specs.Prelude.{◌≡◌, ◌≢◌, ℕ, ◌*◌, ◌≤◌, true, IsFalse, IsTrue, List, [], length, map, slice_index_or, slice_set, Option, Some, None}
+use Rattle.std.specs.List.{AllByRecursion}
 use Rattle.std.specs.Option.{option_map}
 use Rattle.cops_types.specs.declared.configs.Config.{Config}
 use Rattle.cops_types.specs.declared.configs.Tenant.{Tenant}
@@ -15,29 +14,28 @@ use Rattle.cops_world.specs.declared.actors.Actor.{Actor as Kept}
 use Rattle.cops_world.specs.declared.actors.ActorId.{ActorId}
 use Rattle.cops_world.specs.declared.replies.Reply.{Reply}
 use Rattle.cops_world.specs.Actors.{ActorsStandFor}
-use Rattle.cops_world.specs.ActorTables.{same_actor}
+use Rattle.cops_world.specs.ActorTables.{Table, actor_at, count_at}
 use Rattle.cops_world.specs.ActorsStand.{ActorStandsFor, RunsAt}
 use Rattle.cops_world.specs.Cluster.{ActEffect, Actor, SoloCluster, actor_refusal, new_cluster, reply_with, unless_refused, with_new_actor}
 use Rattle.cops_world.specs.Events.{is_out_of_memory}
 use Rattle.cops_world.specs.GoodHeads.{is_good}
 use Rattle.cops_world.specs.Setups.{Setup, config_in, is_open_at}
 
--- the configuration with the tenants that are open, the nodes, the actors by slot and name, and how many actors each tenant has
+-- the configuration with the tenants that are open, the nodes, the actors by slot and name, and how many actors each slot has
 pub record World : Type 0 where
   pub setup : Setup
   pub nodes : Cluster
   pub actors : ActorId → Option Kept
-  pub counts : List ℕ
+  pub count : ℕ → ℕ
 
--- a world as it is kept: the actors as entries of their table
+-- a world as it is kept: the actors in a table for each slot
 pub record KeptWorld : Type 0 where
   pub setup : Setup
   pub nodes : Cluster
-  pub entries : List (ActorId × Kept)
-  pub counts : List ℕ
+  pub tables : List Table
 
 abbrev pub world_of : KeptWorld → World
-world_of kept = record { setup = kept.setup; nodes = kept.nodes; actors = λ id. lookup (same_actor id) kept.entries; counts = kept.counts }
+world_of kept = record { setup = kept.setup; nodes = kept.nodes; actors = λ id. actor_at kept.tables id; count = λ slot. count_at kept.tables slot }
 
 -- what no call changes of a node: the sizes are the head's, and each slot has the place of the tenant who is open there, or none
 pub record IsSiteIn (setup : Setup) (site : Site) : Type 0 where
@@ -56,14 +54,13 @@ pub record IsWorld (world : World) : Type 0 where
   pub good : IsTrue (is_good world.setup.head)
   pub tenants_good : (slot : ℕ) (tenant : Tenant) → open_at slot world.setup.tenants ≡ Some tenant → IsTrue (is_tenant tenant)
   pub enough : most_tenants ≤ length world.setup.tenants
-  pub counted : length world.counts ≡ length world.setup.tenants
   pub run : (id : ActorId) (actor : Kept) → world.actors id ≡ Some actor → RunsAt (shape_of world.setup.head) id.slot actor
   pub hosted : (id : ActorId) (actor : Kept) → world.actors id ≡ Some actor → IsTrue (is_open_at world.setup id.slot)
 
--- a world may be kept so: no two entries are of one actor
+-- a world may be kept so: each slot has a table
 pub record IsKeptWorld (kept : KeptWorld) : Type 0 where
   pub whole : IsWorld (world_of kept)
-  pub distinct : IsDistinct same_actor (keys_of kept.entries)
+  pub tabled : length kept.tables ≡ length kept.setup.tenants
 
 -- a tenant is open at the slot, and has this cluster
 pub record ClusterStandsAt (world : World) (slot : ℕ) (cluster : SoloCluster) : Type 0 where
@@ -71,7 +68,7 @@ pub record ClusterStandsAt (world : World) (slot : ℕ) (cluster : SoloCluster) 
   pub has : HasTenant (config_in world.setup slot) slot world.nodes
   pub nodes_are : nodes_of (config_in world.setup slot) slot world.nodes ≡ cluster.nodes
   pub actors_are : ActorsStandFor (ActorStandsFor (config_in world.setup slot)) (λ name. world.actors (record { slot = slot; name = name })) cluster
-  pub count_is : slice_index world.counts slot ≡ length cluster.actors
+  pub count_is : world.count slot ≡ length cluster.actors
 
 -- the configuration of a world as it is kept, and the tenants who are open
 abbrev pub open_setup : KeptWorld → Setup

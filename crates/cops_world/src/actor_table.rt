@@ -1,14 +1,14 @@
-//! The actors of all tenants, by slot and name.
-ghost use Rattle.std.specs.Prelude.{◌≡◌, ◌≢◌, ◌<◌, ◌⊎◌, ℕ, nat_eq, not, IsTrue, IsFalse, IfSome, is_some, position, slice_get, Some, None};
-ghost use Rattle.std.specs.List.{IsDistinct};
-ghost use Rattle.indexmap.specs.IndexMap.{keys, values, Updates};
+//! The actors of all tenants: a table for each slot, by name.
+ghost use Rattle.std.specs.Prelude.{◌≡◌, ◌<◌, ◌+◌, ◌⊎◌, ℕ, [], length, replicate, if◌then◌else◌, IsTrue, IsFalse, IfOk, IfSome, is_some, position, Some, None};
+ghost use Rattle.std.specs.Map.{keys_of, lookup};
+ghost use Rattle.cops_types.specs.Key.{key_eq};
 ghost use Rattle.cops_types.specs.TenantConfig.{TenantConfig};
 ghost use Rattle.cops_types.specs.declared.faults.Fault.TheVariants.{UnknownName};
 ghost use Rattle.cops_node.specs.declared.Shape.{Shape};
 ghost use Rattle.cops_node.specs.declared.NodeCall.{NodeCall};
 ghost use Rattle.cops_node.specs.declared.NodeId.{NodeId};
 ghost use Rattle.cops_node.specs.declared.NodeReply.{NodeReply};
-ghost use Rattle.cops_world.specs.ActorTables.{same_actor, actor_at, AllRun, PutsBack};
+ghost use Rattle.cops_world.specs.ActorTables.{AllRun, Places, PlacesIn, PutsBack, actor_at, count_at, table_of};
 ghost use Rattle.cops_world.specs.ActorTurns.{actor_does};
 ghost use Rattle.cops_world.specs.ActorsStand.{ActorStandsFor, ActorSteps, HasDone, RunsAt};
 ghost use Rattle.cops_world.specs.Cluster.{Actor as Solo};
@@ -21,111 +21,212 @@ use crate::Reply;
 use crate::actors::{Actor, ActorId, Deed, Stepped};
 use crate::guesses::Guesses;
 use cops_node::Nodes;
-use cops_types::{Fault, Seeds};
+use cops_types::{Fault, Name, Seeds};
 use indexmap::IndexMap;
-use std::alloc::Global;
+use std::alloc::{AllocError, Global};
+use std::marker::Model;
 
-/// The place of an actor in the table. Where the guess is right, nothing is hashed.
-pub(crate) fn place_of(
-    actors: &IndexMap<ActorId, Actor, Seeds>,
-    guess: usize,
-    id: &ActorId,
-) -> Option<usize>
-    requires unique { IsDistinct same_actor (keys actors.now) }
-    ensures index { result ≡ position (same_actor id.now) (keys actors.now) }
-    ensures found { is_some result ≡ is_some (actor_at actors.now id.now) }
-    ensures value { IfSome result (λ place. slice_get (values actors.now) place ≡ actor_at actors.now id.now) }
+/// The actors of one tenant. Contracts see each with its name.
+#[derive(Drop)]
+pub struct ActorTable {
+    actors: IndexMap<Name, Actor, Seeds>,
+}
+
+impl Model for ActorTable {
+    ghost use Rattle.std.specs.List.{IsDistinct};
+    ghost use Rattle.std.specs.Map.{keys_of};
+    ghost use Rattle.cops_types.specs.Key.{key_eq};
+    ghost use Rattle.cops_world.specs.ActorTables.{Table};
+
+    ghost Value = { Table };
+
+    ghost view = { λ t. t.actors.entries };
+
+    ghost invariant = { λ t. IsDistinct key_eq (keys_of t.actors.entries) };
+}
+
+impl ActorTable {
+    /// A table without actors. It asks for no memory.
+    ///
+    /// Names that collide slow only the tenant whose table it is.
+    pub(crate) fn new(alloc: Global, seeds: Seeds) -> Self
+        ensures { result ≡ [] }
+    {
+        ActorTable {
+            actors: IndexMap::with_hasher(alloc, seeds),
+        }
+    }
+
+    /// How many actors there are.
+    pub(crate) fn len(&self) -> usize
+        ensures { result ≡ length self.now }
+    {
+        self.actors.len()
+    }
+
+    /// Whether there is an actor of this name.
+    pub(crate) fn has(&self, name: &Name) -> bool
+        ensures { result ≡ is_some (lookup (key_eq name.now) self.now) }
+    {
+        self.actors.contains_key(name)
+    }
+
+    /// The place of an actor. Where the guess is right, nothing is hashed.
+    fn place_of(&self, guess: usize, name: &Name) -> Option<usize>
+        ensures index { result ≡ position (key_eq name.now) (keys_of self.now) }
+        ensures found { is_some result ≡ is_some (lookup (key_eq name.now) self.now) }
+    {
+        match self.actors.get_index(guess) {
+            Some((at, _)) if name == at => Some(guess),
+            _ => self.actors.get_index_of(name),
+        }
+    }
+
+    /// Has the actor at a place do what is asked.
+    fn act(&mut self, place: usize, name: &Name, alloc: Global, deed: Deed) -> Reply
+        requires { Some place ≡ position (key_eq name.now) (keys_of self.old) }
+        ensures found { (before : Kept) → lookup (key_eq name.now) self.old ≡ Some before → (after : Kept) × PlacesIn self.old name.now (Some after) self.new
+            × ((config : TenantConfig) (solo : Solo) → ActorStandsFor config before solo → HasDone config solo (actor_does config deed solo) result after)
+            × ((shape : Shape) (slot : ℕ) → RunsAt shape slot before → RunsAt shape slot after)
+            × (IsTrue (is_out_of_memory result) → after ≡ before) }
+        ensures len { length self.new ≡ length self.old }
+    {
+        let actor = &mut self.actors[place];
+        actor.act(alloc, deed)
+    }
+
+    /// Takes a step of the actor at a place.
+    fn step<N: Nodes>(&mut self, place: usize, id: ActorId, nodes: &mut N, moment: u64) -> Stepped
+        requires place { Some place ≡ position (key_eq id.name) (keys_of self.old) }
+        requires runs { (actor : Kept) → lookup (key_eq id.name) self.old ≡ Some actor → RunsAt (N.shape nodes.old) id.slot actor }
+        ensures stepped { (before : Kept) → lookup (key_eq id.name) self.old ≡ Some before → (after : Kept) × PlacesIn self.old id.name (Some after) self.new
+            × ((config : TenantConfig) (solo : Solo) → ActorStandsFor config before solo →
+            ActorSteps (λ at node call reply. N.Answers nodes.old node id.slot at call reply nodes.new) (nodes.new ≡ nodes.old) config moment result solo after)
+            × ((shape : Shape) → RunsAt shape id.slot before → RunsAt shape id.slot after) }
+        ensures there { (before : Kept) × (lookup (key_eq id.name) self.old ≡ Some before) }
+        ensures once { (nodes.new ≡ nodes.old)
+            ⊎ ((node : NodeId) × (at : ℕ) × (call : NodeCall) × (reply : NodeReply) × N.Answers nodes.old node id.slot at call reply nodes.new) }
+        ensures shape { N.shape nodes.new ≡ N.shape nodes.old }
+        ensures len { length self.new ≡ length self.old }
+    {
+        let actor = &mut self.actors[place];
+        actor.step(nodes, id.slot, moment)
+    }
+
+    /// Puts in an actor. Whether there was memory for it.
+    fn put(&mut self, name: Name, actor: Actor) -> bool
+        ensures ok { IsTrue result → PlacesIn self.old name (Some actor) self.new }
+        ensures len { IsTrue result → length self.new ≡ length self.old + (if is_some (lookup (key_eq name) self.old) then 0 else 1) }
+        ensures lack { IsFalse result → self.new ≡ self.old }
+    {
+        self.actors.insert(name, actor).is_ok()
+    }
+
+    /// Takes out an actor.
+    fn take_out(&mut self, name: &Name)
+        ensures out { PlacesIn self.old name.now None self.new }
+        ensures len { length self.new + (if is_some (lookup (key_eq name.now) self.old) then 1 else 0) ≡ length self.old }
+    {
+        let _over = self.actors.swap_remove(name);
+    }
+}
+
+/// That many tables without actors.
+pub(crate) fn empty_tables(
+    alloc: Global,
+    slots: usize,
+    seeds: Seeds,
+) -> Result<Vec<ActorTable>, AllocError>
+    ensures { IfOk result (λ tables. tables.items ≡ replicate slots []) }
 {
-    match actors.get_index(guess) {
-        Some((at, _)) if id == at => Some(guess),
-        _ => actors.get_index_of(id),
+    let mut tables = Vec::with_capacity(alloc, slots)?;
+    for _slot in 0..slots {
+        tables.push(ActorTable::new(alloc, seeds))?;
+    }
+    Ok(tables)
+}
+
+/// The place of an actor in the table of its slot. Where the guess is right, nothing is hashed.
+pub(crate) fn place_of(actors: &Vec<ActorTable>, guess: usize, id: &ActorId) -> Option<usize>
+    ensures within { IfSome result (λ _. id.now.slot < length actors.now.items) }
+    ensures index { IfSome result (λ place. Some place ≡ position (key_eq id.now.name) (keys_of (table_of id.now.slot actors.now.items))) }
+    ensures found { is_some result ≡ is_some (actor_at actors.now.items id.now) }
+{
+    match actors.get(id.slot as usize) {
+        Some(table) => table.place_of(guess, &id.name),
+        None => None,
     }
 }
 
 /// Has the actor do what is asked. It is looked for first where its guess says, and its place is
 /// noted there.
 pub(crate) fn act_at(
-    actors: &mut IndexMap<ActorId, Actor, Seeds>,
+    actors: &mut Vec<ActorTable>,
     guesses: &mut Guesses,
     id: ActorId,
     alloc: Global,
     deed: Deed,
 ) -> Reply
-    requires { IsDistinct same_actor (keys actors.old) }
-    ensures found { (before : Kept) → actor_at actors.old id ≡ Some before → (after : Kept) × PutsBack actors.old id after actors.new
+    ensures found { (before : Kept) → actor_at actors.old.items id ≡ Some before → (after : Kept) × PutsBack actors.old.items id after actors.new.items
         × ((config : TenantConfig) (solo : Solo) → ActorStandsFor config before solo → HasDone config solo (actor_does config deed solo) result after)
         × ((shape : Shape) → RunsAt shape id.slot before → RunsAt shape id.slot after) }
-    ensures absent { actor_at actors.old id ≡ None → (result ≡ Refused UnknownName) × (actors.new ≡ actors.old) }
-    ensures lack { IsTrue (is_out_of_memory result) → (q : Id) → actor_at actors.new q ≡ actor_at actors.old q }
-    ensures unique { IsDistinct same_actor (keys actors.new) }
+    ensures absent { actor_at actors.old.items id ≡ None → (result ≡ Refused UnknownName) × (actors.new.items ≡ actors.old.items) }
+    ensures lack { IsTrue (is_out_of_memory result) → (q : Id) → actor_at actors.new.items q ≡ actor_at actors.old.items q }
+    ensures counts { (slot : ℕ) → count_at actors.new.items slot ≡ count_at actors.old.items slot }
+    ensures tables { length actors.new.items ≡ length actors.old.items }
 {
     let cell = Guesses::cell_of(&id);
     match place_of(actors, guesses.guess(cell), &id) {
         Some(place) => {
             guesses.note(cell, place);
-            let actor = &mut actors[place];
-            actor.act(alloc, deed)
+            let table = &mut actors[id.slot as usize];
+            table.act(place, &id.name, alloc, deed)
         }
         None => Reply::Refused(Fault::UnknownName),
     }
 }
 
-/// Takes a step of the actor at a place of the table.
+/// Takes a step of the actor at a place of its table.
 pub(crate) fn step_at<N: Nodes>(
-    actors: &mut IndexMap<ActorId, Actor, Seeds>,
+    actors: &mut Vec<ActorTable>,
     place: usize,
     id: ActorId,
     nodes: &mut N,
     moment: u64,
 ) -> Stepped
-    requires place { Some place ≡ position (same_actor id) (keys actors.old) }
-    requires value { slice_get (values actors.old) place ≡ actor_at actors.old id }
-    requires unique { IsDistinct same_actor (keys actors.old) }
-    requires runs { AllRun (N.shape nodes.old) actors.old }
-    ensures stepped { (before : Kept) → actor_at actors.old id ≡ Some before → (after : Kept) × PutsBack actors.old id after actors.new
+    requires within { id.slot < length actors.old.items }
+    requires place { Some place ≡ position (key_eq id.name) (keys_of (table_of id.slot actors.old.items)) }
+    requires runs { AllRun (N.shape nodes.old) actors.old.items }
+    ensures stepped { (before : Kept) → actor_at actors.old.items id ≡ Some before → (after : Kept) × PutsBack actors.old.items id after actors.new.items
         × ((config : TenantConfig) (solo : Solo) → ActorStandsFor config before solo →
         ActorSteps (λ at node call reply. N.Answers nodes.old node id.slot at call reply nodes.new) (nodes.new ≡ nodes.old) config moment result solo after)
         × ((shape : Shape) → RunsAt shape id.slot before → RunsAt shape id.slot after) }
-    ensures there { (before : Kept) × (actor_at actors.old id ≡ Some before) }
+    ensures there { (before : Kept) × (actor_at actors.old.items id ≡ Some before) }
     ensures once { (nodes.new ≡ nodes.old)
         ⊎ ((node : NodeId) × (at : ℕ) × (call : NodeCall) × (reply : NodeReply) × N.Answers nodes.old node id.slot at call reply nodes.new) }
     ensures shape { N.shape nodes.new ≡ N.shape nodes.old }
-    ensures unique { IsDistinct same_actor (keys actors.new) }
 {
-    let actor = &mut actors[place];
-    actor.step(nodes, id.slot, moment)
+    let table = &mut actors[id.slot as usize];
+    table.step(place, id, nodes, moment)
 }
 
-/// Puts in a new actor. Whether there was memory for it.
-pub(crate) fn put_new(
-    actors: &mut IndexMap<ActorId, Actor, Seeds>,
-    id: ActorId,
-    actor: Actor,
-) -> bool
-    ensures ok { IsTrue result → PutsBack actors.old id actor actors.new }
-    ensures lack { IsFalse result → actors.new.entries ≡ actors.old.entries }
-    ensures unique { IsDistinct same_actor (keys actors.new) }
+/// Puts in an actor. Whether there was memory for it.
+pub(crate) fn put_new(actors: &mut Vec<ActorTable>, id: ActorId, actor: Actor) -> bool
+    requires { id.slot < length actors.old.items }
+    ensures ok { IsTrue result → Places actors.old.items id (Some actor) actors.new.items }
+    ensures count { IsTrue result → actor_at actors.old.items id ≡ None → count_at actors.new.items id.slot ≡ count_at actors.old.items id.slot + 1 }
+    ensures lack { IsFalse result → actors.new.items ≡ actors.old.items }
 {
-    actors.insert(id, actor).is_ok()
+    let table = &mut actors[id.slot as usize];
+    table.put(id.name, actor)
 }
 
 /// Takes out an actor.
-pub(crate) fn take_out(actors: &mut IndexMap<ActorId, Actor, Seeds>, id: ActorId)
-    ensures out { Updates same_actor actors.old actors.new id None }
-    ensures unique { IsDistinct same_actor (keys actors.new) }
+pub(crate) fn take_out(actors: &mut Vec<ActorTable>, id: ActorId)
+    requires { id.slot < length actors.old.items }
+    ensures out { Places actors.old.items id None actors.new.items }
+    ensures count { count_at actors.new.items id.slot + (if is_some (actor_at actors.old.items id) then 1 else 0) ≡ count_at actors.old.items id.slot }
 {
-    let _over = actors.swap_remove(&id);
-}
-
-/// Takes out all actors of a slot.
-pub(crate) fn take_out_all(actors: &mut IndexMap<ActorId, Actor, Seeds>, slot: u64)
-    ensures gone { (id : Id) → id.slot ≡ slot → actor_at actors.new id ≡ None }
-    ensures others { (id : Id) → slot ≢ id.slot → actor_at actors.new id ≡ actor_at actors.old id }
-    ensures unique { IsDistinct same_actor (keys actors.new) }
-{
-    actors.retain(
-        |id: &ActorId, actor: &mut Actor| -> bool
-            ensures { (result ≡ not (nat_eq id.now.slot slot)) × (actor.new ≡ actor.old) }
-        { id.slot != slot },
-    );
+    let table = &mut actors[id.slot as usize];
+    table.take_out(&id.name);
 }

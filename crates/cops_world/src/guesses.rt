@@ -1,4 +1,4 @@
-//! Guesses where each actor is in the table of all actors.
+//! Guesses where each actor is in the table of its slot.
 
 use crate::actors::ActorId;
 use std::alloc::{AllocError, Global};

@@ -1,5 +1,5 @@
 //! All tenants of a cluster in one process.
-ghost use Rattle.std.specs.Prelude.{◌≡◌, ◌<◌, ◌-◌, ◌⊎◌, ℕ, true, false, not, Err, IfErr, IfOk, IfSome, IfNone, IsOk, IsTrue, IsFalse, None, OnErr, OnOk, Some, length, map, nat_le, slice_index, slice_set, if◌then◌else◌};
+ghost use Rattle.std.specs.Prelude.{◌≡◌, ◌<◌, ◌⊎◌, ℕ, true, false, not, is_some, Err, IfErr, IfOk, IfSome, IfNone, IsOk, IsTrue, IsFalse, None, OnErr, OnOk, Some, length, map, nat_le};
 ghost use Rattle.cops_types.specs.TenantConfig.{TenantConfig, tenant_config};
 ghost use Rattle.cops_node.specs.Clusters.{IsCluster, shape_of};
 ghost use Rattle.cops_node.specs.Parts.{AuditFits, site_in};
@@ -22,11 +22,10 @@ ghost use Rattle.cops_world.specs.Setups.{config_in, is_open_at, next_slot};
 ghost use Rattle.cops_world.specs.Lacks.{Lacks, Stays, StepStops, StepsStop};
 ghost use Rattle.cops_world.specs.Trails.{audited_at};
 ghost use Rattle.cops_world.specs.Worlds.{Admits, AreSitesIn, ClusterStandsAt, Closes, HasOpenCluster, HasSizes, Leaves, Moves, StaysOpen, open_setup, join_step, world_of};
-ghost use Rattle.cops_world.specs.ActorTables.{same_actor};
 ghost use Rattle.cops_world.specs.declared.acts.Act.TheVariants as acts;
 ghost use Rattle.cops_world.specs.declared.replies.Reply.TheVariants.{Refused};
 
-use crate::actor_table::{act_at, place_of, put_new, step_at, take_out, take_out_all};
+use crate::actor_table::{ActorTable, act_at, empty_tables, place_of, put_new, step_at, take_out};
 use crate::actors::{Actor, ActorId, Deed, Keys, Stepped};
 use crate::guesses::Guesses;
 use crate::{Act, ByteSlice, ByteSlices, Event, Reply, Tenancy};
@@ -34,7 +33,6 @@ use cops_node::{AuditRow, Cluster0, Node, NodeCall, NodeId, NodeReply, Nodes};
 use cops_repl::Carrier;
 use cops_session::Session;
 use cops_types::{Config, Fault, Key, Name, OpenTenants, Seeds, Tenant, Value};
-use indexmap::IndexMap;
 use std::alloc::{AllocError, Global};
 use std::marker::Model;
 
@@ -48,10 +46,11 @@ pub struct World {
     config: Config,
     tenants: OpenTenants,
     nodes: Cluster0,
-    actors: IndexMap<ActorId, Actor, Seeds>,
+    /// The actors of each slot.
+    actors: Vec<ActorTable>,
+    /// What their tables are hashed with.
+    seeds: Seeds,
     guesses: Guesses,
-    /// How many actors the tenant of each slot has. Of a slot without a tenant it means nothing.
-    counts: Vec<u64>,
 }
 
 impl Model for World {
@@ -59,9 +58,9 @@ impl Model for World {
 
     ghost Value = { KeptWorld };
 
-    ghost view = { λ w. record { setup = record { head = w.config; tenants = w.tenants }; nodes = w.nodes; entries = w.actors.entries; counts = w.counts.items } };
+    ghost view = { λ w. record { setup = record { head = w.config; tenants = w.tenants }; nodes = w.nodes; tables = w.actors.items } };
 
-    ghost invariant = { λ w. IsKeptWorld (record { setup = record { head = w.config; tenants = w.tenants }; nodes = w.nodes; entries = w.actors.entries; counts = w.counts.items }) };
+    ghost invariant = { λ w. IsKeptWorld (record { setup = record { head = w.config; tenants = w.tenants }; nodes = w.nodes; tables = w.actors.items }) };
 }
 
 /// The keys, where each is one.
@@ -172,7 +171,7 @@ impl World {
         requires { IsTrue (is_open_at self.now.setup slot) }
         ensures there { open_at slot self.now.setup.tenants ≡ Some result.now }
         ensures good { IsTrue (is_tenant result.now) }
-        ensures counted { slot < length self.now.counts }
+        ensures tabled { slot < length self.now.tables }
     {
         match self.tenants.tenant(slot) {
             Some(tenant) => tenant,
@@ -183,10 +182,20 @@ impl World {
     /// Whether a tenant has as many actors as he may.
     fn is_full(&self, slot: u64) -> bool
         requires { IsTrue (is_open_at self.now.setup slot) }
-        ensures { result ≡ nat_le (config_in self.now.setup slot).quota.actors (slice_index self.now.counts slot) }
+        ensures { result ≡ nat_le (config_in self.now.setup slot).quota.actors ((world_of self.now).count slot) }
     {
         let tenant = self.tenant(slot);
-        self.counts[slot as usize] >= tenant.quota.actors
+        let table = &self.actors[slot as usize];
+        table.len() as u64 >= tenant.quota.actors
+    }
+
+    /// Whether an actor has this name.
+    fn has_actor(&self, id: &ActorId) -> bool
+        requires { IsTrue (is_open_at self.now.setup id.now.slot) }
+        ensures { result ≡ is_some ((world_of self.now).actors id.now) }
+    {
+        let table = &self.actors[id.slot as usize];
+        table.has(&id.name)
     }
 
     /// Why a new actor may not join: its name is taken, or its tenant has as many as he may.
@@ -194,9 +203,9 @@ impl World {
         requires { IsTrue (is_open_at self.now.setup id.slot) }
         ensures refused { IfSome result (λ fault. (solo : Solo) (reply : Reply) → Moves (join_step id.name solo reply) (world_of self.now) id.slot (Refused fault) (world_of self.now)) }
         ensures free { IfNone result ((world_of self.now).actors id ≡ None) }
-        ensures room { IfNone result (nat_le (config_in self.now.setup id.slot).quota.actors (slice_index self.now.counts id.slot) ≡ false) }
+        ensures room { IfNone result (nat_le (config_in self.now.setup id.slot).quota.actors ((world_of self.now).count id.slot) ≡ false) }
     {
-        if self.actors.contains_key(&id) {
+        if self.has_actor(&id) {
             return Some(Fault::NameTaken);
         }
         if self.is_full(id.slot) {
@@ -211,17 +220,12 @@ impl World {
         requires slot { IsTrue (is_open_at self.old.setup id.slot) }
         requires runs { RunsAt (shape_of self.old.setup.head) id.slot actor }
         requires free { (world_of self.old).actors id ≡ None }
-        requires room { nat_le (config_in self.old.setup id.slot).quota.actors (slice_index self.old.counts id.slot) ≡ false }
+        requires room { nat_le (config_in self.old.setup id.slot).quota.actors ((world_of self.old).count id.slot) ≡ false }
         ensures joined { IsTrue result → (solo : Solo) (reply : Reply) → ActorStandsFor (config_in self.old.setup id.slot) actor solo →
             Moves (join_step id.name solo reply) (world_of self.old) id.slot reply (world_of self.new) }
         ensures lack { IsFalse result → world_of self.new ≡ world_of self.old }
     {
-        let slot = id.slot;
-        if !put_new(&mut self.actors, id, actor) {
-            return false;
-        }
-        self.counts[slot as usize] += 1;
-        true
+        put_new(&mut self.actors, id, actor)
     }
 
     /// Opens a session of a tenant at a data centre.
@@ -283,20 +287,6 @@ impl World {
         }
     }
 
-    /// Takes out an actor that is over.
-    fn leave(&mut self, id: ActorId)
-        requires { IsTrue (is_open_at self.old.setup id.slot) }
-        ensures setup { self.new.setup ≡ self.old.setup }
-        ensures nodes { self.new.nodes ≡ self.old.nodes }
-        ensures actors { (other : ActorId) → (world_of self.new).actors other ≡ (if same_actor id other then None else (world_of self.old).actors other) }
-        ensures counts { self.new.counts ≡ slice_set self.old.counts id.slot (slice_index self.old.counts id.slot - 1) }
-    {
-        let slot = id.slot;
-        take_out(&mut self.actors, id);
-        let count = &mut self.counts[slot as usize];
-        *count = count.saturating_sub(1);
-    }
-
     /// Takes a step of an actor at a moment.
     fn step(&mut self, slot: u64, name: Name, moment: u64) -> Reply
         requires { IsTrue (is_open_at self.old.setup slot) }
@@ -317,7 +307,7 @@ impl World {
             moment,
         );
         if is_over {
-            self.leave(id);
+            take_out(&mut self.actors, id);
         }
         reply
     }
@@ -462,7 +452,6 @@ impl World {
             let _closed = self.tenants.close(slot);
             return Err(fault);
         }
-        self.counts[slot as usize] = 0;
         Ok(())
     }
 
@@ -493,8 +482,7 @@ impl World {
     }
 
     /// Takes a slot from its tenant, and drops all of it: what the nodes have, sessions and carriers.
-    /// `UnknownTenant` where it has none. It asks for no memory. It goes through the actors of all
-    /// tenants, and takes as long as there are some.
+    /// `UnknownTenant` where it has none. It asks for no memory, and goes through no other tenant's actors.
     pub fn close(&mut self, slot: u64) -> Result<(), Fault>
         ensures closed { OnOk result (Closes slot self.old self.new) }
         ensures there { IsTrue (is_open_at self.old.setup slot) → IsOk result }
@@ -503,7 +491,7 @@ impl World {
     {
         self.tenants.close(slot)?;
         self.nodes.close(slot);
-        take_out_all(&mut self.actors, slot);
+        self.actors[slot as usize] = ActorTable::new(self.alloc, self.seeds);
         Ok(())
     }
 
@@ -521,17 +509,17 @@ impl World {
     {
         let nodes = Cluster0::new(alloc, &config)?;
         let tenants = OpenTenants::of(alloc, &config.tenants)?;
-        let counts = vec![in alloc; 0; tenants.as_slice().len()]?;
-        let guesses = Guesses::new(alloc)?;
         let seeds = Seeds::of_tokens(config.tenants.as_slice());
+        let actors = empty_tables(alloc, tenants.as_slice().len(), seeds)?;
+        let guesses = Guesses::new(alloc)?;
         Ok(World {
             alloc,
             config,
             tenants,
             nodes,
-            actors: IndexMap::with_hasher(alloc, seeds),
+            actors,
+            seeds,
             guesses,
-            counts,
         })
     }
 

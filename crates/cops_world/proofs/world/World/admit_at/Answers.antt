@@ -1,6 +1,7 @@
-use Rattle.std.proofs.Common.{inr, sym, subst}
+use Rattle.std.proofs.Common.{ap, inr, sym, subst, ◌∙◌}
+use Rattle.std.proofs.Math.ListN.{length-set}
 use Rattle.std.specs.List.{list_any}
-use Rattle.std.specs.Prelude.{List, Option, slice_set}
+use Rattle.std.specs.Prelude.{List, Option, Some, length}
 use Rattle.cops_types.specs.declared.configs.Tenant.{Tenant}
 use Rattle.cops_node.specs.Parts.{is_taken}
 use Rattle.cops_node.proofs.LifeLemmas.{only_lack}
@@ -13,7 +14,7 @@ invariant_of-self-in-Err c =
     let slot = c.args.slot in
     let tenant = c.args.tenant in
     let inside = c.self.inside in
-    let old : KeptWorld = record { setup = record { head = inside.config; tenants = inside.tenants }; nodes = inside.nodes; entries = inside.actors.entries; counts = inside.counts.items } in
+    let old : KeptWorld = record { setup = record { head = inside.config; tenants = inside.tenants }; nodes = inside.nodes; tables = inside.actors.items } in
     let whole = c.self.invariant.whole in
     let may = was_given inside.tenants slot tenant c.in_ok-admit_at.field-0 c.in_ok-admit_at.ensures.refused in
     let free = taken_nowhere old.setup slot may inside.nodes.nodes whole.sites_are.each in
@@ -22,7 +23,7 @@ invariant_of-self-in-Err c =
     c.close-closed.ensures.closed c.close-closed.ensures.there in
     record {
       whole = whole_back old whole slot tenant may c.admit.new.self c.close-closed.new.self back same c.admit.ensures.shape;
-      distinct = c.self.invariant.distinct;
+      tabled = c.self.invariant.tabled ∙ sym (ap length same);
     }
 
 pub returns-in-Err-clause-faults : goal.returns-in-Err-clause-faults
@@ -30,7 +31,7 @@ returns-in-Err-clause-faults c =
     let slot = c.args.slot in
     let tenant = c.args.tenant in
     let inside = c.self.inside in
-    let old : KeptWorld = record { setup = record { head = inside.config; tenants = inside.tenants }; nodes = inside.nodes; entries = inside.actors.entries; counts = inside.counts.items } in
+    let old : KeptWorld = record { setup = record { head = inside.config; tenants = inside.tenants }; nodes = inside.nodes; tables = inside.actors.items } in
     let whole = c.self.invariant.whole in
     let may = was_given inside.tenants slot tenant c.in_ok-admit_at.field-0 c.in_ok-admit_at.ensures.refused in
     let free = taken_nowhere old.setup slot may inside.nodes.nodes whole.sites_are.each in
@@ -41,28 +42,28 @@ returns-in-Err-clause-err c =
     let slot = c.args.slot in
     let tenant = c.args.tenant in
     let inside = c.self.inside in
-    let old : KeptWorld = record { setup = record { head = inside.config; tenants = inside.tenants }; nodes = inside.nodes; entries = inside.actors.entries; counts = inside.counts.items } in
+    let old : KeptWorld = record { setup = record { head = inside.config; tenants = inside.tenants }; nodes = inside.nodes; tables = inside.actors.items } in
     let whole = c.self.invariant.whole in
     let may = was_given inside.tenants slot tenant c.in_ok-admit_at.field-0 c.in_ok-admit_at.ensures.refused in
     let free = taken_nowhere old.setup slot may inside.nodes.nodes whole.sites_are.each in
     let back = c.in-Err.ensures.err free in
     let same = closed_again c.close-closed.result inside.tenants c.admit_at.new.self c.close-closed.new.self slot tenant (within_given old whole slot tenant may) may.vacant c.in_ok-admit_at.ensures.ok
     c.close-closed.ensures.closed c.close-closed.ensures.there in
-    subst (λ (k : KeptWorld). StaysOpen k (record { setup = record { head = inside.config; tenants = c.close-closed.new.self }; nodes = c.admit.new.self; entries = inside.actors.entries; counts = inside.counts.items })) c.self.view_is
+    subst (λ (k : KeptWorld). StaysOpen k (record { setup = record { head = inside.config; tenants = c.close-closed.new.self }; nodes = c.admit.new.self; tables = inside.actors.items })) c.self.view_is
     (stays_open old whole slot tenant may c.admit.new.self c.close-closed.new.self back same)
 
-pub invariant_of-self-2 : goal.invariant_of-self-2
-invariant_of-self-2 c =
+pub invariant_of-self-in_default : goal.invariant_of-self-in_default
+invariant_of-self-in_default c =
     let slot = c.args.slot in
     let tenant = c.args.tenant in
     let inside = c.self.inside in
-    let old : KeptWorld = record { setup = record { head = inside.config; tenants = inside.tenants }; nodes = inside.nodes; entries = inside.actors.entries; counts = inside.counts.items } in
+    let old : KeptWorld = record { setup = record { head = inside.config; tenants = inside.tenants }; nodes = inside.nodes; tables = inside.actors.items } in
     let whole = c.self.invariant.whole in
     let may = was_given inside.tenants slot tenant c.in_ok-admit_at.field-0 c.in_ok-admit_at.ensures.refused in
-    subst (λ (ts : List (Option Tenant)). IsKeptWorld (record { setup = record { head = inside.config; tenants = ts }; nodes = c.admit.new.self; entries = inside.actors.entries; counts = slice_set inside.counts.items slot 0 })) (sym c.in_ok-admit_at.ensures.ok)
+    subst (λ (ts : List (Option Tenant)). IsKeptWorld (record { setup = record { head = inside.config; tenants = ts }; nodes = c.admit.new.self; tables = inside.actors.items })) (sym c.in_ok-admit_at.ensures.ok)
     (record {
       whole = whole_given old whole slot tenant may c.admit.new.self c.in_default.ensures.ok c.requires c.admit.ensures.shape;
-      distinct = c.self.invariant.distinct;
+      tabled = c.self.invariant.tabled ∙ sym (length-set inside.tenants slot (Some tenant));
     })
 
 pub returns-clause-ok : goal.returns-clause-ok
@@ -70,9 +71,9 @@ returns-clause-ok c =
     let slot = c.args.slot in
     let tenant = c.args.tenant in
     let inside = c.self.inside in
-    let old : KeptWorld = record { setup = record { head = inside.config; tenants = inside.tenants }; nodes = inside.nodes; entries = inside.actors.entries; counts = inside.counts.items } in
+    let old : KeptWorld = record { setup = record { head = inside.config; tenants = inside.tenants }; nodes = inside.nodes; tables = inside.actors.items } in
     let whole = c.self.invariant.whole in
     let may = was_given inside.tenants slot tenant c.in_ok-admit_at.field-0 c.in_ok-admit_at.ensures.refused in
-    subst (λ (k : KeptWorld). Admits slot tenant k (record { setup = record { head = inside.config; tenants = c.admit_at.new.self }; nodes = c.admit.new.self; entries = inside.actors.entries; counts = slice_set inside.counts.items slot 0 })) c.self.view_is
-    (subst (λ (ts : List (Option Tenant)). Admits slot tenant old (record { setup = record { head = inside.config; tenants = ts }; nodes = c.admit.new.self; entries = inside.actors.entries; counts = slice_set inside.counts.items slot 0 })) (sym c.in_ok-admit_at.ensures.ok)
+    subst (λ (k : KeptWorld). Admits slot tenant k (record { setup = record { head = inside.config; tenants = c.admit_at.new.self }; nodes = c.admit.new.self; tables = inside.actors.items })) c.self.view_is
+    (subst (λ (ts : List (Option Tenant)). Admits slot tenant old (record { setup = record { head = inside.config; tenants = ts }; nodes = c.admit.new.self; tables = inside.actors.items })) (sym c.in_ok-admit_at.ensures.ok)
     (admits old whole slot tenant may c.admit.new.self c.in_default.ensures.ok))

@@ -6,8 +6,8 @@ use Rattle.cops_world.specs.declared.replies.Reply.TheVariants.{Refused}
 use Rattle.cops_world.specs.Cluster.{cluster_step, has_node}
 use Rattle.cops_world.specs.Setups.{config_in}
 use Rattle.cops_world.specs.Lacks.{Stays}
-use Rattle.cops_world.specs.Worlds.{AreSitesIn, KeptWorld, Leaves, Moves, world_of}
-use Rattle.cops_world.proofs.WorldKeeps.{sizes_in}
+use Rattle.cops_world.specs.Worlds.{KeptWorld, Leaves, Moves, world_of}
+use Rattle.cops_world.proofs.WorldKeeps.{kept_called, sizes_in}
 use Rattle.cops_world.proofs.WorldCalls.{node_fits, no_node_moves, node_collects}
 use Rattle.cops_world.proofs.WorldLacks.{collect_leaves, same_leaves}
 use Rattle.cops_world.proofs.WorldSteps.{collect_moves}
@@ -35,7 +35,7 @@ pub returns-clause-moves : goal.returns-clause-moves
 returns-clause-moves c =
     let now = c.args.self.now in
     let sizes = sizes_in now.setup c.args.slot c.requires in
-    let old : KeptWorld = record { setup = record { head = c.self.inside.config; tenants = c.self.inside.tenants }; nodes = c.self.inside.nodes; entries = c.self.inside.actors.entries; counts = c.self.inside.counts.items } in
+    let old : KeptWorld = record { setup = record { head = c.self.inside.config; tenants = c.self.inside.tenants }; nodes = c.self.inside.nodes; tables = c.self.inside.actors.items } in
     let new : KeptWorld = record old { nodes = c.step.new.self } in
     let there = sym (c.has_node.ensures (config_in now.setup c.args.slot) sizes) ∙ c.if-not-has_node.false in
     let shards = subst (λ (k : KeptWorld). (config_in k.setup c.args.slot).shards ≡ k.setup.head.shards) (sym c.self.view_is) sizes.shards ∙ sym (ap (λ (s : Shape). s.shards) c.self.invariant.whole.shape_is) in
@@ -51,7 +51,7 @@ returns-then-not-has_node-clause-lack c = same_leaves (world_of c.args.self.now)
 pub returns-clause-lack : goal.returns-clause-lack
 returns-clause-lack c =
     let sizes = sizes_in c.args.self.now.setup c.args.slot c.requires in
-    let old : KeptWorld = record { setup = record { head = c.self.inside.config; tenants = c.self.inside.tenants }; nodes = c.self.inside.nodes; entries = c.self.inside.actors.entries; counts = c.self.inside.counts.items } in
+    let old : KeptWorld = record { setup = record { head = c.self.inside.config; tenants = c.self.inside.tenants }; nodes = c.self.inside.nodes; tables = c.self.inside.actors.items } in
     let new : KeptWorld = record old { nodes = c.step.new.self } in
     let shards = subst (λ (k : KeptWorld). (config_in k.setup c.args.slot).shards ≡ k.setup.head.shards) (sym c.self.view_is) sizes.shards ∙ sym (ap (λ (s : Shape). s.shards) c.self.invariant.whole.shape_is) in
     subst (λ (kept : KeptWorld). Leaves Stays (world_of kept) c.args.slot c.reply_of_collect.result (world_of new)) c.self.view_is
@@ -59,17 +59,5 @@ returns-clause-lack c =
 
 pub invariant_of-self : goal.invariant_of-self
 invariant_of-self c =
-    let whole = c.self.invariant.whole in
-    record {
-      whole = record {
-        shape_is = c.step.ensures.shape ∙ whole.shape_is;
-        sites_are = subst (AreSitesIn (record { head = c.self.inside.config; tenants = c.self.inside.tenants })) (sym c.step.ensures.answers.sites) whole.sites_are;
-        good = whole.good;
-        tenants_good = whole.tenants_good;
-        enough = whole.enough;
-        counted = whole.counted;
-        run = whole.run;
-        hosted = whole.hosted;
-      };
-      distinct = c.self.invariant.distinct;
-    }
+    let old : KeptWorld = record { setup = record { head = c.self.inside.config; tenants = c.self.inside.tenants }; nodes = c.self.inside.nodes; tables = c.self.inside.actors.items } in
+    kept_called old c.self.invariant c.step.new.self c.step.ensures.shape c.step.ensures.answers.sites
