@@ -18,8 +18,8 @@ use std::alloc::{AllocError, Global};
 fn found(alloc: Global, stored: &Record) -> Result<NodeReply, AllocError>
     ensures { IfOk result (λ reply. reply ≡ found_reply stored.now) }
 {
-    let value = stored.entry.value().copy(alloc)?;
-    let deps = stored.entry.deps().copy(alloc)?;
+    let value = stored.entry.shared_value(alloc)?;
+    let deps = stored.entry.shared_deps(alloc)?;
     Ok(NodeReply::Found(stored.version(), value, deps))
 }
 

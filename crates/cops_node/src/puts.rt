@@ -54,7 +54,7 @@ fn version_for(
     ensures refused { IfErr result (λ fault. (solo : SoloNode) → StandsAt slot (place_under home.now terms.now) counters.now store.now outbox.now solo → (near : List Pair) → put_turn (place_under home.now terms.now) solo key.now value.now deps.now near ≡ unchanged (NodeReply.Refused fault) solo) }
 {
     let version = next_version(home, counters, deps)?;
-    if let Some(fault) = store.refused(slot, key, value, &terms.quota) {
+    if let Some(fault) = store.refused(slot, key, value.owned(), &terms.quota) {
         return Err(fault);
     }
     if outbox.is_full(slot, terms.quota.outbox) {

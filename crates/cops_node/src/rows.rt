@@ -75,9 +75,9 @@ fn put_of(alloc: Global, entry: &Entry) -> Result<NodeCall, AllocError>
 {
     Ok(NodeCall::Put(
         entry.key(),
-        entry.value().copy(alloc)?,
-        entry.deps().copy(alloc)?,
-        entry.near().copy(alloc)?,
+        entry.shared_value(alloc)?,
+        entry.shared_deps(alloc)?,
+        entry.shared_near(alloc)?,
     ))
 }
 
@@ -87,8 +87,8 @@ fn found_of(alloc: Global, entry: &Entry) -> Result<NodeReply, AllocError>
 {
     Ok(NodeReply::Found(
         entry.version(),
-        entry.value().copy(alloc)?,
-        entry.deps().copy(alloc)?,
+        entry.shared_value(alloc)?,
+        entry.shared_deps(alloc)?,
     ))
 }
 

@@ -10,7 +10,7 @@ ghost use Rattle.cops_store.specs.Contents.{LacksVersion, NoneLater, use_of, ref
 use crate::notes::DueNotes;
 use crate::usage::{InUse, size};
 use crate::{chain, table};
-use cops_types::{Dated, Entry, Fault, Key, Quota, Record, Seeds, Value, Version};
+use cops_types::{Dated, Entry, Fault, Key, OwnedValue, Quota, Record, Seeds, Version};
 use indexmap::IndexMap;
 use std::alloc::Global;
 use std::marker::Model;
@@ -94,7 +94,7 @@ impl Shelf {
     }
 
     // Why one more record of that key and value is refused, where it is.
-    pub(crate) fn refused(&self, key: &Key, value: &Value, quota: &Quota) -> Option<Fault>
+    pub(crate) fn refused(&self, key: &Key, value: &OwnedValue, quota: &Quota) -> Option<Fault>
         ensures { result ≡ refusal quota.now (length key.now + length value.now) (use_of self.now.rows) }
     {
         let name = key.bytes();

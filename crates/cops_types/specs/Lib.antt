@@ -9,6 +9,7 @@ pub mod HeadLines
 pub mod HeadProgress
 pub mod HeadReader
 pub mod HeadWords
+pub mod Holders
 pub mod HostLines
 pub mod KeptEntry
 pub mod Key

@@ -6,5 +6,5 @@ use Rattle.cops_types.specs.declared.pairs.Pair.{Pair}
 
 abbrev pub pairs_of : Rows → List Pair
 pairs_of (One pair) = pair ∷ []
-pairs_of (Short pairs) = pairs
-pairs_of (Full pairs) = pairs
+pairs_of (Short pairs) = pairs.items
+pairs_of (Full pairs) = pairs.items

@@ -1,3 +1,4 @@
+ghost use Rattle.std.specs.Arc.{arc_value};
 ghost use Rattle.std.specs.Prelude.{◌≡◌, ◌<◌, ◌≤◌, [], ◌∷◌, length, slice_index_or, IfOk, IsTrue, OnOk, OnErr, ◌↔◌};
 ghost use Rattle.cops_types.specs.Pairs.{holds, pairs_eq, version_of, joined, is_over, greatest_clock as greatest_clock_of};
 ghost use Rattle.cops_types.specs.Same.{same_pairs, same_equivalence};
@@ -10,18 +11,20 @@ use crate::keys::Key;
 use crate::packed::PackedPairs;
 use crate::pair_lists::{copy_of_packed, joined_within, put_within};
 use crate::pairs::Pair;
+use crate::records::KeptParts;
 use crate::versions::Version;
 use std::alloc::{AllocError, Global};
 use std::marker::Model;
+use std::sync::Arc;
 
-/// The dependencies of a put or a context: at most one version for each key. Contracts see the
-/// list of its pairs, strictly rising by key.
+/// Dependencies in memory of their own: at most one version for each key. Contracts see the list of
+/// the pairs, strictly rising by key.
 #[derive(Debug, Drop)]
-pub struct Deps {
+pub struct OwnedDeps {
     pairs: PackedPairs,
 }
 
-impl Model for Deps {
+impl Model for OwnedDeps {
     ghost use Rattle.std.specs.Prelude.{List};
     ghost use Rattle.cops_types.specs.declared.pairs.Pair.{Pair};
 
@@ -34,27 +37,8 @@ impl Model for Deps {
     ghost invariant = { λ d. IsDeps d.pairs };
 }
 
-impl Deps {
+impl OwnedDeps {
     ghost use Rattle.cops_types.specs.Pairs.{IsDeps};
-
-    /// No dependencies.
-    pub fn empty(alloc: Global) -> Self
-        ensures { result ≡ [] }
-    {
-        Deps {
-            pairs: PackedPairs::empty(alloc),
-        }
-    }
-
-    /// A copy of pairs in order.
-    pub fn copy_of(alloc: Global, pairs: &[Pair]) -> Result<Self, AllocError>
-        requires { IsDeps pairs.now }
-        ensures { IfOk result (λ deps. deps ≡ pairs.now) }
-    {
-        Ok(Deps {
-            pairs: PackedPairs::copy_of(alloc, pairs)?,
-        })
-    }
 
     /// How many pairs there are.
     pub fn len(&self) -> usize
@@ -80,14 +64,14 @@ impl Deps {
     }
 
     /// The version of a key, 0.0 where there is none.
-    pub fn version_of(&self, key: &Key) -> Version
+    fn version_of(&self, key: &Key) -> Version
         ensures { result ≡ version_of key.now self.now }
     {
         self.pairs.version_of(key)
     }
 
     /// The greatest clock among the pairs, 0 where there is none.
-    pub fn greatest_clock(&self) -> u64
+    fn greatest_clock(&self) -> u64
         ensures value { result ≡ greatest_clock_of self.now }
         ensures fits { result ≤ last_clock }
     {
@@ -101,13 +85,171 @@ impl Deps {
         self.pairs.holds(pair)
     }
 
-    /// The same dependencies.
+    /// The same pairs, in other memory.
+    pub(crate) fn copy(&self, alloc: Global) -> Result<Self, AllocError>
+        ensures { IfOk result (λ deps. deps ≡ self.now) }
+    {
+        Ok(OwnedDeps {
+            pairs: self.pairs.copy(alloc)?,
+        })
+    }
+}
+
+impl PartialEq for OwnedDeps {
+    ghost eq = { pairs_eq };
+
+    ghost laws = { partial_equiv_from_equiv (same_equivalence same_pairs) };
+
+    fn eq(&self, other: &OwnedDeps) -> bool
+        ensures value { result ≡ pairs_eq self.now other.now }
+        ensures exact { IsTrue result ↔ (self.now ≡ other.now) }
+    {
+        self.pairs.is_same(&other.pairs)
+    }
+}
+
+impl Eq for OwnedDeps {
+    ghost laws = { same_equivalence same_pairs };
+}
+
+/// Where dependencies lie: in memory of their own, or in that of an entry.
+#[derive(Debug, Drop)]
+enum DepsHolder {
+    Own(OwnedDeps),
+    Entry(Arc<KeptParts>),
+}
+
+/// The dependencies of a put or a context: at most one version for each key. Contracts see the
+/// list of its pairs, strictly rising by key.
+#[derive(Debug, Drop)]
+pub struct Deps {
+    holder: DepsHolder,
+}
+
+impl Model for Deps {
+    ghost use Rattle.std.specs.Prelude.{List};
+    ghost use Rattle.cops_types.specs.declared.pairs.Pair.{Pair};
+
+    ghost Value = { List Pair };
+
+    ghost use Rattle.cops_types.specs.Holders.{held_deps};
+
+    ghost view = { λ d. held_deps d.holder };
+}
+
+impl Deps {
+    ghost use Rattle.cops_types.specs.Pairs.{IsDeps};
+
+    /// No dependencies.
+    pub fn empty(alloc: Global) -> Self
+        ensures { result ≡ [] }
+    {
+        Deps::of(OwnedDeps {
+            pairs: PackedPairs::empty(alloc),
+        })
+    }
+
+    /// A copy of pairs in order.
+    pub fn copy_of(alloc: Global, pairs: &[Pair]) -> Result<Self, AllocError>
+        requires { IsDeps pairs.now }
+        ensures { IfOk result (λ deps. deps ≡ pairs.now) }
+    {
+        Ok(Deps::of(OwnedDeps {
+            pairs: PackedPairs::copy_of(alloc, pairs)?,
+        }))
+    }
+
+    /// Dependencies over their own memory.
+    pub(crate) fn of(deps: OwnedDeps) -> Self
+        ensures { result ≡ deps }
+    {
+        Deps {
+            holder: DepsHolder::Own(deps),
+        }
+    }
+
+    /// The dependencies of an entry, over the entry's memory.
+    pub(crate) fn of_entry(parts: Arc<KeptParts>) -> Self
+        ensures { result ≡ (arc_value parts).deps }
+    {
+        Deps {
+            holder: DepsHolder::Entry(parts),
+        }
+    }
+
+    /// The dependencies, wherever they lie.
+    pub fn owned(&self) -> &OwnedDeps
+        ensures { result.now ≡ self.now }
+    {
+        match &self.holder {
+            DepsHolder::Own(deps) => deps,
+            DepsHolder::Entry(parts) => &parts.deps,
+        }
+    }
+
+    /// The dependencies in memory of their own. Those of an entry are copied.
+    pub(crate) fn into_owned(self, alloc: Global) -> Result<OwnedDeps, AllocError>
+        ensures { IfOk result (λ deps. deps ≡ self) }
+    {
+        match self.holder {
+            DepsHolder::Own(deps) => Ok(deps),
+            DepsHolder::Entry(parts) => parts.deps.copy(alloc),
+        }
+    }
+
+    /// How many pairs there are.
+    pub fn len(&self) -> usize
+        ensures { result ≡ length self.now }
+    {
+        self.owned().len()
+    }
+
+    /// The pair at a place.
+    pub fn pair(&self, place: usize) -> Pair
+        requires { place < length self.now }
+        ensures { result ≡ slice_index_or self.now place result }
+    {
+        self.owned().pair(place)
+    }
+
+    /// All pairs, as they are kept.
+    pub(crate) fn packed(&self) -> &PackedPairs
+        ensures value { result.now ≡ self.now }
+        ensures in_order { IsDeps self.now }
+    {
+        self.owned().packed()
+    }
+
+    /// The version of a key, 0.0 where there is none.
+    pub fn version_of(&self, key: &Key) -> Version
+        ensures { result ≡ version_of key.now self.now }
+    {
+        self.owned().version_of(key)
+    }
+
+    /// The greatest clock among the pairs, 0 where there is none.
+    pub fn greatest_clock(&self) -> u64
+        ensures value { result ≡ greatest_clock_of self.now }
+        ensures fits { result ≤ last_clock }
+    {
+        self.owned().greatest_clock()
+    }
+
+    /// Whether exactly this pair is there.
+    pub(crate) fn holds(&self, pair: &Pair) -> bool
+        ensures { result ≡ holds self.now pair.now }
+    {
+        self.owned().holds(pair)
+    }
+
+    /// The same dependencies. Those that an entry holds are shared; others are copied.
     pub fn copy(&self, alloc: Global) -> Result<Self, AllocError>
         ensures { IfOk result (λ deps. deps ≡ self.now) }
     {
-        Ok(Deps {
-            pairs: self.pairs.share(alloc)?,
-        })
+        match &self.holder {
+            DepsHolder::Own(deps) => Ok(Deps::of(deps.copy(alloc)?)),
+            DepsHolder::Entry(parts) => shared_deps(alloc, parts),
+        }
     }
 
     /// Adds a pair, so that the greatest version of each key is kept.
@@ -116,10 +258,10 @@ impl Deps {
         ensures refused { IsAnswer (refused_if (is_over limit (joined self.old (pair ∷ []))) Fault.DependenciesFull) result }
         ensures err { OnErr result (self.new ≡ self.old) }
     {
-        let alloc = self.pairs.allocator();
-        let mut pairs = copy_of_packed(alloc, &self.pairs, 1)?;
+        let alloc = self.packed().allocator();
+        let mut pairs = copy_of_packed(alloc, self.packed(), 1)?;
         put_within(&mut pairs, pair, limit)?;
-        self.pairs = PackedPairs::copy_of(alloc, pairs.as_slice())?;
+        *self = Deps::copy_of(alloc, pairs.as_slice())?;
         Ok(())
     }
 
@@ -129,11 +271,21 @@ impl Deps {
         ensures refused { IsAnswer (refused_if (is_over limit (joined self.old other.now)) Fault.DependenciesFull) result }
         ensures err { OnErr result (self.new ≡ self.old) }
     {
-        let alloc = self.pairs.allocator();
-        let own = copy_of_packed(alloc, &self.pairs, 0)?;
-        let pairs = joined_within(alloc, own.as_slice(), other, limit)?;
-        self.pairs = PackedPairs::copy_of(alloc, pairs.as_slice())?;
+        let alloc = self.packed().allocator();
+        let own = copy_of_packed(alloc, self.packed(), 0)?;
+        let pairs = joined_within(alloc, own.as_slice(), other.owned(), limit)?;
+        *self = Deps::copy_of(alloc, pairs.as_slice())?;
         Ok(())
+    }
+}
+
+/// One more owner of an entry's dependencies. Where no more can be counted, they are copied.
+pub(crate) fn shared_deps(alloc: Global, parts: &Arc<KeptParts>) -> Result<Deps, AllocError>
+    ensures { IfOk result (λ deps. deps ≡ (arc_value parts.now).deps) }
+{
+    match parts.clone() {
+        Ok(parts) => Ok(Deps::of_entry(parts)),
+        Err(_) => Ok(Deps::of(parts.deps.copy(alloc)?)),
     }
 }
 
@@ -146,7 +298,7 @@ impl PartialEq for Deps {
         ensures value { result ≡ pairs_eq self.now other.now }
         ensures exact { IsTrue result ↔ (self.now ≡ other.now) }
     {
-        self.pairs.is_same(&other.pairs)
+        *self.owned() == *other.owned()
     }
 }
 

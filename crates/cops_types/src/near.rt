@@ -1,3 +1,4 @@
+ghost use Rattle.std.specs.Arc.{arc_value};
 ghost use Rattle.std.specs.Prelude.{◌≡◌, ◌<◌, [], length, slice_index_or, IfOk, IsTrue, OnOk, OnErr, ◌↔◌};
 ghost use Rattle.cops_types.specs.Pairs.{pair_cmp, pairs_eq, is_over};
 ghost use Rattle.cops_types.specs.Same.{same_pairs, same_equivalence};
@@ -9,17 +10,19 @@ use crate::faults::Fault;
 use crate::packed::PackedPairs;
 use crate::pair_lists::{copy_of_packed, put_near};
 use crate::pairs::Pair;
+use crate::records::KeptParts;
 use std::alloc::{AllocError, Global};
 use std::marker::Model;
+use std::sync::Arc;
 
-/// The nearest dependencies. Contracts see the list of its pairs, strictly rising by key and then
-/// by version.
+/// The nearest dependencies in memory of their own. Contracts see the list of the pairs, strictly
+/// rising by key and then by version.
 #[derive(Debug, Drop)]
-pub struct Near {
+pub struct OwnedNear {
     pairs: PackedPairs,
 }
 
-impl Model for Near {
+impl Model for OwnedNear {
     ghost use Rattle.std.specs.Prelude.{List};
     ghost use Rattle.cops_types.specs.declared.pairs.Pair.{Pair};
 
@@ -32,27 +35,8 @@ impl Model for Near {
     ghost invariant = { λ n. IsNear n.pairs };
 }
 
-impl Near {
+impl OwnedNear {
     ghost use Rattle.cops_types.specs.Pairs.{IsNear};
-
-    /// No dependencies.
-    pub fn empty(alloc: Global) -> Self
-        ensures { result ≡ [] }
-    {
-        Near {
-            pairs: PackedPairs::empty(alloc),
-        }
-    }
-
-    /// A copy of pairs in order.
-    pub fn copy_of(alloc: Global, pairs: &[Pair]) -> Result<Self, AllocError>
-        requires { IsNear pairs.now }
-        ensures { IfOk result (λ near. near ≡ pairs.now) }
-    {
-        Ok(Near {
-            pairs: PackedPairs::copy_of(alloc, pairs)?,
-        })
-    }
 
     /// How many pairs there are.
     pub fn len(&self) -> usize
@@ -77,13 +61,149 @@ impl Near {
         &self.pairs
     }
 
-    /// The same dependencies.
+    /// The same pairs, in other memory.
+    pub(crate) fn copy(&self, alloc: Global) -> Result<Self, AllocError>
+        ensures { IfOk result (λ near. near ≡ self.now) }
+    {
+        Ok(OwnedNear {
+            pairs: self.pairs.copy(alloc)?,
+        })
+    }
+}
+
+impl PartialEq for OwnedNear {
+    ghost eq = { pairs_eq };
+
+    ghost laws = { partial_equiv_from_equiv (same_equivalence same_pairs) };
+
+    fn eq(&self, other: &OwnedNear) -> bool
+        ensures value { result ≡ pairs_eq self.now other.now }
+        ensures exact { IsTrue result ↔ (self.now ≡ other.now) }
+    {
+        self.pairs.is_same(&other.pairs)
+    }
+}
+
+impl Eq for OwnedNear {
+    ghost laws = { same_equivalence same_pairs };
+}
+
+/// Where nearest dependencies lie: in memory of their own, or in that of an entry.
+#[derive(Debug, Drop)]
+enum NearHolder {
+    Own(OwnedNear),
+    Entry(Arc<KeptParts>),
+}
+
+/// The nearest dependencies. Contracts see the list of its pairs, strictly rising by key and then
+/// by version.
+#[derive(Debug, Drop)]
+pub struct Near {
+    holder: NearHolder,
+}
+
+impl Model for Near {
+    ghost use Rattle.std.specs.Prelude.{List};
+    ghost use Rattle.cops_types.specs.declared.pairs.Pair.{Pair};
+
+    ghost Value = { List Pair };
+
+    ghost use Rattle.cops_types.specs.Holders.{held_near};
+
+    ghost view = { λ n. held_near n.holder };
+}
+
+impl Near {
+    ghost use Rattle.cops_types.specs.Pairs.{IsNear};
+
+    /// No dependencies.
+    pub fn empty(alloc: Global) -> Self
+        ensures { result ≡ [] }
+    {
+        Near::of(OwnedNear {
+            pairs: PackedPairs::empty(alloc),
+        })
+    }
+
+    /// A copy of pairs in order.
+    pub fn copy_of(alloc: Global, pairs: &[Pair]) -> Result<Self, AllocError>
+        requires { IsNear pairs.now }
+        ensures { IfOk result (λ near. near ≡ pairs.now) }
+    {
+        Ok(Near::of(OwnedNear {
+            pairs: PackedPairs::copy_of(alloc, pairs)?,
+        }))
+    }
+
+    /// Dependencies over their own memory.
+    pub(crate) fn of(near: OwnedNear) -> Self
+        ensures { result ≡ near }
+    {
+        Near {
+            holder: NearHolder::Own(near),
+        }
+    }
+
+    /// The nearest dependencies of an entry, over the entry's memory.
+    pub(crate) fn of_entry(parts: Arc<KeptParts>) -> Self
+        ensures { result ≡ (arc_value parts).near }
+    {
+        Near {
+            holder: NearHolder::Entry(parts),
+        }
+    }
+
+    /// The dependencies, wherever they lie.
+    pub fn owned(&self) -> &OwnedNear
+        ensures { result.now ≡ self.now }
+    {
+        match &self.holder {
+            NearHolder::Own(near) => near,
+            NearHolder::Entry(parts) => &parts.near,
+        }
+    }
+
+    /// The dependencies in memory of their own. Those of an entry are copied.
+    pub(crate) fn into_owned(self, alloc: Global) -> Result<OwnedNear, AllocError>
+        ensures { IfOk result (λ near. near ≡ self) }
+    {
+        match self.holder {
+            NearHolder::Own(near) => Ok(near),
+            NearHolder::Entry(parts) => parts.near.copy(alloc),
+        }
+    }
+
+    /// How many pairs there are.
+    pub fn len(&self) -> usize
+        ensures { result ≡ length self.now }
+    {
+        self.owned().len()
+    }
+
+    /// The pair at a place.
+    pub fn pair(&self, place: usize) -> Pair
+        requires { place < length self.now }
+        ensures { result ≡ slice_index_or self.now place result }
+    {
+        self.owned().pair(place)
+    }
+
+    /// All pairs, as they are kept.
+    pub(crate) fn packed(&self) -> &PackedPairs
+        ensures value { result.now ≡ self.now }
+        ensures in_order { IsNear self.now }
+    {
+        self.owned().packed()
+    }
+
+    /// The same dependencies. Those that an entry holds are shared; others are copied.
     pub fn copy(&self, alloc: Global) -> Result<Self, AllocError>
         ensures { IfOk result (λ near. near ≡ self.now) }
     {
-        Ok(Near {
-            pairs: self.pairs.share(alloc)?,
-        })
+        match &self.holder {
+            NearHolder::Own(near) => Ok(Near::of(near.copy(alloc)?)),
+            NearHolder::Entry(parts) => shared_near(alloc, parts),
+        }
     }
 
     /// Adds a pair. One that is there is kept once.
@@ -92,11 +212,21 @@ impl Near {
         ensures refused { IsAnswer (refused_if (is_over limit (add_item pair_cmp pair self.old)) Fault.DependenciesFull) result }
         ensures err { OnErr result (self.new ≡ self.old) }
     {
-        let alloc = self.pairs.allocator();
-        let mut pairs = copy_of_packed(alloc, &self.pairs, 1)?;
+        let alloc = self.packed().allocator();
+        let mut pairs = copy_of_packed(alloc, self.packed(), 1)?;
         put_near(&mut pairs, pair, limit)?;
-        self.pairs = PackedPairs::copy_of(alloc, pairs.as_slice())?;
+        *self = Near::copy_of(alloc, pairs.as_slice())?;
         Ok(())
+    }
+}
+
+/// One more owner of an entry's nearest dependencies. Where no more can be counted, they are copied.
+pub(crate) fn shared_near(alloc: Global, parts: &Arc<KeptParts>) -> Result<Near, AllocError>
+    ensures { IfOk result (λ near. near ≡ (arc_value parts.now).near) }
+{
+    match parts.clone() {
+        Ok(parts) => Ok(Near::of_entry(parts)),
+        Err(_) => Ok(Near::of(parts.near.copy(alloc)?)),
     }
 }
 
@@ -109,7 +239,7 @@ impl PartialEq for Near {
         ensures value { result ≡ pairs_eq self.now other.now }
         ensures exact { IsTrue result ↔ (self.now ≡ other.now) }
     {
-        self.pairs.is_same(&other.pairs)
+        *self.owned() == *other.owned()
     }
 }
 

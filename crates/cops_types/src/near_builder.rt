@@ -101,7 +101,7 @@ impl NearBuilder {
     pub fn drop_held(&mut self, deps: &Deps)
         ensures { self.new.pairs ≡ without_held deps.now self.old.pairs }
     {
-        pair_lists::drop_held(&mut self.pairs, deps);
+        pair_lists::drop_held(&mut self.pairs, deps.owned());
     }
 
     /// A list of these pairs that is shared from now on. It is copied once, here.

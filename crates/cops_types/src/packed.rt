@@ -15,7 +15,6 @@ use crate::fronts::order_of_fronts;
 use crate::keys::Key;
 use crate::pair_lists::place_of;
 use crate::pairs::Pair;
-use crate::shared::Shared;
 use crate::versions::Version;
 use std::alloc::{AllocError, Global};
 use std::cmp::Ordering;
@@ -110,12 +109,12 @@ impl PartialEq for ShortPair {
 #[derive(Debug, Drop)]
 enum Rows {
     One(ShortPair),
-    Short(Shared<ShortPair>),
-    Full(Shared<Pair>),
+    Short(Vec<ShortPair>),
+    Full(Vec<Pair>),
 }
 
-/// Pairs that are shared. Contracts see the list of them. One pair with a short key takes no memory
-/// of its own.
+/// Pairs, in as little memory as they fit. Contracts see the list of them. One pair with a short key
+/// takes no memory beside.
 #[derive(Debug, Drop)]
 pub(crate) struct PackedPairs {
     alloc: Global,
@@ -160,7 +159,7 @@ fn short_rows(alloc: Global, pairs: &[Pair]) -> Result<Rows, AllocError>
     if pairs.len() == 1 {
         return Ok(Rows::One(ShortPair::of(&pairs[0])));
     }
-    Ok(Rows::Short(Shared::from_vec(shortened(alloc, pairs)?)?))
+    Ok(Rows::Short(shortened(alloc, pairs)?))
 }
 
 /// Where the key is among short pairs, or its place.
@@ -202,7 +201,7 @@ impl PackedPairs {
     {
         PackedPairs {
             alloc,
-            rows: Rows::Short(Shared::empty(alloc)),
+            rows: Rows::Short(Vec::new(alloc)),
         }
     }
 
@@ -213,7 +212,7 @@ impl PackedPairs {
         let rows = if are_short(pairs) {
             short_rows(alloc, pairs)?
         } else {
-            Rows::Full(Shared::from_slice(alloc, pairs)?)
+            Rows::Full(Vec::from_slice(alloc, pairs)?)
         };
         Ok(PackedPairs { alloc, rows })
     }
@@ -224,8 +223,8 @@ impl PackedPairs {
     {
         match &self.rows {
             Rows::One(_) => 1,
-            Rows::Short(pairs) => pairs.as_slice().len(),
-            Rows::Full(pairs) => pairs.as_slice().len(),
+            Rows::Short(pairs) => pairs.len(),
+            Rows::Full(pairs) => pairs.len(),
         }
     }
 
@@ -271,14 +270,14 @@ impl PackedPairs {
         self.alloc
     }
 
-    /// One more owner of the pairs.
-    pub(crate) fn share(&self, alloc: Global) -> Result<Self, AllocError>
+    /// The same pairs, in other memory.
+    pub(crate) fn copy(&self, alloc: Global) -> Result<Self, AllocError>
         ensures { IfOk result (λ packed. packed ≡ self.now) }
     {
         let rows = match &self.rows {
             Rows::One(pair) => Rows::One(*pair),
-            Rows::Short(pairs) => Rows::Short(pairs.share(alloc)?),
-            Rows::Full(pairs) => Rows::Full(pairs.share(alloc)?),
+            Rows::Short(pairs) => Rows::Short(Vec::from_slice(alloc, pairs.as_slice())?),
+            Rows::Full(pairs) => Rows::Full(Vec::from_slice(alloc, pairs.as_slice())?),
         };
         Ok(PackedPairs { alloc, rows })
     }

@@ -1,11 +1,11 @@
 ghost use Rattle.std.specs.Prelude.{◌≡◌, ◌↔◌, IfOk, IsTrue};
 ghost use Rattle.std.specs.Cmp.{partial_equiv_from_equiv};
 
-use crate::deps::Deps;
+use crate::deps::{Deps, OwnedDeps, shared_deps};
 use crate::keys::Key;
-use crate::near::Near;
+use crate::near::{Near, OwnedNear, shared_near};
 use crate::short_keys::KeptKey;
-use crate::values::Value;
+use crate::values::{OwnedValue, Value, shared_value};
 use crate::versions::Version;
 use std::alloc::{AllocError, Global};
 use std::marker::Model;
@@ -23,14 +23,15 @@ pub struct EntryParts {
     pub prev: Version,
 }
 
-/// The parts of an entry as they are kept, with the key in little memory.
+/// The parts of an entry as they are kept, with the key in little memory. Values and lists that
+/// share the entry's memory are owners of it.
 #[derive(Debug, Drop)]
-struct KeptParts {
+pub(crate) struct KeptParts {
     key: KeptKey,
     version: Version,
-    value: Value,
-    deps: Deps,
-    near: Near,
+    pub(crate) value: OwnedValue,
+    pub(crate) deps: OwnedDeps,
+    pub(crate) near: OwnedNear,
     prev: Version,
 }
 
@@ -66,9 +67,9 @@ impl Entry {
         let kept = KeptParts {
             key: KeptKey::of(alloc, parts.key)?,
             version: parts.version,
-            value: parts.value,
-            deps: parts.deps,
-            near: parts.near,
+            value: parts.value.into_owned(alloc)?,
+            deps: parts.deps.into_owned(alloc)?,
+            near: parts.near.into_owned(alloc)?,
             prev: parts.prev,
         };
         Ok(Entry {
@@ -91,24 +92,45 @@ impl Entry {
     }
 
     /// The value.
-    pub fn value(&self) -> &Value
+    pub fn value(&self) -> &OwnedValue
         ensures { result.now ≡ self.now.value }
     {
         &self.parts.value
     }
 
     /// The dependencies.
-    pub fn deps(&self) -> &Deps
+    pub fn deps(&self) -> &OwnedDeps
         ensures { result.now ≡ self.now.deps }
     {
         &self.parts.deps
     }
 
     /// The nearest dependencies.
-    pub fn near(&self) -> &Near
+    pub fn near(&self) -> &OwnedNear
         ensures { result.now ≡ self.now.near }
     {
         &self.parts.near
+    }
+
+    /// The value, over the entry's memory.
+    pub fn shared_value(&self, alloc: Global) -> Result<Value, AllocError>
+        ensures { IfOk result (λ value. value ≡ self.now.value) }
+    {
+        shared_value(alloc, &self.parts)
+    }
+
+    /// The dependencies, over the entry's memory.
+    pub fn shared_deps(&self, alloc: Global) -> Result<Deps, AllocError>
+        ensures { IfOk result (λ deps. deps ≡ self.now.deps) }
+    {
+        shared_deps(alloc, &self.parts)
+    }
+
+    /// The nearest dependencies, over the entry's memory.
+    pub fn shared_near(&self, alloc: Global) -> Result<Near, AllocError>
+        ensures { IfOk result (λ near. near ≡ self.now.near) }
+    {
+        shared_near(alloc, &self.parts)
     }
 
     /// The version that the origin sent before.
@@ -125,16 +147,16 @@ impl Entry {
         Record { entry: self, at }
     }
 
-    /// The parts. The value and both lists share their memory.
+    /// A copy of the parts.
     fn to_parts(&self, alloc: Global) -> Result<EntryParts, AllocError>
         ensures { IfOk result (λ parts. parts ≡ self.now) }
     {
         Ok(EntryParts {
             key: self.key(),
             version: self.version(),
-            value: self.value().copy(alloc)?,
-            deps: self.deps().copy(alloc)?,
-            near: self.near().copy(alloc)?,
+            value: Value::of(self.value().copy(alloc)?),
+            deps: Deps::of(self.deps().copy(alloc)?),
+            near: Near::of(self.near().copy(alloc)?),
             prev: self.prev(),
         })
     }

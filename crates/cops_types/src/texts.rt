@@ -5,9 +5,9 @@ ghost use Rattle.cops_types.specs.FaultText.{fault_text};
 ghost use Rattle.cops_types.specs.PairForms.{are_deps, are_near, is_pair, is_version};
 ghost use Rattle.cops_types.specs.Words.{StartsWith, list_text, more_text, pair_text, version_text};
 
-use crate::deps::Deps;
+use crate::deps::OwnedDeps;
 use crate::faults::Fault;
-use crate::near::Near;
+use crate::near::OwnedNear;
 use crate::packed::PackedPairs;
 use crate::pairs::Pair;
 use crate::versions::Version;
@@ -55,7 +55,7 @@ pub fn push_pair(out: &mut Vec<u8>, pair: &Pair) -> Result<(), AllocError>
 
 /// Puts the pairs with commas between, or a hyphen for none, at the end. After an `Err` a front of
 /// it may be there.
-pub fn push_deps(out: &mut Vec<u8>, deps: &Deps) -> Result<(), AllocError>
+pub fn push_deps(out: &mut Vec<u8>, deps: &OwnedDeps) -> Result<(), AllocError>
     ensures ok { OnOk result (out.new.items ≡ out.old.items ++ list_text deps.now) }
     ensures front { StartsWith out.new.items out.old.items }
     ensures formed { OnOk result (IsTrue (are_deps deps.now)) }
@@ -65,7 +65,7 @@ pub fn push_deps(out: &mut Vec<u8>, deps: &Deps) -> Result<(), AllocError>
 
 /// Puts the pairs with commas between, or a hyphen for none, at the end. After an `Err` a front of
 /// it may be there.
-pub fn push_near(out: &mut Vec<u8>, near: &Near) -> Result<(), AllocError>
+pub fn push_near(out: &mut Vec<u8>, near: &OwnedNear) -> Result<(), AllocError>
     ensures ok { OnOk result (out.new.items ≡ out.old.items ++ list_text near.now) }
     ensures front { StartsWith out.new.items out.old.items }
     ensures formed { OnOk result (IsTrue (are_near near.now)) }

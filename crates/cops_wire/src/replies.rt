@@ -11,7 +11,7 @@ use crate::writing::{
 };
 use byteorder::{BigEndian, ByteOrder};
 use cops_session::Answer;
-use cops_types::{Deps, Fault, Key, Pair, Read, Reads, Value, Version};
+use cops_types::{Deps, Fault, Key, OwnedDeps, Pair, Read, Reads, Value, Version};
 use std::alloc::AllocError;
 
 /// The greatest length of a body.
@@ -34,7 +34,7 @@ fn push_pair(out: &mut Vec<u8>, pair: &Pair) -> Result<(), AllocError>
     push_version(out, pair.version)
 }
 
-fn push_deps(out: &mut Vec<u8>, deps: &Deps) -> Result<(), AllocError>
+fn push_deps(out: &mut Vec<u8>, deps: &OwnedDeps) -> Result<(), AllocError>
     requires { length deps.now ≤ 65535 }
     ensures ok { OnOk result (out.new.items ≡ out.old.items ++ parts_of 2 link_of (map link_to deps.now)) }
     ensures front { StartsWith out.new.items out.old.items }
@@ -60,7 +60,7 @@ fn push_held(
 {
     push_value(out, value.bytes())?;
     push_version(out, version)?;
-    push_deps(out, deps)
+    push_deps(out, deps.owned())
 }
 
 #[tactic(auto, using(crate::proofs::ReplyLemmas::replies))]

@@ -114,9 +114,9 @@ fn push_lists(out: &mut Vec<u8>, all: &Deps, near: &Near) -> Result<(), AllocErr
     ensures { OnOk result (out.new.items ≡ out.old.items ++ text_of_reply (Lists all.now near.now)) }
 {
     push_word(out, b"all ")?;
-    push_deps(out, all)?;
+    push_deps(out, all.owned())?;
     push_word(out, b" near ")?;
-    push_near(out, near)
+    push_near(out, near.owned())
 }
 
 /// Puts what became of a stream's front at the end.

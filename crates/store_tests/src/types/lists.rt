@@ -104,3 +104,16 @@ fn copies_are_for_threads(rt: HostRuntime) {
     let (one, other) = read_by_two(&rt, entry, copy);
     assert!(rt; one == 3 && other == 3);
 }
+
+#[test]
+fn what_an_entry_shares_outlives_it(rt: HostRuntime) {
+    let entry = entry_of(&rt, rt.alloc());
+    let value = entry.shared_value(rt.alloc()).expect(&rt, "memory");
+    let deps = entry.shared_deps(rt.alloc()).expect(&rt, "memory");
+    let near = entry.shared_near(rt.alloc()).expect(&rt, "memory");
+    drop(entry);
+    let only = [pair(&rt, b"k", 1, 0)];
+    assert!(rt; value.bytes() == [1, 2, 3].as_slice());
+    assert_deps(&rt, &deps, &only);
+    assert_near(&rt, &near, &only);
+}

@@ -39,14 +39,14 @@ fn a_version_displayed(rt: HostRuntime) {
 /// Asserts how a list is written.
 fn assert_deps_text(rt: &impl Abort, alloc: Global, deps: &Deps, text: &[u8]) {
     let mut out = Vec::new(alloc);
-    push_deps(&mut out, deps).expect(rt, "memory");
+    push_deps(&mut out, deps.owned()).expect(rt, "memory");
     assert!(rt; out.as_slice() == text);
 }
 
 /// Asserts how a list of nearest ones is written.
 fn assert_near_text(rt: &impl Abort, alloc: Global, near: &Near, text: &[u8]) {
     let mut out = Vec::new(alloc);
-    push_near(&mut out, near).expect(rt, "memory");
+    push_near(&mut out, near.owned()).expect(rt, "memory");
     assert!(rt; out.as_slice() == text);
 }
 
