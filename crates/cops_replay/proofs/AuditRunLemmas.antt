@@ -14,11 +14,11 @@ use Rattle.cops_types.specs.Sink.{AppendsFront}
 use Rattle.cops_types.specs.TenantConfig.{TenantConfig, tenant_config}
 use Rattle.cops_node.specs.Clusters.{HasTenant, nodes_of, shape_of}
 use Rattle.cops_node.specs.SoloNode.{SoloNode}
+use Rattle.cops_model.specs.Setups.{Setup, config_in, config_of, is_open_at}
 use Rattle.cops_world.specs.declared.scripts.BadConfig.{BadConfig}
 use Rattle.cops_world.specs.Script.{Written}
 use Rattle.cops_world.specs.ScriptRuns.{text_in}
 use Rattle.cops_world.specs.ScriptWorlds.{IsLeftBy, IsLeftByRead, cluster_left, life_left}
-use Rattle.cops_world.specs.Setups.{Setup, config_in, config_of, is_open_at}
 use Rattle.cops_world.specs.Worlds.{HasOpenCluster, KeptWorld, open_setup}
 use Rattle.cops_replay.specs.declared.Record.{Record}
 use Rattle.cops_replay.specs.Audits.{HasShape, ReplaysSame, records_of}

@@ -26,7 +26,7 @@ use Rattle.cops_node.specs.declared.NodeReply.{NodeReply}
 use Rattle.cops_node.specs.declared.NodeReply.TheVariants.{Found, Absent, Gone, NotYet, Stored, Checked, Pulled, Nothing, Committed, Already, OutOfOrder, Acked, NotFront, Removed, Refused}
 use Rattle.cops_node.specs.declared.Wanted.{Wanted}
 use Rattle.cops_node.specs.declared.Wanted.TheVariants.{Latest, Exactly}
-use Rattle.cops_world.specs.ListLimits.{HasFewInCall, HasFewInReply, HasFewPairs}
+use Rattle.cops_model.specs.ListLimits.{HasFewInCall, HasFewInReply, HasFewPairs}
 use Rattle.cops_replay.specs.declared.Record.{Record}
 use Rattle.cops_types.specs.PairForms.{are_deps, are_near, is_pair, is_version}
 use Rattle.cops_replay.specs.RecordText.{call_words, entry_words, is_audited, is_bytes, is_call, is_entry, is_record, is_reply, is_wanted, node_text, record_line, record_value, record_words, reply_words, wanted_text}

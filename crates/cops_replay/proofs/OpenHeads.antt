@@ -22,11 +22,11 @@ use Rattle.cops_types.proofs.HeadLemmas.{tenant_in-is}
 use Rattle.cops_types.proofs.HostLineLemmas.{admitted-good}
 use Rattle.cops_types.proofs.OpenSlotLemmas.{apart_left, apart_put, both_fail, left_fails, right_fails, swapped}
 use Rattle.cops_types.proofs.WordLemmas.{both}
-use Rattle.cops_world.specs.declared.acts.Act.{Act}
-use Rattle.cops_world.specs.ActLines.{act_in}
-use Rattle.cops_world.specs.Said.{Said, OfHost, admission_of, admission_unless, begins_admission, begins_closing, closing_at, closing_of, said_found, said_by, said_in, tenants_after, tenants_past}
+use Rattle.cops_model.specs.declared.acts.Act.{Act}
+use Rattle.cops_model.specs.ActLines.{act_in}
+use Rattle.cops_model.specs.Said.{Said, OfHost, admission_of, admission_unless, begins_admission, begins_closing, closing_at, closing_of, said_found, said_by, said_in, tenants_after, tenants_past}
+use Rattle.cops_model.specs.Setups.{next_slot}
 use Rattle.cops_world.specs.Script.{said_to}
-use Rattle.cops_world.specs.Setups.{next_slot}
 use Rattle.cops_world.proofs.OpenSets.{may_be_given}
 use Rattle.cops_replay.specs.OpenAudits.{left_config, open_tenants, with_tenants}
 use Rattle.cops_replay.proofs.HeadsBack.{IsToken, head_read, parsed_token, tenant_written, written_head, written_tenant}

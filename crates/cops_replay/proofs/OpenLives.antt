@@ -5,9 +5,9 @@ use Rattle.cops_types.specs.declared.configs.Config.{Config}
 use Rattle.cops_types.specs.declared.configs.Tenant.{Tenant}
 use Rattle.cops_types.specs.OpenSlots.{begun_with, open_at}
 use Rattle.cops_types.specs.TenantConfig.{tenant_config}
-use Rattle.cops_world.specs.Events.{config_at}
-use Rattle.cops_world.specs.Lives.{Lives, first_lives, lives_after, lives_past, with_all_lives}
-use Rattle.cops_world.specs.Said.{said_in, tenants_after, tenants_past}
+use Rattle.cops_model.specs.Events.{config_at}
+use Rattle.cops_model.specs.Lives.{Lives, first_lives, lives_after, lives_past, with_all_lives}
+use Rattle.cops_model.specs.Said.{said_in, tenants_after, tenants_past}
 use Rattle.cops_world.specs.Script.{said_by_lines, said_to}
 use Rattle.cops_world.specs.ScriptWorlds.{life_left, setup_left}
 use Rattle.cops_world.proofs.Numbered.{AreNumbered, AreOf, next_numbered, numbered_first, of_all_lives}

@@ -31,7 +31,7 @@ use Rattle.cops_replay.specs.ReplayText.{great_clock_of, is_great_in, longest_re
 use Rattle.cops_replay.specs.Replaying.{Agrees}
 use Rattle.cops_replay.specs.Replayings.{IsBeforeRecords, IsRecordCounted, IsReplayedLine, Standing}
 use Rattle.cops_replay.specs.Replays.{IsAlone, IsReplayed}
-use Rattle.cops_world.specs.MainTheorem.{with_tenant_alone}
+use Rattle.cops_model.specs.MainTheorem.{with_tenant_alone}
 
 -- ---- the beginning
 

@@ -6,7 +6,7 @@ ghost use Rattle.cops_types.specs.HeadLines.{are_sizes};
 ghost use Rattle.cops_types.specs.Refusal.{IsAnswer};
 ghost use Rattle.cops_types.specs.TenantConfig.{TenantConfig, tenant_config};
 ghost use Rattle.cops_node.specs.Parts.{are_clocks};
-ghost use Rattle.cops_world.specs.MainTheorem.{with_tenant_alone};
+ghost use Rattle.cops_model.specs.MainTheorem.{with_tenant_alone};
 ghost use Rattle.cops_replay.specs.OldRecords.{versions_in};
 ghost use Rattle.cops_replay.specs.RecordLines.{record_by};
 ghost use Rattle.cops_replay.specs.Replays.{IsAlone, IsReplayed};

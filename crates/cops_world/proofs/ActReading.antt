@@ -12,9 +12,9 @@ use Rattle.cops_types.specs.HeadLines.{is_name, is_between}
 use Rattle.cops_types.specs.Lines.{longest_line}
 use Rattle.cops_types.specs.Words.{first_word, is_inside, is_u64, is_word, no_words, number_of, parts_at, space}
 use Rattle.cops_types.proofs.WordLemmas.{Lacks, and, both, bytes_from_test, first_word-more, number_of-decimal, number_written, parts_back, parts_lack, same_value}
-use Rattle.cops_world.specs.declared.acts.Act.{Act}
-use Rattle.cops_world.specs.declared.acts.Act.TheVariants.{Open, Create, Delete, Put, Get, Show, Carry, Step, Done, Collect}
-use Rattle.cops_world.specs.ActLines.{words_of_act, act_line, has_line, is_value_word, with_numbers, create_of, named_of, put_of, get_of, carry_of, collect_of, act_of_verb, act_of_words, checked_act, act_in}
+use Rattle.cops_model.specs.declared.acts.Act.{Act}
+use Rattle.cops_model.specs.declared.acts.Act.TheVariants.{Open, Create, Delete, Put, Get, Show, Carry, Step, Done, Collect}
+use Rattle.cops_model.specs.ActLines.{words_of_act, act_line, has_line, is_value_word, with_numbers, create_of, named_of, put_of, get_of, carry_of, collect_of, act_of_verb, act_of_words, checked_act, act_in}
 use Rattle.cops_world.specs.ActWords.{AreUnspaced, keys_of, with_line}
 
 -- ---- the words of an act are those that it was read from

@@ -7,8 +7,8 @@ use Rattle.std.proofs.lemmas.List.{length-map}
 use Rattle.std.proofs.lemmas.List.Folds.{list_any-append}
 use Rattle.std.proofs.lemmas.Slice.Eq.{bytes_eq-Decides}
 use Rattle.cops_types.specs.Key.{key_eq}
+use Rattle.cops_model.specs.Cluster.{SoloCluster, NamedActor, Actor, find_actor, with_actor, with_new_actor, without_actor}
 use Rattle.cops_world.specs.Actors.{ActorsStandFor, AreSame, HaveDistinctNames}
-use Rattle.cops_world.specs.Cluster.{SoloCluster, NamedActor, Actor, find_actor, with_actor, with_new_actor, without_actor}
 
 key_eq-true : (a b : List ℕ) → key_eq a b ≡ true → a ≡ b
 key_eq-true a b e = (bytes_eq-Decides a b).0 e

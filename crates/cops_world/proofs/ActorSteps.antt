@@ -10,11 +10,11 @@ use Rattle.cops_session.specs.Session.{Session}
 use Rattle.cops_session.specs.SessionStands.{SessionStandsFor}
 use Rattle.cops_repl.specs.Carrier.{Carrier}
 use Rattle.cops_repl.specs.Stands.{CarrierStandsFor, KeptCarrier}
+use Rattle.cops_model.specs.declared.replies.Reply.{Reply}
+use Rattle.cops_model.specs.Cluster.{Actor, OfSession, OfCarrier}
 use Rattle.cops_world.specs.declared.actors.Actor.{Actor as Kept}
 use Rattle.cops_world.specs.declared.actors.Actor.TheVariants as kept
 use Rattle.cops_world.specs.declared.actors.Stepped.{Stepped}
-use Rattle.cops_world.specs.declared.replies.Reply.{Reply}
-use Rattle.cops_world.specs.Cluster.{Actor, OfSession, OfCarrier}
 use Rattle.cops_world.specs.ActorsStand.{ActorStandsFor, ActorSteps, CarrierSteps, SessionSteps, RunsAt}
 
 module _ (called : ℕ → ℕ → NodeId → NodeCall → NodeReply → Type 0) (stays : Type 0) (shape : Shape) (slot : ℕ) (config : TenantConfig) (moment : ℕ) where

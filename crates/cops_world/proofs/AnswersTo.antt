@@ -5,10 +5,10 @@ use Rattle.std.proofs.lemmas.Option.{get_or_from_slice_get, slice_get-get_or}
 use Rattle.std.proofs.lemmas.List.{length-map}
 use Rattle.cops_types.specs.declared.configs.Config.{Config}
 use Rattle.cops_types.specs.TenantConfig.{TenantConfig, tenant_config}
-use Rattle.cops_world.specs.declared.acts.Event.{Event}
-use Rattle.cops_world.specs.Cluster.{SoloCluster, new_cluster}
-use Rattle.cops_world.specs.Events.{own, replies_from, no_config, config_at}
-use Rattle.cops_world.specs.Said.{Said}
+use Rattle.cops_model.specs.declared.acts.Event.{Event}
+use Rattle.cops_model.specs.Cluster.{SoloCluster, new_cluster}
+use Rattle.cops_model.specs.Events.{own, replies_from, no_config, config_at}
+use Rattle.cops_model.specs.Said.{Said}
 use Rattle.cops_world.specs.Script.{events_in, told_from, answers, answers_of}
 use Rattle.cops_world.proofs.Sequence.{left_from, answers_from, AreThere, answers-left}
 

@@ -6,8 +6,8 @@ use Rattle.cops_types.specs.declared.configs.Tenant.{Tenant}
 use Rattle.cops_types.specs.HeadLines.{most_tenants}
 use Rattle.cops_types.specs.OpenSlots.{begun_with, open_at}
 use Rattle.cops_types.specs.TenantConfig.{tenant_config}
-use Rattle.cops_world.specs.Events.{config_at, no_config}
-use Rattle.cops_world.specs.Setups.{config_in, config_of, is_open_at, new_setup}
+use Rattle.cops_model.specs.Events.{config_at, no_config}
+use Rattle.cops_model.specs.Setups.{config_in, config_of, is_open_at, new_setup}
 
 begun_at : (tenants : List Tenant) (free slot : ℕ) → open_at slot (map Some tenants ++ replicate free None) ≡ slice_get tenants slot
 begun_at [] zero slot = refl

@@ -24,15 +24,15 @@ use Rattle.cops_repl.specs.declared.Progress.TheVariants as carrying
 use Rattle.cops_repl.specs.Carrier.{Carrier, carrier_after}
 use Rattle.cops_repl.specs.Carrier as carrier
 use Rattle.cops_repl.specs.Stands.{KeptCarrier, StandsIfWorking, is_done}
+use Rattle.cops_model.specs.declared.replies.Reply.{Reply}
+use Rattle.cops_model.specs.declared.replies.Reply.TheVariants.{Refused}
+use Rattle.cops_model.specs.Cluster.{ActEffect, Actor, OfCarrier, OfSession, SoloCluster, actor_step, call_node, carrier_does, carrier_step, carrier_stepped, find_actor, reply_of_progress, request_does, running_step, session_stepped, step_of, with_actor, without_actor}
+use Rattle.cops_model.specs.Events.{is_out_of_memory}
 use Rattle.cops_world.specs.declared.actors.Actor.{Actor as Kept}
 use Rattle.cops_world.specs.declared.actors.Actor.TheVariants as kept
 use Rattle.cops_world.specs.declared.actors.Stepped.{Stepped}
-use Rattle.cops_world.specs.declared.replies.Reply.{Reply}
-use Rattle.cops_world.specs.declared.replies.Reply.TheVariants.{Refused}
 use Rattle.cops_world.specs.ActorsStand.{ActorSteps, CarrierSteps, SessionSteps, NodesTurn, IsAfter, StepsCluster, reply_of_carrying}
 use Rattle.cops_world.specs.Actors.{HaveDistinctNames}
-use Rattle.cops_world.specs.Cluster.{ActEffect, Actor, OfCarrier, OfSession, SoloCluster, actor_step, call_node, carrier_does, carrier_step, carrier_stepped, find_actor, reply_of_progress, request_does, running_step, session_stepped, step_of, with_actor, without_actor}
-use Rattle.cops_world.specs.Events.{is_out_of_memory}
 use Rattle.cops_world.proofs.ActorMoves.{with_actor-same}
 use Rattle.cops_session.proofs.RefusedRequests.{request_refused}
 use Rattle.cops_world.proofs.RefusedCarriers.{carrier_refused}

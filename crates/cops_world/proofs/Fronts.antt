@@ -5,14 +5,14 @@ use Rattle.std.proofs.lemmas.Bool.Decides.{Decides-eqb}
 use Rattle.cops_types.specs.declared.configs.Config.{Config}
 use Rattle.cops_types.specs.declared.faults.Fault.TheVariants.{Syntax}
 use Rattle.cops_types.specs.TenantConfig.{TenantConfig, tenant_config}
-use Rattle.cops_world.specs.declared.acts.Event.{Event}
-use Rattle.cops_world.specs.declared.replies.HostReply.{HostReply}
-use Rattle.cops_world.specs.declared.replies.Reply.{Reply}
-use Rattle.cops_world.specs.declared.replies.Reply.TheVariants.{Refused}
-use Rattle.cops_world.specs.Cluster.{SoloCluster, cluster_step}
-use Rattle.cops_world.specs.Events.{IsFrontOf, IsSpared, before_lack, config_at, is_out_of_memory, own, replies, replies_from, with_cluster}
+use Rattle.cops_model.specs.declared.acts.Event.{Event}
+use Rattle.cops_model.specs.declared.replies.HostReply.{HostReply}
+use Rattle.cops_model.specs.declared.replies.Reply.{Reply}
+use Rattle.cops_model.specs.declared.replies.Reply.TheVariants.{Refused}
+use Rattle.cops_model.specs.Cluster.{SoloCluster, cluster_step}
+use Rattle.cops_model.specs.Events.{IsFrontOf, IsSpared, before_lack, config_at, is_out_of_memory, own, replies, replies_from, with_cluster}
+use Rattle.cops_model.specs.Said.{HostDeed, Said, OfHost, Unformed, Acts}
 use Rattle.cops_world.specs.Answers.{Answer, ToHost, ToTenant, reply_to_host}
-use Rattle.cops_world.specs.Said.{HostDeed, Said, OfHost, Unformed, Acts}
 use Rattle.cops_world.specs.Script.{answers_of, events_in}
 use Rattle.cops_world.specs.ScriptRuns.{act_replies, replies_to}
 use Rattle.cops_world.proofs.AnswersTo.{answers_of-from, new_at}

@@ -6,20 +6,21 @@ use Rattle.cops_types.specs.declared.configs.Config.{Config}
 use Rattle.cops_types.specs.declared.configs.Tenant.{Tenant}
 use Rattle.cops_types.specs.OpenSlots.{begun_with, open_at}
 use Rattle.cops_types.specs.TenantConfig.{tenant_config}
+use Rattle.cops_model.specs.Cluster.{SoloCluster, new_cluster}
+use Rattle.cops_model.specs.Events.{IsFrontOf, before_lack, config_at}
+use Rattle.cops_model.specs.Lives.{Lives, first_lives, lives_past, of_lives, of_lives_from, with_all_lives}
+use Rattle.cops_model.specs.Said.{HostDeed, Admits, Closes, Refuses, Said, OfHost, Unformed, Acts, said_in, tenants_after, tenants_past}
+use Rattle.cops_model.specs.Setups.{Setup, is_open_at}
 use Rattle.cops_world.specs.Acting.{IsNew}
 use Rattle.cops_world.specs.Answers.{Answer, is_lack}
-use Rattle.cops_world.specs.Cluster.{SoloCluster, new_cluster}
-use Rattle.cops_world.specs.Events.{IsFrontOf, before_lack, config_at}
-use Rattle.cops_world.specs.Lives.{Lives, first_lives, lives_past, of_lives, of_lives_from, with_all_lives}
-use Rattle.cops_world.specs.Said.{HostDeed, Admits, Closes, Refuses, Said, OfHost, Unformed, Acts, said_in, tenants_after, tenants_past}
 use Rattle.cops_world.specs.Script.{answers_of, answers_to, events_in, said_by_lines, said_to}
 use Rattle.cops_world.specs.ScriptWorlds.{cluster_left, life_left, setup_left}
 use Rattle.cops_world.specs.ScriptRuns.{AreAnswered, AreSpared, acts_in, act_replies, config_told, heard, lives_told, replies_to, said_from, said_told}
-use Rattle.cops_world.specs.Setups.{Setup, is_open_at}
 use Rattle.cops_world.proofs.AnswersTo.{answers_of-from, new_at}
 use Rattle.cops_world.proofs.Fronts.{answers_of-along}
 use Rattle.cops_world.proofs.LifeRuns.{AreFor, AreGiven, AreStanding, setup_past}
-use Rattle.cops_world.proofs.MainLemmas.{holds_for, keeps_causality}
+use Rattle.cops_causal.proofs.KeptCausality.{keeps_causality}
+use Rattle.cops_world.proofs.MainLemmas.{holds_for}
 use Rattle.cops_world.proofs.Numbered.{AreOf, ArePlaced, are_there, numbered_first, of_all_lives, of_front, placed_before}
 use Rattle.cops_world.proofs.SaidLines.{said_in-placed}
 use Rattle.cops_world.proofs.Sequence.{AreThere, answers_from}

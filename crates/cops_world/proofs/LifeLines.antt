@@ -6,15 +6,15 @@ use Rattle.std.proofs.lemmas.Option.{get_or_from_slice_get, slice_get-map}
 use Rattle.cops_types.specs.declared.configs.Config.{Config}
 use Rattle.cops_types.specs.declared.configs.Tenant.{Tenant}
 use Rattle.cops_types.specs.declared.faults.Fault.TheVariants.{OutOfMemory, Syntax}
-use Rattle.cops_world.specs.declared.replies.Reply.{Reply}
-use Rattle.cops_world.specs.declared.replies.Reply.TheVariants.{Refused}
+use Rattle.cops_model.specs.declared.replies.Reply.{Reply}
+use Rattle.cops_model.specs.declared.replies.Reply.TheVariants.{Refused}
+use Rattle.cops_model.specs.Cluster.{SoloCluster}
+use Rattle.cops_model.specs.Lives.{Lives}
+use Rattle.cops_model.specs.Said.{HostDeed, Admits, Closes, Refuses, Said, OfHost, Unformed, Acts}
+use Rattle.cops_model.specs.Setups.{Setup}
 use Rattle.cops_world.specs.Answers.{Answer, ToHost, ToTenant, answer_line, is_lack, name_at, reply_line, slot_line}
-use Rattle.cops_world.specs.Cluster.{SoloCluster}
 use Rattle.cops_world.specs.Doing.{IsDone, IsHosted}
-use Rattle.cops_world.specs.Lives.{Lives}
-use Rattle.cops_world.specs.Said.{HostDeed, Admits, Closes, Refuses, Said, OfHost, Unformed, Acts}
 use Rattle.cops_world.specs.ScriptRuns.{heard}
-use Rattle.cops_world.specs.Setups.{Setup}
 use Rattle.cops_world.proofs.LifeRuns.{answer_of, setup_after}
 use Rattle.cops_world.proofs.Numbered.{AreNumbered, HasTenantAt, IsPlaced}
 use Rattle.cops_world.proofs.SaidLines.{AdmitsNamed}

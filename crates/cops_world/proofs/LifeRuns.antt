@@ -9,21 +9,21 @@ use Rattle.cops_types.specs.declared.faults.Fault.{Fault}
 use Rattle.cops_types.specs.declared.faults.Fault.TheVariants.{OutOfMemory, Syntax}
 use Rattle.cops_types.specs.OpenSlots.{open_at}
 use Rattle.cops_types.specs.TenantConfig.{TenantConfig, tenant_config}
-use Rattle.cops_world.specs.declared.acts.Event.{Event}
-use Rattle.cops_world.specs.declared.replies.HostReply.{HostReply}
-use Rattle.cops_world.specs.declared.replies.HostReply.TheVariants.{Admitted, Closed, Denied}
-use Rattle.cops_world.specs.declared.replies.Reply.{Reply}
-use Rattle.cops_world.specs.declared.replies.Reply.TheVariants.{Refused}
+use Rattle.cops_model.specs.declared.acts.Event.{Event}
+use Rattle.cops_model.specs.declared.replies.HostReply.{HostReply}
+use Rattle.cops_model.specs.declared.replies.HostReply.TheVariants.{Admitted, Closed, Denied}
+use Rattle.cops_model.specs.declared.replies.Reply.{Reply}
+use Rattle.cops_model.specs.declared.replies.Reply.TheVariants.{Refused}
+use Rattle.cops_model.specs.Cluster.{SoloCluster, cluster_step, new_cluster}
+use Rattle.cops_model.specs.Events.{IsFrontOf, before_lack, cluster_after, config_at, is_out_of_memory, own, with_cluster}
+use Rattle.cops_model.specs.Lives.{Lives, lives_after, lives_past, of_life, of_lives_from, with_life}
+use Rattle.cops_model.specs.Said.{HostDeed, Admits, Closes, Refuses, Said, OfHost, Unformed, Acts, tenants_after, tenants_past}
+use Rattle.cops_model.specs.Setups.{Setup, config_in, config_of, is_open_at, with_slot}
 use Rattle.cops_world.specs.Acting.{HasActed, HasAdmitted, HasClosed, HasStayed, OthersStay}
 use Rattle.cops_world.specs.Answers.{Answer, ToHost, ToTenant, addressee, is_lack, reply_to_host}
-use Rattle.cops_world.specs.Cluster.{SoloCluster, cluster_step, new_cluster}
 use Rattle.cops_world.specs.Doing.{IsDone, IsHosted}
-use Rattle.cops_world.specs.Events.{IsFrontOf, before_lack, cluster_after, config_at, is_out_of_memory, own, with_cluster}
 use Rattle.cops_world.specs.Script.{events_in}
-use Rattle.cops_world.specs.Lives.{Lives, lives_after, lives_past, of_life, of_lives_from, with_life}
-use Rattle.cops_world.specs.Said.{HostDeed, Admits, Closes, Refuses, Said, OfHost, Unformed, Acts, tenants_after, tenants_past}
 use Rattle.cops_world.specs.ScriptRuns.{AreSpared, due_to_host, heard, host_reply, named_by, replies_to}
-use Rattle.cops_world.specs.Setups.{Setup, config_in, config_of, is_open_at, with_slot}
 use Rattle.cops_world.proofs.AnswersTo.{new_at}
 use Rattle.cops_world.proofs.Fronts.{ActsAreTold, act_keeps, act_keeps_acts, host_keeps, host_keeps_acts, no_replies, replies_along, unformed_keeps, unformed_keeps_acts}
 use Rattle.cops_world.proofs.Numbered.{AreNumbered, AreOf, ArePlaced, HasTenantAt, next_numbered}

@@ -11,20 +11,20 @@ use Rattle.cops_types.specs.HostLines.{admitted_in, closed_in}
 use Rattle.cops_types.specs.LineAnswers.{Answers}
 use Rattle.cops_types.specs.OpenSlots.{open_at, open_slot_of_name}
 use Rattle.cops_types.specs.Words.{first_word}
-use Rattle.cops_world.specs.declared.replies.HostReply.{HostReply}
-use Rattle.cops_world.specs.declared.replies.HostReply.TheVariants.{Denied}
-use Rattle.cops_world.specs.declared.replies.Reply.{Reply}
+use Rattle.cops_model.specs.declared.replies.HostReply.{HostReply}
+use Rattle.cops_model.specs.declared.replies.HostReply.TheVariants.{Denied}
+use Rattle.cops_model.specs.declared.replies.Reply.{Reply}
+use Rattle.cops_model.specs.ActLines.{act_in}
+use Rattle.cops_model.specs.Cluster.{SoloCluster}
+use Rattle.cops_model.specs.Said.{Said, OfHost, admission_of, begins_admission, begins_closing, closing_of, said_found, said_by, said_in}
+use Rattle.cops_model.specs.Setups.{Setup}
 use Rattle.cops_world.specs.declared.scripts.HeadSoFar.{HeadSoFar}
 use Rattle.cops_world.specs.declared.scripts.Script.{Script}
 use Rattle.cops_world.specs.declared.scripts.Script.TheVariants.{Head, Running}
 use Rattle.cops_world.specs.Acting.{HasStayed, IsNew}
-use Rattle.cops_world.specs.ActLines.{act_in}
 use Rattle.cops_world.specs.Answers.{ToHost, ToTenant, host_line, open_name, reply_line, slot_line}
-use Rattle.cops_world.specs.Cluster.{SoloCluster}
 use Rattle.cops_world.specs.Doing.{IsDone, IsHosted}
-use Rattle.cops_world.specs.Said.{Said, OfHost, admission_of, begins_admission, begins_closing, closing_of, said_found, said_by, said_in}
 use Rattle.cops_world.specs.ScriptRules.{IsAnswered, line_answers}
-use Rattle.cops_world.specs.Setups.{Setup}
 use Rattle.cops_world.proofs.SaidLines.{named_open}
 
 -- a tenant who is found by name is open

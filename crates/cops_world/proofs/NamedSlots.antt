@@ -13,7 +13,7 @@ use Rattle.cops_types.specs.TenantTexts.{AreApart}
 use Rattle.cops_types.proofs.BegunSlots.{apart_behind}
 use Rattle.cops_types.proofs.OpenSlotLemmas.{apart_left, apart_put, at_open, found_left, found_put}
 use Rattle.cops_types.proofs.WordLemmas.{same_bytes}
-use Rattle.cops_world.specs.Setups.{next_slot}
+use Rattle.cops_model.specs.Setups.{next_slot}
 use Rattle.cops_world.proofs.ApartTenants.{of_name, AreApart as AreFew}
 use Rattle.cops_world.proofs.OpenSets.{may_be_given, open_set_other, open_set_same}
 

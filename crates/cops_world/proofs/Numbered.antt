@@ -7,8 +7,8 @@ use Rattle.cops_types.specs.declared.configs.Config.{Config}
 use Rattle.cops_types.specs.declared.configs.Tenant.{Tenant}
 use Rattle.cops_types.specs.OpenSlots.{begun_with, open_at}
 use Rattle.cops_types.specs.TenantConfig.{TenantConfig, tenant_config}
-use Rattle.cops_world.specs.Lives.{Lives, admitted_by, first_lives, lives_after, of_life, of_lives_from, with_all_lives, with_life}
-use Rattle.cops_world.specs.Said.{HostDeed, Admits, Closes, Refuses, Said, OfHost, Unformed, Acts, tenants_after}
+use Rattle.cops_model.specs.Lives.{Lives, admitted_by, first_lives, lives_after, of_life, of_lives_from, with_all_lives, with_life}
+use Rattle.cops_model.specs.Said.{HostDeed, Admits, Closes, Refuses, Said, OfHost, Unformed, Acts, tenants_after}
 use Rattle.cops_world.proofs.OpenSets.{closed_set, open_set_either, open_set_other}
 use Rattle.cops_world.proofs.Sequence.{AreThere}
 use Rattle.cops_world.proofs.BegunSetups.{open_begun}

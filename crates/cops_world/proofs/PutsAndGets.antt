@@ -14,13 +14,13 @@ use Rattle.cops_types.specs.Value.{is_value, is_too_long}
 use Rattle.cops_types.specs.Words.{no_words}
 use Rattle.cops_session.specs.Request.{Write, Fetch}
 use Rattle.cops_session.specs.Session.{get_refusal, request_begun, session_put_refusal}
-use Rattle.cops_world.specs.declared.acts.Act.TheVariants as acts
+use Rattle.cops_model.specs.declared.acts.Act.TheVariants as acts
+use Rattle.cops_model.specs.declared.replies.Reply.{Reply}
+use Rattle.cops_model.specs.declared.replies.Reply.TheVariants.{Started, Refused}
+use Rattle.cops_model.specs.Cluster.{ActEffect, OfSession, SoloCluster, cluster_step, on_session, reply_with, unless_refused, with_actor}
+use Rattle.cops_model.specs.Setups.{config_in}
 use Rattle.cops_world.specs.declared.actors.Deed.TheVariants as deeds
-use Rattle.cops_world.specs.declared.replies.Reply.{Reply}
-use Rattle.cops_world.specs.declared.replies.Reply.TheVariants.{Started, Refused}
-use Rattle.cops_world.specs.Cluster.{ActEffect, OfSession, SoloCluster, cluster_step, on_session, reply_with, unless_refused, with_actor}
 use Rattle.cops_world.specs.Deeds.{deed_step}
-use Rattle.cops_world.specs.Setups.{config_in}
 use Rattle.cops_world.specs.Worlds.{World, Moves}
 use Rattle.cops_world.proofs.WorldJoins.{lack_moves, refused_moves, same_moves}
 

@@ -10,12 +10,12 @@ use Rattle.cops_types.specs.Slots.{AreNamed as AreAllNamed}
 use Rattle.cops_types.specs.Words.{first_word}
 use Rattle.cops_types.proofs.HeadLengths.{name_of_good}
 use Rattle.cops_types.proofs.HostLineLemmas.{admitted-good}
-use Rattle.cops_world.specs.declared.acts.Act.{Act}
-use Rattle.cops_world.specs.ActLines.{act_in}
+use Rattle.cops_model.specs.declared.acts.Act.{Act}
+use Rattle.cops_model.specs.ActLines.{act_in}
+use Rattle.cops_model.specs.Said.{HostDeed, Admits, Closes, Refuses, Said, OfHost, Unformed, Acts, admission_of, admission_unless, begins_admission, begins_closing, closing_at, closing_of, said_found, said_by, said_in, tenants_after}
+use Rattle.cops_model.specs.Setups.{next_slot}
 use Rattle.cops_world.specs.Answers.{Answer}
 use Rattle.cops_world.specs.OpenNames.{AreOpenNamed}
-use Rattle.cops_world.specs.Said.{HostDeed, Admits, Closes, Refuses, Said, OfHost, Unformed, Acts, admission_of, admission_unless, begins_admission, begins_closing, closing_at, closing_of, said_found, said_by, said_in, tenants_after}
-use Rattle.cops_world.specs.Setups.{next_slot}
 use Rattle.cops_world.proofs.Numbered.{HasTenantAt, IsPlaced}
 use Rattle.cops_world.proofs.OpenSets.{may_be_given}
 

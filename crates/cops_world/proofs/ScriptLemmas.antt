@@ -15,22 +15,22 @@ use Rattle.cops_types.specs.OpenSlots.{begun_with}
 use Rattle.cops_types.specs.Sink.{AppendsFront}
 use Rattle.cops_types.proofs.HeadLengths.{AreGood}
 use Rattle.cops_types.proofs.KnownLemmas.{AppendsFront-more, AppendsFront-nil, input_is, known_lines, known_whole}
+use Rattle.cops_model.specs.Cluster.{SoloCluster}
+use Rattle.cops_model.specs.Lives.{Lives, first_lives, lives_after, with_all_lives}
+use Rattle.cops_model.specs.Said.{said_in, tenants_after}
+use Rattle.cops_model.specs.Setups.{Setup}
 use Rattle.cops_world.specs.declared.scripts.BadConfig.{BadConfig}
 use Rattle.cops_world.specs.declared.scripts.HeadSoFar.{HeadSoFar}
 use Rattle.cops_world.specs.declared.scripts.Script.{Script}
 use Rattle.cops_world.specs.declared.scripts.Script.TheVariants.{Head, Running}
 use Rattle.cops_world.specs.Acting.{IsNew}
 use Rattle.cops_world.specs.Answers.{Answer, answer_line, slot_line}
-use Rattle.cops_world.specs.Cluster.{SoloCluster}
 use Rattle.cops_world.specs.Doing.{IsDone}
 use Rattle.cops_world.specs.HeadRules.{HeadAnswers, IsHeadAt}
-use Rattle.cops_world.specs.Lives.{Lives, first_lives, lives_after, with_all_lives}
 use Rattle.cops_world.specs.OpenNames.{AreOpenNamed}
-use Rattle.cops_world.specs.Said.{said_in, tenants_after}
 use Rattle.cops_world.specs.Script.{all_tenants, answers_to, said_by_lines, script_after, script_out}
 use Rattle.cops_world.specs.ScriptRules.{line_answers, line_refuses, end_answers, end_refuses, script_rules}
 use Rattle.cops_world.specs.ScriptRuns.{AreAnswered, AreSpared, WritesFront, WritesScript, config_told, heard, lives_told, said_from, said_told, text_in, text_of}
-use Rattle.cops_world.specs.Setups.{Setup}
 use Rattle.cops_world.proofs.CutLemmas.{said_in-cut}
 use Rattle.cops_world.proofs.HeadRuns.{HeadRun, InHead, PastHead, bad_end, bad_first, cut_in_head, counted-small, heads, named_of, real_lines, start, refused_line as refused_in_head, wide}
 use Rattle.cops_world.proofs.LifeAnswers.{all_are_told, answers_go_on, are_answered, for_all}

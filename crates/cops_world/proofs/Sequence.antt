@@ -5,13 +5,13 @@ use Rattle.std.proofs.lemmas.Bool.Decides.{Decides-eqb}
 use Rattle.cops_types.specs.declared.faults.Fault.TheVariants.{Syntax}
 use Rattle.cops_types.specs.TenantConfig.{TenantConfig}
 use Rattle.cops_types.proofs.WordLemmas.{same_value}
-use Rattle.cops_world.specs.declared.acts.Event.{Event}
-use Rattle.cops_world.specs.declared.replies.Reply.{Reply}
-use Rattle.cops_world.specs.declared.replies.Reply.TheVariants.{Refused}
-use Rattle.cops_world.specs.Cluster.{SoloCluster, cluster_step}
-use Rattle.cops_world.specs.Events.{own, replies_from, with_cluster}
+use Rattle.cops_model.specs.declared.acts.Event.{Event}
+use Rattle.cops_model.specs.declared.replies.Reply.{Reply}
+use Rattle.cops_model.specs.declared.replies.Reply.TheVariants.{Refused}
+use Rattle.cops_model.specs.Cluster.{SoloCluster, cluster_step}
+use Rattle.cops_model.specs.Events.{own, replies_from, with_cluster}
+use Rattle.cops_model.specs.Said.{Said, OfHost, Unformed, Acts}
 use Rattle.cops_world.specs.Answers.{Answer, ToHost, ToTenant, reply_to_host}
-use Rattle.cops_world.specs.Said.{Said, OfHost, Unformed, Acts}
 use Rattle.cops_world.specs.Script.{events_in, first_reply, answers}
 
 -- what each tenant is still to be told, from this slot on

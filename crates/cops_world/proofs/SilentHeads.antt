@@ -9,12 +9,12 @@ use Rattle.cops_types.specs.LineRuns.{IfRunRefused, StopsEarly}
 use Rattle.cops_types.specs.Lines.{longest_line}
 use Rattle.cops_types.specs.Sink.{AppendsFront}
 use Rattle.cops_types.proofs.KnownLemmas.{AppendsFront-nil}
+use Rattle.cops_model.specs.Cluster.{SoloCluster}
+use Rattle.cops_model.specs.Setups.{Setup}
 use Rattle.cops_world.specs.declared.scripts.BadConfig.{BadConfig}
 use Rattle.cops_world.specs.declared.scripts.Script.{Script}
 use Rattle.cops_world.specs.declared.scripts.Script.TheVariants.{Head, Running}
-use Rattle.cops_world.specs.Cluster.{SoloCluster}
 use Rattle.cops_world.specs.ScriptRules.{line_answers, line_refuses, end_refuses, script_rules}
-use Rattle.cops_world.specs.Setups.{Setup}
 
 module _ {W : Type 0} (setup : W → Setup) (StandsFor : W → ℕ → SoloCluster → Type 0) where
   abbrev IsInHead : Script W → Type 0

@@ -9,23 +9,23 @@ use Rattle.cops_types.specs.HeadReader.{front_with}
 use Rattle.cops_types.specs.LineAnswers.{Answers}
 use Rattle.cops_types.specs.OpenSlots.{open_slot_of_name}
 use Rattle.cops_types.specs.Words.{first_word}
-use Rattle.cops_world.specs.declared.replies.HostReply.{HostReply}
-use Rattle.cops_world.specs.declared.replies.HostReply.TheVariants.{Denied}
-use Rattle.cops_world.specs.declared.acts.Act.{Act}
-use Rattle.cops_world.specs.declared.replies.Reply.{Reply}
-use Rattle.cops_world.specs.declared.replies.Reply.TheVariants.{Refused}
+use Rattle.cops_model.specs.declared.replies.HostReply.{HostReply}
+use Rattle.cops_model.specs.declared.replies.HostReply.TheVariants.{Denied}
+use Rattle.cops_model.specs.declared.acts.Act.{Act}
+use Rattle.cops_model.specs.declared.replies.Reply.{Reply}
+use Rattle.cops_model.specs.declared.replies.Reply.TheVariants.{Refused}
+use Rattle.cops_model.specs.ActLines.{act_in}
+use Rattle.cops_model.specs.Cluster.{SoloCluster}
+use Rattle.cops_model.specs.Events.{is_out_of_memory}
+use Rattle.cops_model.specs.Said.{Said, said_found, said_by, said_in}
+use Rattle.cops_model.specs.Setups.{Setup}
 use Rattle.cops_world.specs.declared.scripts.HeadSoFar.{HeadSoFar}
 use Rattle.cops_world.specs.declared.scripts.Script.{Script}
 use Rattle.cops_world.specs.declared.scripts.Script.TheVariants.{Head, Running}
 use Rattle.cops_world.specs.declared.silent_machine.SilentScript.{SilentScript}
 use Rattle.cops_world.specs.Acting.{HasActed, IsNew}
-use Rattle.cops_world.specs.ActLines.{act_in}
 use Rattle.cops_world.specs.Answers.{ToHost, ToTenant, is_lack}
-use Rattle.cops_world.specs.Cluster.{SoloCluster}
 use Rattle.cops_world.specs.Doing.{IsDone}
-use Rattle.cops_world.specs.Events.{is_out_of_memory}
-use Rattle.cops_world.specs.Said.{Said, said_found, said_by, said_in}
-use Rattle.cops_world.specs.Setups.{Setup}
 use Rattle.cops_world.specs.SilentRules.{IsDoneWhole, silent_answers, silent_answers_in}
 use Rattle.cops_world.proofs.MachineLemmas.{stays_as_it_is}
 

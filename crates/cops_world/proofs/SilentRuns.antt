@@ -13,6 +13,10 @@ use Rattle.cops_types.specs.LineRuns.{AnswersAll, IfRunRefused, StopsEarly}
 use Rattle.cops_types.specs.Lines.{lines_of, cut_line, cut_lines, longest_line}
 use Rattle.cops_types.proofs.HeadLengths.{AreGood}
 use Rattle.cops_types.proofs.KnownLemmas.{input_is, known_lines, known_whole, no_write_fault}
+use Rattle.cops_model.specs.Cluster.{SoloCluster}
+use Rattle.cops_model.specs.Lives.{Lives, first_lives, lives_after}
+use Rattle.cops_model.specs.Said.{said_in}
+use Rattle.cops_model.specs.Setups.{Setup}
 use Rattle.cops_world.specs.declared.scripts.BadConfig.{BadConfig}
 use Rattle.cops_world.specs.declared.scripts.HeadSoFar.{HeadSoFar}
 use Rattle.cops_world.specs.declared.scripts.Script.{Script}
@@ -20,18 +24,14 @@ use Rattle.cops_world.specs.declared.scripts.Script.TheVariants.{Head, Running}
 use Rattle.cops_world.specs.declared.silent_machine.SilentScript.{SilentScript}
 use Rattle.cops_world.specs.Acting.{IsNew}
 use Rattle.cops_world.specs.Answers.{Answer, is_lack, slot_line}
-use Rattle.cops_world.specs.Cluster.{SoloCluster}
 use Rattle.cops_world.specs.Doing.{IsDone}
 use Rattle.cops_world.specs.HeadRules.{HeadAnswers, IsHeadAt}
-use Rattle.cops_world.specs.Lives.{Lives, first_lives, lives_after}
 use Rattle.cops_world.specs.OpenNames.{AreOpenNamed}
-use Rattle.cops_world.specs.Said.{said_in}
 use Rattle.cops_world.specs.ScriptRuns.{AreSpared, heard}
 use Rattle.cops_world.specs.ScriptWorlds.{IsLeftBy, IsLeftByRead, IsRunning}
 use Rattle.cops_world.specs.SilentRules.{IsDoneWhole, silent_answers, silent_answers_in, silent_end_answers, silent_end_answers_in, silent_end_refuses_in, silent_refuses_in, silent_rules}
 use Rattle.cops_world.proofs.CutLemmas.{said_in-cut}
 use Rattle.cops_world.proofs.HeadRuns.{HeadRun, InHead, PastHead, bad_end, bad_first, cut_in_head, counted-small, heads, real_lines, start, refused_line as refused_in_head, wide}
-use Rattle.cops_world.specs.Setups.{Setup}
 use Rattle.cops_world.proofs.LifeAnswers.{left_standing}
 use Rattle.cops_world.proofs.LifeLines.{done_setup, heard_named, lack_of_life}
 use Rattle.cops_world.proofs.LifeRuns.{answer_of}

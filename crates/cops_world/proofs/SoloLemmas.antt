@@ -27,9 +27,16 @@ use Rattle.cops_types.proofs.HeadLengths.{AreGood}
 use Rattle.cops_types.proofs.KnownLemmas.{AppendsFront-more, AppendsFront-nil, input_is, known_lines, known_whole}
 use Rattle.cops_types.proofs.OpenSlotLemmas.{any_found, left_fails, right_fails}
 use Rattle.cops_types.proofs.WordLemmas.{bytes_from_test}
-use Rattle.cops_world.specs.declared.acts.Act.{Act}
-use Rattle.cops_world.specs.declared.replies.Reply.{Reply}
-use Rattle.cops_world.specs.declared.replies.Reply.TheVariants.{Refused}
+use Rattle.cops_model.specs.declared.acts.Act.{Act}
+use Rattle.cops_model.specs.declared.replies.Reply.{Reply}
+use Rattle.cops_model.specs.declared.replies.Reply.TheVariants.{Refused}
+use Rattle.cops_model.specs.ActLines.{act_in}
+use Rattle.cops_model.specs.Cluster.{SoloCluster, new_cluster}
+use Rattle.cops_model.specs.Events.{config_at}
+use Rattle.cops_model.specs.Lives.{Lives, admitted_by, first_lives, lives_after, with_all_lives}
+use Rattle.cops_model.specs.MainTheorem.{with_tenant_alone}
+use Rattle.cops_model.specs.Said.{Admits, Closes, Refuses, HostDeed, Said, OfHost, Unformed, Acts, admission_of, begins_admission, begins_closing, closing_of, is_host_line, said_found, said_by, said_in, tenants_after, tenants_past}
+use Rattle.cops_model.specs.Setups.{Setup, new_setup}
 use Rattle.cops_world.specs.declared.scripts.HeadSoFar.{HeadSoFar}
 use Rattle.cops_world.specs.declared.scripts.Script.{Script}
 use Rattle.cops_world.specs.declared.scripts.Script.TheVariants.{Head, Running}
@@ -38,19 +45,12 @@ use Rattle.cops_world.specs.declared.solo_machine.SoloRefusal.TheVariants.{BadCo
 use Rattle.cops_world.specs.declared.solo_scripts.SoloRun.{SoloRun}
 use Rattle.cops_world.specs.declared.solo_scripts.SoloScript.{SoloScript}
 use Rattle.cops_world.specs.Acting.{HasStayed, IsNew}
-use Rattle.cops_world.specs.ActLines.{act_in}
 use Rattle.cops_world.specs.Answers.{Answer, ToHost, ToTenant, answer_line}
-use Rattle.cops_world.specs.Cluster.{SoloCluster, new_cluster}
 use Rattle.cops_world.specs.Doing.{IsDone, IsHosted}
-use Rattle.cops_world.specs.Events.{config_at}
 use Rattle.cops_world.specs.HeadRules.{HeadAnswers, IsHeadAt}
-use Rattle.cops_world.specs.Lives.{Lives, admitted_by, first_lives, lives_after, with_all_lives}
-use Rattle.cops_world.specs.MainTheorem.{with_tenant_alone}
 use Rattle.cops_world.specs.OpenNames.{AreOpenNamed}
-use Rattle.cops_world.specs.Said.{Admits, Closes, Refuses, HostDeed, Said, OfHost, Unformed, Acts, admission_of, begins_admission, begins_closing, closing_of, is_host_line, said_found, said_by, said_in, tenants_after, tenants_past}
 use Rattle.cops_world.specs.Script.{NoTenant, Written, all_tenants, answers_to, is_called, own_lines, said_by_lines, said_to, solo_after, solo_out, solo_text, text_for, was_open}
 use Rattle.cops_world.specs.ScriptRuns.{AreAnswered, AreSpared, config_told, heard, lives_told, said_from, said_told, text_in}
-use Rattle.cops_world.specs.Setups.{Setup, new_setup}
 use Rattle.cops_world.specs.SoloRules.{AnswersOwn, BeginsWith, IsKept, IsTaken, IsWorldOf, SoloStands, StartsAlone, admits_name, has_this_name, is_own, solo_answers, solo_answers_in, solo_end_answers, solo_end_answers_in, solo_end_refuses, solo_end_refuses_in, solo_line, solo_refuses, solo_refuses_in, solo_rules, solo_setup}
 use Rattle.cops_world.specs.SoloRuns.{IsRefusedFor, WritesSolo, WritesSoloFront}
 use Rattle.cops_world.proofs.ApartTenants.{AreApart as AreFew}

@@ -12,15 +12,15 @@ use Rattle.cops_types.specs.OpenSlots.{begun_with, open_slot_of_name}
 use Rattle.cops_types.specs.Words.{first_word}
 use Rattle.cops_types.proofs.OpenSlotLemmas.{left_fails, right_fails}
 use Rattle.cops_types.proofs.WordLemmas.{bytes_from_test}
-use Rattle.cops_world.specs.declared.acts.Act.{Act}
-use Rattle.cops_world.specs.declared.replies.Reply.{Reply}
-use Rattle.cops_world.specs.declared.replies.Reply.TheVariants.{Refused}
-use Rattle.cops_world.specs.ActLines.{act_in}
+use Rattle.cops_model.specs.declared.acts.Act.{Act}
+use Rattle.cops_model.specs.declared.replies.Reply.{Reply}
+use Rattle.cops_model.specs.declared.replies.Reply.TheVariants.{Refused}
+use Rattle.cops_model.specs.ActLines.{act_in}
+use Rattle.cops_model.specs.Cluster.{SoloCluster, cluster_step}
+use Rattle.cops_model.specs.Events.{config_at, with_cluster}
+use Rattle.cops_model.specs.Lives.{Lives, admitted_by, first_lives, lives_after, of_lives, of_lives_from, with_all_lives}
+use Rattle.cops_model.specs.Said.{Admits, Closes, Refuses, Said, OfHost, Unformed, Acts, begins_admission, begins_closing, is_host_line, said_found, said_by, said_in, tenants_after}
 use Rattle.cops_world.specs.Answers.{Answer, ToTenant, answer_line, name_at}
-use Rattle.cops_world.specs.Cluster.{SoloCluster, cluster_step}
-use Rattle.cops_world.specs.Events.{config_at, with_cluster}
-use Rattle.cops_world.specs.Lives.{Lives, admitted_by, first_lives, lives_after, of_lives, of_lives_from, with_all_lives}
-use Rattle.cops_world.specs.Said.{Admits, Closes, Refuses, Said, OfHost, Unformed, Acts, begins_admission, begins_closing, is_host_line, said_found, said_by, said_in, tenants_after}
 use Rattle.cops_world.specs.Script.{NoTenant, Written, all_tenants, answers_to, is_called, own_lines, said_to, solo_after, solo_out, solo_text, text_for, was_open}
 use Rattle.cops_world.specs.SoloRules.{is_own}
 use Rattle.cops_world.proofs.AnswersTo.{answers_of-from, new_at}

@@ -15,26 +15,26 @@ use Rattle.cops_types.specs.TenantTexts.{AreApart}
 use Rattle.cops_types.specs.TenantConfig.{TenantConfig}
 use Rattle.cops_types.specs.Words.{first_word}
 use Rattle.cops_types.proofs.WordLemmas.{bytes_from_test, same_bytes}
-use Rattle.cops_world.specs.declared.acts.Act.{Act}
-use Rattle.cops_world.specs.declared.replies.HostReply.TheVariants.{Admitted, Closed, Denied}
-use Rattle.cops_world.specs.declared.replies.Reply.{Reply}
-use Rattle.cops_world.specs.declared.replies.Reply.TheVariants.{Refused}
+use Rattle.cops_model.specs.declared.acts.Act.{Act}
+use Rattle.cops_model.specs.declared.replies.HostReply.TheVariants.{Admitted, Closed, Denied}
+use Rattle.cops_model.specs.declared.replies.Reply.{Reply}
+use Rattle.cops_model.specs.declared.replies.Reply.TheVariants.{Refused}
+use Rattle.cops_model.specs.ActLines.{act_in}
+use Rattle.cops_model.specs.Cluster.{SoloCluster, cluster_step}
+use Rattle.cops_model.specs.MainTheorem.{with_tenant_alone}
+use Rattle.cops_model.specs.Said.{Admits, Closes, Refuses, Said, OfHost, admission_of, admission_unless, closing_at, closing_of, is_host_line, said_found, said_by, said_in}
+use Rattle.cops_model.specs.Setups.{Setup, config_in, config_of, new_setup, next_slot, with_slot}
 use Rattle.cops_world.specs.declared.scripts.HeadSoFar.{HeadSoFar}
 use Rattle.cops_world.specs.declared.scripts.Script.{Script}
 use Rattle.cops_world.specs.declared.scripts.Script.TheVariants.{Head, Running}
 use Rattle.cops_world.specs.declared.solo_scripts.SoloRun.{SoloRun}
 use Rattle.cops_world.specs.declared.solo_scripts.SoloScript.{SoloScript}
 use Rattle.cops_world.specs.Acting.{HasStayed, IsNew}
-use Rattle.cops_world.specs.ActLines.{act_in}
 use Rattle.cops_world.specs.Answers.{Answer, ToHost, ToTenant, reply_line, slot_line}
-use Rattle.cops_world.specs.Cluster.{SoloCluster, cluster_step}
 use Rattle.cops_world.specs.Doing.{IsDone}
 use Rattle.cops_world.specs.GoodHeads.{HeadContinues}
 use Rattle.cops_world.specs.Lacks.{Lacks}
-use Rattle.cops_world.specs.MainTheorem.{with_tenant_alone}
-use Rattle.cops_world.specs.Said.{Admits, Closes, Refuses, Said, OfHost, admission_of, admission_unless, closing_at, closing_of, is_host_line, said_found, said_by, said_in}
 use Rattle.cops_world.specs.ScriptRules.{IsAnswered}
-use Rattle.cops_world.specs.Setups.{Setup, config_in, config_of, new_setup, next_slot, with_slot}
 use Rattle.cops_world.specs.SoloRules.{AnswersOwn, IsGiven, IsKept, IsSilent, IsTaken, IsWorldOf, SoloStands, StartsAlone, Takes, is_own, solo_answers, solo_answers_in, solo_setup}
 use Rattle.cops_world.proofs.NamedSlots.{HasNamedAt, admitted_apart, admitted_found, admitted_here, admitted_others, closed_apart, closed_found, closed_others, found_alone, named_found, open_to}
 

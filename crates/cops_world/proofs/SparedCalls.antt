@@ -24,10 +24,10 @@ use Rattle.cops_repl.specs.declared.Delivery.{Delivery}
 use Rattle.cops_repl.specs.declared.Delivery.TheVariants as delivery
 use Rattle.cops_repl.specs.Carrier.{Stream, call_or_end, end_by, end_of, fault_or_end, finished_delivery, first_end, is_foreign, next_after, progress_of, unless_end}
 use Rattle.cops_repl.specs.Carrier as carrier
-use Rattle.cops_world.specs.declared.replies.Reply.TheVariants.{Refused}
+use Rattle.cops_model.specs.declared.replies.Reply.TheVariants.{Refused}
+use Rattle.cops_model.specs.Cluster.{reply_of_delivery}
+use Rattle.cops_model.specs.Events.{is_out_of_memory}
 use Rattle.cops_world.specs.ActorsStand.{reply_of_carrying}
-use Rattle.cops_world.specs.Cluster.{reply_of_delivery}
-use Rattle.cops_world.specs.Events.{is_out_of_memory}
 
 abbrev pub lacks : NodeReply → Bool
 lacks (node_reply.Refused fault) = is_out_of_memory (Refused fault)

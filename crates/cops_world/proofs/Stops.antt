@@ -25,14 +25,14 @@ use Rattle.cops_repl.specs.declared.Progress.{Progress as CarrierProgress}
 use Rattle.cops_repl.specs.declared.Progress.TheVariants as carrying
 use Rattle.cops_repl.specs.Carrier.{Carrier}
 use Rattle.cops_repl.specs.Stands.{KeptCarrier, is_done}
+use Rattle.cops_model.specs.declared.replies.Reply.{Reply}
+use Rattle.cops_model.specs.declared.replies.Reply.TheVariants.{Refused}
+use Rattle.cops_model.specs.Cluster.{Actor, OfCarrier, OfSession, SoloCluster, call_node, find_actor, reply_of_progress, without_actor}
+use Rattle.cops_model.specs.Events.{is_out_of_memory}
 use Rattle.cops_world.specs.declared.actors.Actor.{Actor as Kept}
 use Rattle.cops_world.specs.declared.actors.Actor.TheVariants as kept
 use Rattle.cops_world.specs.declared.actors.Stepped.{Stepped}
-use Rattle.cops_world.specs.declared.replies.Reply.{Reply}
-use Rattle.cops_world.specs.declared.replies.Reply.TheVariants.{Refused}
 use Rattle.cops_world.specs.ActorsStand.{ActorSteps, CarrierSteps, SessionSteps, NodesTurn, IsAfter, StepsCluster, reply_of_carrying}
-use Rattle.cops_world.specs.Cluster.{Actor, OfCarrier, OfSession, SoloCluster, call_node, find_actor, reply_of_progress, without_actor}
-use Rattle.cops_world.specs.Events.{is_out_of_memory}
 use Rattle.cops_world.specs.Lacks.{ActorStops, IsLastRead, SessionStops, StepStops, without_request}
 use Rattle.cops_world.proofs.SparedCalls.{carrier_spared, lacks, node_spared}
 

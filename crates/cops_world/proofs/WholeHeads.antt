@@ -1,10 +1,13 @@
 -- What a whole head says of its tenants.
-use Rattle.std.proofs.Common.{◌≡◌, ℕ, ◌+◌, ◌<◌, List, [], ◌∷◌, inl, inr, refl, sym, subst, ap, ◌∙◌}
-use Rattle.std.specs.Prelude.{IsTrue, Option, Some, None, nat_lt, length}
+use Rattle.std.proofs.Common.{◌≡◌, ℕ, ◌+◌, ◌<◌, List, [], ◌∷◌, inl, inr, refl, sym, subst, ap, ◌∙◌, ◌≤◌}
+use Rattle.std.specs.Prelude.{IsTrue, Option, Some, None, nat_lt, length, slice_get}
+use Rattle.std.proofs.lemmas.Option.{slice_get_within}
 use Rattle.cops_types.specs.declared.configs.Config.{Config}
+use Rattle.cops_types.specs.declared.configs.Tenant.{Tenant}
 use Rattle.cops_types.specs.Head.{Front, AtStart, Within, Begun, Follows, Whole, BadAt, front_after, head_of, reading_from}
 use Rattle.cops_types.specs.HeadLines.{is_distinct}
 use Rattle.cops_types.specs.HeadReader.{front_with}
+use Rattle.cops_types.specs.TenantConfig.{TenantConfig, tenant_config}
 use Rattle.cops_types.proofs.FrontLemmas.{front_after-is}
 use Rattle.cops_types.proofs.WordLemmas.{both}
 use Rattle.cops_world.specs.GoodHeads.{is_good, is_front_good}
@@ -12,6 +15,8 @@ use Rattle.cops_world.proofs.ApartTenants.{AreApart, apart_push, none_apart}
 use Rattle.cops_world.proofs.GoodFronts.{front_with_good}
 use Rattle.cops_world.proofs.HeadRuns.{tenants_in}
 use Rattle.cops_world.proofs.MainLemmas.{some_shard}
+use Rattle.cops_world.proofs.WorldJoins.{quota_at}
+use Rattle.cops_world.proofs.WorldKeeps.{limits_at}
 
 follows_apart : (front : Front) (line : List ℕ) (next : Front) → AreApart (tenants_in front) → Follows front line next → AreApart (tenants_in next)
 follows_apart AtStart line next apart h = subst AreApart (sym (ap tenants_in h.2 ∙ h.1.bare)) none_apart
@@ -65,3 +70,9 @@ good_of lines config rest head = whole_good lines 1 AtStart config rest refl hea
 -- so it has a shard
 pub shards_of : (lines : List (List ℕ)) (config : Config) (rest : List (List ℕ)) → head_of lines ≡ Whole config rest → 0 < config.shards
 shards_of lines config rest head = some_shard config (good_of lines config rest head)
+
+-- a tenant of a head has a limit of at most 1,024 pairs
+pub few_deps : (lines : List (List ℕ)) (config : Config) (rest : List (List ℕ)) (slot : ℕ) (tenant : Tenant) → head_of lines ≡ Whole config rest → slice_get config.tenants slot ≡ Some tenant →
+    (tenant_config config tenant).quota.deps ≤ 1024
+few_deps lines config rest slot tenant head e =
+    subst (λ (own : TenantConfig). own.quota.deps ≤ 1024) (quota_at config slot tenant e) (limits_at config slot (good_of lines config rest head) (slice_get_within config.tenants slot tenant e)).deps

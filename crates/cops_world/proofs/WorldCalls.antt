@@ -13,15 +13,15 @@ use Rattle.cops_node.specs.declared.Shape.{Shape}
 use Rattle.cops_node.specs.Shape.{Fits}
 use Rattle.cops_repl.specs.Stands.{RunsIn}
 use Rattle.cops_types.specs.declared.configs.Config.{Config}
-use Rattle.cops_world.specs.declared.acts.Act.{Act}
-use Rattle.cops_world.specs.declared.acts.Act.TheVariants as acts
+use Rattle.cops_model.specs.declared.acts.Act.{Act}
+use Rattle.cops_model.specs.declared.acts.Act.TheVariants as acts
+use Rattle.cops_model.specs.declared.replies.Reply.{Reply}
+use Rattle.cops_model.specs.declared.replies.Reply.TheVariants.{Refused}
+use Rattle.cops_model.specs.Cluster.{ActEffect, Actor, SoloCluster, actor_refusal, actor_step, cluster_step, collect_at, has_node, has_stream, reply_with, unless_refused, with_new_actor}
+use Rattle.cops_model.specs.Setups.{config_in, is_open_at}
 use Rattle.cops_world.specs.declared.actors.Actor.{Actor as Kept}
 use Rattle.cops_world.specs.declared.actors.ActorId.{ActorId}
 use Rattle.cops_world.specs.declared.actors.Stepped.{Stepped}
-use Rattle.cops_world.specs.declared.replies.Reply.{Reply}
-use Rattle.cops_world.specs.declared.replies.Reply.TheVariants.{Refused}
-use Rattle.cops_world.specs.Cluster.{ActEffect, Actor, SoloCluster, actor_refusal, actor_step, cluster_step, collect_at, has_node, has_stream, reply_with, unless_refused, with_new_actor}
-use Rattle.cops_world.specs.Setups.{config_in, is_open_at}
 use Rattle.cops_world.specs.Worlds.{World, IsWorld, HasSizes, Moves, join_step}
 use Rattle.cops_world.proofs.WorldJoins.{refused_moves, same_moves, taken_moves}
 use Rattle.cops_world.proofs.WorldKeeps.{sizes_in}

@@ -24,14 +24,14 @@ use Rattle.cops_node.specs.Parts.{Site, are_clocks, home_of, place_under, site_i
 use Rattle.cops_node.specs.Place.{place_of}
 use Rattle.cops_node.specs.declared.Shape.{Shape}
 use Rattle.cops_node.specs.SoloNode.{new_node}
+use Rattle.cops_model.specs.Events.{config_at}
+use Rattle.cops_model.specs.Setups.{Setup, config_in, config_of, is_open_at, new_setup}
+use Rattle.cops_model.specs.Cluster.{new_cluster}
 use Rattle.cops_world.specs.declared.actors.Actor.{Actor as Kept}
 use Rattle.cops_world.specs.declared.actors.ActorId.{ActorId}
 use Rattle.cops_world.specs.Actors.{AreSame}
 use Rattle.cops_world.specs.ActorsStand.{ActorStandsFor, RunsAt}
 use Rattle.cops_world.specs.ActorTables.{Places, PutsBack, Table, actor_at, count_at, same_actor, table_of}
-use Rattle.cops_world.specs.Events.{config_at}
-use Rattle.cops_world.specs.Setups.{Setup, config_in, config_of, is_open_at, new_setup}
-use Rattle.cops_world.specs.Cluster.{new_cluster}
 use Rattle.cops_world.specs.Worlds.{AreSitesIn, HasOpenCluster, HasSizes, IsSiteIn, IsKeptWorld, IsWorld, KeptWorld, world_of}
 use Rattle.cops_world.proofs.ActorTableLemmas.{same_actor-is, same_actor-refl}
 use Rattle.cops_world.proofs.BegunSetups.{config_begun, open_begun, open_within}

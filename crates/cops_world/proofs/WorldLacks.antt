@@ -12,15 +12,15 @@ use Rattle.cops_node.specs.Place.{Place, node_number, place_of}
 use Rattle.cops_node.specs.declared.Shape.{Shape}
 use Rattle.cops_node.specs.SoloNode.{SoloNode, new_node}
 use Rattle.cops_node.specs.Step.{node_step, effect, audited, unchanged}
-use Rattle.cops_world.specs.declared.acts.Act.{Act}
+use Rattle.cops_model.specs.declared.acts.Act.{Act}
+use Rattle.cops_model.specs.declared.replies.Reply.{Reply}
+use Rattle.cops_model.specs.Cluster.{SoloCluster, actor_step, goes_on, reply_of_collect}
+use Rattle.cops_model.specs.Events.{is_out_of_memory}
+use Rattle.cops_model.specs.Setups.{Setup, config_in, is_open_at}
 use Rattle.cops_world.specs.declared.actors.Actor.{Actor as Kept}
 use Rattle.cops_world.specs.declared.actors.ActorId.{ActorId}
 use Rattle.cops_world.specs.declared.actors.Stepped.{Stepped}
-use Rattle.cops_world.specs.declared.replies.Reply.{Reply}
 use Rattle.cops_world.specs.ActorsStand.{ActorStandsFor}
-use Rattle.cops_world.specs.Cluster.{SoloCluster, actor_step, goes_on, reply_of_collect}
-use Rattle.cops_world.specs.Events.{is_out_of_memory}
-use Rattle.cops_world.specs.Setups.{Setup, config_in, is_open_at}
 use Rattle.cops_world.specs.Lacks.{Lacks, Stays, StepStops, StepsStop}
 use Rattle.cops_world.specs.Worlds.{ClusterStandsAt, IsWorld, Leaves, Moves, World}
 use Rattle.cops_world.proofs.Stops.{actor_stops}

@@ -21,18 +21,18 @@ use Rattle.cops_node.specs.declared.Home.{Home}
 use Rattle.cops_node.specs.Parts.{IsSlotKept, Shared, Site, is_taken, left_by, place_at, place_for, site_in, solo_of, trail_of}
 use Rattle.cops_node.specs.Place.{Place, place_of}
 use Rattle.cops_node.specs.SoloNode.{new_node}
-use Rattle.cops_world.specs.declared.acts.Event.{Event}
+use Rattle.cops_model.specs.declared.acts.Event.{Event}
+use Rattle.cops_model.specs.declared.replies.Reply.{Reply}
+use Rattle.cops_model.specs.declared.replies.Reply.TheVariants.{Refused}
+use Rattle.cops_model.specs.Cluster.{ActEffect, SoloCluster, cluster_step, new_cluster}
+use Rattle.cops_model.specs.Setups.{Setup, config_in, config_of, is_open_at, next_slot}
 use Rattle.cops_world.specs.declared.actors.Actor.{Actor as Kept}
 use Rattle.cops_world.specs.declared.actors.ActorId.{ActorId}
-use Rattle.cops_world.specs.declared.replies.Reply.{Reply}
-use Rattle.cops_world.specs.declared.replies.Reply.TheVariants.{Refused}
 use Rattle.cops_world.specs.Acting.{HasActed, HasClosed, IsAdmission}
 use Rattle.cops_world.specs.Actors.{ActorsStandFor, AreSame}
 use Rattle.cops_world.specs.ActorTables.{Table, table_of}
 use Rattle.cops_world.specs.ActorsStand.{ActorStandsFor}
-use Rattle.cops_world.specs.Cluster.{ActEffect, SoloCluster, cluster_step, new_cluster}
 use Rattle.cops_world.specs.Lacks.{Lacks}
-use Rattle.cops_world.specs.Setups.{Setup, config_in, config_of, is_open_at, next_slot}
 use Rattle.cops_world.specs.Worlds.{Admits, AreSitesIn, ClusterStandsAt, Closes, HasOpenCluster, IsKeptWorld, IsSiteIn, IsWorld, KeptWorld, Leaves, Moves, StaysOpen, World, open_setup, world_of}
 use Rattle.cops_world.proofs.ActorTableLemmas.{actor_elsewhere, count_elsewhere, nobody, table_here}
 use Rattle.cops_world.proofs.OpenSets.{MayBeGiven, may_be_given, open_set_other, open_set_same}

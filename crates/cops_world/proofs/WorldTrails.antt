@@ -10,8 +10,8 @@ use Rattle.cops_node.specs.Clusters.{nodes_of}
 use Rattle.cops_node.specs.Parts.{Shared, place_at, solo_of}
 use Rattle.cops_node.specs.Place.{Place, node_number, place_of}
 use Rattle.cops_node.specs.SoloNode.{SoloNode, new_node}
-use Rattle.cops_world.specs.Cluster.{SoloCluster}
-use Rattle.cops_world.specs.Setups.{config_in}
+use Rattle.cops_model.specs.Cluster.{SoloCluster}
+use Rattle.cops_model.specs.Setups.{config_in}
 use Rattle.cops_world.specs.Trails.{audited_at}
 use Rattle.cops_world.specs.Worlds.{ClusterStandsAt, World}
 

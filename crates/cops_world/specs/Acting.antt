@@ -6,12 +6,12 @@ use Rattle.cops_types.specs.declared.faults.Fault.{Fault}
 use Rattle.cops_types.specs.declared.faults.Fault.TheVariants.{OutOfMemory}
 use Rattle.cops_types.specs.OpenSlots.{admission_refusal}
 use Rattle.cops_types.specs.TenantConfig.{tenant_config}
-use Rattle.cops_world.specs.declared.acts.Event.{Event}
-use Rattle.cops_world.specs.declared.replies.Reply.{Reply}
-use Rattle.cops_world.specs.Cluster.{SoloCluster, cluster_step, new_cluster}
-use Rattle.cops_world.specs.Events.{config_at, is_out_of_memory}
+use Rattle.cops_model.specs.declared.acts.Event.{Event}
+use Rattle.cops_model.specs.declared.replies.Reply.{Reply}
+use Rattle.cops_model.specs.Cluster.{SoloCluster, cluster_step, new_cluster}
+use Rattle.cops_model.specs.Events.{config_at, is_out_of_memory}
+use Rattle.cops_model.specs.Setups.{Setup, config_in, new_setup, next_slot, with_slot}
 use Rattle.cops_world.specs.Lacks.{Lacks}
-use Rattle.cops_world.specs.Setups.{Setup, config_in, new_setup, next_slot, with_slot}
 
 module _ {W : Type 0} (setup : W → Setup) (StandsFor : W → ℕ → SoloCluster → Type 0) where
   -- a new world of the configuration

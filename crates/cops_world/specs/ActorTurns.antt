@@ -4,11 +4,11 @@ use Rattle.cops_types.specs.declared.faults.Fault.{Fault}
 use Rattle.cops_types.specs.declared.faults.Fault.TheVariants.{UnknownName}
 use Rattle.cops_types.specs.TenantConfig.{TenantConfig}
 use Rattle.cops_session.specs.Session.{Session}
+use Rattle.cops_model.specs.declared.replies.Reply.{Reply}
+use Rattle.cops_model.specs.declared.replies.Reply.TheVariants.{Refused}
+use Rattle.cops_model.specs.Cluster.{Actor, OfSession, OfCarrier, SessionAct, create_act, delete_act, get_act, put_act, show_act}
 use Rattle.cops_world.specs.declared.actors.Deed.{Deed}
 use Rattle.cops_world.specs.declared.actors.Deed.TheVariants.{Create, Delete, Put, Get, Show}
-use Rattle.cops_world.specs.declared.replies.Reply.{Reply}
-use Rattle.cops_world.specs.declared.replies.Reply.TheVariants.{Refused}
-use Rattle.cops_world.specs.Cluster.{Actor, OfSession, OfCarrier, SessionAct, create_act, delete_act, get_act, put_act, show_act}
 
 -- the reply, and the actor after it
 pub record ActorTurn : Type 0 where

@@ -2,7 +2,7 @@
 use Rattle.std.specs.Prelude.{◌≡◌, ℕ, false, List, [], ◌∷◌, Option, Some, None}
 use Rattle.std.specs.List.{list_any}
 use Rattle.cops_types.specs.Key.{key_eq}
-use Rattle.cops_world.specs.Cluster.{SoloCluster, NamedActor, Actor, find_actor}
+use Rattle.cops_model.specs.Cluster.{SoloCluster, NamedActor, Actor, find_actor}
 
 -- both are there, and one stands for the other; or neither is there
 abbrev pub AreSame : {A : Type 0} → (A → Actor → Type 0) → Option A → Option Actor → Type 0

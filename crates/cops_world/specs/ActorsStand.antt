@@ -21,14 +21,14 @@ use Rattle.cops_repl.specs.declared.Progress.{Progress as CarrierProgress}
 use Rattle.cops_repl.specs.declared.Progress.TheVariants as carrying
 use Rattle.cops_repl.specs.Carrier.{Carrier}
 use Rattle.cops_repl.specs.Stands.{CarrierStandsFor, IsStepOf, KeptCarrier, RunsIn, is_done}
+use Rattle.cops_model.specs.declared.replies.Reply.{Reply}
+use Rattle.cops_model.specs.declared.replies.Reply.TheVariants.{Working, Refused}
+use Rattle.cops_model.specs.Cluster.{ActEffect, Actor, OfCarrier, OfSession, SoloCluster, reply_of_delivery, reply_of_progress, with_actor, without_actor}
+use Rattle.cops_model.specs.Events.{is_out_of_memory}
 use Rattle.cops_world.specs.declared.actors.Actor.{Actor as Kept}
 use Rattle.cops_world.specs.declared.actors.Actor.TheVariants as kept
 use Rattle.cops_world.specs.declared.actors.Stepped.{Stepped}
-use Rattle.cops_world.specs.declared.replies.Reply.{Reply}
-use Rattle.cops_world.specs.declared.replies.Reply.TheVariants.{Working, Refused}
-use Rattle.cops_world.specs.Cluster.{ActEffect, Actor, OfCarrier, OfSession, SoloCluster, reply_of_delivery, reply_of_progress, with_actor, without_actor}
 use Rattle.cops_world.specs.ActorTurns.{ActorTurn}
-use Rattle.cops_world.specs.Events.{is_out_of_memory}
 
 abbrev pub ActorStandsFor : TenantConfig → Kept → Actor → Type 0
 ActorStandsFor config (kept.OfSession s) (OfSession session) = SessionStandsFor config s session

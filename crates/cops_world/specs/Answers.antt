@@ -5,13 +5,13 @@ use Rattle.cops_types.specs.declared.configs.Tenant.{Tenant}
 use Rattle.cops_types.specs.FaultText.{fault_text}
 use Rattle.cops_types.specs.OpenSlots.{open_at}
 use Rattle.cops_types.specs.Words.{newline}
-use Rattle.cops_world.specs.declared.replies.HostReply.{HostReply}
-use Rattle.cops_world.specs.declared.replies.HostReply.TheVariants.{Admitted, Closed, Denied}
-use Rattle.cops_world.specs.declared.replies.Reply.{Reply}
-use Rattle.cops_world.specs.declared.replies.Reply.TheVariants.{Refused}
-use Rattle.cops_world.specs.Events.{is_out_of_memory}
+use Rattle.cops_model.specs.declared.replies.HostReply.{HostReply}
+use Rattle.cops_model.specs.declared.replies.HostReply.TheVariants.{Admitted, Closed, Denied}
+use Rattle.cops_model.specs.declared.replies.Reply.{Reply}
+use Rattle.cops_model.specs.declared.replies.Reply.TheVariants.{Refused}
+use Rattle.cops_model.specs.Events.{is_out_of_memory}
+use Rattle.cops_model.specs.Said.{HostDeed, Admits, Closes, Refuses}
 use Rattle.cops_world.specs.ReplyText.{text_of_reply}
-use Rattle.cops_world.specs.Said.{HostDeed, Admits, Closes, Refuses}
 
 -- to a tenant by the number of his life, or of his slot
 pub data Answer : Type 0 where

@@ -2,9 +2,9 @@
 use Rattle.std.specs.Prelude.{ℕ, List}
 use Rattle.cops_types.specs.TenantConfig.{TenantConfig}
 use Rattle.cops_session.specs.Session.{Session}
+use Rattle.cops_model.specs.Cluster.{ActEffect, SoloCluster, create_act, delete_act, get_act, on_session, put_act, session_acts, session_shows, show_act}
 use Rattle.cops_world.specs.declared.actors.Deed.{Deed}
 use Rattle.cops_world.specs.declared.actors.Deed.TheVariants.{Create, Delete, Put, Get, Show}
-use Rattle.cops_world.specs.Cluster.{ActEffect, SoloCluster, create_act, delete_act, get_act, on_session, put_act, session_acts, session_shows, show_act}
 
 -- as the act of the same name, once keys and values are known to be some
 abbrev pub session_deed : TenantConfig → List ℕ → SoloCluster → Deed → Session → ActEffect

@@ -1,14 +1,14 @@
 -- What is done by what a line says, and what is answered, however a world is kept.
 use Rattle.std.specs.Prelude.{◌≡◌, ◌⊎◌, ℕ}
 use Rattle.cops_types.specs.declared.faults.Fault.TheVariants.{OutOfMemory, Syntax}
-use Rattle.cops_world.specs.declared.replies.HostReply.TheVariants.{Admitted, Closed, Denied}
-use Rattle.cops_world.specs.declared.replies.Reply.{Reply}
-use Rattle.cops_world.specs.declared.replies.Reply.TheVariants.{Refused}
+use Rattle.cops_model.specs.declared.replies.HostReply.TheVariants.{Admitted, Closed, Denied}
+use Rattle.cops_model.specs.declared.replies.Reply.{Reply}
+use Rattle.cops_model.specs.declared.replies.Reply.TheVariants.{Refused}
+use Rattle.cops_model.specs.Cluster.{SoloCluster}
+use Rattle.cops_model.specs.Said.{HostDeed, Admits, Closes, Refuses, Said, OfHost, Unformed, Acts}
+use Rattle.cops_model.specs.Setups.{Setup}
 use Rattle.cops_world.specs.Acting.{HasActed, HasAdmitted, HasClosed, HasStayed}
 use Rattle.cops_world.specs.Answers.{Answer, ToHost, ToTenant}
-use Rattle.cops_world.specs.Cluster.{SoloCluster}
-use Rattle.cops_world.specs.Said.{HostDeed, Admits, Closes, Refuses, Said, OfHost, Unformed, Acts}
-use Rattle.cops_world.specs.Setups.{Setup}
 
 module _ {W : Type 0} (setup : W → Setup) (StandsFor : W → ℕ → SoloCluster → Type 0) where
   -- an admission is done, or memory was refused; where it may not be done, nothing is

@@ -5,9 +5,9 @@ use Rattle.cops_node.specs.Log.{Call, Directed, LogStep, Replied}
 use Rattle.cops_session.specs.Request.{Fetch, next}
 use Rattle.cops_session.specs.Session.{Running, Session, moment_at, request_of}
 use Rattle.cops_session.specs.Wants.{EndsRound}
-use Rattle.cops_world.specs.declared.acts.Act.{Act}
-use Rattle.cops_world.specs.declared.acts.Act.TheVariants.{Open, Create, Delete, Put, Get, Show, Carry, Step, Done, Collect}
-use Rattle.cops_world.specs.Cluster.{Actor, OfCarrier, OfSession, SoloCluster, actor_step, call_node, find_actor, goes_on, most_steps, with_actor, without_actor}
+use Rattle.cops_model.specs.declared.acts.Act.{Act}
+use Rattle.cops_model.specs.declared.acts.Act.TheVariants.{Open, Create, Delete, Put, Get, Show, Carry, Step, Done, Collect}
+use Rattle.cops_model.specs.Cluster.{Actor, OfCarrier, OfSession, SoloCluster, actor_step, call_node, find_actor, goes_on, most_steps, with_actor, without_actor}
 
 -- the session's request is over, at this moment, and its contexts are as they were
 abbrev pub without_request : List ℕ → ℕ → Session → SoloCluster → SoloCluster

@@ -2,16 +2,16 @@
 use Rattle.std.specs.Prelude.{◌≡◌, ℕ, List, [], ⊤}
 use Rattle.cops_types.specs.Counts.{counted}
 use Rattle.cops_types.specs.LineRules.{LineRules}
+use Rattle.cops_model.specs.Cluster.{SoloCluster}
+use Rattle.cops_model.specs.Said.{Said, said_in}
+use Rattle.cops_model.specs.Setups.{Setup}
 use Rattle.cops_world.specs.declared.scripts.BadConfig.{BadConfig}
 use Rattle.cops_world.specs.declared.scripts.Script.{Script}
 use Rattle.cops_world.specs.declared.scripts.Script.TheVariants.{Head, Running}
-use Rattle.cops_world.specs.Cluster.{SoloCluster}
 use Rattle.cops_world.specs.HeadRules.{HeadAnswers, HeadRefuses}
 use Rattle.cops_world.specs.Acting.{IsNew}
 use Rattle.cops_world.specs.Answers.{Answer, slot_line}
 use Rattle.cops_world.specs.Doing.{IsDone}
-use Rattle.cops_world.specs.Said.{Said, said_in}
-use Rattle.cops_world.specs.Setups.{Setup}
 
 -- no line has ended the head
 abbrev pub IsInHead : {W : Type 0} → Script W → Type 0

@@ -9,14 +9,14 @@ use Rattle.cops_types.specs.Head.{Whole, head_of}
 use Rattle.cops_types.specs.Lines.{lines_of}
 use Rattle.cops_types.specs.OpenSlots.{begun_with}
 use Rattle.cops_types.specs.Sink.{AppendsFront}
-use Rattle.cops_world.specs.declared.acts.Act.{Act}
-use Rattle.cops_world.specs.declared.replies.HostReply.{HostReply}
-use Rattle.cops_world.specs.declared.replies.Reply.{Reply}
+use Rattle.cops_model.specs.declared.acts.Act.{Act}
+use Rattle.cops_model.specs.declared.replies.HostReply.{HostReply}
+use Rattle.cops_model.specs.declared.replies.Reply.{Reply}
+use Rattle.cops_model.specs.Events.{IsFrontOf, before_lack, config_at, own}
+use Rattle.cops_model.specs.Lives.{of_lives, with_all_lives}
+use Rattle.cops_model.specs.MainTheorem.{KeepsCausality, MainTheorem}
+use Rattle.cops_model.specs.Said.{Admits, Refuses, Said, OfHost, Unformed, Acts, said_in, tenants_after}
 use Rattle.cops_world.specs.Answers.{Answer, ToHost, ToTenant, addressee, answer_line, is_lack, reply_to_host}
-use Rattle.cops_world.specs.Events.{IsFrontOf, before_lack, config_at, own}
-use Rattle.cops_world.specs.Lives.{of_lives, with_all_lives}
-use Rattle.cops_world.specs.MainTheorem.{KeepsCausality, MainTheorem}
-use Rattle.cops_world.specs.Said.{Admits, Refuses, Said, OfHost, Unformed, Acts, said_in, tenants_after}
 use Rattle.cops_world.specs.Script.{Output, Written, BadConfig, NoTenant, answers_of, answers_to, events_in, script_out}
 
 -- none of them says that memory was refused

@@ -6,15 +6,15 @@ use Rattle.cops_types.specs.declared.configs.Tenant.{Tenant}
 use Rattle.cops_types.specs.Head.{Whole, head_of}
 use Rattle.cops_types.specs.Lines.{lines_of}
 use Rattle.cops_types.specs.OpenSlots.{begun_with}
+use Rattle.cops_model.specs.Cluster.{SoloCluster}
+use Rattle.cops_model.specs.Events.{config_at, own}
+use Rattle.cops_model.specs.Laws.{cluster_of}
+use Rattle.cops_model.specs.Lives.{first_lives, lives_past, of_lives, with_all_lives}
+use Rattle.cops_model.specs.Said.{tenants_past}
+use Rattle.cops_model.specs.Setups.{Setup, is_open_at}
 use Rattle.cops_world.specs.declared.scripts.Script.{Script}
 use Rattle.cops_world.specs.declared.scripts.Script.TheVariants.{Head, Running}
-use Rattle.cops_world.specs.Cluster.{SoloCluster}
-use Rattle.cops_world.specs.Events.{config_at, own}
-use Rattle.cops_world.specs.Laws.{cluster_of}
-use Rattle.cops_world.specs.Lives.{first_lives, lives_past, of_lives, with_all_lives}
-use Rattle.cops_world.specs.Said.{tenants_past}
 use Rattle.cops_world.specs.Script.{events_in, said_by_lines}
-use Rattle.cops_world.specs.Setups.{Setup, is_open_at}
 
 -- the head, and the tenants who are open after the lines behind it
 abbrev pub setup_left : Config → List (List ℕ) → Setup

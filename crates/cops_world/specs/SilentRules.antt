@@ -2,17 +2,17 @@
 use Rattle.std.specs.Prelude.{◌≡◌, ℕ, IsFalse, List, []}
 use Rattle.cops_types.specs.Counts.{counted}
 use Rattle.cops_types.specs.LineRules.{LineRules}
+use Rattle.cops_model.specs.Cluster.{SoloCluster}
+use Rattle.cops_model.specs.Said.{Said, said_in}
+use Rattle.cops_model.specs.Setups.{Setup}
 use Rattle.cops_world.specs.declared.scripts.BadConfig.{BadConfig}
 use Rattle.cops_world.specs.declared.scripts.Script.{Script}
 use Rattle.cops_world.specs.declared.scripts.Script.TheVariants.{Head, Running}
 use Rattle.cops_world.specs.declared.silent_machine.SilentScript.{SilentScript}
 use Rattle.cops_world.specs.Acting.{IsNew}
 use Rattle.cops_world.specs.Answers.{Answer, is_lack}
-use Rattle.cops_world.specs.Cluster.{SoloCluster}
 use Rattle.cops_world.specs.Doing.{IsDone}
 use Rattle.cops_world.specs.HeadRules.{HeadAnswers, HeadRefuses}
-use Rattle.cops_world.specs.Said.{Said, said_in}
-use Rattle.cops_world.specs.Setups.{Setup}
 
 module _ {W : Type 0} (setup : W → Setup) (StandsFor : W → ℕ → SoloCluster → Type 0) where
   -- it is done, and memory was not refused

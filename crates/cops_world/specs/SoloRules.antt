@@ -10,6 +10,11 @@ use Rattle.cops_types.specs.LineRules.{LineRules}
 use Rattle.cops_types.specs.OpenSlots.{admission_refusal, begun_with, open_at, open_slot_of_name}
 use Rattle.cops_types.specs.TenantTexts.{AreApart}
 use Rattle.cops_types.specs.Words.{first_word}
+use Rattle.cops_model.specs.Cluster.{SoloCluster}
+use Rattle.cops_model.specs.Lives.{admitted_by}
+use Rattle.cops_model.specs.MainTheorem.{with_tenant_alone}
+use Rattle.cops_model.specs.Said.{Said, is_host_line, said_in}
+use Rattle.cops_model.specs.Setups.{Setup, new_setup, next_slot}
 use Rattle.cops_world.specs.declared.scripts.Script.{Script}
 use Rattle.cops_world.specs.declared.scripts.Script.TheVariants.{Head, Running}
 use Rattle.cops_world.specs.declared.solo_machine.SoloRefusal.{SoloRefusal}
@@ -18,14 +23,9 @@ use Rattle.cops_world.specs.declared.solo_scripts.SoloRun.{SoloRun}
 use Rattle.cops_world.specs.declared.solo_scripts.SoloScript.{SoloScript}
 use Rattle.cops_world.specs.Acting.{IsNew}
 use Rattle.cops_world.specs.Answers.{Answer, ToHost, ToTenant, slot_line}
-use Rattle.cops_world.specs.Cluster.{SoloCluster}
 use Rattle.cops_world.specs.Doing.{IsDone}
 use Rattle.cops_world.specs.HeadRules.{HeadAnswers, HeadRefuses}
-use Rattle.cops_world.specs.Lives.{admitted_by}
-use Rattle.cops_world.specs.MainTheorem.{with_tenant_alone}
-use Rattle.cops_world.specs.Said.{Said, is_host_line, said_in}
 use Rattle.cops_world.specs.ScriptRuns.{heard}
-use Rattle.cops_world.specs.Setups.{Setup, new_setup, next_slot}
 
 -- ---- lines and tenants of a name
 

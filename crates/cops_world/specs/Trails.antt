@@ -5,7 +5,7 @@ use Rattle.cops_node.specs.declared.AuditEntry.{AuditEntry}
 use Rattle.cops_node.specs.declared.NodeId.{NodeId}
 use Rattle.cops_node.specs.Place.{node_number}
 use Rattle.cops_node.specs.SoloNode.{new_node}
-use Rattle.cops_world.specs.Cluster.{SoloCluster}
+use Rattle.cops_model.specs.Cluster.{SoloCluster}
 
 -- the audit of a node of the tenant's cluster
 abbrev pub trail_at : TenantConfig → NodeId → SoloCluster → List AuditEntry

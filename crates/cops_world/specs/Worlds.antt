@@ -10,16 +10,16 @@ use Rattle.cops_types.specs.TenantConfig.{TenantConfig, tenant_config}
 use Rattle.cops_node.specs.Clusters.{Cluster, HasTenant, nodes_of, shape_of}
 use Rattle.cops_node.specs.Parts.{Site, place_at, place_under, site_in, trail_of}
 use Rattle.cops_node.specs.Place.{place_of}
+use Rattle.cops_model.specs.declared.replies.Reply.{Reply}
+use Rattle.cops_model.specs.Cluster.{ActEffect, Actor, SoloCluster, actor_refusal, new_cluster, reply_with, unless_refused, with_new_actor}
+use Rattle.cops_model.specs.Events.{is_out_of_memory}
+use Rattle.cops_model.specs.Setups.{Setup, config_in, is_open_at}
 use Rattle.cops_world.specs.declared.actors.Actor.{Actor as Kept}
 use Rattle.cops_world.specs.declared.actors.ActorId.{ActorId}
-use Rattle.cops_world.specs.declared.replies.Reply.{Reply}
 use Rattle.cops_world.specs.Actors.{ActorsStandFor}
 use Rattle.cops_world.specs.ActorTables.{Table, actor_at, count_at}
 use Rattle.cops_world.specs.ActorsStand.{ActorStandsFor, RunsAt}
-use Rattle.cops_world.specs.Cluster.{ActEffect, Actor, SoloCluster, actor_refusal, new_cluster, reply_with, unless_refused, with_new_actor}
-use Rattle.cops_world.specs.Events.{is_out_of_memory}
 use Rattle.cops_world.specs.GoodHeads.{is_good}
-use Rattle.cops_world.specs.Setups.{Setup, config_in, is_open_at}
 
 -- the configuration with the tenants that are open, the nodes, the actors by slot and name, and how many actors each slot has
 pub record World : Type 0 where

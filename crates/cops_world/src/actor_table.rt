@@ -8,14 +8,14 @@ ghost use Rattle.cops_node.specs.declared.Shape.{Shape};
 ghost use Rattle.cops_node.specs.declared.NodeCall.{NodeCall};
 ghost use Rattle.cops_node.specs.declared.NodeId.{NodeId};
 ghost use Rattle.cops_node.specs.declared.NodeReply.{NodeReply};
+ghost use Rattle.cops_model.specs.Cluster.{Actor as Solo};
+ghost use Rattle.cops_model.specs.Events.{is_out_of_memory};
+ghost use Rattle.cops_model.specs.declared.replies.Reply.TheVariants.{Refused};
 ghost use Rattle.cops_world.specs.ActorTables.{AllRun, Places, PlacesIn, PutsBack, actor_at, count_at, table_of};
 ghost use Rattle.cops_world.specs.ActorTurns.{actor_does};
 ghost use Rattle.cops_world.specs.ActorsStand.{ActorStandsFor, ActorSteps, HasDone, RunsAt};
-ghost use Rattle.cops_world.specs.Cluster.{Actor as Solo};
-ghost use Rattle.cops_world.specs.Events.{is_out_of_memory};
 ghost use Rattle.cops_world.specs.declared.actors.Actor.{Actor as Kept};
 ghost use Rattle.cops_world.specs.declared.actors.ActorId.{ActorId as Id};
-ghost use Rattle.cops_world.specs.declared.replies.Reply.TheVariants.{Refused};
 
 use crate::Reply;
 use crate::actors::{Actor, ActorId, Deed, Stepped};

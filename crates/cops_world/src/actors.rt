@@ -9,10 +9,10 @@ ghost use Rattle.cops_node.specs.declared.NodeId.{NodeId};
 ghost use Rattle.cops_node.specs.declared.NodeReply.{NodeReply};
 ghost use Rattle.cops_repl.specs.Carrier.{Carrier as SoloCarrier};
 ghost use Rattle.cops_repl.specs.Stands.{CarrierStandsFor, RunsIn, has_ended};
+ghost use Rattle.cops_model.specs.Cluster.{Actor as Solo, reply_of_answer, reply_of_progress, reply_of_delivery};
+ghost use Rattle.cops_model.specs.Events.{is_out_of_memory};
 ghost use Rattle.cops_world.specs.ActorsStand.{ActorStandsFor, ActorSteps, CarrierSteps, SessionSteps, RunsAt, HasDone};
 ghost use Rattle.cops_world.specs.ActorTurns.{actor_does, session_does};
-ghost use Rattle.cops_world.specs.Cluster.{Actor as Solo, reply_of_answer, reply_of_progress, reply_of_delivery};
-ghost use Rattle.cops_world.specs.Events.{is_out_of_memory};
 ghost use Rattle.cops_world.specs.declared.actors.Actor.TheVariants.{OfSession as KeptSession};
 ghost use Rattle.cops_world.specs.declared.actors.Deed.TheVariants as deeds;
 

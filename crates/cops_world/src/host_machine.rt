@@ -1,9 +1,9 @@
 //! What is done by a line of the host, who admits tenants and closes them.
 ghost use Rattle.std.specs.Prelude.{};
 ghost use Rattle.cops_types.specs.HostLines.{admitted_in, closed_in};
+ghost use Rattle.cops_model.specs.Said.{admission_of, closing_of};
 ghost use Rattle.cops_world.specs.Answers.{ToHost};
 ghost use Rattle.cops_world.specs.Doing.{IsHosted};
-ghost use Rattle.cops_world.specs.Said.{admission_of, closing_of};
 
 use crate::{HostReply, Tenancy};
 use cops_types::Fault;

@@ -3,8 +3,8 @@ ghost use Rattle.std.specs.Prelude.{◌≡◌, [], ◌∷◌, ℕ, List, IsTrue,
 ghost use Rattle.std.specs.Option.{option_and_then};
 ghost use Rattle.cops_types.specs.Key.{is_name};
 ghost use Rattle.cops_types.specs.Words.{first_word, is_u64, is_word};
-ghost use Rattle.cops_world.specs.declared.acts.Act.TheVariants.{Open, Delete, Show, Step, Done};
-ghost use Rattle.cops_world.specs.ActLines.{act_in, act_of_verb, carry_of, collect_of, create_of, get_of, is_value_word, named_of, put_of};
+ghost use Rattle.cops_model.specs.declared.acts.Act.TheVariants.{Open, Delete, Show, Step, Done};
+ghost use Rattle.cops_model.specs.ActLines.{act_in, act_of_verb, carry_of, collect_of, create_of, get_of, is_value_word, named_of, put_of};
 ghost use Rattle.cops_world.specs.ActWords.{AreUnspaced, keys_of, with_line};
 
 use crate::{Act, ByteSlice, ByteSlices};

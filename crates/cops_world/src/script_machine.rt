@@ -2,13 +2,13 @@
 ghost use Rattle.std.specs.Prelude.{◌≡◌, [], is_some, IfErr, IfOk, IsTrue, OnOk};
 ghost use Rattle.cops_types.specs.LineAnswers.{Answers, IfRefused};
 ghost use Rattle.cops_types.specs.Words.{first_word};
-ghost use Rattle.cops_world.specs.ActLines.{act_in};
+ghost use Rattle.cops_model.specs.ActLines.{act_in};
 ghost use Rattle.cops_types.specs.OpenSlots.{open_at, open_slot_of_name};
+ghost use Rattle.cops_model.specs.Said.{said_found, said_by, said_in};
+ghost use Rattle.cops_model.specs.Setups.{is_open_at};
 ghost use Rattle.cops_world.specs.Answers.{ToTenant, open_name};
 ghost use Rattle.cops_world.specs.Doing.{IsDone};
-ghost use Rattle.cops_world.specs.Said.{said_found, said_by, said_in};
 ghost use Rattle.cops_world.specs.ScriptRules.{IsAnswered, IsInHead, line_answers, line_refuses};
-ghost use Rattle.cops_world.specs.Setups.{is_open_at};
 
 use crate::host_machine::{admit, close};
 use crate::lines::parse_act;

@@ -2,11 +2,11 @@
 ghost use Rattle.std.specs.Prelude.{◌≡◌, IsTrue};
 ghost use Rattle.cops_types.specs.OpenSlots.{open_slot_of_name};
 ghost use Rattle.cops_types.specs.Words.{first_word};
-ghost use Rattle.cops_world.specs.ActLines.{act_in};
-ghost use Rattle.cops_world.specs.Events.{is_out_of_memory};
+ghost use Rattle.cops_model.specs.ActLines.{act_in};
+ghost use Rattle.cops_model.specs.Events.{is_out_of_memory};
+ghost use Rattle.cops_model.specs.Said.{said_found, said_by, said_in};
+ghost use Rattle.cops_model.specs.Setups.{is_open_at};
 ghost use Rattle.cops_world.specs.Answers.{ToHost, is_lack};
-ghost use Rattle.cops_world.specs.Said.{said_found, said_by, said_in};
-ghost use Rattle.cops_world.specs.Setups.{is_open_at};
 ghost use Rattle.cops_world.specs.SilentRules.{IsDoneWhole};
 
 use crate::host_machine::{admit, close};

@@ -9,12 +9,12 @@ ghost use Rattle.cops_types.specs.HostLines.{admitted_in, closed_in};
 ghost use Rattle.cops_types.specs.LineAnswers.{Answers, IfRefused};
 ghost use Rattle.cops_types.specs.OpenSlots.{open_slot_of_name};
 ghost use Rattle.cops_types.specs.Words.{first_word};
+ghost use Rattle.cops_model.specs.MainTheorem.{with_tenant_alone};
+ghost use Rattle.cops_model.specs.Said.{OfHost, admission_of, closing_of, said_found};
+ghost use Rattle.cops_model.specs.Setups.{next_slot};
 ghost use Rattle.cops_world.specs.Acting.{IsNew};
 ghost use Rattle.cops_world.specs.GoodHeads.{is_good, HeadContinues};
 ghost use Rattle.cops_world.specs.HeadRules.{IsHeadAt};
-ghost use Rattle.cops_world.specs.MainTheorem.{with_tenant_alone};
-ghost use Rattle.cops_world.specs.Said.{OfHost, admission_of, closing_of, said_found};
-ghost use Rattle.cops_world.specs.Setups.{next_slot};
 ghost use Rattle.cops_world.specs.SoloRules.{AnswersOwn, IsGiven, StartsAlone, Takes, is_own, solo_refuses_in};
 ghost use Rattle.cops_world.specs.declared.scripts.Script.TheVariants.{Head};
 

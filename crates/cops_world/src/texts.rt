@@ -1,11 +1,11 @@
 //! Texts of replies, put at the end of a vector.
 ghost use Rattle.std.specs.Prelude.{◌≡◌, ◌++◌, [], ◌∷◌, ℕ, List, decimal, map, OnOk};
 ghost use Rattle.cops_types.specs.Words.{spaced};
-ghost use Rattle.cops_world.specs.declared.replies.Reply.TheVariants.{Carried, Lists, OutOfOrder};
+ghost use Rattle.cops_model.specs.declared.replies.Reply.TheVariants.{Carried, Lists, OutOfOrder};
+ghost use Rattle.cops_model.specs.declared.replies.HostReply.TheVariants.{Denied};
 ghost use Rattle.cops_world.specs.ReplyText.{pair_words, read_text, text_of_reply, value_text};
 ghost use Rattle.cops_world.specs.ReplyWords.{later_texts};
 ghost use Rattle.cops_world.specs.Answers.{host_line, reply_line};
-ghost use Rattle.cops_world.specs.declared.replies.HostReply.TheVariants.{Denied};
 ghost use Rattle.cops_types.specs.declared.faults.Fault.TheVariants.{UnknownTenant};
 
 use crate::{HostReply, Reply};

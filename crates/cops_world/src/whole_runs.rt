@@ -1,11 +1,11 @@
 //! Runs of events in a new world: of all tenants, and of one alone.
 ghost use Rattle.std.specs.Prelude.{◌≡◌, ◌<◌, ℕ, All, IfOk, IsTrue, length};
-ghost use Rattle.cops_world.specs.Events.{config_at, own, replies, solo_replies, before_lack, IsFrontOf, IsSpared};
+ghost use Rattle.cops_model.specs.Events.{config_at, own, replies, solo_replies, before_lack, IsFrontOf, IsSpared};
+ghost use Rattle.cops_model.specs.Laws.{cluster_of};
+ghost use Rattle.cops_model.specs.Setups.{new_setup};
+ghost use Rattle.cops_model.specs.MainTheorem.{MainTheorem, with_tenant_alone};
 ghost use Rattle.cops_world.specs.GoodHeads.{is_good};
-ghost use Rattle.cops_world.specs.Laws.{cluster_of};
-ghost use Rattle.cops_world.specs.Setups.{new_setup};
 ghost use Rattle.cops_world.specs.Worlds.{HasOpenCluster, open_setup};
-ghost use Rattle.cops_world.specs.MainTheorem.{MainTheorem, with_tenant_alone};
 
 use crate::{Event, Reply, World, run_all};
 use cops_types::{Config, Tenant, Tenants};

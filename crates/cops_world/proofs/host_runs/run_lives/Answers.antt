@@ -1,9 +1,9 @@
 use Rattle.std.proofs.Common.{◌≡◌, ℕ, zero, suc, ◌+◌, ◌≤◌, List, [], ◌∷◌, ◌++◌, length, take, refl, sym, subst, ap, ◌∙◌, arith}
 use Rattle.std.proofs.lemmas.Bool.Decides.{nat_tests}
 use Rattle.std.proofs.lemmas.List.{take_more}
+use Rattle.cops_model.specs.Lives.{first_lives}
 use Rattle.cops_world.specs.declared.host_runs.HostEvent.{HostEvent}
 use Rattle.cops_world.specs.declared.host_runs.LifeReply.{LifeReply}
-use Rattle.cops_world.specs.Lives.{first_lives}
 use Rattle.cops_world.specs.Worlds.{HasOpenCluster, open_setup}
 use Rattle.cops_world.proofs.HostRunLemmas.{IsSoFar, so_far_more, so_far_nothing, tells_lives}
 use Rattle.cops_world.proofs.MainLemmas.{some_shard}

@@ -1,7 +1,7 @@
 use Rattle.std.proofs.Common.{◌≡◌, ◌∙◌, ap, sym, arith}
 use Rattle.std.specs.Option.{option_and_then}
 use Rattle.cops_types.specs.Words.{first_word}
-use Rattle.cops_world.specs.ActLines.{act_in, act_of_verb}
+use Rattle.cops_model.specs.ActLines.{act_in, act_of_verb}
 use Rattle.cops_world.specs.ActWords.{with_line}
 use Rattle.cops_world.proofs.ActReading.{act_in-words, rest_unspaced, verb_found}
 use Rattle.cops_world.proofs.CutLemmas.{long_is_no_act}

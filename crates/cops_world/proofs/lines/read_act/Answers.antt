@@ -1,7 +1,7 @@
 use Rattle.std.proofs.Common.{◌∙◌, ap, sym}
 use Rattle.std.specs.Prelude.{codes}
 use Rattle.std.specs.Option.{option_and_then}
-use Rattle.cops_world.specs.ActLines.{act_of_verb}
+use Rattle.cops_model.specs.ActLines.{act_of_verb}
 use Rattle.cops_world.specs.ActWords.{with_line}
 use Rattle.cops_world.proofs.ActReading.{verb_is}
 use Rattle.cops_world.proofs.lines.read_act.Goals as goal

@@ -1,5 +1,5 @@
 use Rattle.std.proofs.Common.{refl}
-use Rattle.cops_world.specs.declared.acts.Act.TheVariants.{Delete}
+use Rattle.cops_model.specs.declared.acts.Act.TheVariants.{Delete}
 use Rattle.cops_world.proofs.ActReading.{named_found}
 use Rattle.cops_world.proofs.lines.read_delete.Goals as goal
 

@@ -1,6 +1,6 @@
 use Rattle.std.proofs.Common.{◌<◌, All, length, sym, subst, List, [], ◌∷◌, ◌++◌}
 use Rattle.std.proofs.lemmas.List.Elements.{All-push}
-use Rattle.cops_world.specs.declared.acts.Event.{Event}
+use Rattle.cops_model.specs.declared.acts.Event.{Event}
 use Rattle.cops_world.proofs.run_tests.events_of.Goals as goal
 
 pub loop-line-preserved-in-Continue-1 : goal.loop-line-preserved-in-Continue-1

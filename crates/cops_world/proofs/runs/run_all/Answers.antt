@@ -1,10 +1,10 @@
 use Rattle.std.proofs.Common.{◌≡◌, ℕ, ◌+◌, length, length-append, take, List, [], ◌∷◌, ◌++◌, sym, ◌∙◌, ap, subst, arith, length-take}
 use Rattle.std.proofs.lemmas.List.{take_more}
-use Rattle.cops_world.specs.declared.acts.Event.{Event}
-use Rattle.cops_world.specs.declared.replies.Reply.{Reply}
-use Rattle.cops_world.specs.Cluster.{SoloCluster, cluster_step}
-use Rattle.cops_world.specs.Events.{own, replies, replies_from, before_lack, IsFrontOf, IsSpared, ToldAlone}
-use Rattle.cops_world.specs.Setups.{Setup, config_in}
+use Rattle.cops_model.specs.declared.acts.Event.{Event}
+use Rattle.cops_model.specs.declared.replies.Reply.{Reply}
+use Rattle.cops_model.specs.Cluster.{SoloCluster, cluster_step}
+use Rattle.cops_model.specs.Events.{own, replies, replies_from, before_lack, IsFrontOf, IsSpared, ToldAlone}
+use Rattle.cops_model.specs.Setups.{Setup, config_in}
 use Rattle.cops_world.proofs.RunLaws.{front_step, told_step}
 use Rattle.cops_world.proofs.runs.run_all.Goals as goal
 

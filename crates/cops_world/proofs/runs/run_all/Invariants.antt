@@ -1,7 +1,7 @@
 use Rattle.std.proofs.Common.{◌≡◌, ℕ, length, take}
-use Rattle.cops_world.specs.Cluster.{SoloCluster}
-use Rattle.cops_world.specs.Events.{own, replies, replies_from, before_lack, IsFrontOf, IsSpared, ToldAlone}
-use Rattle.cops_world.specs.Setups.{config_in}
+use Rattle.cops_model.specs.Cluster.{SoloCluster}
+use Rattle.cops_model.specs.Events.{own, replies, replies_from, before_lack, IsFrontOf, IsSpared, ToldAlone}
+use Rattle.cops_model.specs.Setups.{config_in}
 use Rattle.cops_world.proofs.runs.run_all.Given as goal
 
 -- each tenant was told so far what he is told alone, and his part of the world is as it is then

@@ -3,7 +3,7 @@ use Rattle.std.specs.Prelude.{codes}
 use Rattle.std.proofs.lemmas.Result.{on_ok_weaker}
 use Rattle.cops_types.specs.LineAnswers.{Answers}
 use Rattle.cops_types.specs.HostLines.{admitted_in, closed_in}
-use Rattle.cops_world.specs.Said.{OfHost, admission_of, closing_of}
+use Rattle.cops_model.specs.Said.{OfHost, admission_of, closing_of}
 use Rattle.cops_world.proofs.MachineLemmas.{MayAnswer, admission_said, answers_host, closing_said, first_is}
 use Rattle.cops_world.proofs.script_machine.answer.Goals as goal
 

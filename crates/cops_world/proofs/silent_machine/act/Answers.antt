@@ -1,7 +1,7 @@
 use Rattle.std.proofs.Common.{subst, sym}
 use Rattle.std.specs.Prelude.{codes}
 use Rattle.cops_types.specs.HostLines.{admitted_in, closed_in}
-use Rattle.cops_world.specs.Said.{OfHost, admission_of, closing_of}
+use Rattle.cops_model.specs.Said.{OfHost, admission_of, closing_of}
 use Rattle.cops_world.specs.SilentRules.{IsDoneWhole}
 use Rattle.cops_world.proofs.MachineLemmas.{admission_said, closing_said, first_is, tenant_said}
 use Rattle.cops_world.proofs.SilentMachine.{done_for_host}

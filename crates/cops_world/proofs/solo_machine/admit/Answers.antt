@@ -5,7 +5,7 @@ use Rattle.std.proofs.lemmas.Result.{on_ok_weaker}
 use Rattle.cops_types.specs.declared.faults.Fault.TheVariants.{Syntax}
 use Rattle.cops_types.specs.HostLines.{admitted_in}
 use Rattle.cops_types.proofs.WordLemmas.{bytes_from_test}
-use Rattle.cops_world.specs.Said.{OfHost, admission_of}
+use Rattle.cops_model.specs.Said.{OfHost, admission_of}
 use Rattle.cops_world.specs.SoloRules.{Takes}
 use Rattle.cops_world.proofs.SoloMachine.{other_takes, refused_takes}
 use Rattle.cops_world.proofs.solo_machine.admit.Goals as goal

@@ -2,7 +2,7 @@ use Rattle.std.proofs.Common.{◌||◌, ap}
 use Rattle.std.specs.Prelude.{codes}
 use Rattle.std.proofs.lemmas.Result.{on_ok_weaker}
 use Rattle.cops_types.specs.HostLines.{admitted_in, closed_in}
-use Rattle.cops_world.specs.Said.{OfHost, admission_of, begins_closing, closing_of}
+use Rattle.cops_model.specs.Said.{OfHost, admission_of, begins_closing, closing_of}
 use Rattle.cops_world.proofs.MachineLemmas.{admission_said, closing_said, first_is}
 use Rattle.cops_world.proofs.SoloMachine.{answers_taken}
 use Rattle.cops_world.proofs.solo_machine.answer.Goals as goal

@@ -4,7 +4,7 @@ use Rattle.std.specs.Str.{bytes_eq}
 use Rattle.cops_types.specs.declared.faults.Fault.TheVariants.{Syntax, UnknownTenant}
 use Rattle.cops_types.specs.HostLines.{closed_in}
 use Rattle.cops_types.specs.OpenSlots.{open_slot_of_name}
-use Rattle.cops_world.specs.Said.{OfHost, closing_at, closing_of}
+use Rattle.cops_model.specs.Said.{OfHost, closing_at, closing_of}
 use Rattle.cops_world.specs.SoloRules.{Takes}
 use Rattle.cops_world.proofs.NamedSlots.{named_found}
 use Rattle.cops_world.proofs.SoloMachine.{closed_tenants, named_closes, other_closes, refused_takes}

@@ -1,8 +1,8 @@
 use Rattle.std.proofs.Common.{ap, subst, sym, ◌∙◌}
 use Rattle.std.specs.Prelude.{All, IsTrue}
-use Rattle.cops_world.specs.Cluster.{new_cluster}
-use Rattle.cops_world.specs.Events.{before_lack, cluster_after, config_at, own, replies, replies_from, IsFrontOf}
-use Rattle.cops_world.specs.Setups.{Setup, config_in, is_open_at}
+use Rattle.cops_model.specs.Cluster.{new_cluster}
+use Rattle.cops_model.specs.Events.{before_lack, cluster_after, config_at, own, replies, replies_from, IsFrontOf}
+use Rattle.cops_model.specs.Setups.{Setup, config_in, is_open_at}
 use Rattle.cops_world.specs.Worlds.{HasOpenCluster}
 use Rattle.cops_world.proofs.BegunSetups.{config_begun}
 use Rattle.cops_world.proofs.MainLemmas.{holds_for, some_shard}

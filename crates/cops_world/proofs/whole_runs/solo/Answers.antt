@@ -3,13 +3,13 @@ use Rattle.std.specs.Prelude.{IsTrue}
 use Rattle.std.proofs.lemmas.List.{take_more}
 use Rattle.cops_types.specs.declared.configs.Config.{Config}
 use Rattle.cops_types.specs.TenantConfig.{TenantConfig}
-use Rattle.cops_world.specs.declared.acts.Act.{Act}
-use Rattle.cops_world.specs.declared.acts.Event.{Event}
-use Rattle.cops_world.specs.declared.replies.Reply.{Reply}
-use Rattle.cops_world.specs.Cluster.{SoloCluster, cluster_step, new_cluster}
-use Rattle.cops_world.specs.Events.{own, config_at, solo_replies, before_lack, IsFrontOf, IsSpared, ToldAlone}
+use Rattle.cops_model.specs.declared.acts.Act.{Act}
+use Rattle.cops_model.specs.declared.acts.Event.{Event}
+use Rattle.cops_model.specs.declared.replies.Reply.{Reply}
+use Rattle.cops_model.specs.Cluster.{SoloCluster, cluster_step, new_cluster}
+use Rattle.cops_model.specs.Events.{own, config_at, solo_replies, before_lack, IsFrontOf, IsSpared, ToldAlone}
+use Rattle.cops_model.specs.Setups.{Setup, config_in}
 use Rattle.cops_world.specs.GoodHeads.{is_good}
-use Rattle.cops_world.specs.Setups.{Setup, config_in}
 use Rattle.cops_world.specs.Worlds.{HasOpenCluster, KeptWorld}
 use Rattle.cops_world.proofs.BegunSetups.{config_begun}
 use Rattle.cops_world.proofs.MainLemmas.{alone_config, alone_good}

@@ -1,7 +1,7 @@
 use Rattle.std.proofs.Common.{◌≡◌, take, length}
-use Rattle.cops_world.specs.Cluster.{new_cluster}
-use Rattle.cops_world.specs.Events.{config_at, own, solo_replies, before_lack, IsFrontOf, IsSpared, ToldAlone}
-use Rattle.cops_world.specs.Setups.{config_in}
+use Rattle.cops_model.specs.Cluster.{new_cluster}
+use Rattle.cops_model.specs.Events.{config_at, own, solo_replies, before_lack, IsFrontOf, IsSpared, ToldAlone}
+use Rattle.cops_model.specs.Setups.{config_in}
 use Rattle.cops_world.specs.Worlds.{HasOpenCluster}
 use Rattle.cops_world.proofs.whole_runs.solo.Given as goal
 

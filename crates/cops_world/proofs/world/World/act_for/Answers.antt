@@ -1,9 +1,9 @@
 use Rattle.std.proofs.Common.{ap, subst, refl, sym, ◌∙◌}
 use Rattle.cops_types.specs.declared.faults.Fault.TheVariants.{UnknownTenant}
-use Rattle.cops_world.specs.declared.acts.Act.TheVariants as acts
-use Rattle.cops_world.specs.declared.replies.Reply.TheVariants.{Refused}
-use Rattle.cops_world.specs.Cluster.{actor_steps, cluster_step}
-use Rattle.cops_world.specs.Setups.{config_in}
+use Rattle.cops_model.specs.declared.acts.Act.TheVariants as acts
+use Rattle.cops_model.specs.declared.replies.Reply.TheVariants.{Refused}
+use Rattle.cops_model.specs.Cluster.{actor_steps, cluster_step}
+use Rattle.cops_model.specs.Setups.{config_in}
 use Rattle.cops_world.specs.Lacks.{Lacks, StepsStop}
 use Rattle.cops_world.specs.Worlds.{world_of}
 use Rattle.cops_world.proofs.WorldJoins.{same_moves}

@@ -4,8 +4,8 @@ use Rattle.cops_node.specs.Clusters.{shape_of}
 use Rattle.cops_node.specs.Parts.{Shared}
 use Rattle.cops_node.specs.declared.Shape.{Shape}
 use Rattle.cops_node.proofs.Clusters.{number_within}
-use Rattle.cops_world.specs.Cluster.{SoloCluster}
-use Rattle.cops_world.specs.Setups.{config_in}
+use Rattle.cops_model.specs.Cluster.{SoloCluster}
+use Rattle.cops_model.specs.Setups.{config_in}
 use Rattle.cops_world.specs.Trails.{audited_at}
 use Rattle.cops_world.specs.Worlds.{ClusterStandsAt, KeptWorld, world_of}
 use Rattle.cops_world.proofs.WorldKeeps.{sizes_in}

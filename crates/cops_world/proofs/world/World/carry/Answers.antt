@@ -3,10 +3,10 @@ use Rattle.std.proofs.Common.{◌≡◌, refl, sym, subst, ap, ◌∙◌}
 use Rattle.cops_types.specs.declared.faults.Fault.TheVariants.{NoSuchPlace, OutOfMemory}
 use Rattle.cops_node.specs.Clusters.{shape_of}
 use Rattle.cops_repl.specs.Carrier.{new_carrier}
-use Rattle.cops_world.specs.declared.replies.Reply.TheVariants.{Started, Refused}
+use Rattle.cops_model.specs.declared.replies.Reply.TheVariants.{Started, Refused}
+use Rattle.cops_model.specs.Cluster.{OfCarrier, has_stream}
+use Rattle.cops_model.specs.Setups.{Setup, config_in, is_open_at}
 use Rattle.cops_world.specs.ActorsStand.{RunsAt}
-use Rattle.cops_world.specs.Cluster.{OfCarrier, has_stream}
-use Rattle.cops_world.specs.Setups.{Setup, config_in, is_open_at}
 use Rattle.cops_world.specs.Lacks.{Stays}
 use Rattle.cops_world.specs.Worlds.{KeptWorld, world_of}
 use Rattle.cops_world.proofs.WorldCalls.{joins_there, no_place_moves, stream_runs}

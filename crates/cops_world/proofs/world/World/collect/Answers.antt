@@ -1,10 +1,10 @@
 use Rattle.std.proofs.Common.{◌≡◌, true, ap, refl, subst, sym, ◌∙◌}
 use Rattle.cops_node.specs.declared.Shape.{Shape}
 use Rattle.cops_types.specs.declared.faults.Fault.TheVariants.{NoSuchPlace}
-use Rattle.cops_world.specs.declared.acts.Act.TheVariants as acts
-use Rattle.cops_world.specs.declared.replies.Reply.TheVariants.{Refused}
-use Rattle.cops_world.specs.Cluster.{cluster_step, has_node}
-use Rattle.cops_world.specs.Setups.{config_in}
+use Rattle.cops_model.specs.declared.acts.Act.TheVariants as acts
+use Rattle.cops_model.specs.declared.replies.Reply.TheVariants.{Refused}
+use Rattle.cops_model.specs.Cluster.{cluster_step, has_node}
+use Rattle.cops_model.specs.Setups.{config_in}
 use Rattle.cops_world.specs.Lacks.{Stays}
 use Rattle.cops_world.specs.Worlds.{KeptWorld, Leaves, Moves, world_of}
 use Rattle.cops_world.proofs.WorldKeeps.{kept_called, sizes_in}

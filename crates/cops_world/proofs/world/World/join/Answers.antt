@@ -1,9 +1,9 @@
 use Rattle.std.proofs.Common.{◌≡◌, false, sym, subst}
 use Rattle.std.specs.Prelude.{IsTrue, None, nat_le}
 use Rattle.cops_node.specs.Clusters.{shape_of}
+use Rattle.cops_model.specs.Setups.{config_in, is_open_at}
 use Rattle.cops_world.specs.ActorsStand.{ActorStandsFor, RunsAt}
 use Rattle.cops_world.specs.ActorTables.{actor_at, count_at}
-use Rattle.cops_world.specs.Setups.{config_in, is_open_at}
 use Rattle.cops_world.specs.Worlds.{KeptWorld, Moves, join_step, world_of}
 use Rattle.cops_world.proofs.WorldJoins.{join_moves}
 use Rattle.cops_world.proofs.WorldKeeps.{below_tables, kept_joined}

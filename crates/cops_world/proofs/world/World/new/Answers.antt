@@ -1,6 +1,6 @@
 use Rattle.std.proofs.Common.{◌≡◌, refl, ap, ◌∙◌}
 use Rattle.std.specs.Prelude.{[], length, replicate}
-use Rattle.cops_world.specs.Setups.{Setup, new_setup}
+use Rattle.cops_model.specs.Setups.{Setup, new_setup}
 use Rattle.cops_world.proofs.WorldKeeps.{clocks_of_good, kept_at_first, new_stands}
 use Rattle.cops_world.proofs.world.World.new.Goals as goal
 

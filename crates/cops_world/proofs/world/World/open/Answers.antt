@@ -4,10 +4,10 @@ use Rattle.std.proofs.lemmas.Bool.{lt-ltb, le-ltb}
 use Rattle.cops_types.specs.declared.faults.Fault.TheVariants.{NoSuchPlace, OutOfMemory}
 use Rattle.cops_types.specs.OpenSlots.{open_at}
 use Rattle.cops_session.specs.Session.{new_session}
-use Rattle.cops_world.specs.declared.replies.Reply.TheVariants.{Opened, Refused}
+use Rattle.cops_model.specs.declared.replies.Reply.TheVariants.{Opened, Refused}
+use Rattle.cops_model.specs.Cluster.{OfSession}
+use Rattle.cops_model.specs.Setups.{config_in, config_of}
 use Rattle.cops_world.specs.ActorsStand.{ActorStandsFor}
-use Rattle.cops_world.specs.Cluster.{OfSession}
-use Rattle.cops_world.specs.Setups.{config_in, config_of}
 use Rattle.cops_world.specs.Lacks.{Stays}
 use Rattle.cops_world.specs.Worlds.{KeptWorld, world_of}
 use Rattle.cops_world.proofs.WorldCalls.{joins_there, no_place_moves}

@@ -3,10 +3,10 @@ use Rattle.std.specs.Prelude.{None, Some}
 use Rattle.cops_types.specs.declared.faults.Fault.TheVariants.{ValueTooLong, OutOfMemory}
 use Rattle.cops_types.specs.Refusal.{refused_if}
 use Rattle.cops_types.specs.Value.{is_too_long}
-use Rattle.cops_world.specs.declared.acts.Act.TheVariants as acts
+use Rattle.cops_model.specs.declared.acts.Act.TheVariants as acts
+use Rattle.cops_model.specs.declared.replies.Reply.TheVariants.{Refused}
+use Rattle.cops_model.specs.Cluster.{cluster_step}
 use Rattle.cops_world.specs.declared.actors.Deed.TheVariants as deeds
-use Rattle.cops_world.specs.declared.replies.Reply.TheVariants.{Refused}
-use Rattle.cops_world.specs.Cluster.{cluster_step}
 use Rattle.cops_world.specs.Deeds.{deed_step}
 use Rattle.cops_world.specs.Worlds.{Moves, world_of}
 use Rattle.cops_world.proofs.PutsAndGets.{bad_key, bad_key_moves, bad_value_moves, good_key, key_or_fault, put_moves, short_value}

@@ -3,13 +3,13 @@ use Rattle.std.specs.Prelude.{IsTrue, None, Some}
 use Rattle.cops_types.proofs.WordLemmas.{same_value}
 use Rattle.cops_types.specs.declared.faults.Fault.TheVariants.{UnknownName}
 use Rattle.cops_node.specs.Clusters.{shape_of}
+use Rattle.cops_model.specs.declared.replies.Reply.TheVariants.{Refused}
+use Rattle.cops_model.specs.Cluster.{actor_step}
+use Rattle.cops_model.specs.Setups.{is_open_at}
 use Rattle.cops_world.specs.declared.actors.ActorId.{ActorId}
-use Rattle.cops_world.specs.declared.replies.Reply.TheVariants.{Refused}
 use Rattle.cops_world.specs.ActorsStand.{RunsAt}
 use Rattle.cops_world.specs.ActorTables.{actor_at}
-use Rattle.cops_world.specs.Cluster.{actor_step}
 use Rattle.cops_world.specs.Lacks.{StepStops}
-use Rattle.cops_world.specs.Setups.{is_open_at}
 use Rattle.cops_world.specs.Worlds.{KeptWorld, Leaves, Moves, world_of}
 use Rattle.cops_world.proofs.WorldCalls.{none_there, steps_world}
 use Rattle.cops_world.proofs.WorldKeeps.{back_table, counts_back, counts_left, kept_called, kept_placed, left_table, sites_stay}

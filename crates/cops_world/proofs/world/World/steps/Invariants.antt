@@ -1,6 +1,6 @@
 use Rattle.std.proofs.Common.{◌≡◌}
-use Rattle.cops_world.specs.declared.replies.Reply.{Reply}
-use Rattle.cops_world.specs.Cluster.{actor_steps}
+use Rattle.cops_model.specs.declared.replies.Reply.{Reply}
+use Rattle.cops_model.specs.Cluster.{actor_steps}
 use Rattle.cops_world.specs.Lacks.{StepsStop}
 use Rattle.cops_world.specs.Worlds.{World, Leaves, Moves, world_of}
 use Rattle.cops_world.proofs.world.World.steps.Given as goal

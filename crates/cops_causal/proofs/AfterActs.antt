@@ -1,0 +1,231 @@
+-- What each move keeps holds after every list of acts, of the cluster and of the history.
+use Rattle.std.proofs.Common.{◌≡◌, ℕ, Bool, true, false, not, ◌&&◌, ◌==◌, List, [], ◌∷◌, refl, sym, ◌∙◌, ap, subst}
+use Rattle.std.specs.Prelude.{Option, Some, None, max, zero, suc, nat_lt, nat_le, length}
+use Rattle.std.specs.List.{list_all, cons_option}
+use Rattle.std.specs.Option.{option_map, option_and_then}
+use Rattle.cops_types.specs.declared.faults.Fault.TheVariants.{Syntax, BadKey, ValueTooLong, NoSuchPlace, Busy, TooManyContexts, IdsSpent, NoContext}
+use Rattle.cops_types.specs.Key.{is_key}
+use Rattle.cops_types.specs.Search.{first_refusal}
+use Rattle.cops_types.specs.TenantConfig.{TenantConfig}
+use Rattle.cops_types.specs.Value.{is_value}
+use Rattle.cops_node.specs.declared.NodeCall.TheVariants as node_call
+use Rattle.cops_node.specs.declared.NodeId.{NodeId}
+use Rattle.cops_node.specs.Log.{LogStep, Late, Replied, Next, Call, Restart, Ended}
+use Rattle.cops_session.specs.declared.Answer.{Answer}
+use Rattle.cops_session.specs.declared.Answer.TheVariants as answer
+use Rattle.cops_session.specs.declared.Progress.{Progress}
+use Rattle.cops_session.specs.declared.Progress.TheVariants as session_progress
+use Rattle.cops_session.specs.Request as request
+use Rattle.cops_session.specs.Session.{Running, Session, context_created, context_deleted, context_refusal, create_refusal, get_refusal, is_open, moment_at, new_session, obs_of, request_begun, request_of, session_after, session_put_refusal}
+use Rattle.cops_session.specs.Session as session
+use Rattle.cops_repl.specs.declared.Delivery.{Delivery}
+use Rattle.cops_repl.specs.declared.Delivery.TheVariants as delivery
+use Rattle.cops_repl.specs.declared.Progress.{Progress as CarrierProgress}
+use Rattle.cops_repl.specs.declared.Progress.TheVariants as carrier_progress
+use Rattle.cops_repl.specs.Carrier.{Carrier, Stream, new_carrier, carrier_after}
+use Rattle.cops_repl.specs.Carrier as carrier
+use Rattle.cops_model.specs.declared.acts.Act.{Act}
+use Rattle.cops_model.specs.declared.acts.Act.TheVariants.{Open, Create, Delete, Put, Get, Show, Carry, Step, Done, Collect}
+use Rattle.cops_model.specs.declared.replies.Reply.{Reply}
+use Rattle.cops_model.specs.declared.replies.Reply.TheVariants.{Opened, Started, Working, Restarted, Stored, Values}
+use Rattle.cops_model.specs.Causal.{Traced, Operation, Effect, operation_by, operation_ended, operations_from, effect_of, traced_from}
+use Rattle.cops_model.specs.Cluster.{ActEffect, Actor, OfCarrier, OfSession, SoloCluster, actor_step, actor_steps, call_node, carrier_does, carrier_stepped, cluster_step, collect_at, find_actor, find_session, goes_on, has_node, most_steps, new_cluster, reply_of_answer, reply_of_delivery, reply_of_progress, request_does, running_step, session_in, step_of, with_actor}
+use Rattle.cops_model.specs.Events.{cluster_after}
+use Rattle.cops_model.specs.Laws.{cluster_of, history_of}
+use Rattle.cops_causal.proofs.ActorsKeep.{find_actor-with_actor}
+use Rattle.cops_causal.proofs.Moves.{IsKept, with_operation, history_after, Holds, plainly, new_actor, session_act, passes, head_passes, flipped, not_busy, stream_of, plain_collect, actor_step_keeps}
+use Rattle.cops_handles.specs.Rows.{is_spent}
+
+-- the context of the request that the session of this name runs
+abbrev pub context_run : List ℕ → SoloCluster → Option ℕ
+context_run name c = option_map (λ (r : Running). r.context) (option_and_then (λ (s : Session). s.running) (find_session name c))
+
+pub operation_by-context : (c : SoloCluster) (effect : Effect) (name : List ℕ) →
+    operation_by c effect name ≡ option_map (λ n. record { session = name; context = n; effect = effect }) (context_run name c)
+operation_by-context c effect name = go (option_and_then (λ (s : Session). s.running) (find_session name c))
+  where
+    go : (r : Option Running) → option_map (λ (r : Running). record { session = name; context = r.context; effect = effect }) r
+        ≡ option_map {U = Operation} (λ n. record { session = name; context = n; effect = effect }) (option_map (λ (r : Running). r.context) r)
+    go None = refl
+    go (Some r) = refl
+
+-- a step after which the actor goes on leaves the context of its request
+pub answer_ends : (a : Answer) → goes_on (reply_of_answer a) ≡ true → ⊥
+answer_ends (answer.Stored pair) e = cc
+answer_ends (answer.Values reads) e = cc
+answer_ends (answer.Refused fault) e = cc
+
+pub delivery_ends : (d : Delivery) → goes_on (reply_of_delivery d) ≡ true → ⊥
+delivery_ends delivery.Nothing e = cc
+delivery_ends (delivery.Waits pair) e = cc
+delivery_ends (delivery.Carried pair fresh acked) e = cc
+delivery_ends (delivery.OutOfOrder mark) e = cc
+delivery_ends (delivery.Refused fault) e = cc
+
+abbrev context_of_actor : Option Actor → Option ℕ
+context_of_actor found = option_map (λ (r : Running). r.context) (option_and_then (λ (s : Session). s.running) (option_and_then session_in found))
+
+context_after_step : (s : Session) (running : Running) (step : LogStep) (shown : Progress) → goes_on (reply_of_progress shown) ≡ true →
+    context_of_actor (Some (OfSession (session_after s running step shown))) ≡ Some running.context
+context_after_step s running step session_progress.Working e = refl
+context_after_step s running step (session_progress.Restarted n) e = refl
+context_after_step s running step (session_progress.Done a) e = absurd (answer_ends a e)
+
+module _ (config : TenantConfig) (c : SoloCluster) (name : List ℕ) where
+  -- what is to be shown of a turn
+  abbrev KeepsContext : ActEffect → Type 0
+  KeepsContext turn = goes_on turn.reply ≡ true → context_run name turn.after ≡ context_run name c
+
+  stepped_context : (s : Session) (running : Running) (found : find_actor name c ≡ Some (OfSession s)) → s.running ≡ Some running →
+      (step : LogStep) (shown : Progress) (after : SoloCluster) → find_actor name after ≡ find_actor name c →
+      goes_on (reply_of_progress shown) ≡ true → context_run name (with_actor name (OfSession (session_after s running step shown)) after) ≡ context_run name c
+  stepped_context s running found runs step shown after same goes =
+      ap context_of_actor (find_actor-with_actor name (OfSession (session_after s running step shown)) (OfSession s) after (same ∙ found))
+      ∙ context_after_step s running step shown goes
+      ∙ sym (ap (option_map (λ (r : Running). r.context)) runs)
+      ∙ sym (ap context_of_actor found)
+
+  request_does_context : (s : Session) (running : Running) (moment : ℕ) (next : Next Answer) → find_actor name c ≡ Some (OfSession s) → s.running ≡ Some running → KeepsContext (request_does config name s running moment c next)
+  request_does_context s running moment (Call directed) found runs goes =
+      let call = call_node config directed.node moment directed.call c in
+      let step : LogStep = record { moment = moment; outcome = Replied call.reply } in
+      stepped_context s running found runs step (session.progress config (request_of s running) running.log step) call.after refl goes
+  request_does_context s running moment Restart found runs goes =
+      let step : LogStep = record { moment = moment; outcome = Late } in
+      stepped_context s running found runs step (session.progress config (request_of s running) running.log step) c refl goes
+  request_does_context s running moment (Ended ended) found runs goes = absurd (answer_ends ended goes)
+
+  running_step_context : (s : Session) (moment : ℕ) (run : Option Running) → find_actor name c ≡ Some (OfSession s) → s.running ≡ run → KeepsContext (running_step config name s moment c run)
+  running_step_context s moment (Some running) found runs goes =
+      request_does_context s running (moment_at moment s) (request.next config (request_of s running) running.log (moment_at moment s)) found runs goes
+  running_step_context s moment None found runs goes = cc
+
+  carrier_stepped_context : (k after : Carrier) (shown : CarrierProgress) (next : SoloCluster) → find_actor name c ≡ Some (OfCarrier k) → find_actor name next ≡ find_actor name c → KeepsContext (carrier_stepped name after shown next)
+  carrier_stepped_context k after carrier_progress.Working next found same goes =
+      ap context_of_actor (find_actor-with_actor name (OfCarrier after) (OfCarrier k) next (same ∙ found)) ∙ sym (ap context_of_actor found)
+  carrier_stepped_context k after (carrier_progress.Done ending) next found same goes = absurd (delivery_ends ending goes)
+
+  carrier_does_context : (k : Carrier) (moment : ℕ) (next : Next Delivery) → find_actor name c ≡ Some (OfCarrier k) → KeepsContext (carrier_does config name k moment c next)
+  carrier_does_context k moment (Call directed) found goes =
+      let call = call_node config directed.node moment directed.call c in
+      let step : LogStep = record { moment = moment; outcome = Replied call.reply } in
+      carrier_stepped_context k (carrier_after k step) (carrier.delivery_progress config.shards k step) call.after found refl goes
+  carrier_does_context k moment Restart found goes = refl
+  carrier_does_context k moment (Ended ending) found goes = absurd (delivery_ends ending goes)
+
+  step_of_context : (moment : ℕ) (found : Option Actor) → find_actor name c ≡ found → KeepsContext (step_of config name moment c found)
+  step_of_context moment (Some (OfSession s)) found goes = running_step_context s moment s.running found refl goes
+  step_of_context moment (Some (OfCarrier k)) found goes = carrier_does_context k (max k.moment moment) (carrier.carrier_next config.shards k.stream k.log) found goes
+  step_of_context moment None found goes = cc
+
+  pub actor_step_context : (moment : ℕ) → KeepsContext (actor_step config name moment c)
+  actor_step_context moment goes = step_of_context moment (find_actor name c) refl goes
+
+-- ---- acts
+
+-- an actor that goes on ended no operation
+pub plain_goes : (reply : Reply) → goes_on reply ≡ true → effect_of reply ≡ None
+plain_goes Working e = refl
+plain_goes (Restarted n) e = refl
+plain_goes (Stored pair) e = cc
+plain_goes (Values reads) e = cc
+plain_goes reply e = refl
+
+-- the history after a reply looks at the context alone
+history_after-context : (ts : List Traced) (c d : SoloCluster) (name : List ℕ) (reply : Reply) → context_run name c ≡ context_run name d → history_after ts c name reply ≡ history_after ts d name reply
+history_after-context ts c d name reply same = ap (with_operation ts) (by_effect (effect_of reply))
+  where
+    by_effect : (e : Option Effect) → option_and_then (λ effect. operation_by c effect name) e ≡ option_and_then (λ effect. operation_by d effect name) e
+    by_effect None = refl
+    by_effect (Some effect) =
+        operation_by-context c effect name
+        ∙ ap (option_map (λ n. record { session = name; context = n; effect = effect })) same
+        ∙ sym (operation_by-context d effect name)
+
+module _ {config : TenantConfig} {P : SoloCluster → List Traced → Type 0} (kept : IsKept config P) where
+  -- where the first step goes on, the others follow
+  followed : (more : ℕ) (c : SoloCluster) (ts : List Traced) (name : List ℕ) (moment : ℕ) → P c ts →
+      let step = actor_step config name moment c in
+      let rest = actor_steps more config name moment step.after in
+      (P step.after ts → P rest.after (history_after ts step.after name rest.reply)) →
+      P (actor_steps (suc more) config name moment c).after (history_after ts c name (actor_steps (suc more) config name moment c).reply)
+  followed more c ts name moment p later = by_goes (goes_on step.reply) refl
+    where
+      step : ActEffect
+      step = actor_step config name moment c
+
+      rest : ActEffect
+      rest = actor_steps more config name moment step.after
+
+      kept_step : P step.after (history_after ts c name step.reply)
+      kept_step = actor_step_keeps kept c ts name moment p
+
+      turn_by : Bool → ActEffect
+      turn_by b = elim b [ true ↦ rest | false ↦ step ]
+
+      by_goes : (b : Bool) → goes_on step.reply ≡ b → P (turn_by b).after (history_after ts c name (turn_by b).reply)
+      by_goes true goes =
+          let same = subst (λ e. P step.after (with_operation ts (option_and_then (λ effect. operation_by c effect name) e))) (plain_goes step.reply goes) kept_step in
+          subst (λ h. P rest.after h) (history_after-context ts step.after c name rest.reply (actor_step_context config c name moment goes)) (later same)
+      by_goes false goes = kept_step
+
+  actor_steps_keep : (more : ℕ) (c : SoloCluster) (ts : List Traced) (name : List ℕ) (moment : ℕ) → P c ts →
+      P (actor_steps more config name moment c).after (history_after ts c name (actor_steps more config name moment c).reply)
+  actor_steps_keep zero c ts name moment p = actor_step_keeps kept c ts name moment p
+  actor_steps_keep (suc more) c ts name moment p =
+      followed more c ts name moment p (λ q. actor_steps_keep more (actor_step config name moment c).after ts name moment q)
+
+  pub cluster_step_keeps : (act : Act) (c : SoloCluster) (ts : List Traced) → P c ts → Holds kept c ts act (cluster_step config act c)
+  cluster_step_keeps (Open name dc) c ts p =
+      new_actor kept (Open name dc) (nat_lt dc config.data_centres) name (OfSession (new_session dc 1)) Opened c ts refl p (λ exists free. kept.opened c ts name dc free exists p)
+  cluster_step_keeps (Create name) c ts p = session_act kept (Create name) name c ts _ p (λ s found.
+      passes (create_refusal config s) c _ (Holds kept c ts (Create name)) (λ fault. p) (λ ok. kept.context_created c ts name s found
+      (not_busy s Busy ((nat_le config.quota.contexts (length s.contexts), TooManyContexts) ∷ (is_spent s.next_context, IdsSpent) ∷ []) ok) p))
+  cluster_step_keeps (Delete name number) c ts p = session_act kept (Delete name number) name c ts _ p (λ s found.
+      passes (context_refusal number s) c _ (Holds kept c ts (Delete name number)) (λ fault. p) (λ ok. kept.context_deleted c ts name s number found (not_busy s Busy ((not (is_open number s), NoContext) ∷ []) ok) p))
+  cluster_step_keeps (Put name number key value) c ts p =
+      passes (first_refusal ((not (is_key key), BadKey) ∷ (not (is_value value), ValueTooLong) ∷ [])) c _ (Holds kept c ts (Put name number key value)) (λ fault. p) (λ well.
+      session_act kept (Put name number key value) name c ts _ p (λ s found.
+      passes (session_put_refusal config number key s) c _ (Holds kept c ts (Put name number key value)) (λ fault. p) (λ ok.
+      kept.put_begun c ts name s number key value found ok (flipped (is_key key) (head_passes (not (is_key key)) BadKey ((not (is_value value), ValueTooLong) ∷ []) well).0) p)))
+  cluster_step_keeps (Get name number keys) c ts p =
+      passes (first_refusal ((nat_lt (length keys) 1, Syntax) ∷ (not (list_all is_key keys), BadKey) ∷ [])) c _ (Holds kept c ts (Get name number keys)) (λ fault. p) (λ well.
+      session_act kept (Get name number keys) name c ts _ p (λ s found.
+      passes (get_refusal config number keys s) c _ (Holds kept c ts (Get name number keys)) (λ fault. p) (λ ok.
+      kept.get_begun c ts name s number keys found ok (all_keys keys well) p)))
+    where
+      all_keys : (keys : List (List ℕ)) → first_refusal ((nat_lt (length keys) 1, Syntax) ∷ (not (list_all is_key keys), BadKey) ∷ []) ≡ None → list_all is_key keys ≡ true
+      all_keys keys well =
+          let second = (head_passes (nat_lt (length keys) 1) Syntax ((not (list_all is_key keys), BadKey) ∷ []) well).1 in
+          flipped (list_all is_key keys) (head_passes (not (list_all is_key keys)) BadKey [] second).0
+  cluster_step_keeps (Show name number) c ts p = session_act kept (Show name number) name c ts _ p (λ s found.
+      passes (context_refusal number s) c _ (Holds kept c ts (Show name number)) (λ fault. p) (λ ok. p))
+  cluster_step_keeps (Carry name dc shard to_dc) c ts p =
+      let stream : Stream = record { origin = record { dc = dc; shard = shard }; to_dc = to_dc } in
+      new_actor kept (Carry name dc shard to_dc) (has_node config dc shard && nat_lt to_dc config.data_centres && not (dc == to_dc)) name (OfCarrier (new_carrier stream)) Started c ts refl p
+      (λ exists free. kept.carrier_begun c ts name stream free (stream_of config stream exists) p)
+  cluster_step_keeps (Step name moment) c ts p = actor_step_keeps kept c ts name moment p
+  cluster_step_keeps (Done name moment) c ts p = actor_steps_keep (most_steps config) c ts name moment p
+  cluster_step_keeps (Collect dc shard moment) c ts p =
+      let id : NodeId = record { dc = dc; shard = shard } in
+      passes (first_refusal ((not (has_node config dc shard), NoSuchPlace) ∷ [])) c _ (Holds kept c ts (Collect dc shard moment)) (λ fault. p) (λ ok.
+      plainly kept c ts (Collect dc shard moment) (collect_at config id moment c) (plain_collect (call_node config id moment node_call.Collect c).reply)
+      (kept.collected c ts id moment (flipped (has_node config dc shard) (head_passes (not (has_node config dc shard)) NoSuchPlace [] ok).0) p))
+
+  -- ---- runs
+
+  -- the history is the one of all operations
+  traced_more : (ts : List Traced) (o : Option Operation) (later : List Operation) → traced_from ts (cons_option o later) ≡ traced_from (with_operation ts o) later
+  traced_more ts None later = refl
+  traced_more ts (Some o) later = refl
+
+  runs_keep : (acts : List Act) (c : SoloCluster) (ts : List Traced) → P c ts → P (cluster_after config acts c) (traced_from ts (operations_from config acts c))
+  runs_keep [] c ts p = p
+  runs_keep (act ∷ acts) c ts p =
+      let turn = cluster_step config act c in
+      subst (λ h. P (cluster_after config acts turn.after) h) (sym (traced_more ts (operation_ended c act turn.reply) (operations_from config acts turn.after)))
+      (runs_keep acts turn.after (with_operation ts (operation_ended c act turn.reply)) (cluster_step_keeps act c ts p))
+
+  -- after every list of acts
+  pub after_acts : (acts : List Act) → P (new_cluster config) [] → P (cluster_of config acts) (history_of config acts)
+  after_acts acts p = runs_keep acts (new_cluster config) [] p

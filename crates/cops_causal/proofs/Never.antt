@@ -1,0 +1,205 @@
+-- After every list of acts, no reply and no audit has said what is never said.
+use Rattle.std.proofs.Common.{◌≡◌, ℕ, ◌+◌, ◌*◌, ◌<◌, Bool, true, false, not, ◌&&◌, ◌==◌, List, [], ◌∷◌, ◌++◌, length, refl, sym, ap, subst, ◌⊎◌, inl, inr}
+use Rattle.std.specs.Prelude.{Option, Some, None, max, zero, suc, nat_lt, nat_le, is_some}
+use Rattle.std.specs.List.{list_all}
+use Rattle.cops_types.specs.declared.faults.Fault.{Fault}
+use Rattle.cops_types.specs.declared.faults.Fault.TheVariants.{Syntax, NameTaken, Busy, NoContext, TooManyContexts, IdsSpent, DependenciesFull, TooManyKeys, RepeatedKey, BadKey, ValueTooLong, NoSuchPlace, ActorsFull}
+use Rattle.cops_types.specs.Context.{can_put}
+use Rattle.cops_types.specs.Key.{is_key}
+use Rattle.cops_types.specs.Search.{first_refusal}
+use Rattle.cops_types.specs.TenantConfig.{TenantConfig}
+use Rattle.cops_types.specs.Value.{is_value}
+use Rattle.cops_node.specs.declared.AuditEntry.{AuditEntry}
+use Rattle.cops_node.specs.declared.NodeCall.TheVariants as node_call
+use Rattle.cops_node.specs.declared.NodeId.{NodeId}
+use Rattle.cops_node.specs.declared.NodeReply.{NodeReply}
+use Rattle.cops_node.specs.declared.NodeReply.TheVariants as node_reply
+use Rattle.cops_node.specs.Log.{LogStep, Late, Replied, Next, Call, Restart, Ended, is_asked}
+use Rattle.cops_node.specs.Place.{node_number, place_of}
+use Rattle.cops_session.specs.declared.Answer.{Answer}
+use Rattle.cops_session.specs.Request.{Action, Write, Fetch, answer, attempt_of, call_after, is_late}
+use Rattle.cops_session.specs.Request as request
+use Rattle.cops_session.specs.Session.{Session, Running, new_session, obs_of, is_open, is_busy, has_repeats, has_restarted, context_created, context_deleted, request_begun, request_of, moment_at}
+use Rattle.cops_session.specs.Session as session
+use Rattle.cops_repl.specs.declared.Delivery.{Delivery}
+use Rattle.cops_repl.specs.declared.Progress.{Progress as CarrierProgress}
+use Rattle.cops_repl.specs.declared.Progress.TheVariants as carrier_progress
+use Rattle.cops_repl.specs.Carrier.{Carrier, Stream, new_carrier, carrier_after}
+use Rattle.cops_repl.specs.Carrier as carrier
+use Rattle.cops_model.specs.declared.acts.Act.{Act}
+use Rattle.cops_model.specs.declared.acts.Act.TheVariants.{Open, Create, Delete, Put, Get, Show, Carry, Step, Done, Collect}
+use Rattle.cops_model.specs.declared.replies.Reply.{Reply}
+use Rattle.cops_model.specs.declared.replies.Reply.TheVariants as reply
+use Rattle.cops_model.specs.Causal.{Traced, operation_ended}
+use Rattle.cops_model.specs.Cluster.{ActEffect, Actor, OfCarrier, OfSession, SoloCluster, actor_step, actor_steps, call_node, carrier_does, carrier_stepped, cluster_step, collect_at, find_actor, find_session, goes_on, has_node, most_steps, new_cluster, on_found, on_session, reply_of_collect, reply_of_progress, request_does, running_step, session_in, step_of, unless_refused}
+use Rattle.cops_model.specs.Events.{replies_from}
+use Rattle.cops_model.specs.Laws.{is_expected_of_node, is_expected, node_at, IsAsExpected}
+use Rattle.std.specs.Option.{option_and_then}
+use Rattle.cops_causal.proofs.AfterActs.{cluster_step_keeps, after_acts}
+use Rattle.cops_types.proofs.Elements.{and_true, Every-true}
+use Rattle.cops_causal.proofs.Moves.{IsKept, Both, kept_both, actor_step_keeps, with_operation, history_after}
+use Rattle.cops_causal.proofs.NodeAnswers.{node_fault_expected, reply_asked}
+use Rattle.cops_node.proofs.NodeTurns.{IsRefusal}
+use Rattle.cops_causal.proofs.NodeEffects.{node_of}
+use Rattle.cops_causal.proofs.Past.{not_ended}
+use Rattle.cops_causal.proofs.Served.{IsServed, FineTurn, called, collect_ready, session_turn, session_late_turn, fine_carrier, carrier_fine, served_kept, served_at_first}
+use Rattle.cops_causal.proofs.Sound.{IsSound, sound_kept, sound_at_first}
+use Rattle.cops_causal.proofs.TracedIdle.{session_of}
+use Rattle.cops_causal.proofs.Unbroken.{IsFineDelivery, shown_fine, ended_fine, carrier_shown_fine}
+use Rattle.cops_handles.specs.Rows.{is_spent}
+
+abbrev IsFine : Reply → Type 0
+IsFine r = is_expected r ≡ true
+
+-- ---- refusals
+
+-- none of these checks refuses with a fault that is unexpected
+abbrev are_fine : List (Bool × Fault) → Bool
+are_fine checks = list_all (λ (check : Bool × Fault). is_expected (reply.Refused check.1)) checks
+
+first_fine : (checks : List (Bool × Fault)) → are_fine checks ≡ true → (fault : Fault) → first_refusal checks ≡ Some fault → IsFine (reply.Refused fault)
+first_fine [] fine fault e = cc
+first_fine ((true, f) ∷ checks) fine fault e = let same : f ≡ fault = cc in subst (λ g. IsFine (reply.Refused g)) same (left (is_expected (reply.Refused f)) (are_fine checks) fine)
+  where
+    left : (a b : Bool) → (a && b) ≡ true → a ≡ true
+    left true b e = refl
+    left false b e = cc
+first_fine ((false, f) ∷ checks) fine fault e = first_fine checks (right (is_expected (reply.Refused f)) (are_fine checks) fine) fault e
+  where
+    right : (a b : Bool) → (a && b) ≡ true → b ≡ true
+    right true b e = e
+    right false b e = cc
+
+guarded : (checks : List (Bool × Fault)) (c : SoloCluster) (turn : ActEffect) → are_fine checks ≡ true → IsFine turn.reply → IsFine (unless_refused (first_refusal checks) c turn).reply
+guarded checks c turn fine passed = by_first (first_refusal checks) refl
+  where
+    by_first : (o : Option Fault) → first_refusal checks ≡ o → IsFine (unless_refused o c turn).reply
+    by_first None is = passed
+    by_first (Some fault) is = first_fine checks fine fault is
+
+found_fine : (name : List ℕ) (c : SoloCluster) (act : Session → ActEffect) → ((s : Session) → IsFine (act s).reply) → IsFine (on_session name c act).reply
+found_fine name c act fine = by_found (find_session name c)
+  where
+    by_found : (o : Option Session) → IsFine (on_found o c act).reply
+    by_found None = refl
+    by_found (Some s) = fine s
+
+-- a collection is refused by the node, or counts
+collect_fine : (r : NodeReply) → IsRefusal r ⊎ (is_asked node_call.Collect r ≡ true) → IsFine (reply_of_collect r)
+collect_fine r (inl is) = subst (λ r. IsFine (reply_of_collect r)) (sym is.1) (node_fault_expected is.0 is.2)
+collect_fine (node_reply.Removed count) (inr is) = refl
+collect_fine r (inr is) = cc
+
+-- ---- steps
+
+abbrev pub Whole : TenantConfig → SoloCluster → List Traced → Type 0
+Whole config = Both (IsSound config) (IsServed config)
+
+module _ (config : TenantConfig) (some : 0 < config.shards) where
+  pub whole_kept : IsKept config (Whole config)
+  whole_kept = kept_both (sound_kept config some) (served_kept config some)
+
+  module _ (c : SoloCluster) (ts : List Traced) (inv : Whole config c ts) where
+    turn_fine : (s : Session) (running : Running) (step : LogStep) → FineTurn config s running step →
+        IsFine (reply_of_progress (session.progress config (request_of s running) running.log step))
+    turn_fine s running step fine =
+        shown_fine (answer config (request_of s running) (running.log ++ step ∷ [])) (has_restarted running.action running.log step) (attempt_of running.action (running.log ++ step ∷ [])).restarts fine.answers
+
+    module _ (name : List ℕ) (s : Session) (found : find_session name c ≡ Some s) where
+      does_fine : (running : Running) (moment : ℕ) (next : Next Answer) → s.running ≡ Some running → request.next config (request_of s running) running.log moment ≡ next → IsFine (request_does config name s running moment c next).reply
+      does_fine running moment (Call directed) runs is =
+          turn_fine s running (record { moment = moment; outcome = Replied (call_node config directed.node moment directed.call c).reply }) (session_turn config some c ts inv.0 inv.1 name s found running moment directed runs is)
+      does_fine running moment Restart runs is =
+          turn_fine s running (record { moment = moment; outcome = Late }) (session_late_turn config some c ts inv.0 inv.1 name s found running moment runs is)
+      does_fine running moment (Ended a) runs is =
+          absurd (not_ended (is_late config.trans_time running.action (attempt_of running.action running.log).steps moment) (call_after config (request_of s running) (attempt_of running.action running.log)) a
+          ((session_of config c ts inv.0.traced name s found).running_is running runs).unanswered is)
+
+      running_fine : (moment : ℕ) (run : Option Running) → s.running ≡ run → IsFine (running_step config name s moment c run).reply
+      running_fine moment (Some running) runs = does_fine running (moment_at moment s) (request.next config (request_of s running) running.log (moment_at moment s)) runs refl
+      running_fine moment None runs = refl
+
+    module _ (name : List ℕ) (k : Carrier) (found : find_actor name c ≡ Some (OfCarrier k)) where
+      stepped_fine : (after : Carrier) (shown : CarrierProgress) (next : SoloCluster) → ((d : Delivery) → shown ≡ carrier_progress.Done d → IsFineDelivery d) → IsFine (carrier_stepped name after shown next).reply
+      stepped_fine after carrier_progress.Working next fine = refl
+      stepped_fine after (carrier_progress.Done d) next fine = fine d refl
+
+      carrier_does_fine : (moment : ℕ) (next : Next Delivery) → carrier.carrier_next config.shards k.stream k.log ≡ next → IsFine (carrier_does config name k moment c next).reply
+      carrier_does_fine moment (Call directed) is =
+          let call = call_node config directed.node moment directed.call c in
+          let step : LogStep = record { moment = moment; outcome = Replied call.reply } in
+          let n = carrier.carrier_next config.shards k.stream (k.log ++ step ∷ []) in
+          stepped_fine (carrier_after k step) (carrier.delivery_progress config.shards k step) call.after
+          (carrier_shown_fine config.shards k.stream n (λ ending ends. ended_fine config.shards k.stream (k.log ++ step ∷ []) ending (carrier_fine config some c ts inv.0 inv.1 name k found moment directed is) ends)
+          (carrier.delivery_progress config.shards k step) refl)
+      carrier_does_fine moment Restart is = refl
+      carrier_does_fine moment (Ended ending) is = ended_fine config.shards k.stream k.log ending (fine_carrier config some c ts inv.0 inv.1 name k found) is
+
+    step_of_fine : (name : List ℕ) (moment : ℕ) (found : Option Actor) → find_actor name c ≡ found → IsFine (step_of config name moment c found).reply
+    step_of_fine name moment (Some (OfSession s)) found = running_fine name s (ap (option_and_then session_in) found) moment s.running refl
+    step_of_fine name moment (Some (OfCarrier k)) found = carrier_does_fine name k found (max k.moment moment) (carrier.carrier_next config.shards k.stream k.log) refl
+    step_of_fine name moment None found = refl
+
+    step_fine : (name : List ℕ) (moment : ℕ) → IsFine (actor_step config name moment c).reply
+    step_fine name moment = step_of_fine name moment (find_actor name c) refl
+
+  either_fine : (b : Bool) (rest step : ActEffect) → IsFine rest.reply → IsFine step.reply → IsFine (let turn : ActEffect = elim b [ true ↦ rest | false ↦ step ] in turn.reply)
+  either_fine true rest step more here = more
+  either_fine false rest step more here = here
+
+  steps_fine : (more : ℕ) (c : SoloCluster) (ts : List Traced) → Whole config c ts → (name : List ℕ) (moment : ℕ) → IsFine (actor_steps more config name moment c).reply
+  steps_fine zero c ts inv name moment = step_fine c ts inv name moment
+  steps_fine (suc more) c ts inv name moment =
+      let step = actor_step config name moment c in
+      either_fine (goes_on step.reply) (actor_steps more config name moment step.after) step
+      (steps_fine more step.after (history_after ts c name step.reply) (actor_step_keeps whole_kept c ts name moment inv) name moment) (step_fine c ts inv name moment)
+
+  -- ---- acts
+
+  act_fine : (act : Act) (c : SoloCluster) (ts : List Traced) → Whole config c ts → IsFine (cluster_step config act c).reply
+  act_fine (Open name dc) c ts inv =
+      guarded ((not (nat_lt dc config.data_centres), NoSuchPlace) ∷ (is_some (find_actor name c), NameTaken) ∷ (nat_le config.quota.actors (length c.actors), ActorsFull) ∷ []) c _ refl refl
+  act_fine (Create name) c ts inv = found_fine name c _ (λ s.
+      guarded ((is_busy s, Busy) ∷ (nat_le config.quota.contexts (length s.contexts), TooManyContexts) ∷ (is_spent s.next_context, IdsSpent) ∷ []) c _ refl refl)
+  act_fine (Delete name number) c ts inv = found_fine name c _ (λ s. guarded ((is_busy s, Busy) ∷ (not (is_open number s), NoContext) ∷ []) c _ refl refl)
+  act_fine (Put name number key value) c ts inv =
+      guarded ((not (is_key key), BadKey) ∷ (not (is_value value), ValueTooLong) ∷ []) c _ refl (found_fine name c _ (λ s.
+      guarded ((is_busy s, Busy) ∷ (not (is_open number s), NoContext) ∷ (not (can_put config.quota.deps (obs_of number s) key), DependenciesFull) ∷ (is_spent s.next_request, IdsSpent) ∷ []) c _ refl refl))
+  act_fine (Get name number keys) c ts inv =
+      guarded ((nat_lt (length keys) 1, Syntax) ∷ (not (list_all is_key keys), BadKey) ∷ []) c _ refl (found_fine name c _ (λ s.
+      guarded ((nat_lt (length keys) 1, Syntax) ∷ (is_busy s, Busy) ∷ (not (is_open number s), NoContext) ∷ (nat_lt 32 (length keys), TooManyKeys) ∷ (has_repeats keys, RepeatedKey) ∷ (is_spent s.next_request, IdsSpent) ∷ []) c _ refl refl))
+  act_fine (Show name number) c ts inv = found_fine name c _ (λ s. guarded ((is_busy s, Busy) ∷ (not (is_open number s), NoContext) ∷ []) c _ refl refl)
+  act_fine (Carry name dc shard to_dc) c ts inv =
+      guarded ((not (has_node config dc shard && nat_lt to_dc config.data_centres && not (dc == to_dc)), NoSuchPlace) ∷ (is_some (find_actor name c), NameTaken) ∷ (nat_le config.quota.actors (length c.actors), ActorsFull) ∷ []) c _ refl refl
+  act_fine (Step name moment) c ts inv = step_fine c ts inv name moment
+  act_fine (Done name moment) c ts inv = steps_fine (most_steps config) c ts inv name moment
+  act_fine (Collect dc shard moment) c ts inv = by_there (has_node config dc shard) refl
+    where
+      id : NodeId
+      id = record { dc = dc; shard = shard }
+
+      by_there : (b : Bool) → has_node config dc shard ≡ b → IsFine (unless_refused (first_refusal ((not b, NoSuchPlace) ∷ [])) c (collect_at config id moment c)).reply
+      by_there true there =
+          let call = call_node config id moment node_call.Collect c in
+          let ready = collect_ready config some c ts inv.0 inv.1 id there in
+          let n = node_number config.shards id in
+          collect_fine call.reply (reply_asked (place_of config id) (node_of config c n) call.reply node_call.Collect (node_of config call.after n) (called config c ts inv.0 inv.1 moment (record { node = id; call = node_call.Collect }) ready).change ready.ready)
+      by_there false there = refl
+
+  -- ---- runs
+
+  replies_fine : (acts : List Act) (c : SoloCluster) (ts : List Traced) → Whole config c ts → list_all is_expected (replies_from config acts c) ≡ true
+  replies_fine [] c ts inv = refl
+  replies_fine (act ∷ acts) c ts inv =
+      let turn = cluster_step config act c in
+      and_true (is_expected turn.reply) (list_all is_expected (replies_from config acts turn.after)) (act_fine act c ts inv)
+      (replies_fine acts turn.after (with_operation ts (operation_ended c act turn.reply)) (cluster_step_keeps whole_kept act c ts inv))
+
+  pub whole_at_first : Whole config (new_cluster config) []
+  whole_at_first = (sound_at_first config some, served_at_first config)
+
+  pub is_as_expected : (acts : List Act) → IsAsExpected config acts
+  is_as_expected acts = (
+    replies_fine acts (new_cluster config) [] whole_at_first,
+    λ dc shard in_dcs in_shards. Every-true (λ (e : AuditEntry). is_expected_of_node e.reply) (node_at config acts dc shard).trail ((after_acts whole_kept acts whole_at_first).1.trails (dc * config.shards + shard)),
+  )

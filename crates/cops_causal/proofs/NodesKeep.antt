@@ -1,0 +1,87 @@
+-- What a turn keeps of any node holds of each node after every list of acts.
+use Rattle.std.proofs.Common.{ℕ, ◌*◌, List, [], length, set, inl, inr, refl, sym, ◌∙◌, subst, arith, get_or-set_same, get_or-set_other, length-set}
+use Rattle.std.proofs.lemmas.Bool.Decides.{eqb_tells, leb_tells}
+use Rattle.std.proofs.lemmas.List.{get_or_past}
+use Rattle.cops_types.specs.Records.{KeepsGreatest}
+use Rattle.cops_types.specs.TenantConfig.{TenantConfig}
+use Rattle.cops_node.specs.declared.NodeCall.{NodeCall}
+use Rattle.cops_node.specs.declared.NodeCall.TheVariants.{Collect}
+use Rattle.cops_node.specs.declared.NodeId.{NodeId}
+use Rattle.cops_node.specs.Place.{Place, node_number, place_of}
+use Rattle.cops_node.specs.SoloNode.{SoloNode, new_node}
+use Rattle.cops_node.specs.Step.{node_step}
+use Rattle.cops_node.proofs.Greatest.{KeepsGreatest-push, KeepsGreatest-collected}
+use Rattle.cops_node.proofs.Turns.{after_turn}
+use Rattle.cops_repl.specs.declared.Progress.{Progress}
+use Rattle.cops_repl.specs.declared.Progress.TheVariants as carrier_progress
+use Rattle.cops_repl.specs.Carrier.{Carrier}
+use Rattle.cops_model.specs.declared.acts.Act.{Act}
+use Rattle.cops_model.specs.Causal.{Traced}
+use Rattle.cops_model.specs.Cluster.{SoloCluster, new_cluster, call_node, carrier_stepped}
+use Rattle.cops_model.specs.Laws.{cluster_of}
+use Rattle.cops_causal.proofs.AfterActs.{after_acts}
+use Rattle.cops_causal.proofs.Moves.{IsKept}
+use Rattle.cops_causal.proofs.NodeEffects.{node_of}
+use Rattle.cops_causal.proofs.Past.{new_nodes}
+
+module _ (config : TenantConfig) (P : SoloNode → Type 0) (keeps : (place : Place) (moment : ℕ) (call : NodeCall) (solo : SoloNode) → P solo → P (node_step place moment call solo).after) where
+  abbrev pub EachNode : SoloCluster → List Traced → Type 0
+  EachNode c ts = (n : ℕ) → P (node_of config c n)
+
+  called_keeps : (c : SoloCluster) (ts : List Traced) (id : NodeId) (moment : ℕ) (call : NodeCall) → EachNode c ts → EachNode (call_node config id moment call c).after ts
+  called_keeps c ts id moment call each n =
+      let number = node_number config.shards id in
+      let next = (node_step (place_of config id) moment call (node_of config c number)).after in
+      let default = new_node config.data_centres in
+      elim (eqb_tells n number) [
+        | inr other ↦ subst P (sym (get_or-set_other c.nodes number n next default other.1)) (each n)
+        | inl here ↦ subst (λ m. P (node_of config (call_node config id moment call c).after m)) (sym here.1)
+            (elim (leb_tells (length c.nodes) number) [
+              | inr within ↦ subst P (sym (get_or-set_same c.nodes number next default within.1)) (keeps (place_of config id) moment call (node_of config c number) (each number))
+              | inl past ↦
+                  let after_past = get_or_past (set c.nodes number next) number default (let counted = length-set c.nodes number next in omega (arith, past.1)) in
+                  subst P (get_or_past c.nodes number default past.1 ∙ sym after_past) (each number)
+            ])
+      ]
+
+  carried : (name : List ℕ) (next : Carrier) (shown : Progress) (c : SoloCluster) (ts : List Traced) → EachNode c ts → EachNode (carrier_stepped name next shown c).after ts
+  carried name next carrier_progress.Working c ts each = each
+  carried name next (carrier_progress.Done ending) c ts each = each
+
+  pub each_kept : IsKept config EachNode
+  each_kept =
+      record {
+        opened = λ c ts name dc free exists each. each;
+        carrier_begun = λ c ts name stream free is each. each;
+        context_created = λ c ts name s found idle each. each;
+        context_deleted = λ c ts name s number found idle each. each;
+        put_begun = λ c ts name s number key value found ok is each. each;
+        get_begun = λ c ts name s number keys found ok are each. each;
+        called = λ c ts name s running moment directed found runs e each. called_keeps c ts directed.node moment directed.call each;
+        late = λ c ts name s running moment found runs e each. each;
+        ended = λ c ts name s running moment a found runs e each. each;
+        carrier_called = λ c ts name k moment directed found e each. carried name _ _ (call_node config directed.node moment directed.call c).after ts (called_keeps c ts directed.node moment directed.call each);
+        collected = λ c ts id moment there each. called_keeps c ts id moment Collect each;
+      }
+
+  pub each_at_first : P (new_node config.data_centres) → EachNode (new_cluster config) []
+  each_at_first first n = subst P (sym (new_nodes (config.data_centres * config.shards) n (new_node config.data_centres))) first
+
+  pub each_node : P (new_node config.data_centres) → (acts : List Act) → (n : ℕ) → P (node_of config (cluster_of config acts) n)
+  each_node first acts = after_acts each_kept acts (each_at_first first)
+
+-- at each node the greatest version of each key is kept
+abbrev pub AllKeepGreatest : TenantConfig → SoloCluster → List Traced → Type 0
+AllKeepGreatest config c ts = (n : ℕ) → KeepsGreatest (node_of config c n).recs
+
+turn_keeps : (place : Place) (moment : ℕ) (call : NodeCall) (solo : SoloNode) → KeepsGreatest solo.recs → KeepsGreatest (node_step place moment call solo).after.recs
+turn_keeps place moment call solo kept = after_turn (record { push = KeepsGreatest-push; collect = KeepsGreatest-collected }) place moment call solo kept
+
+pub greatest_stays : (config : TenantConfig) → IsKept config (AllKeepGreatest config)
+greatest_stays config = each_kept config (λ solo. KeepsGreatest solo.recs) turn_keeps
+
+pub greatest_at_first : (config : TenantConfig) → AllKeepGreatest config (new_cluster config) []
+greatest_at_first config = each_at_first config (λ solo. KeepsGreatest solo.recs) turn_keeps (λ key. refl)
+
+pub greatest_kept : (config : TenantConfig) (acts : List Act) (n : ℕ) → KeepsGreatest (node_of config (cluster_of config acts) n).recs
+greatest_kept config acts = each_node config (λ solo. KeepsGreatest solo.recs) turn_keeps (λ key. refl) acts

@@ -1,0 +1,239 @@
+-- Where no queue holds an entry, equivalent nodes show the same latest entries.
+use Rattle.std.proofs.Common.{◌≡◌, ◌≢◌, ℕ, ◌+◌, ◌*◌, ◌<◌, ◌≤◌, ◌%◌, true, false, List, [], ◌∷◌, ◌++◌, length, drop, ◌⊎◌, inl, inr, refl, sym, ◌∙◌, ap, subst, arith, length-append, append-nil}
+use Rattle.std.specs.Prelude.{zero, suc, slice_index, nat_lt, ◌==◌}
+use Rattle.std.specs.List.{AllByRecursion}
+use Rattle.std.proofs.lemmas.Bool.Decides.{nat_tests, eqb_tells}
+use Rattle.std.proofs.lemmas.Nat.{mod-mul-add}
+use Rattle.cops_types.specs.declared.records.EntryParts.{EntryParts as Entry}
+use Rattle.cops_types.specs.Key.{shard_of}
+use Rattle.cops_types.specs.TenantConfig.{TenantConfig}
+use Rattle.cops_types.specs.Records.{clock}
+use Rattle.cops_types.specs.Pairs.{greatest_clock}
+use Rattle.cops_node.specs.declared.NodeCall.{NodeCall}
+use Rattle.cops_node.specs.declared.NodeCall.TheVariants as node_call
+use Rattle.cops_node.specs.declared.NodeId.{NodeId}
+use Rattle.cops_node.specs.declared.NodeReply.{NodeReply}
+use Rattle.cops_node.specs.Log.{Directed}
+use Rattle.cops_node.specs.Place.{node_number, own_number, place_of}
+use Rattle.cops_node.specs.SoloNode.{new_node}
+use Rattle.cops_repl.specs.declared.Progress.{Progress}
+use Rattle.cops_repl.specs.declared.Progress.TheVariants as carrier_progress
+use Rattle.cops_repl.specs.Carrier.{Carrier, Stream, ack_call, check, commit_call, pull}
+use Rattle.cops_session.specs.Request.{key_home}
+use Rattle.cops_model.specs.declared.acts.Act.{Act}
+use Rattle.cops_model.specs.Causal.{Traced}
+use Rattle.cops_model.specs.Cluster.{SoloCluster, new_cluster, has_node, call_node, carrier_stepped}
+use Rattle.cops_model.specs.Laws.{cluster_of, history_of, node_at, HasEmptyQueues, IsSettled}
+use Rattle.cops_causal.proofs.AfterActs.{after_acts}
+use Rattle.cops_repl.proofs.CarrierStages.{Stage, Pulling, Delivering, InDelivery, Checking, Committing, Acking}
+use Rattle.cops_types.proofs.Elements.{slice_get-Among, Among, Among-left, Among-filter, Every-append, Every-at, and_left, and_right, and_true}
+use Rattle.cops_node.proofs.Chains.{IsFront, of_origin}
+use Rattle.cops_causal.proofs.Convergence.{orderly, same_latest, in_entries, of_entries, in_held}
+use Rattle.cops_causal.proofs.Moves.{IsStream, Leads, Both, kept_both}
+use Rattle.cops_node.proofs.NodeTurns.{entries, Change, IsRefused, Answers, Joined, Taken, Stores}
+use Rattle.cops_causal.proofs.NodeEffects.{node_of, Called, call_changes}
+use Rattle.cops_causal.proofs.Offers.{IsOffered, origin_of, of_origin-node}
+use Rattle.cops_causal.proofs.Past.{traced_kept, traced_at_first, new_nodes}
+use Rattle.cops_causal.proofs.Provenance.{IsTraced}
+use Rattle.cops_causal.proofs.StreamMoves.{IsSessionCall, IsPutCall, IsGetCall, session_call, stage_now, stream_is, flowing_kept, flowing_at_first}
+use Rattle.cops_causal.proofs.StreamNodes.{held, IsStreamed}
+use Rattle.cops_causal.proofs.Streams.{IsFlowing, Delivered}
+use Rattle.cops_causal.proofs.TracedCalls.{next-above, home-there}
+use Rattle.cops_causal.proofs.TracedIdle.{session_of}
+
+-- the entry was issued at an equivalent node of the cluster, and its key is placed on the shard of the node
+pub record IsEquivalent (config : TenantConfig) (n : ℕ) (e : Entry) : Type 0 where
+  pub dc : ℕ
+  pub within : nat_lt dc config.data_centres ≡ true
+  pub issued_at : e.version.node ≡ dc * config.shards + n % config.shards
+  pub home : shard_of e.key config.shards ≡ n % config.shards
+
+abbrev pub AreEquivalent : TenantConfig → SoloCluster → List Traced → Type 0
+AreEquivalent config c ts = (n : ℕ) → AllByRecursion (IsEquivalent config n) (entries (node_of config c n))
+
+equivalent_called : (config : TenantConfig) (c after : SoloCluster) (id : NodeId) (call : NodeCall) (reply : NodeReply) → Called config c id call reply after → (ts : List Traced) → AreEquivalent config c ts →
+    ((e : Entry) → Stores (place_of config id) call (node_of config c (node_number config.shards id)) reply e → IsEquivalent config (node_number config.shards id) e) → AreEquivalent config after ts
+equivalent_called config c after id call reply called ts old new n =
+    elim (eqb_tells n (node_number config.shards id)) [
+      | inr other ↦ subst (λ solo. AllByRecursion (IsEquivalent config n) (entries solo)) (sym (called.others n other.1)) (old n)
+      | inl here ↦ subst (λ m. AllByRecursion (IsEquivalent config m) (entries (node_of config after m))) (sym here.1) (by_change called.change)
+    ]
+  where
+    number : ℕ
+    number = node_number config.shards id
+
+    by_change : Change (place_of config id) call (node_of config c number) reply (node_of config after number) → AllByRecursion (IsEquivalent config number) (entries (node_of config after number))
+    by_change (IsRefused same acked is) = subst (AllByRecursion (IsEquivalent config number)) (sym same) (old number)
+    by_change (Answers same acked is) = subst (AllByRecursion (IsEquivalent config number)) (sym same) (old number)
+    by_change (Joined e more acked is) = subst (AllByRecursion (IsEquivalent config number)) (sym more) (Every-append (IsEquivalent config number) (entries (node_of config c number)) (e ∷ []) (old number) (new e is, tt))
+    by_change (Taken same is) = subst (AllByRecursion (IsEquivalent config number)) (sym same) (old number)
+
+shard_is : (config : TenantConfig) (id : NodeId) → has_node config id.dc id.shard ≡ true → node_number config.shards id % config.shards ≡ id.shard
+shard_is config id there =
+    let e : nat_lt id.shard config.shards ≡ true = and_right (nat_lt id.dc config.data_centres) (nat_lt id.shard config.shards) there in
+    let below : id.shard < config.shards = grind (arith, nat_tests) in
+    mod-mul-add id.dc config.shards id.shard below
+
+-- of a node with this number, of the data centre and the shard of the id
+at_id : (config : TenantConfig) (id origin : NodeId) (e : Entry) → has_node config id.dc id.shard ≡ true → nat_lt origin.dc config.data_centres ≡ true → origin.shard ≡ id.shard → e.version.node ≡ node_number config.shards origin → shard_of e.key config.shards ≡ id.shard → IsEquivalent config (node_number config.shards id) e
+at_id config id origin e there within same is home =
+    record { dc = origin.dc; within = within; issued_at = is ∙ ap (λ s. origin.dc * config.shards + s) (same ∙ sym (shard_is config id there)); home = home ∙ sym (shard_is config id there) }
+
+abbrev Before : TenantConfig → SoloCluster → List Traced → Type 0
+Before config = Both (Both (IsTraced config) (IsFlowing config)) (AreEquivalent config)
+
+module _ (config : TenantConfig) (some : 0 < config.shards) (c : SoloCluster) (ts : List Traced) (inv : Before config c ts) where
+  by_session : (dc : ℕ) → nat_lt dc config.data_centres ≡ true → (moment : ℕ) (directed : Directed) → IsSessionCall config dc directed → AreEquivalent config (call_node config directed.node moment directed.call c).after ts
+  by_session dc placed moment directed (IsPutCall key value deps near is) =
+      let home = key_home config dc key in
+      let sent : Directed = record { node = home; call = node_call.Put key value deps near } in
+      let turn = call_node config home moment sent.call c in
+      let there = home-there config dc key some placed in
+      let solo = node_of config c (node_number config.shards home) in
+      subst (λ (d : Directed). AreEquivalent config (call_node config d.node moment d.call c).after ts) (sym is)
+      (equivalent_called config c turn.after home sent.call turn.reply (call_changes config c home moment sent.call there inv.0.0.sized) ts inv.1 (λ e stores.
+      at_id config home home e there placed refl
+      (ap (λ (f : Entry). f.version.node) stores.3 ∙ (next-above (clock config.first_clock solo.recs) (greatest_clock deps) (own_number (place_of config home)) stores.0 stores.2).1)
+      (ap (λ (f : Entry). shard_of f.key config.shards) stores.3)))
+  by_session dc placed moment directed (IsGetCall key wanted is) =
+      let home = key_home config dc key in
+      let sent : Directed = record { node = home; call = node_call.Get key wanted } in
+      let turn = call_node config home moment sent.call c in
+      subst (λ (d : Directed). AreEquivalent config (call_node config d.node moment d.call c).after ts) (sym is)
+      (equivalent_called config c turn.after home sent.call turn.reply (call_changes config c home moment sent.call (home-there config dc key some placed) inv.0.0.sized) ts inv.1 (λ e stores. absurd stores))
+
+  -- what the calls of a carrier leave, if what they store is equivalent
+  called_at : (moment : ℕ) (directed : Directed) → has_node config directed.node.dc directed.node.shard ≡ true →
+      ((reply : NodeReply) (e : Entry) → Stores (place_of config directed.node) directed.call (node_of config c (node_number config.shards directed.node)) reply e → IsEquivalent config (node_number config.shards directed.node) e) →
+      AreEquivalent config (call_node config directed.node moment directed.call c).after ts
+  called_at moment directed there new =
+      let turn = call_node config directed.node moment directed.call c in
+      equivalent_called config c turn.after directed.node directed.call turn.reply (call_changes config c directed.node moment directed.call there inv.0.0.sized) ts inv.1 (new turn.reply)
+
+  module _ (stream : Stream) (is : IsStream config stream) where
+    -- what is offered is placed on the shard of its origin
+    pub at_origin : (e : Entry) → IsOffered config c stream e → shard_of e.key config.shards ≡ stream.origin.shard
+    at_origin e offered =
+        let origin = origin_of config stream in
+        let among = (Among-filter (λ (g : Entry). g.version.node == origin) e (entries (node_of config c origin)) (slice_get-Among (of_origin origin (entries (node_of config c origin))) offered.place e offered.at)).0 in
+        (Every-at (IsEquivalent config origin) e (entries (node_of config c origin)) (inv.1 origin) among).home ∙ shard_is config stream.origin is.origin_is
+
+    abbrev WellAt : ℕ → Directed → Type 0
+    WellAt moment directed = AreEquivalent config (call_node config directed.node moment directed.call c).after ts
+
+    by_delivery : (moment : ℕ) (e : Entry) (directed : Directed) → IsOffered config c stream e → InDelivery (Delivered config c stream) config.shards stream e directed → WellAt moment directed
+    by_delivery moment e directed offered (Checking near at same) = subst (WellAt moment) (sym same) (called_at moment (check config.shards stream near) (home-there config stream.to_dc near.key some is.to_is) (λ reply f stores. absurd stores))
+    by_delivery moment e directed offered (Committing near same) =
+        let end : NodeId = record { dc = stream.to_dc; shard = stream.origin.shard } in
+        let there : has_node config stream.to_dc stream.origin.shard ≡ true = and_true (nat_lt stream.to_dc config.data_centres) (nat_lt stream.origin.shard config.shards) is.to_is (and_right (nat_lt stream.origin.dc config.data_centres) (nat_lt stream.origin.shard config.shards) is.origin_is) in
+        subst (WellAt moment) (sym same) (called_at moment (commit_call stream e) there (λ reply f stores.
+        at_id config end stream.origin f there (and_left (nat_lt stream.origin.dc config.data_centres) (nat_lt stream.origin.shard config.shards) is.origin_is) refl
+        (ap (λ (g : Entry). g.version.node) stores.1 ∙ of_origin-node (origin_of config stream) (entries (node_of config c (origin_of config stream))) offered.place e offered.at)
+        (ap (λ (g : Entry). shard_of g.key config.shards) stores.1 ∙ at_origin e offered)))
+    by_delivery moment e directed offered (Acking r brought kind same) = subst (WellAt moment) (sym same) (called_at moment (ack_call stream e) is.origin_is (λ reply f stores. absurd stores))
+
+    by_stage : (moment : ℕ) (directed : Directed) → Stage (Delivered config c stream) config.shards stream directed → WellAt moment directed
+    by_stage moment directed (Pulling same) = subst (WellAt moment) (sym same) (called_at moment (pull stream) is.origin_is (λ reply f stores. absurd stores))
+    by_stage moment directed (Delivering e offered now) = by_delivery moment e directed offered now
+
+  carried : (name : List ℕ) (next : Carrier) (shown : Progress) (after : SoloCluster) → AreEquivalent config after ts → AreEquivalent config (carrier_stepped name next shown after).after ts
+  carried name next carrier_progress.Working after each = each
+  carried name next (carrier_progress.Done ending) after each = each
+
+pub equivalent_kept : (config : TenantConfig) → 0 < config.shards → Leads config (Before config) (AreEquivalent config)
+equivalent_kept config some =
+    record {
+      opened = λ c ts name dc free exists inv. inv.1;
+      carrier_begun = λ c ts name stream free is inv. inv.1;
+      context_created = λ c ts name s found idle inv. inv.1;
+      context_deleted = λ c ts name s number found idle inv. inv.1;
+      put_begun = λ c ts name s number key value found ok is inv. inv.1;
+      get_begun = λ c ts name s number keys found ok are inv. inv.1;
+      called = λ c ts name s running moment directed found runs e inv.
+          let is = session_of config c ts inv.0.0 name s found in
+          by_session config some c ts inv s.dc is.placed moment directed (session_call config ts s running moment directed (is.running_is running runs) e);
+      late = λ c ts name s running moment found runs e inv. inv.1;
+      ended = λ c ts name s running moment a found runs e inv. inv.1;
+      carrier_called = λ c ts name k moment directed found e inv.
+          carried config some c ts inv name _ _ (call_node config directed.node moment directed.call c).after
+          (by_stage config some c ts inv k.stream (stream_is config some c ts inv.0.1 inv.0.0 name k found) moment directed (stage_now config some c ts inv.0.1 inv.0.0 name k found directed e));
+      collected = λ c ts id moment there inv. called_at config some c ts inv moment (record { node = id; call = node_call.Collect }) there (λ reply e stores. absurd stores);
+    }
+
+pub equivalent_at_first : (config : TenantConfig) → AreEquivalent config (new_cluster config) []
+equivalent_at_first config n = subst (λ solo. AllByRecursion (IsEquivalent config n) (entries solo)) (sym (new_nodes (config.data_centres * config.shards) n (new_node config.data_centres))) tt
+
+all_kept : (config : TenantConfig) → 0 < config.shards → (acts : List Act) → Before config (cluster_of config acts) (history_of config acts)
+all_kept config some acts = after_acts (kept_both (kept_both (traced_kept config some) (flowing_kept config some)) (equivalent_kept config some)) acts ((traced_at_first config, flowing_at_first config), equivalent_at_first config)
+
+-- ---- empty queues
+
+dropped : {A : Type 0} (k : ℕ) (xs : List A) → drop k xs ≡ [] → length xs ≤ k
+dropped zero [] e = omega arith
+dropped zero (x ∷ xs) e = cc
+dropped (suc k) [] e = omega arith
+dropped (suc k) (x ∷ xs) e = let later = dropped k xs e in omega arith
+
+-- a front as long as the whole is the whole
+whole_front : (front whole : List Entry) → IsFront front whole → length whole ≤ length front → (e : Entry) → Among e whole → Among e front
+whole_front front whole is long e at = subst (Among e) (is.whole_is ∙ ap (λ es. front ++ es) (nothing is.rest counted) ∙ append-nil front) at
+  where
+    counted : length is.rest ≤ 0
+    counted = let sum = ap length is.whole_is ∙ length-append front is.rest in omega arith
+
+    nothing : (es : List Entry) → length es ≤ 0 → es ≡ []
+    nothing [] e = refl
+    nothing (x ∷ es) e = absurd (omega arith)
+
+module _ (config : TenantConfig) (some : 0 < config.shards) (acts : List Act) (idle : HasEmptyQueues config acts) (shard : ℕ) (in_shards : shard < config.shards) where
+  abbrev c : SoloCluster
+  c = cluster_of config acts
+
+  abbrev number : ℕ → ℕ
+  number dc = dc * config.shards + shard
+
+  all_here : Before config c (history_of config acts)
+  all_here = all_kept config some acts
+
+  shard-of : (dc : ℕ) → number dc % config.shards ≡ shard
+  shard-of dc = mod-mul-add dc config.shards shard in_shards
+
+  -- what one node has, every equivalent one has
+  pub everywhere : (one other : ℕ) → other < config.data_centres → (e : Entry) → Among e (entries (node_of config c (number one))) → Among e (entries (node_of config c (number other)))
+  everywhere one other within e at =
+      (Among-filter (λ (f : Entry). f.version.node == e.version.node) e (entries (node_of config c (number other))) (by_dc (eqb_tells is.dc other))).0
+    where
+      streamed : IsStreamed config c
+      streamed = all_here.0.1.streamed
+
+      is : IsEquivalent config (number one) e
+      is = Every-at (IsEquivalent config (number one)) e (entries (node_of config c (number one))) (all_here.1 (number one)) at
+
+      origin-is : e.version.node ≡ number is.dc
+      origin-is = is.issued_at ∙ ap (λ s. is.dc * config.shards + s) (shard-of one)
+
+      at_origin : Among e (held config c e.version.node e.version.node)
+      at_origin =
+          let front = streamed.fronts (number one) e.version.node in
+          subst (Among e) (sym front.whole_is) (Among-left e (held config c (number one) e.version.node) front.rest (in_held (node_of config c (number one)) e at))
+
+      there : is.dc ≢ other → Among e (held config c (number other) (number is.dc))
+      there apart =
+          let m = number is.dc in
+          let in_dcs : is.dc < config.data_centres = (let w : nat_lt is.dc config.data_centres ≡ true = is.within in grind (arith, nat_tests)) in
+          let issued_all = dropped (slice_index (node_of config c m).acked other) (held config c m m) (idle is.dc shard in_dcs in_shards other within (λ same. apart (sym same))) in
+          let acked : slice_index (node_of config c m).acked other ≤ length (held config c (number other) m) =
+          subst (λ s. slice_index (node_of config c m).acked other ≤ length (held config c (other * config.shards + s) m)) (shard-of is.dc) (streamed.acked_held m other) in
+          whole_front (held config c (number other) m) (held config c m m) (streamed.fronts (number other) m) (omega arith) e (subst (λ k. Among e (held config c k k)) origin-is at_origin)
+
+      by_dc : ((is.dc == other) ≡ true) × (is.dc ≡ other) ⊎ ((is.dc == other) ≡ false) × (is.dc ≢ other) → Among e (held config c (number other) e.version.node)
+      by_dc (inl same) = subst (λ k. Among e (held config c k e.version.node)) (origin-is ∙ ap number same.1) at_origin
+      by_dc (inr apart) = subst (λ k. Among e (held config c (number other) k)) (sym origin-is) (there apart.1)
+
+pub is_settled : (config : TenantConfig) → 0 < config.shards → (acts : List Act) → IsSettled config acts
+is_settled config some acts idle one other shard in_one in_other in_shards key =
+    let first = node_at config acts one shard in
+    let second = node_at config acts other shard in
+    same_latest key first second (orderly config some acts (one * config.shards + shard)) (orderly config some acts (other * config.shards + shard))
+    (λ e at. let is = in_entries key first e at in of_entries key second e (everywhere config some acts idle shard in_shards one other in_other e is.0) is.1)
+    (λ e at. let is = in_entries key second e at in of_entries key first e (everywhere config some acts idle shard in_shards other one in_one e is.0) is.1)

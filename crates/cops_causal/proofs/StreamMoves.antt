@@ -1,0 +1,311 @@
+-- The moves of sessions and carriers keep the streams.
+use Rattle.std.proofs.Common.{◌≡◌, ℕ, ◌+◌, ◌*◌, ◌<◌, ◌≤◌, ◌%◌, Bool, true, false, List, [], ◌∷◌, ◌++◌, length, ◌⊎◌, inl, inr, refl, sym, ◌∙◌, ap, subst, arith, length-append, replicate, append-nil}
+use Rattle.std.specs.Prelude.{Option, Some, None, slice_index, nat_lt}
+use Rattle.std.proofs.lemmas.List.{get_or-replicate, length-replicate, get_or_past}
+use Rattle.cops_types.specs.declared.pairs.Pair.{Pair}
+use Rattle.cops_types.specs.declared.records.EntryParts.{EntryParts as Entry}
+use Rattle.cops_types.specs.Context.{all_of, near_of}
+use Rattle.cops_types.specs.TenantConfig.{TenantConfig}
+use Rattle.cops_types.specs.Version.{no_version}
+use Rattle.cops_node.specs.declared.NodeCall.{NodeCall}
+use Rattle.cops_node.specs.declared.NodeCall.TheVariants as node_call
+use Rattle.cops_node.specs.declared.NodeId.{NodeId}
+use Rattle.cops_node.specs.declared.NodeReply.{NodeReply}
+use Rattle.cops_node.specs.declared.NodeReply.TheVariants.{Checked, Committed, Already}
+use Rattle.cops_node.specs.Log.{LogStep, Replied, Directed, Call}
+use Rattle.cops_node.specs.Place.{node_number, place_of}
+use Rattle.cops_node.specs.SoloNode.{SoloNode, queue}
+use Rattle.cops_node.specs.Step.{was_committed, reply_pull}
+use Rattle.cops_repl.specs.declared.Progress.{Progress}
+use Rattle.cops_repl.specs.declared.Progress.TheVariants as carrier_progress
+use Rattle.cops_repl.specs.Carrier.{Carrier, Stream, ack_call, carrier_after, check, commit_call, new_carrier, pair_of_entry, pull, stream_calls}
+use Rattle.cops_repl.specs.Carrier as carrier
+use Rattle.cops_session.specs.Request.{Action, Fetch, Write, key_home, next}
+use Rattle.cops_session.specs.Session.{Session, Running, obs_of, request_of}
+use Rattle.cops_model.specs.Causal.{Traced}
+use Rattle.cops_model.specs.Cluster.{SoloCluster, Actor, OfSession, OfCarrier, find_actor, with_actor, with_new_actor, without_actor, has_node, call_node, carrier_stepped}
+use Rattle.cops_causal.proofs.ActorsKeep.{actor_found, each-with_actor, each-with_new, each-without}
+use Rattle.cops_repl.proofs.CarrierCalls.{carrier-next}
+use Rattle.cops_repl.proofs.CarrierStages.{Stage, Pulling, Delivering, InDelivery, Checking, Committing, Acking, stage, carrier-stepped}
+use Rattle.cops_node.proofs.Chains.{of_origin, IsChain, front-same, IsFront}
+use Rattle.cops_types.proofs.Elements.{and_true, and_right}
+use Rattle.cops_causal.proofs.Moves.{IsStream, Leads, Both, kept_both}
+use Rattle.cops_node.proofs.NodeTurns.{entries, Change, IsRefused, Answers, Joined, Taken, Stores, Takes}
+use Rattle.cops_causal.proofs.NodeEffects.{node_of, Called, call_changes, entries_grow}
+use Rattle.cops_causal.proofs.Offers.{of_origin-node, IsOffered, IsArrived, origin_of, end_of, pulled-offered, committed-arrived, offered-joins, arrived-taken}
+use Rattle.cops_causal.proofs.Provenance.{IsTraced, IsActor, IsRunning}
+use Rattle.cops_session.proofs.RequestReplies.{put-next, get-next}
+use Rattle.cops_causal.proofs.StreamNodes.{held, MayJoin, streamed_called, held-here}
+use Rattle.cops_causal.proofs.TracedCalls.{home-there}
+use Rattle.cops_causal.proofs.TracedIdle.{session_of}
+use Rattle.cops_node.specs.declared.Wanted.{Wanted}
+use Rattle.cops_node.specs.SoloNode.{new_node}
+use Rattle.cops_model.specs.declared.acts.Act.{Act}
+use Rattle.cops_model.specs.Cluster.{new_cluster}
+use Rattle.cops_model.specs.Laws.{cluster_of, history_of}
+use Rattle.cops_causal.proofs.AfterActs.{after_acts}
+use Rattle.cops_causal.proofs.Past.{traced_kept, traced_at_first, new_nodes}
+use Rattle.cops_causal.proofs.Streams.{DeliveredBy, Delivered, OnStream, IsFlowing, committed-grown, offered-grown, arrived-grown, still_at, carriers_called, carriers_same, put-joins, on_stream-grown}
+use Rattle.std.proofs.lemmas.Bool.Decides.{leb_tells}
+use Rattle.cops_node.specs.Queues.{front}
+
+-- ---- the calls of sessions
+
+pub data IsSessionCall (config : TenantConfig) (dc : ℕ) (directed : Directed) : Type 0 where
+  IsPutCall : (key value : List ℕ) (deps near : List Pair) → directed ≡ record { node = key_home config dc key; call = node_call.Put key value deps near } → IsSessionCall config dc directed
+  IsGetCall : (key : List ℕ) (wanted : Wanted) → directed ≡ record { node = key_home config dc key; call = node_call.Get key wanted } → IsSessionCall config dc directed
+
+abbrev run : ℕ → ℕ → Action → List LogStep → Running
+run number context action log = record { number = number; context = context; action = action; log = log }
+
+called_by : (config : TenantConfig) (ts : List Traced) (s : Session) (number context : ℕ) (action : Action) (log : List LogStep) (moment : ℕ) (directed : Directed) → IsRunning config ts s (run number context action log) →
+    next config (request_of s (run number context action log)) log moment ≡ Call directed → IsSessionCall config s.dc directed
+called_by config ts s number context (Write key value) log moment directed is e =
+    let sent : Directed = record { node = key_home config s.dc key; call = node_call.Put key value (all_of (obs_of context s)) (near_of (obs_of context s)) } in
+    let at_start = subst (λ l. next config (request_of s (run number context (Write key value) l)) l moment ≡ Call directed) is.replies_are e in
+    let same : sent ≡ directed = (let both : Call sent ≡ Call directed = sym (put-next config s.dc (obs_of context s) key value moment) ∙ at_start in cc) in
+    IsPutCall key value (all_of (obs_of context s)) (near_of (obs_of context s)) (sym same)
+called_by config ts s number context (Fetch keys) log moment directed is e =
+    let chosen = get-next config s.dc (obs_of context s) keys log moment directed e in
+    IsGetCall chosen.asked.key chosen.asked.wanted chosen.call
+
+pub session_call : (config : TenantConfig) (ts : List Traced) (s : Session) (running : Running) (moment : ℕ) (directed : Directed) → IsRunning config ts s running →
+    next config (request_of s running) running.log moment ≡ Call directed → IsSessionCall config s.dc directed
+session_call config ts s running moment directed is e = called_by config ts s running.number running.context running.action running.log moment directed is e
+
+-- ---- the moves
+
+module _ (config : TenantConfig) (some : 0 < config.shards) (c : SoloCluster) (ts : List Traced) (inv : IsFlowing config c ts) where
+  pub flowing-session : (name : List ℕ) (s : Session) (us : List Traced) → IsFlowing config (with_actor name (OfSession s) c) us
+  flowing-session name s us =
+      record {
+        streamed = record { chained = inv.streamed.chained; fronts = inv.streamed.fronts; acked_held = inv.streamed.acked_held };
+        carriers = (let after = with_actor name (OfSession s) c in each-with_actor (OnStream config after) (OnStream config after) c name (OfSession s) tt (λ other a apart p. p) (carriers_same config c after.actors inv.carriers));
+      }
+
+  pub flowing-new : (name : List ℕ) (a : Actor) → OnStream config (with_new_actor name a c) name a → IsFlowing config (with_new_actor name a c) ts
+  flowing-new name a is =
+      record {
+        streamed = record { chained = inv.streamed.chained; fronts = inv.streamed.fronts; acked_held = inv.streamed.acked_held };
+        carriers = (let after = with_new_actor name a c in each-with_new (OnStream config after) c name a is (carriers_same config c after.actors inv.carriers));
+      }
+
+  -- a call that stores nothing and takes nothing
+  pub flowing-called : (after : SoloCluster) (id : NodeId) (call : NodeCall) (reply : NodeReply) → Called config c id call reply after →
+      ((e : Entry) → Stores (place_of config id) call (node_of config c (node_number config.shards id)) reply e → MayJoin config c (node_number config.shards id) e) →
+      ((acked : List ℕ) → Takes (place_of config id) call (node_of config c (node_number config.shards id)) reply acked → (dc : ℕ) → slice_index acked dc ≤ length (held config c (dc * config.shards + node_number config.shards id % config.shards) (node_number config.shards id))) →
+      IsFlowing config after ts
+  flowing-called after id call reply called joins takes = record { streamed = streamed_called called inv.streamed joins takes; carriers = carriers_called called inv.carriers }
+
+  pub flowing-session_called : IsTraced config c ts → (dc : ℕ) → nat_lt dc config.data_centres ≡ true → (moment : ℕ) (directed : Directed) → IsSessionCall config dc directed → IsFlowing config (call_node config directed.node moment directed.call c).after ts
+  flowing-session_called traced dc placed moment directed (IsPutCall key value deps near is) =
+      let sent : Directed = record { node = key_home config dc key; call = node_call.Put key value deps near } in
+      let after = call_node config sent.node moment sent.call c in
+      subst (λ (d : Directed). IsFlowing config (call_node config d.node moment d.call c).after ts) (sym is)
+      (flowing-called after.after sent.node sent.call after.reply (call_changes config c sent.node moment sent.call (home-there config dc key some placed) traced.sized)
+      (λ e stores. put-joins config c inv.streamed sent.node key value deps near after.reply e stores) (λ acked takes. absurd takes))
+  flowing-session_called traced dc placed moment directed (IsGetCall key wanted is) =
+      let sent : Directed = record { node = key_home config dc key; call = node_call.Get key wanted } in
+      let after = call_node config sent.node moment sent.call c in
+      subst (λ (d : Directed). IsFlowing config (call_node config d.node moment d.call c).after ts) (sym is)
+      (flowing-called after.after sent.node sent.call after.reply (call_changes config c sent.node moment sent.call (home-there config dc key some placed) traced.sized)
+      (λ e stores. absurd stores) (λ acked takes. absurd takes))
+
+  -- ---- the calls of a carrier
+
+  module _ (traced : IsTraced config c ts) (name : List ℕ) (k : Carrier) (found : find_actor name c ≡ Some (OfCarrier k)) where
+    abbrev pub stream_is : IsStream config k.stream
+    stream_is = (actor_found (IsActor config ts) c name (OfCarrier k) traced.actors_are found).stream_is
+
+    abbrev replies_are : OnStream config c name (OfCarrier k)
+    replies_are = actor_found (OnStream config c) c name (OfCarrier k) inv.carriers found
+
+    -- what a call of the carrier is to show
+    record Brings (moment : ℕ) (directed : Directed) : Type 0 where
+      pub flows : IsFlowing config (call_node config directed.node moment directed.call c).after ts
+      pub delivers : Delivered config (call_node config directed.node moment directed.call c).after k.stream directed (call_node config directed.node moment directed.call c).reply
+
+    abbrev CalledAt : NodeId → NodeCall → NodeReply → SoloCluster → Type 0
+    CalledAt id call reply after = Called config c id call reply after
+
+    -- by the change at the node
+    pull_delivers : (reply : NodeReply) (after : SoloCluster) → CalledAt k.stream.origin (node_call.Pull k.stream.to_dc) reply after → Delivered config after k.stream (pull k.stream) reply
+    pull_delivers reply after called = by_change called.change
+      where
+        number : ℕ
+        number = node_number config.shards k.stream.origin
+
+        by_front : (o : Option Entry) → front (queue (place_of config k.stream.origin) k.stream.to_dc (node_of config c number)) ≡ o → DeliveredBy config after k.stream (node_call.Pull k.stream.to_dc) (reply_pull o)
+        by_front (Some e) is = offered-grown config c after (entries_grow called) k.stream e (pulled-offered config c inv.streamed k.stream stream_is e is)
+        by_front None is = tt
+
+        by_change : Change (place_of config k.stream.origin) (node_call.Pull k.stream.to_dc) (node_of config c number) reply (node_of config after number) → DeliveredBy config after k.stream (node_call.Pull k.stream.to_dc) reply
+        by_change (IsRefused same acked is) = subst (DeliveredBy config after k.stream (node_call.Pull k.stream.to_dc)) (sym is.1) tt
+        by_change (Answers same acked is) = subst (DeliveredBy config after k.stream (node_call.Pull k.stream.to_dc)) (sym is) (by_front (front (queue (place_of config k.stream.origin) k.stream.to_dc (node_of config c number))) refl)
+        by_change (Joined e more acked is) = absurd is
+        by_change (Taken same is) = absurd is
+
+    check_delivers : (near : Pair) (reply : NodeReply) (after : SoloCluster) → CalledAt (check config.shards k.stream near).node (node_call.DepCheck near.key near.version) reply after →
+        Delivered config after k.stream (check config.shards k.stream near) reply
+    check_delivers near reply after called = by_change called.change
+      where
+        number : ℕ
+        number = node_number config.shards (check config.shards k.stream near).node
+
+        by_was : (b : Bool) → was_committed near.version (node_of config c number) ≡ b → DeliveredBy config after k.stream (node_call.DepCheck near.key near.version) (Checked b)
+        by_was true is = committed-grown config c after (entries_grow called) number near.version is
+        by_was false is = tt
+
+        by_change : Change (place_of config (check config.shards k.stream near).node) (node_call.DepCheck near.key near.version) (node_of config c number) reply (node_of config after number) → DeliveredBy config after k.stream (node_call.DepCheck near.key near.version) reply
+        by_change (IsRefused same acked is) = subst (DeliveredBy config after k.stream (node_call.DepCheck near.key near.version)) (sym is.1) tt
+        by_change (Answers same acked is) = subst (DeliveredBy config after k.stream (node_call.DepCheck near.key near.version)) (sym is) (by_was (was_committed near.version (node_of config c number)) refl)
+        by_change (Joined e more acked is) = absurd is
+        by_change (Taken same is) = absurd is
+
+    commit_delivers : (e : Entry) → IsOffered config c k.stream e → (reply : NodeReply) (after : SoloCluster) → CalledAt (commit_call k.stream e).node (node_call.Commit e) reply after → Delivered config after k.stream (commit_call k.stream e) reply
+    commit_delivers e offered reply after called = by_change called.change
+      where
+        number : ℕ
+        number = end_of config k.stream
+
+        origin : ℕ
+        origin = origin_of config k.stream
+
+        joined : (f : Entry) → entries (node_of config after number) ≡ entries (node_of config c number) ++ f ∷ [] → f ≡ e → was_committed e.version (node_of config c number) ≡ false → IsArrived config after k.stream e
+        joined f more same new =
+            let last : offered.place ≡ length (held config c number origin) = (offered-joins config c inv.streamed k.stream stream_is e offered new).1 offered in
+            let here = subst (λ g. held config after number g.version.node ≡ held config c number g.version.node ++ g ∷ []) same (held-here config c after number called.others inv.streamed f more) in
+            let there : held config after number origin ≡ held config c number origin ++ e ∷ [] =
+            subst (λ m. held config after number m ≡ held config c number m ++ e ∷ []) (of_origin-node origin (entries (node_of config c origin)) offered.place e offered.at) here in
+            let counted = ap length there ∙ length-append (held config c number origin) (e ∷ []) in
+            record { place = offered.place; at = still_at config c after (entries_grow called) origin origin offered.place e offered.at; within = (let l = last in omega arith) }
+
+        by_change : Change (place_of config (commit_call k.stream e).node) (node_call.Commit e) (node_of config c number) reply (node_of config after number) → DeliveredBy config after k.stream (node_call.Commit e) reply
+        by_change (IsRefused same acked is) = subst (DeliveredBy config after k.stream (node_call.Commit e)) (sym is.1) tt
+        by_change (Answers same acked (inl is)) = subst (DeliveredBy config after k.stream (node_call.Commit e)) (sym is.0) (arrived-grown config c after (entries_grow called) k.stream e (committed-arrived config c inv.streamed k.stream stream_is e offered is.1))
+        by_change (Answers same acked (inr is)) = subst (DeliveredBy config after k.stream (node_call.Commit e)) (sym is.0) tt
+        by_change (Joined f more acked is) = subst (DeliveredBy config after k.stream (node_call.Commit e)) (sym is.0) (joined f more is.1 is.2)
+        by_change (Taken same is) = absurd is
+
+    ack_delivers : (e : Entry) (reply : NodeReply) (after : SoloCluster) → Delivered config after k.stream (ack_call k.stream e) reply
+    ack_delivers e reply after = tt
+
+    arrived_by : (e : Entry) (r : NodeReply) → DeliveredBy config c k.stream (node_call.Commit e) r → (r ≡ Committed) ⊎ (r ≡ Already) → IsArrived config c k.stream e
+    arrived_by e r is (inl same) = subst (DeliveredBy config c k.stream (node_call.Commit e)) same is
+    arrived_by e r is (inr same) = subst (DeliveredBy config c k.stream (node_call.Commit e)) same is
+
+    destination-there : has_node config k.stream.to_dc k.stream.origin.shard ≡ true
+    destination-there = and_true (nat_lt k.stream.to_dc config.data_centres) (nat_lt k.stream.origin.shard config.shards) stream_is.to_is (and_right (nat_lt k.stream.origin.dc config.data_centres) (nat_lt k.stream.origin.shard config.shards) stream_is.origin_is)
+
+    pulls : (moment : ℕ) → Brings moment (pull k.stream)
+    pulls moment =
+        let turn = call_node config k.stream.origin moment (node_call.Pull k.stream.to_dc) c in
+        let called = call_changes config c k.stream.origin moment (node_call.Pull k.stream.to_dc) stream_is.origin_is traced.sized in
+        record { flows = flowing-called turn.after k.stream.origin (node_call.Pull k.stream.to_dc) turn.reply called (λ e stores. absurd stores) (λ acked takes. absurd takes); delivers = pull_delivers turn.reply turn.after called }
+
+    delivers_by : (moment : ℕ) (e : Entry) (directed : Directed) → IsOffered config c k.stream e → InDelivery (Delivered config c k.stream) config.shards k.stream e directed → Brings moment directed
+    delivers_by moment e directed offered (Checking near at is) =
+        let sent = check config.shards k.stream near in
+        let turn = call_node config sent.node moment sent.call c in
+        let called = call_changes config c sent.node moment sent.call (home-there config k.stream.to_dc near.key some stream_is.to_is) traced.sized in
+        subst (Brings moment) (sym is) (record { flows = flowing-called turn.after sent.node sent.call turn.reply called (λ f stores. absurd stores) (λ acked takes. absurd takes); delivers = check_delivers near turn.reply turn.after called })
+    delivers_by moment e directed offered (Committing near is) =
+        let sent = commit_call k.stream e in
+        let turn = call_node config sent.node moment sent.call c in
+        let called = call_changes config c sent.node moment sent.call destination-there traced.sized in
+        subst (Brings moment) (sym is) (record {
+          flows = flowing-called turn.after sent.node sent.call turn.reply called (λ f stores. subst (MayJoin config c (end_of config k.stream)) (sym stores.1) (offered-joins config c inv.streamed k.stream stream_is e offered stores.2).0) (λ acked takes. absurd takes);
+          delivers = commit_delivers e offered turn.reply turn.after called;
+        })
+    delivers_by moment e directed offered (Acking r brought kind is) =
+        let sent = ack_call k.stream e in
+        let turn = call_node config sent.node moment sent.call c in
+        let called = call_changes config c sent.node moment sent.call stream_is.origin_is traced.sized in
+        subst (Brings moment) (sym is) (record {
+          flows = flowing-called turn.after sent.node sent.call turn.reply called (λ f stores. absurd stores) (λ acked takes dc. arrived-taken config c inv.streamed k.stream stream_is e (arrived_by e r brought kind) turn.reply acked takes dc);
+          delivers = tt;
+        })
+
+    brings_by : (moment : ℕ) (directed : Directed) → Stage (Delivered config c k.stream) config.shards k.stream directed → Brings moment directed
+    brings_by moment directed (Pulling is) = subst (Brings moment) (sym is) (pulls moment)
+    brings_by moment directed (Delivering e offered is) = delivers_by moment e directed offered is
+
+    pub stage_now : (directed : Directed) → carrier.carrier_next config.shards k.stream k.log ≡ Call directed → Stage (Delivered config c k.stream) config.shards k.stream directed
+    stage_now directed e = stage (Delivered config c k.stream) config.shards k.stream k.log directed (carrier-next config.shards k.stream k.log directed e) replies_are
+
+    -- after the call the carrier has one more reply, or is gone
+    flowing-stepped : (after : SoloCluster) → IsFlowing config after ts → (next : Carrier) → OnStream config after name (OfCarrier next) → (shown : Progress) → IsFlowing config (carrier_stepped name next shown after).after ts
+    flowing-stepped after flows next is carrier_progress.Working =
+        record {
+          streamed = record { chained = flows.streamed.chained; fronts = flows.streamed.fronts; acked_held = flows.streamed.acked_held };
+          carriers = (
+              let last = with_actor name (OfCarrier next) after in
+              each-with_actor (OnStream config last) (OnStream config last) after name (OfCarrier next) (on_stream-grown config after last (λ n. ([], sym (append-nil (entries (node_of config after n))))) name (OfCarrier next) is)
+              (λ other a apart p. p) (carriers_same config after last.actors flows.carriers));
+        }
+    flowing-stepped after flows next is (carrier_progress.Done ending) =
+        record {
+          streamed = record { chained = flows.streamed.chained; fronts = flows.streamed.fronts; acked_held = flows.streamed.acked_held };
+          carriers = (let last = without_actor name after in each-without (OnStream config last) after name (carriers_same config after last.actors flows.carriers));
+        }
+
+    pub flowing-carrier_called : (moment : ℕ) (directed : Directed) → carrier.carrier_next config.shards k.stream k.log ≡ Call directed →
+        let call = call_node config directed.node moment directed.call c in
+        let step : LogStep = record { moment = moment; outcome = Replied call.reply } in
+        IsFlowing config (carrier_stepped name (carrier_after k step) (carrier.delivery_progress config.shards k step) call.after).after ts
+    flowing-carrier_called moment directed e =
+        let brought = brings_by moment directed (stage_now directed e) in
+        let call = call_node config directed.node moment directed.call c in
+        let step : LogStep = record { moment = moment; outcome = Replied call.reply } in
+        let old : OnStream config call.after name (OfCarrier k) = actor_found (OnStream config call.after) call.after name (OfCarrier k) brought.flows.carriers found in
+        flowing-stepped call.after brought.flows (carrier_after k step)
+        (carrier-stepped (Delivered config call.after k.stream) config.shards k.stream k.log moment directed call.reply old (carrier-next config.shards k.stream k.log directed e) brought.delivers)
+        (carrier.delivery_progress config.shards k step)
+
+pub flowing_kept : (config : TenantConfig) → 0 < config.shards → Leads config (Both (IsTraced config) (IsFlowing config)) (IsFlowing config)
+flowing_kept config some =
+    record {
+      opened = λ c ts name dc free exists inv. flowing-new config some c ts inv.1 name (OfSession _) tt;
+      carrier_begun = λ c ts name stream free is inv. flowing-new config some c ts inv.1 name (OfCarrier (new_carrier stream)) tt;
+      context_created = λ c ts name s found idle inv. flowing-session config some c ts inv.1 name _ ts;
+      context_deleted = λ c ts name s number found idle inv. flowing-session config some c ts inv.1 name _ ts;
+      put_begun = λ c ts name s number key value found ok is inv. flowing-session config some c ts inv.1 name _ ts;
+      get_begun = λ c ts name s number keys found ok are inv. flowing-session config some c ts inv.1 name _ ts;
+      called = λ c ts name s running moment directed found runs e inv.
+          let is = session_of config c ts inv.0 name s found in
+          let call = call_node config directed.node moment directed.call c in
+          flowing-session config some call.after ts (flowing-session_called config some c ts inv.1 inv.0 s.dc is.placed moment directed (session_call config ts s running moment directed (is.running_is running runs) e)) name _ _;
+      late = λ c ts name s running moment found runs e inv. flowing-session config some c ts inv.1 name _ _;
+      ended = λ c ts name s running moment a found runs e inv. record { streamed = inv.1.streamed; carriers = inv.1.carriers };
+      carrier_called = λ c ts name k moment directed found e inv. flowing-carrier_called config some c ts inv.1 inv.0 name k found moment directed e;
+      collected = λ c ts id moment there inv.
+          let call = call_node config id moment node_call.Collect c in
+          flowing-called config some c ts inv.1 call.after id node_call.Collect call.reply (call_changes config c id moment node_call.Collect there inv.0.sized) (λ e stores. absurd stores) (λ acked takes. absurd takes);
+    }
+
+no_entries : (config : TenantConfig) (n m : ℕ) → held config (new_cluster config) n m ≡ []
+no_entries config n m = ap (λ solo. of_origin m (entries solo)) (new_nodes (config.data_centres * config.shards) n (new_node config.data_centres))
+
+none_acked : (config : TenantConfig) (n dc : ℕ) → slice_index (node_of config (new_cluster config) n).acked dc ≡ 0
+none_acked config n dc = ap (λ (solo : SoloNode). slice_index solo.acked dc) (new_nodes (config.data_centres * config.shards) n (new_node config.data_centres)) ∙ zeros config.data_centres
+  where
+    zeros : (k : ℕ) → slice_index (replicate k 0) dc ≡ 0
+    zeros k = elim (leb_tells k dc) [
+      | inl past ↦ get_or_past (replicate k 0) dc 0 (let counted = length-replicate {A = ℕ} k 0 in omega (arith, past.1, counted))
+      | inr within ↦ get_or-replicate k dc 0 0 within.1
+    ]
+
+pub flowing_at_first : (config : TenantConfig) → IsFlowing config (new_cluster config) []
+flowing_at_first config =
+    record {
+      streamed = record {
+        chained = λ n. subst (IsChain no_version) (sym (no_entries config n n)) tt;
+        fronts = λ n m. subst (IsFront (held config (new_cluster config) n m)) (no_entries config n m ∙ sym (no_entries config m m)) (front-same (held config (new_cluster config) n m));
+        acked_held = λ n dc. (let none = none_acked config n dc in omega arith);
+      };
+      carriers = tt;
+    }
+
+-- after every list of acts all is traced, and the streams flow
+pub flowing : (config : TenantConfig) → 0 < config.shards → (acts : List Act) → Both (IsTraced config) (IsFlowing config) (cluster_of config acts) (history_of config acts)
+flowing config some acts = after_acts (kept_both (traced_kept config some) (flowing_kept config some)) acts (traced_at_first config, flowing_at_first config)

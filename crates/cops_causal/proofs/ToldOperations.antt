@@ -1,0 +1,199 @@
+-- The operations of a run are just those that the tenant was told the end of.
+use Rattle.std.proofs.Common.{◌≡◌, ℕ, Bool, true, false, List, [], ◌∷◌, map, refl, sym, ◌∙◌, ap, subst}
+use Rattle.std.specs.Prelude.{Option, Some, None, filter_map, max, zero, suc, not, nat_lt, length}
+use Rattle.std.specs.List.{cons_option, list_all}
+use Rattle.std.specs.Option.{option_map, option_and_then}
+use Rattle.cops_types.specs.declared.faults.Fault.{Fault}
+use Rattle.cops_types.specs.declared.faults.Fault.TheVariants.{Syntax, BadKey, ValueTooLong, NoSuchPlace}
+use Rattle.cops_types.specs.Context.{all_of, near_of}
+use Rattle.cops_types.specs.Key.{is_key}
+use Rattle.cops_types.specs.Search.{first_refusal}
+use Rattle.cops_types.specs.TenantConfig.{TenantConfig}
+use Rattle.cops_types.specs.Value.{is_value}
+use Rattle.cops_node.specs.declared.NodeCall.TheVariants as node_call
+use Rattle.cops_node.specs.declared.NodeId.{NodeId}
+use Rattle.cops_node.specs.Log.{LogStep, Replied, Next, Call, Restart, Ended}
+use Rattle.cops_session.specs.Request.{Write, Fetch}
+use Rattle.cops_session.specs.Session.{Running, Session, context_created, context_deleted, context_refusal, create_refusal, get_refusal, new_session, obs_of, request_begun, session_put_refusal}
+use Rattle.cops_repl.specs.declared.Delivery.{Delivery}
+use Rattle.cops_repl.specs.declared.Delivery.TheVariants as delivery
+use Rattle.cops_repl.specs.declared.Progress.{Progress as CarrierProgress}
+use Rattle.cops_repl.specs.declared.Progress.TheVariants as carrier_progress
+use Rattle.cops_repl.specs.Carrier.{Carrier, Stream, new_carrier, carrier_after}
+use Rattle.cops_repl.specs.Carrier as carrier
+use Rattle.cops_model.specs.declared.acts.Act.{Act}
+use Rattle.cops_model.specs.declared.acts.Act.TheVariants.{Open, Create, Delete, Put, Get, Show, Carry, Step, Done, Collect}
+use Rattle.cops_model.specs.declared.replies.Reply.{Reply}
+use Rattle.cops_model.specs.declared.replies.Reply.TheVariants.{Opened, Created, Deleted, Started, Lists}
+use Rattle.cops_model.specs.Causal.{Operation, Effect, effect_of, operation_by, operation_ended, operations_from, stepped_actor}
+use Rattle.cops_model.specs.Cluster.{ActEffect, Actor, OfCarrier, OfSession, SoloCluster, actor_refusal, actor_step, actor_steps, call_node, carrier_does, carrier_stepped, cluster_step, collect_at, find_actor, find_session, goes_on, has_node, has_stream, most_steps, on_found, on_session, reply_of_delivery, reply_with, running_step, session_in, step_of, unless_refused, with_actor, with_new_actor}
+use Rattle.cops_model.specs.Events.{replies_from}
+use Rattle.cops_model.specs.Laws.{HasToldOperations}
+use Rattle.cops_model.specs.Cluster.{new_cluster}
+use Rattle.cops_causal.proofs.AfterActs.{actor_step_context, context_run, operation_by-context}
+use Rattle.cops_causal.proofs.Moves.{plain_collect}
+
+-- ---- who is told that an operation ended runs a request
+
+-- where the reply is the end of an operation, the session of this name runs a request
+abbrev pub Runs : SoloCluster → List ℕ → Reply → Type 0
+Runs c name reply = (effect : Effect) → effect_of reply ≡ Some effect → (n : ℕ) × (context_run name c ≡ Some n)
+
+no_end : (c : SoloCluster) (name : List ℕ) (reply : Reply) → effect_of reply ≡ None → Runs c name reply
+no_end c name reply plain effect e = absurd (let clash : None ≡ Some effect = sym plain ∙ e in let no : ⊥ = cc in no)
+
+plain_delivery : (d : Delivery) → effect_of (reply_of_delivery d) ≡ None
+plain_delivery delivery.Nothing = refl
+plain_delivery (delivery.Waits pair) = refl
+plain_delivery (delivery.Carried pair fresh acked) = refl
+plain_delivery (delivery.OutOfOrder mark) = refl
+plain_delivery (delivery.Refused fault) = refl
+
+module _ (config : TenantConfig) (c : SoloCluster) (name : List ℕ) where
+  plain_carrier_stepped : (after : Carrier) (shown : CarrierProgress) (next : SoloCluster) → effect_of (carrier_stepped name after shown next).reply ≡ None
+  plain_carrier_stepped after carrier_progress.Working next = refl
+  plain_carrier_stepped after (carrier_progress.Done ending) next = plain_delivery ending
+
+  plain_carrier : (k : Carrier) (moment : ℕ) (next : Next Delivery) → effect_of (carrier_does config name k moment c next).reply ≡ None
+  plain_carrier k moment (Call directed) =
+      let call = call_node config directed.node moment directed.call c in
+      let step : LogStep = record { moment = moment; outcome = Replied call.reply } in
+      plain_carrier_stepped (carrier_after k step) (carrier.delivery_progress config.shards k step) call.after
+  plain_carrier k moment Restart = refl
+  plain_carrier k moment (Ended ending) = plain_delivery ending
+
+  running_runs : (s : Session) (moment : ℕ) (run : Option Running) → find_actor name c ≡ Some (OfSession s) → s.running ≡ run → Runs c name (running_step config name s moment c run).reply
+  running_runs s moment (Some running) found runs effect e = (
+    running.context,
+    ap (λ (a : Option Actor). option_map (λ (r : Running). r.context) (option_and_then (λ (s : Session). s.running) (option_and_then session_in a))) found
+        ∙ ap (option_map (λ (r : Running). r.context)) runs,
+  )
+  running_runs s moment None found runs effect e = no_end c name (running_step config name s moment c None).reply refl effect e
+
+  step_runs : (moment : ℕ) (found : Option Actor) → find_actor name c ≡ found → Runs c name (step_of config name moment c found).reply
+  step_runs moment (Some (OfSession s)) found = running_runs s moment s.running found refl
+  step_runs moment (Some (OfCarrier k)) found = no_end c name (step_of config name moment c (Some (OfCarrier k))).reply (plain_carrier k (max k.moment moment) (carrier.carrier_next config.shards k.stream k.log))
+  step_runs moment None found = no_end c name (step_of config name moment c None).reply refl
+
+  pub actor_step_runs : (moment : ℕ) → Runs c name (actor_step config name moment c).reply
+  actor_step_runs moment = step_runs moment (find_actor name c) refl
+
+pub actor_steps_run : (more : ℕ) (config : TenantConfig) (c : SoloCluster) (name : List ℕ) (moment : ℕ) → Runs c name (actor_steps more config name moment c).reply
+actor_steps_run zero config c name moment = actor_step_runs config c name moment
+actor_steps_run (suc more) config c name moment = by_goes (goes_on step.reply) refl (actor_steps_run more config step.after name moment)
+  where
+    step : ActEffect
+    step = actor_step config name moment c
+
+    turn_by : Bool → ActEffect
+    turn_by b = elim b [ true ↦ actor_steps more config name moment step.after | false ↦ step ]
+
+    by_goes : (b : Bool) → goes_on step.reply ≡ b → Runs step.after name (actor_steps more config name moment step.after).reply → Runs c name (turn_by b).reply
+    by_goes true goes later effect e =
+        let found = later effect e in
+        (found.0, sym (actor_step_context config c name moment goes) ∙ found.1)
+    by_goes false goes later effect e = actor_step_runs config c name moment effect e
+
+-- ---- the operation of each act
+
+-- the reply is the end of the operation that the act ended
+abbrev IsTold : SoloCluster → Act → Reply → Type 0
+IsTold c act reply = option_map (λ (o : Operation). o.effect) (operation_ended c act reply) ≡ effect_of reply
+
+plainly_told : (c : SoloCluster) (act : Act) (reply : Reply) → effect_of reply ≡ None → IsTold c act reply
+plainly_told c act reply plain =
+    subst (λ e. option_map (λ (o : Operation). o.effect) (option_and_then (λ effect. option_and_then (operation_by c effect) (stepped_actor act)) e) ≡ e) (sym plain) refl
+
+-- of an act that steps the actor of this name
+stepped_told : (c : SoloCluster) (act : Act) (name : List ℕ) (reply : Reply) → stepped_actor act ≡ Some name → Runs c name reply → IsTold c act reply
+stepped_told c act name reply steps runs = by_effect (effect_of reply) refl
+  where
+    by_effect : (found : Option Effect) → effect_of reply ≡ found →
+        option_map (λ (o : Operation). o.effect) (option_and_then (λ effect. option_and_then (operation_by c effect) (stepped_actor act)) found) ≡ found
+    by_effect None e = refl
+    by_effect (Some effect) e =
+        let found = runs effect e in
+        ap (λ n. option_map (λ (o : Operation). o.effect) (option_and_then (operation_by c effect) n)) steps
+        ∙ ap (option_map (λ (o : Operation). o.effect)) (operation_by-context c effect name)
+        ∙ ap (λ n. option_map (λ (o : Operation). o.effect) (option_map {U = Operation} (λ n. record { session = name; context = n; effect = effect }) n)) found.1
+
+plain_unless : (refusal : Option Fault) (c : SoloCluster) (turn : ActEffect) → effect_of turn.reply ≡ None → effect_of (unless_refused refusal c turn).reply ≡ None
+plain_unless None c turn plain = plain
+plain_unless (Some fault) c turn plain = refl
+
+plain_on : (found : Option Session) (c : SoloCluster) (act : Session → ActEffect) → ((s : Session) → effect_of (act s).reply ≡ None) → effect_of (on_found found c act).reply ≡ None
+plain_on None c act plain = refl
+plain_on (Some s) c act plain = plain s
+
+-- acts that step nobody
+module _ (config : TenantConfig) (c : SoloCluster) where
+  plain_create : (name : List ℕ) → effect_of (cluster_step config (Create name) c).reply ≡ None
+  plain_create name =
+      plain_on (find_session name c) c (λ s. unless_refused (create_refusal config s) c (reply_with (Created s.next_context) (with_actor name (OfSession (context_created s)) c)))
+      (λ s. plain_unless (create_refusal config s) c (reply_with (Created s.next_context) (with_actor name (OfSession (context_created s)) c)) refl)
+
+  plain_delete : (name : List ℕ) (number : ℕ) → effect_of (cluster_step config (Delete name number) c).reply ≡ None
+  plain_delete name number =
+      plain_on (find_session name c) c (λ s. unless_refused (context_refusal number s) c (reply_with Deleted (with_actor name (OfSession (context_deleted number s)) c)))
+      (λ s. plain_unless (context_refusal number s) c (reply_with Deleted (with_actor name (OfSession (context_deleted number s)) c)) refl)
+
+  plain_put : (name : List ℕ) (number : ℕ) (key value : List ℕ) → effect_of (cluster_step config (Put name number key value) c).reply ≡ None
+  plain_put name number key value =
+      let begins : Session → ActEffect = λ s. reply_with Started (with_actor name (OfSession (request_begun number (Write key value) s)) c) in
+      let asked : Session → ActEffect = λ s. unless_refused (session_put_refusal config number key s) c (begins s) in
+      plain_unless (first_refusal ((not (is_key key), BadKey) ∷ (not (is_value value), ValueTooLong) ∷ [])) c (on_session name c asked)
+      (plain_on (find_session name c) c asked (λ s. plain_unless (session_put_refusal config number key s) c (begins s) refl))
+
+  plain_get : (name : List ℕ) (number : ℕ) (keys : List (List ℕ)) → effect_of (cluster_step config (Get name number keys) c).reply ≡ None
+  plain_get name number keys =
+      let begins : Session → ActEffect = λ s. reply_with Started (with_actor name (OfSession (request_begun number (Fetch keys) s)) c) in
+      let asked : Session → ActEffect = λ s. unless_refused (get_refusal config number keys s) c (begins s) in
+      plain_unless (first_refusal ((nat_lt (length keys) 1, Syntax) ∷ (not (list_all is_key keys), BadKey) ∷ [])) c (on_session name c asked)
+      (plain_on (find_session name c) c asked (λ s. plain_unless (get_refusal config number keys s) c (begins s) refl))
+
+  plain_show : (name : List ℕ) (number : ℕ) → effect_of (cluster_step config (Show name number) c).reply ≡ None
+  plain_show name number =
+      let shows : Session → ActEffect = λ s. reply_with (Lists (all_of (obs_of number s)) (near_of (obs_of number s))) c in
+      plain_on (find_session name c) c (λ s. unless_refused (context_refusal number s) c (shows s)) (λ s. plain_unless (context_refusal number s) c (shows s) refl)
+
+act_told : (config : TenantConfig) (act : Act) (c : SoloCluster) → IsTold c act (cluster_step config act c).reply
+act_told config (Open name dc) c =
+    let act : Act = Open name dc in
+    plainly_told c act (cluster_step config act c).reply
+    (plain_unless (actor_refusal config (nat_lt dc config.data_centres) name c) c (reply_with Opened (with_new_actor name (OfSession (new_session dc 1)) c)) refl)
+act_told config (Create name) c = plainly_told c (Create name) (cluster_step config (Create name) c).reply (plain_create config c name)
+act_told config (Delete name number) c = plainly_told c (Delete name number) (cluster_step config (Delete name number) c).reply (plain_delete config c name number)
+act_told config (Put name number key value) c =
+    plainly_told c (Put name number key value) (cluster_step config (Put name number key value) c).reply (plain_put config c name number key value)
+act_told config (Get name number keys) c = plainly_told c (Get name number keys) (cluster_step config (Get name number keys) c).reply (plain_get config c name number keys)
+act_told config (Show name number) c = plainly_told c (Show name number) (cluster_step config (Show name number) c).reply (plain_show config c name number)
+act_told config (Carry name dc shard to_dc) c =
+    let act : Act = Carry name dc shard to_dc in
+    let stream : Stream = record { origin = record { dc = dc; shard = shard }; to_dc = to_dc } in
+    plainly_told c act (cluster_step config act c).reply
+    (plain_unless (actor_refusal config (has_stream config dc shard to_dc) name c) c (reply_with Started (with_new_actor name (OfCarrier (new_carrier stream)) c)) refl)
+act_told config (Step name moment) c = stepped_told c (Step name moment) name (cluster_step config (Step name moment) c).reply refl (actor_step_runs config c name moment)
+act_told config (Done name moment) c =
+    stepped_told c (Done name moment) name (cluster_step config (Done name moment) c).reply refl (actor_steps_run (most_steps config) config c name moment)
+act_told config (Collect dc shard moment) c =
+    let act : Act = Collect dc shard moment in
+    let id : NodeId = record { dc = dc; shard = shard } in
+    plainly_told c act (cluster_step config act c).reply (plain_unless (first_refusal ((not (has_node config dc shard), NoSuchPlace) ∷ [])) c (collect_at config id moment c)
+    (plain_collect (call_node config id moment node_call.Collect c).reply))
+
+-- ---- all acts
+
+map_cons : (o : Option Operation) (os : List Operation) → map (λ (o : Operation). o.effect) (cons_option o os) ≡ cons_option (option_map (λ (o : Operation). o.effect) o) (map (λ (o : Operation). o.effect) os)
+map_cons None os = refl
+map_cons (Some o) os = refl
+
+all_told : (config : TenantConfig) (acts : List Act) (c : SoloCluster) → filter_map effect_of (replies_from config acts c) ≡ map (λ (o : Operation). o.effect) (operations_from config acts c)
+all_told config [] c = refl
+all_told config (act ∷ acts) c =
+    let turn = cluster_step config act c in
+    let rest = all_told config acts turn.after in
+    (λ i. cons_option (sym (act_told config act c) i) (rest i))
+    ∙ sym (map_cons (operation_ended c act turn.reply) (operations_from config acts turn.after))
+
+pub has_told_operations : (config : TenantConfig) (acts : List Act) → HasToldOperations config acts
+has_told_operations config acts = all_told config acts (new_cluster config)

@@ -1,0 +1,194 @@
+-- The step of a put keeps that all is traced to its put.
+use Rattle.std.proofs.Common.{◌≡◌, ℕ, ◌+◌, ◌<◌, ◌≤◌, true, List, [], ◌∷◌, ◌++◌, map, inl, inr, refl, sym, ◌∙◌, ap, subst, arith}
+use Rattle.std.specs.Prelude.{Option, Some, None, max, is_some, unwrap_or}
+use Rattle.std.specs.List.{AllByRecursion}
+use Rattle.std.specs.Option.{option_map}
+use Rattle.cops_types.specs.declared.faults.Fault.{Fault}
+use Rattle.cops_types.specs.declared.pairs.Pair.{Pair}
+use Rattle.cops_types.specs.declared.records.EntryParts.{EntryParts as Entry}
+use Rattle.cops_types.specs.Context.{Observation, Put as PutPair, all_of, near_of}
+use Rattle.cops_types.specs.Pairs.{greatest_per_key, greatest_clock}
+use Rattle.cops_types.specs.Records.{clock}
+use Rattle.cops_types.specs.TenantConfig.{TenantConfig}
+use Rattle.cops_types.specs.Version.{Timestamp}
+use Rattle.cops_node.specs.declared.NodeCall.{NodeCall}
+use Rattle.cops_node.specs.declared.NodeCall.TheVariants.{Put}
+use Rattle.cops_node.specs.declared.NodeId.{NodeId}
+use Rattle.cops_node.specs.declared.NodeReply.{NodeReply}
+use Rattle.cops_node.specs.declared.NodeReply.TheVariants.{Stored, Refused}
+use Rattle.cops_node.specs.Log.{LogStep, Replied}
+use Rattle.cops_node.specs.Place.{node_number, own_number, place_of}
+use Rattle.cops_node.specs.SoloNode.{SoloNode}
+use Rattle.cops_node.specs.Step.{entry_of_put, version_of_put}
+use Rattle.cops_repl.specs.Carrier.{pair_of_entry}
+use Rattle.cops_session.specs.declared.Answer.{Answer}
+use Rattle.cops_session.specs.declared.Answer.TheVariants as answer_is
+use Rattle.cops_session.specs.declared.Progress.{Progress}
+use Rattle.cops_session.specs.declared.Progress.TheVariants as session_progress
+use Rattle.cops_session.specs.Request.{Write, answer, attempt_of, key_home}
+use Rattle.cops_session.specs.Session.{Session, Running, OpenContext, is_open, obs_of, request_of, context_extended, session_after, moment_after, shown, has_restarted}
+use Rattle.cops_model.specs.Causal.{Traced, Wrote, past_of_put}
+use Rattle.cops_model.specs.Cluster.{SoloCluster, OfSession, find_session, with_actor, reply_of_progress, session_stepped}
+use Rattle.cops_causal.proofs.ContextPasts.{put_deps, put_past, put_context, put_covered}
+use Rattle.cops_causal.proofs.Histories.{puts_of, puts_of-push, past_in}
+use Rattle.cops_types.proofs.Elements.{Among, Among-right, Every-weaker, Every-at, Among-map}
+use Rattle.cops_types.proofs.Nearness.{Covers}
+use Rattle.cops_causal.proofs.Moves.{history_after, with_operation}
+use Rattle.cops_node.proofs.NodeTurns.{entries, Stores, Change, IsRefused, Answers, Joined, Taken}
+use Rattle.cops_causal.proofs.NodeEffects.{node_of, Called, entries_keep}
+use Rattle.cops_types.proofs.PairSets.{at}
+use Rattle.cops_causal.proofs.Provenance.{IsPutEntry-grown, IsCovered-grown, IsPutEntry, IsTraced, IsActor, IsSession, IsContext, IsNew, IsHistory-grown}
+use Rattle.cops_session.proofs.RequestReplies.{put-stored, put-refused}
+use Rattle.cops_causal.proofs.TracedCalls.{traced-call, pair_stays, actors_stay, known_still, clock-above, next-above, clock-below}
+use Rattle.cops_causal.proofs.TracedIdle.{session_of}
+use Rattle.cops_causal.proofs.TracedSteps.{grown, ended_as, context_of, contexts_extended, ends_refused, numbered_after, other_context}
+
+module _ (config : TenantConfig) (c after : SoloCluster) (ts : List Traced) (inv : IsTraced config c ts) (name : List ℕ) (s : Session) (found : find_session name c ≡ Some s) (found_after : find_session name after ≡ Some s)
+    (number context : ℕ) (key value : List ℕ) (opened : is_open context s ≡ true) (moment : ℕ) (reply : NodeReply)
+    (runs : s.running ≡ Some (record { number = number; context = context; action = Write key value; log = [] })) where
+  abbrev put : Running
+  put = record { number = number; context = context; action = Write key value; log = [] }
+
+  abbrev step : LogStep
+  step = record { moment = moment; outcome = Replied reply }
+
+  abbrev home : NodeId
+  home = key_home config s.dc key
+
+  abbrev node : SoloNode
+  node = node_of config c (node_number config.shards home)
+
+  abbrev call : NodeCall
+  call = Put key value (all_of (obs_of context s)) (near_of (obs_of context s))
+
+  abbrev AfterPut : Progress → Type 0
+  AfterPut p = IsTraced config (with_actor name (OfSession (session_after s put step p)) after) (history_after ts after name (reply_of_progress p))
+
+  -- what the session shows follows from its answer
+  by_answer : (a : Answer) → answer config (request_of s put) (step ∷ []) ≡ Some a → AfterPut (session_progress.Done a) →
+      let turn = session_stepped config name s put step after in IsTraced config turn.after (history_after ts after name turn.reply)
+  by_answer a is so = subst (λ o. AfterPut (shown o (has_restarted (Write key value) [] step) (attempt_of (Write key value) (step ∷ [])).restarts)) (sym is) so
+
+  put_refused : Called config c home call reply after → ((e : Entry) → Stores (place_of config home) call node reply e → IsPutEntry ts e) → (fault : Fault) → reply ≡ Refused fault →
+      let turn = session_stepped config name s put step after in IsTraced config turn.after (history_after ts after name turn.reply)
+  put_refused called stored fault is =
+      by_answer (answer_is.Refused fault)
+      (subst (λ r. answer config (request_of s put) (record { moment = moment; outcome = Replied r } ∷ []) ≡ Some (answer_is.Refused fault)) (sym is) (put-refused config s.dc (obs_of context s) key value moment fault))
+      (ends_refused config after ts (traced-call called ts stored inv) name s found_after context (moment_after put step))
+
+  -- the context of the put has the deps of its past
+  deps_are_past : all_of (obs_of context s) ≡ greatest_per_key (past_in ts name context)
+  deps_are_past =
+      let x = context_of s context opened in
+      let is = Every-at (IsContext ts name s.next_context) x.0 s.contexts (session_of config c ts inv name s found).contexts_are x.1 in
+      ap (λ (o : Option OpenContext). all_of (unwrap_or (option_map (λ (x : OpenContext). x.obs) o) [])) x.3 ∙ is.all_is ∙ ap (λ n. greatest_per_key (past_in ts name n)) x.2
+
+  -- and its near pairs cover that
+  near_covers : Covers (past_of_put ts) (near_of (obs_of context s)) (past_in ts name context)
+  near_covers =
+      let x = context_of s context opened in
+      let is = Every-at (IsContext ts name s.next_context) x.0 s.contexts (session_of config c ts inv name s found).contexts_are x.1 in
+      let same : obs_of context s ≡ x.0.obs = ap (λ (o : Option OpenContext). unwrap_or (option_map (λ (x : OpenContext). x.obs) o) []) x.3 in
+      subst (λ obs. Covers (past_of_put ts) (near_of obs) (past_in ts name context)) (sym same) (subst (λ n. Covers (past_of_put ts) (near_of x.0.obs) (past_in ts name n)) x.2 is.covered)
+
+  module _ (called : Called config c home call reply after) (e : Entry) (version : Timestamp)
+      (joins : entries (node_of config after (node_number config.shards home)) ≡ entries node ++ e ∷ []) (replied : reply ≡ Stored version)
+      (next : version_of_put (place_of config home) node (all_of (obs_of context s)) ≡ Some version)
+      (e-is : e ≡ entry_of_put (place_of config home) node version key value (all_of (obs_of context s)) (near_of (obs_of context s))) where
+    abbrev pair : Pair
+    pair = at key version
+
+    abbrev this : Traced
+    this = record { operation = record { session = name; context = context; effect = Wrote pair }; past = past_in ts name context }
+
+    above : (version.clock ≡ max (clock config.first_clock node.recs) (greatest_clock (all_of (obs_of context s))) + 1) × (version.node ≡ node_number config.shards home)
+    above = next-above (clock config.first_clock node.recs) (greatest_clock (all_of (obs_of context s))) (own_number (place_of config home)) version next
+
+    unput : Among pair (puts_of ts) → ⊥
+    unput was =
+        let there : Among pair (map pair_of_entry (entries node)) = subst (λ n. Among pair (map pair_of_entry (entries (node_of config c n)))) above.1 (inv.puts_are pair was) in
+        let below : version.clock ≤ clock config.first_clock node.recs = clock-above config.first_clock node pair there in
+        let is = above.0 in
+        omega arith
+
+    new : IsNew ts this
+    new p there was = elim there [ inl same ↦ unput (subst (λ q. Among q (puts_of ts)) (sym same) was) | inr never ↦ absurd never ]
+
+    entry_put : IsPutEntry (ts ++ this ∷ []) e
+    entry_put =
+        subst (IsPutEntry (ts ++ this ∷ [])) (sym e-is) (record {
+          put = record {
+            was = subst (Among pair) (sym (puts_of-push ts this)) (Among-right pair (puts_of ts) (pair ∷ []) (inl refl));
+            deps_are = deps_are_past ∙ sym (put_deps ts name context pair unput);
+          };
+          covered = λ q at. IsCovered-grown ts this new (near_of (obs_of context s)) q (near_covers q (subst (Among q) (put_past ts name context pair unput) at));
+        })
+
+    stored_is : (f : Entry) → Stores (place_of config home) call node reply f → IsPutEntry (ts ++ this ∷ []) f
+    stored_is f is =
+        let same : is.0 ≡ version = (let both : Stored is.0 ≡ Stored version = sym is.1 ∙ replied in cc) in
+        subst (IsPutEntry (ts ++ this ∷ []))
+        (sym (is.3 ∙ ap (λ v. entry_of_put (place_of config home) node v key value (all_of (obs_of context s)) (near_of (obs_of context s))) same ∙ sym e-is)) entry_put
+
+    still_put : (n : ℕ) → AllByRecursion (IsPutEntry (ts ++ this ∷ [])) (entries (node_of config c n))
+    still_put n = Every-weaker (IsPutEntry ts) (IsPutEntry (ts ++ this ∷ [])) (entries (node_of config c n)) (λ f at is. IsPutEntry-grown ts this new f is) (inv.entries_are n)
+
+    pair_there : Among pair (map pair_of_entry (entries (node_of config after version.node)))
+    pair_there =
+        subst (λ n. Among pair (map pair_of_entry (entries (node_of config after n)))) (sym above.1)
+        (subst (λ es. Among pair (map pair_of_entry es)) (sym joins)
+        (subst (λ p. Among p (map pair_of_entry (entries node ++ e ∷ []))) (ap pair_of_entry e-is) (Among-map pair_of_entry e (entries node ++ e ∷ []) (Among-right e (entries node) (e ∷ []) (inl refl)))))
+
+    new_session : (later : ℕ) → IsSession config (ts ++ this ∷ []) name (record s { moment = later; contexts = context_extended context (PutPair pair ∷ []) s.contexts; running = None })
+    new_session later =
+        let is = session_of config c ts inv name s found in
+        record {
+          placed = is.placed;
+          contexts_are = contexts_extended (IsContext ts name s.next_context) (IsContext (ts ++ this ∷ []) name s.next_context) context (PutPair pair ∷ []) s.contexts
+              (λ x same of. record {
+                numbered = of.numbered;
+                all_is = here x.number x.obs same of.all_is;
+                covered = subst (λ m. Covers (past_of_put (ts ++ this ∷ [])) (near_of (x.obs ++ PutPair pair ∷ [])) (past_in (ts ++ this ∷ []) name m)) (sym same) (put_covered ts name context x.obs pair unput);
+              })
+              (other_context config c ts inv name s found context this new refl) is.contexts_are;
+          numbered = numbered_after config c ts inv name s found context this opened refl;
+          running_is = λ r runs. cc;
+        }
+      where
+        here : (n : ℕ) (obs : List Observation) → n ≡ context → all_of obs ≡ greatest_per_key (past_in ts name n) → all_of (obs ++ PutPair pair ∷ []) ≡ greatest_per_key (past_in (ts ++ this ∷ []) name n)
+        here n obs same of =
+            subst (λ m. all_of (obs ++ PutPair pair ∷ []) ≡ greatest_per_key (past_in (ts ++ this ∷ []) name m)) (sym same)
+            (put_context ts name context obs pair (of ∙ ap (λ m. greatest_per_key (past_in ts name m)) same))
+
+    -- the version is above all of the past
+    above_past : (q : Pair) → Among q (past_in ts name context) → q.version.clock < version.clock
+    above_past q at =
+        let below = clock-below (past_in ts name context) q at in
+        let same : greatest_clock (all_of (obs_of context s)) ≡ greatest_clock (greatest_per_key (past_in ts name context)) = ap greatest_clock deps_are_past in
+        let is = above.0 in
+        omega arith
+
+    after_stored : (later : ℕ) → IsTraced config (with_actor name (OfSession (record s { moment = later; contexts = context_extended context (PutPair pair ∷ []) s.contexts; running = None })) after) (ts ++ this ∷ [])
+    after_stored later =
+        grown config after ts name context (Wrote pair) (past_in ts name context) (record s { moment = later; contexts = context_extended context (PutPair pair ∷ []) s.contexts; running = None })
+        (IsHistory-grown ts inv.history (this.operation) new (λ p q at past. elim at [ inl same ↦ subst (λ r. q.version.clock < r.version.clock) same (above_past q past) | inr never ↦ absurd never ]))
+        called.sized (entries_keep called (IsPutEntry (ts ++ this ∷ [])) stored_is still_put)
+        (λ p at. pair_stays called p.version.node p (inv.puts_are p at)) (actors_stay called (IsActor config ts) inv.actors_are) (λ u at. known_still called u.operation.session (inv.known u at)) (ap is_some found_after) new
+        (λ p at. elim at [ inl same ↦ subst (λ q. Among q (map pair_of_entry (entries (node_of config after q.version.node)))) same pair_there | inr never ↦ absurd never ]) (new_session later)
+
+    put_stored : let turn = session_stepped config name s put step after in IsTraced config turn.after (history_after ts after name turn.reply)
+    put_stored =
+        by_answer (answer_is.Stored pair)
+        (subst (λ r. answer config (request_of s put) (record { moment = moment; outcome = Replied r } ∷ []) ≡ Some (answer_is.Stored pair)) (sym replied) (put-stored config s.dc (obs_of context s) key value moment version))
+        (subst (λ o. IsTraced config (with_actor name (OfSession (session_after s put step (session_progress.Done (answer_is.Stored pair)))) after) (with_operation ts o)) (sym (ended_as after name s put (Wrote pair) found_after runs))
+        (after_stored (moment_after put step)))
+
+  -- the step of a put, whatever the node answers
+  pub put_stepped : Called config c home call reply after → let turn = session_stepped config name s put step after in IsTraced config turn.after (history_after ts after name turn.reply)
+  put_stepped called = by_change called.change
+    where
+      by_change : Change (place_of config home) call node reply (node_of config after (node_number config.shards home)) → let turn = session_stepped config name s put step after in IsTraced config turn.after (history_after ts after name turn.reply)
+      by_change (IsRefused same acked is) = put_refused called (λ e stores. let both : Stored stores.0 ≡ Refused is.0 = sym stores.1 ∙ is.1 in cc) is.0 is.1
+      by_change (Answers same acked is) = absurd is
+      by_change (Joined e more acked is) = put_stored called e is.0 more is.1 is.2 is.3
+      by_change (Taken same is) = absurd is

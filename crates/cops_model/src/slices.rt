@@ -1,0 +1,120 @@
+//! Bytes that acts borrow.
+ghost use Rattle.std.specs.Prelude.{◌≡◌, [], ◌∷◌, MatchOption};
+ghost use Rattle.cops_types.specs.Words.{no_words, parts_at, space};
+
+use cops_types::words::split_word;
+use std::marker::Model;
+
+/// Bytes that are borrowed, and may be no key and no value. Contracts see the list.
+#[derive(Debug, Drop)]
+pub struct ByteSlice<'a> {
+    bytes: &'a [u8],
+}
+
+impl<'a> Model for ByteSlice<'a> {
+    ghost use Rattle.std.specs.Prelude.{List, ℕ};
+
+    ghost Value = { List ℕ };
+
+    ghost view = { λ s. s.bytes.now };
+}
+
+/// Several of them, in order. Contracts see the list.
+#[derive(Debug, Drop)]
+pub struct ByteSlices<'a> {
+    form: Form<'a>,
+}
+
+/// How several are given.
+#[derive(Debug, Drop)]
+enum Form<'a> {
+    /// As the words of a part of a line, between single spaces, or none.
+    InLine(Option<&'a [u8]>),
+    /// One by one.
+    Listed(&'a [ByteSlice<'a>]),
+}
+
+impl<'a> Model for ByteSlices<'a> {
+    ghost use Rattle.std.specs.Prelude.{List, ℕ};
+    ghost use Rattle.cops_model.specs.SliceForms.{slices_of};
+
+    ghost Value = { List (List ℕ) };
+
+    ghost view = { λ s. slices_of s.form };
+}
+
+impl<'a> ByteSlice<'a> {
+    /// These bytes.
+    pub fn of(bytes: &'a [u8]) -> Self
+        ensures { result ≡ bytes.now }
+    {
+        ByteSlice { bytes }
+    }
+
+    /// The bytes.
+    pub fn as_slice(&self) -> &'a [u8]
+        ensures { result.now ≡ self.now }
+    {
+        self.bytes
+    }
+}
+
+impl<'a> ByteSlices<'a> {
+    /// These, in order.
+    pub fn of(slices: &'a [ByteSlice<'a>]) -> Self
+        ensures { result ≡ slices.now }
+    {
+        ByteSlices {
+            form: Form::Listed(slices),
+        }
+    }
+
+    /// The words of this line, between single spaces.
+    pub fn in_line(line: &'a [u8]) -> Self
+        ensures { result ≡ parts_at space line.now }
+    {
+        ByteSlices {
+            form: Form::InLine(Some(line)),
+        }
+    }
+
+    /// The same, to be gone through apart.
+    pub fn again(&self) -> Self
+        ensures { result ≡ self.now }
+    {
+        match &self.form {
+            Form::InLine(part) => ByteSlices {
+                form: Form::InLine(*part),
+            },
+            Form::Listed(slices) => ByteSlices::of(slices),
+        }
+    }
+
+    /// Takes the first away.
+    pub fn next_slice(&mut self) -> Option<&'a [u8]>
+        ensures { MatchOption result ((self.old ≡ []) × (self.new ≡ [])) (λ slice. self.old ≡ slice.now ∷ self.new) }
+    {
+        match &self.form {
+            Form::InLine(part) => {
+                let (first, rest) = split_word((*part)?);
+                self.form = Form::InLine(rest);
+                Some(first)
+            }
+            Form::Listed(slices) => {
+                let (first, rest) = slices.split_first()?;
+                self.form = Form::Listed(rest);
+                Some(first.as_slice())
+            }
+        }
+    }
+
+    /// Whether there is none.
+    pub fn is_empty(&self) -> bool
+        ensures { result ≡ no_words self.now }
+    {
+        match &self.form {
+            Form::InLine(part) => part.is_none(),
+            Form::Listed(slices) => slices.is_empty(),
+        }
+    }
+}

@@ -1,5 +1,0 @@
-use Rattle.cops_world.proofs.AuditLists.{audits_few}
-use Rattle.cops_world.proofs.laws.audited_lists_are_within_the_limit.Goals as goal
-
-pub returns : goal.returns
-returns c = λ config acts some. audits_few config some acts
