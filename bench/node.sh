@@ -15,7 +15,7 @@ if [ -z "$room" ]; then
 fi
 program=$room/crates/node_program
 mkdir -p "$program/src"
-for crate in cops_types cops_store cops_outbox cops_node; do
+for crate in cops_types cops_model cops_store cops_outbox cops_node; do
     mkdir -p "$room/crates/$crate"
     for part in src specs proofs; do
         rm -rf "$room/crates/$crate/$part"
@@ -26,7 +26,7 @@ for crate in cops_types cops_store cops_outbox cops_node; do
 done
 cp "$here/node_program.rt.txt" "$program/src/main.rt"
 cp "$here/../HANDLES" "$room/HANDLES"
-grep -E '^cops_(types|store|outbox|node)( [^:]*)?:' "$here/../crates.txt" >"$room/crates.txt"
+grep -E '^cops_(types|model|store|outbox|node)( [^:]*)?:' "$here/../crates.txt" >"$room/crates.txt"
 echo 'node_program: cops_types cops_node uuid' >>"$room/crates.txt"
 (cd "$program" && "$rt" run -- 1 1000 >"$room/build.log" 2>&1) || {
     tail -40 "$room/build.log"

@@ -11,7 +11,7 @@ times=${1:-11}
 calls=${2:-1000000}
 program=$room/crates/outbox_program
 mkdir -p "$program/src"
-for crate in cops_types cops_outbox; do
+for crate in cops_types cops_model cops_outbox; do
     mkdir -p "$room/crates/$crate"
     for part in src specs proofs; do
         rm -rf "$room/crates/$crate/$part"
@@ -26,7 +26,7 @@ for function in filled turns; do
     sed "s/FUNCTION/$function/" "$here/outbox_program_loops.antt.txt" >"$program/proofs/$function/Invariants.antt"
 done
 cp "$here/../HANDLES" "$room/HANDLES"
-grep -E '^cops_(types|outbox)( [^:]*)?:' "$here/../crates.txt" >"$room/crates.txt"
+grep -E '^cops_(types|model|outbox)( [^:]*)?:' "$here/../crates.txt" >"$room/crates.txt"
 echo 'outbox_program: cops_types cops_outbox' >>"$room/crates.txt"
 (cd "$program" && "$rt" run -- 10 10 >"$room/build.log" 2>&1) || {
     tail -40 "$room/build.log"

@@ -18,7 +18,7 @@ if [ -z "$room" ]; then
 fi
 program=$room/crates/wire_program
 mkdir -p "$program/src"
-for crate in cops_types cops_store cops_outbox cops_node cops_handles cops_context cops_session cops_wire; do
+for crate in cops_types cops_model cops_store cops_outbox cops_node cops_handles cops_context cops_session cops_wire; do
     mkdir -p "$room/crates/$crate"
     for part in src specs proofs; do
         rm -rf "$room/crates/$crate/$part"
@@ -29,7 +29,7 @@ for crate in cops_types cops_store cops_outbox cops_node cops_handles cops_conte
 done
 cp "$here/wire_program.rt.txt" "$program/src/main.rt"
 cp "$here/../HANDLES" "$room/HANDLES"
-grep -E '^cops_(types|store|outbox|node|handles|context|session|wire)( [^:]*)?:' "$here/../crates.txt" >"$room/crates.txt"
+grep -E '^cops_(types|model|store|outbox|node|handles|context|session|wire)( [^:]*)?:' "$here/../crates.txt" >"$room/crates.txt"
 echo 'wire_program: cops_types cops_node cops_wire uuid' >>"$room/crates.txt"
 (cd "$program" && $rt run -- decode put 0 >"$room/build.log" 2>&1) || {
     tail -40 "$room/build.log"

@@ -4,8 +4,8 @@ use Rattle.std.specs.Prelude.{Option, Some, None, filter, find, is_some}
 use Rattle.std.specs.Option.{option_map, option_and_then}
 use Rattle.cops_types.proofs.KeyTests.{key_eq-true, key_eq-refl}
 use Rattle.cops_types.specs.Key.{key_eq}
-use Rattle.cops_session.specs.Session.{Session}
-use Rattle.cops_repl.specs.Carrier.{Carrier}
+use Rattle.cops_model.specs.Session.{Session}
+use Rattle.cops_model.specs.Carrier.{Carrier}
 use Rattle.cops_types.proofs.Elements.{Among-find, Every-at, Every-append, Every-filter}
 use Rattle.std.specs.List.{AllByRecursion}
 use Rattle.cops_model.specs.Cluster.{SoloCluster, NamedActor, Actor, OfSession, OfCarrier, find_actor, find_session, session_in, with_actor, with_new_actor, without_actor}

@@ -8,22 +8,22 @@ use Rattle.cops_types.specs.Key.{is_key}
 use Rattle.cops_types.specs.Search.{first_refusal}
 use Rattle.cops_types.specs.TenantConfig.{TenantConfig}
 use Rattle.cops_types.specs.Value.{is_value}
-use Rattle.cops_node.specs.declared.NodeCall.TheVariants as node_call
-use Rattle.cops_node.specs.declared.NodeId.{NodeId}
-use Rattle.cops_node.specs.Log.{LogStep, Late, Replied, Next, Call, Restart, Ended}
-use Rattle.cops_session.specs.declared.Answer.{Answer}
-use Rattle.cops_session.specs.declared.Answer.TheVariants as answer
-use Rattle.cops_session.specs.declared.Progress.{Progress}
-use Rattle.cops_session.specs.declared.Progress.TheVariants as session_progress
-use Rattle.cops_session.specs.Request as request
-use Rattle.cops_session.specs.Session.{Running, Session, context_created, context_deleted, context_refusal, create_refusal, get_refusal, is_open, moment_at, new_session, obs_of, request_begun, request_of, session_after, session_put_refusal}
-use Rattle.cops_session.specs.Session as session
-use Rattle.cops_repl.specs.declared.Delivery.{Delivery}
-use Rattle.cops_repl.specs.declared.Delivery.TheVariants as delivery
-use Rattle.cops_repl.specs.declared.Progress.{Progress as CarrierProgress}
-use Rattle.cops_repl.specs.declared.Progress.TheVariants as carrier_progress
-use Rattle.cops_repl.specs.Carrier.{Carrier, Stream, new_carrier, carrier_after}
-use Rattle.cops_repl.specs.Carrier as carrier
+use Rattle.cops_model.specs.declared.calls.NodeCall.TheVariants as node_call
+use Rattle.cops_model.specs.declared.calls.NodeId.{NodeId}
+use Rattle.cops_model.specs.Log.{LogStep, Late, Replied, Next, Call, Restart, Ended}
+use Rattle.cops_model.specs.declared.requests.Answer.{Answer}
+use Rattle.cops_model.specs.declared.requests.Answer.TheVariants as answer
+use Rattle.cops_model.specs.declared.requests.Progress.{Progress}
+use Rattle.cops_model.specs.declared.requests.Progress.TheVariants as session_progress
+use Rattle.cops_model.specs.Request as request
+use Rattle.cops_model.specs.Session.{Running, Session, context_created, context_deleted, context_refusal, create_refusal, get_refusal, is_open, moment_at, new_session, obs_of, request_begun, request_of, session_after, session_put_refusal, is_spent}
+use Rattle.cops_model.specs.Session as session
+use Rattle.cops_model.specs.declared.deliveries.Delivery.{Delivery}
+use Rattle.cops_model.specs.declared.deliveries.Delivery.TheVariants as delivery
+use Rattle.cops_model.specs.declared.deliveries.Progress.{Progress as CarrierProgress}
+use Rattle.cops_model.specs.declared.deliveries.Progress.TheVariants as carrier_progress
+use Rattle.cops_model.specs.Carrier.{Carrier, Stream, new_carrier, carrier_after}
+use Rattle.cops_model.specs.Carrier as carrier
 use Rattle.cops_model.specs.declared.acts.Act.{Act}
 use Rattle.cops_model.specs.declared.acts.Act.TheVariants.{Open, Create, Delete, Put, Get, Show, Carry, Step, Done, Collect}
 use Rattle.cops_model.specs.declared.replies.Reply.{Reply}
@@ -34,7 +34,6 @@ use Rattle.cops_model.specs.Events.{cluster_after}
 use Rattle.cops_model.specs.Laws.{cluster_of, history_of}
 use Rattle.cops_causal.proofs.ActorsKeep.{find_actor-with_actor}
 use Rattle.cops_causal.proofs.Moves.{IsKept, with_operation, history_after, Holds, plainly, new_actor, session_act, passes, head_passes, flipped, not_busy, stream_of, plain_collect, actor_step_keeps}
-use Rattle.cops_handles.specs.Rows.{is_spent}
 
 -- the context of the request that the session of this name runs
 abbrev pub context_run : List ℕ → SoloCluster → Option ℕ

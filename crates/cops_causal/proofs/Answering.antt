@@ -12,25 +12,25 @@ use Rattle.cops_types.specs.Key.{key_eq}
 use Rattle.cops_types.specs.Records.{exact, latest}
 use Rattle.cops_types.specs.TenantConfig.{TenantConfig}
 use Rattle.cops_types.specs.Version.{Timestamp, version_le}
-use Rattle.cops_node.specs.declared.NodeCall.TheVariants as node_call
-use Rattle.cops_node.specs.declared.NodeReply.{NodeReply}
-use Rattle.cops_node.specs.declared.NodeReply.TheVariants.{Gone}
-use Rattle.cops_node.specs.declared.Wanted.{Wanted}
-use Rattle.cops_node.specs.declared.Wanted.TheVariants.{Latest, Exactly}
-use Rattle.cops_node.specs.Log.{LogStep, Late, Replied, Directed, Next, Call, Restart, first_fault}
-use Rattle.cops_node.specs.Place.{Place, node_number, place_of}
-use Rattle.cops_node.specs.SoloNode.{SoloNode}
-use Rattle.cops_node.specs.Step.{was_committed, reply_latest, reply_exact}
-use Rattle.cops_repl.specs.declared.Progress.{Progress as CarrierProgress}
-use Rattle.cops_repl.specs.declared.Progress.TheVariants as carrier_progress
-use Rattle.cops_repl.specs.Carrier.{Carrier, new_carrier, pair_of_entry}
-use Rattle.cops_session.specs.declared.Answer.{Answer}
-use Rattle.cops_session.specs.declared.Answer.TheVariants as answer_is
-use Rattle.cops_session.specs.declared.Progress.{Progress}
-use Rattle.cops_session.specs.declared.Progress.TheVariants as session_progress
-use Rattle.cops_session.specs.Request.{Action, Fetch, Write, answer, attempt_of, begins_again, call_after, is_late, key_home, next}
-use Rattle.cops_session.specs.Session.{Session, Running, new_session, is_open, is_busy, has_repeats, obs_of, request_of, request_begun, context_created, context_deleted, context_extended, session_after, moment_after, shown, has_restarted, get_refusal}
-use Rattle.cops_session.specs.Transaction.{ReadRequest, gets, read_of, final_reads}
+use Rattle.cops_model.specs.declared.calls.NodeCall.TheVariants as node_call
+use Rattle.cops_model.specs.declared.calls.NodeReply.{NodeReply}
+use Rattle.cops_model.specs.declared.calls.NodeReply.TheVariants.{Gone}
+use Rattle.cops_model.specs.declared.calls.Wanted.{Wanted}
+use Rattle.cops_model.specs.declared.calls.Wanted.TheVariants.{Latest, Exactly}
+use Rattle.cops_model.specs.Log.{LogStep, Late, Replied, Directed, Next, Call, Restart, first_fault}
+use Rattle.cops_model.specs.Place.{Place, node_number, place_of}
+use Rattle.cops_model.specs.SoloNode.{SoloNode}
+use Rattle.cops_model.specs.Step.{was_committed, reply_latest, reply_exact}
+use Rattle.cops_model.specs.declared.deliveries.Progress.{Progress as CarrierProgress}
+use Rattle.cops_model.specs.declared.deliveries.Progress.TheVariants as carrier_progress
+use Rattle.cops_model.specs.Carrier.{Carrier, new_carrier, pair_of_entry}
+use Rattle.cops_model.specs.declared.requests.Answer.{Answer}
+use Rattle.cops_model.specs.declared.requests.Answer.TheVariants as answer_is
+use Rattle.cops_model.specs.declared.requests.Progress.{Progress}
+use Rattle.cops_model.specs.declared.requests.Progress.TheVariants as session_progress
+use Rattle.cops_model.specs.Request.{Action, Fetch, Write, answer, attempt_of, begins_again, call_after, is_late, key_home, next}
+use Rattle.cops_model.specs.Session.{Session, Running, new_session, is_open, is_busy, has_repeats, obs_of, request_of, request_begun, context_created, context_deleted, context_extended, session_after, moment_after, shown, has_restarted, get_refusal, is_spent}
+use Rattle.cops_model.specs.Transaction.{ReadRequest, gets, read_of, final_reads}
 use Rattle.cops_model.specs.Causal.{Traced, Operation, Effect, Wrote, Returned, pair_read, returned_by, past_after, answers_consistently}
 use Rattle.cops_model.specs.Cluster.{SoloCluster, Actor, OfSession, OfCarrier, new_cluster, find_session, with_actor, with_new_actor, call_node, session_stepped, carrier_stepped, reply_of_progress}
 use Rattle.cops_causal.proofs.ActorsKeep.{EachActor, actor_found, session_actor, each-with_actor, each-with_new, each-without}
@@ -62,7 +62,6 @@ use Rattle.cops_causal.proofs.TracedCalls.{exact-is, get_found, home-there}
 use Rattle.cops_causal.proofs.TracedIdle.{session_of}
 use Rattle.cops_causal.proofs.TracedSteps.{ended_as, context_of}
 use Rattle.cops_session.proofs.WantedVersions.{IsAskedFor, IsFirst, IsSecond, asked_for}
-use Rattle.cops_handles.specs.Rows.{is_spent}
 
 -- ---- the words
 

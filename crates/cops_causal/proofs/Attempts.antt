@@ -12,28 +12,28 @@ use Rattle.cops_types.proofs.VersionOrder.{version_lt-irrefl, version_lt-le_tran
 use Rattle.cops_types.proofs.Elements.{Among, Among-cases, Among-filter, filter-Among, Among-map, Every-at, Every-weaker, fold-push}
 use Rattle.cops_types.proofs.KeyTests.{key_eq-true, key_eq-refl}
 use Rattle.cops_types.proofs.Zipped.{Zipped}
-use Rattle.cops_node.specs.declared.NodeCall.{NodeCall}
-use Rattle.cops_node.specs.declared.NodeCall.TheVariants as node_call
-use Rattle.cops_node.specs.declared.NodeId.{NodeId}
-use Rattle.cops_node.specs.declared.NodeReply.{NodeReply}
-use Rattle.cops_node.specs.declared.Wanted.{Wanted}
-use Rattle.cops_node.specs.declared.Wanted.TheVariants.{Latest, Exactly}
-use Rattle.cops_node.specs.Log.{Call, Directed, Ended, Late, LogStep, Next, Replied, Restart, replies_of}
-use Rattle.cops_node.specs.Place.{place_of}
-use Rattle.cops_node.specs.SoloNode.{SoloNode, new_node}
+use Rattle.cops_model.specs.declared.calls.NodeCall.{NodeCall}
+use Rattle.cops_model.specs.declared.calls.NodeCall.TheVariants as node_call
+use Rattle.cops_model.specs.declared.calls.NodeId.{NodeId}
+use Rattle.cops_model.specs.declared.calls.NodeReply.{NodeReply}
+use Rattle.cops_model.specs.declared.calls.Wanted.{Wanted}
+use Rattle.cops_model.specs.declared.calls.Wanted.TheVariants.{Latest, Exactly}
+use Rattle.cops_model.specs.Log.{Call, Directed, Ended, Late, LogStep, Next, Replied, Restart, replies_of}
+use Rattle.cops_model.specs.Place.{place_of}
+use Rattle.cops_model.specs.SoloNode.{SoloNode, new_node}
 use Rattle.cops_node.proofs.NodeTurns.{entries, Change, IsRefused, Answers, Joined, Taken, IsRefusal}
-use Rattle.cops_session.specs.declared.Progress.{Progress}
-use Rattle.cops_session.specs.declared.Progress.TheVariants as session_progress
-use Rattle.cops_session.specs.Request.{Action, Attempt, Fetch, Write, attempt_after, attempt_of, begins_again, call_after, is_late, key_home, next}
-use Rattle.cops_session.specs.Session.{Session, Running, new_session, obs_of, request_of, request_begun, context_created, context_deleted, session_after}
-use Rattle.cops_session.specs.Session as session
-use Rattle.cops_session.specs.Transaction.{ReadRequest, gets, read_of}
+use Rattle.cops_model.specs.declared.requests.Progress.{Progress}
+use Rattle.cops_model.specs.declared.requests.Progress.TheVariants as session_progress
+use Rattle.cops_model.specs.Request.{Action, Attempt, Fetch, Write, attempt_after, attempt_of, begins_again, call_after, is_late, key_home, next}
+use Rattle.cops_model.specs.Session.{Session, Running, new_session, obs_of, request_of, request_begun, context_created, context_deleted, session_after}
+use Rattle.cops_model.specs.Session as session
+use Rattle.cops_model.specs.Transaction.{ReadRequest, gets, read_of}
 use Rattle.cops_session.proofs.ReplyCounts.{replies-push}
 use Rattle.cops_session.proofs.ReplyRounds.{Zipped-gets}
 use Rattle.cops_session.proofs.RequestReplies.{replies_in, get-next, get-begun, call_of}
-use Rattle.cops_repl.specs.declared.Delivery.{Delivery}
-use Rattle.cops_repl.specs.Carrier.{Carrier, new_carrier, carrier_after, pair_of_entry}
-use Rattle.cops_repl.specs.Carrier as carrier
+use Rattle.cops_model.specs.declared.deliveries.Delivery.{Delivery}
+use Rattle.cops_model.specs.Carrier.{Carrier, new_carrier, carrier_after, pair_of_entry}
+use Rattle.cops_model.specs.Carrier as carrier
 use Rattle.cops_model.specs.Causal.{Traced}
 use Rattle.cops_model.specs.Cluster.{SoloCluster, NamedActor, Actor, OfSession, OfCarrier, new_cluster, find_session, with_actor, with_new_actor, call_node, session_stepped, carrier_stepped}
 use Rattle.cops_causal.proofs.ActorsKeep.{EachActor, actor_found, session_actor, each-with_actor, each-with_new, each-without}

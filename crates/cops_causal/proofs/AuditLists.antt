@@ -10,25 +10,24 @@ use Rattle.cops_types.specs.Records.{exact, greatest_of, kept, latest}
 use Rattle.cops_types.specs.TenantConfig.{TenantConfig}
 use Rattle.cops_types.specs.Version.{Timestamp}
 use Rattle.cops_types.proofs.Elements.{Every-append, Every-at}
-use Rattle.cops_node.specs.declared.AuditEntry.{AuditEntry}
-use Rattle.cops_node.specs.declared.NodeCall.{NodeCall}
-use Rattle.cops_node.specs.declared.NodeCall.TheVariants.{Get, Put, DepCheck, Pull, Commit, Ack, Collect}
-use Rattle.cops_node.specs.declared.NodeId.{NodeId}
-use Rattle.cops_node.specs.declared.NodeReply.{NodeReply}
-use Rattle.cops_node.specs.declared.Wanted.TheVariants.{Latest, Exactly}
-use Rattle.cops_node.specs.Log.{Call, Directed, LogStep}
-use Rattle.cops_node.specs.Place.{Place, node_number, place_of}
-use Rattle.cops_node.specs.SoloNode.{SoloNode, new_node, queue}
-use Rattle.cops_node.specs.Step.{effect, node_step, reply_exact, reply_latest, reply_pull, was_committed}
+use Rattle.cops_model.specs.declared.calls.AuditEntry.{AuditEntry}
+use Rattle.cops_model.specs.declared.calls.NodeCall.{NodeCall}
+use Rattle.cops_model.specs.declared.calls.NodeCall.TheVariants.{Get, Put, DepCheck, Pull, Commit, Ack, Collect}
+use Rattle.cops_model.specs.declared.calls.NodeId.{NodeId}
+use Rattle.cops_model.specs.declared.calls.NodeReply.{NodeReply}
+use Rattle.cops_model.specs.declared.calls.Wanted.TheVariants.{Latest, Exactly}
+use Rattle.cops_model.specs.Log.{Call, Directed, LogStep}
+use Rattle.cops_model.specs.Place.{Place, node_number, place_of}
+use Rattle.cops_model.specs.SoloNode.{SoloNode, new_node, queue, front}
+use Rattle.cops_model.specs.Step.{effect, node_step, reply_exact, reply_latest, reply_pull, was_committed}
 use Rattle.cops_node.proofs.AuditLaws.{trail_of_effect}
 use Rattle.cops_node.proofs.NodeTurns.{entries, Answers, Change, IsRefused, IsReply, Joined, Stores, Taken, Takes, turn_changes}
-use Rattle.cops_node.specs.Queues.{front}
-use Rattle.cops_repl.specs.declared.Progress.{Progress as CarrierProgress}
-use Rattle.cops_repl.specs.declared.Progress.TheVariants as carrier_progress
-use Rattle.cops_repl.specs.Carrier.{Carrier, Stream}
+use Rattle.cops_model.specs.declared.deliveries.Progress.{Progress as CarrierProgress}
+use Rattle.cops_model.specs.declared.deliveries.Progress.TheVariants as carrier_progress
+use Rattle.cops_model.specs.Carrier.{Carrier, Stream}
 use Rattle.cops_repl.proofs.CarrierStages.{Acking, Checking, Committing, Delivering, InDelivery, Pulling, Stage}
-use Rattle.cops_session.specs.Request.{Action, Fetch, Write, key_home, next}
-use Rattle.cops_session.specs.Session.{Running, Session, obs_of, request_of}
+use Rattle.cops_model.specs.Request.{Action, Fetch, Write, key_home, next}
+use Rattle.cops_model.specs.Session.{Running, Session, obs_of, request_of}
 use Rattle.cops_session.proofs.RequestReplies.{get-next, put-next}
 use Rattle.cops_model.specs.declared.acts.Act.{Act}
 use Rattle.cops_model.specs.Causal.{Traced}

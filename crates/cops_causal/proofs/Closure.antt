@@ -9,14 +9,14 @@ use Rattle.cops_types.specs.Key.{shard_of}
 use Rattle.cops_types.specs.TenantConfig.{TenantConfig}
 use Rattle.cops_types.specs.Version.{Timestamp, no_version, version_le, version_lt}
 use Rattle.cops_types.proofs.VersionOrder.{version_lt-irrefl, version_le-lt_trans}
-use Rattle.cops_node.specs.declared.NodeReply.{NodeReply}
-use Rattle.cops_node.specs.declared.NodeReply.TheVariants.{Found}
-use Rattle.cops_node.specs.Log.{LogStep}
-use Rattle.cops_node.specs.Step.{was_committed}
-use Rattle.cops_repl.specs.Carrier.{pair_of_entry}
-use Rattle.cops_session.specs.Request.{Action, Write, Fetch}
-use Rattle.cops_session.specs.Session.{Session, Running, OpenContext}
-use Rattle.cops_session.specs.Transaction.{ReadRequest, gets}
+use Rattle.cops_model.specs.declared.calls.NodeReply.{NodeReply}
+use Rattle.cops_model.specs.declared.calls.NodeReply.TheVariants.{Found}
+use Rattle.cops_model.specs.Log.{LogStep}
+use Rattle.cops_model.specs.Step.{was_committed}
+use Rattle.cops_model.specs.Carrier.{pair_of_entry}
+use Rattle.cops_model.specs.Request.{Action, Write, Fetch}
+use Rattle.cops_model.specs.Session.{Session, Running, OpenContext}
+use Rattle.cops_model.specs.Transaction.{ReadRequest, gets}
 use Rattle.cops_model.specs.Causal.{Traced, put_by, past_of_put}
 use Rattle.cops_model.specs.Cluster.{SoloCluster, Actor, OfSession, OfCarrier}
 use Rattle.cops_causal.proofs.ActorsKeep.{EachActor}

@@ -8,15 +8,15 @@ use Rattle.cops_types.specs.declared.pairs.Pair.{Pair}
 use Rattle.cops_types.specs.declared.records.EntryParts.{EntryParts as Entry}
 use Rattle.cops_types.specs.Key.{shard_of}
 use Rattle.cops_types.specs.TenantConfig.{TenantConfig}
-use Rattle.cops_node.specs.declared.NodeCall.{NodeCall}
-use Rattle.cops_node.specs.declared.NodeId.{NodeId}
-use Rattle.cops_node.specs.declared.NodeReply.{NodeReply}
-use Rattle.cops_node.specs.declared.NodeReply.TheVariants.{Found, Checked}
-use Rattle.cops_node.specs.Log.{LogStep}
-use Rattle.cops_node.specs.Place.{node_number, place_of}
-use Rattle.cops_repl.specs.Carrier.{pair_of_entry, Stream, check}
-use Rattle.cops_session.specs.Request.{Action, Write, Fetch}
-use Rattle.cops_session.specs.Transaction.{ReadRequest, gets}
+use Rattle.cops_model.specs.declared.calls.NodeCall.{NodeCall}
+use Rattle.cops_model.specs.declared.calls.NodeId.{NodeId}
+use Rattle.cops_model.specs.declared.calls.NodeReply.{NodeReply}
+use Rattle.cops_model.specs.declared.calls.NodeReply.TheVariants.{Found, Checked}
+use Rattle.cops_model.specs.Log.{LogStep}
+use Rattle.cops_model.specs.Place.{node_number, place_of}
+use Rattle.cops_model.specs.Carrier.{pair_of_entry, Stream, check}
+use Rattle.cops_model.specs.Request.{Action, Write, Fetch}
+use Rattle.cops_model.specs.Transaction.{ReadRequest, gets}
 use Rattle.cops_model.specs.Causal.{Traced, past_of_put}
 use Rattle.cops_model.specs.Cluster.{SoloCluster, NamedActor, Actor, OfSession, OfCarrier}
 use Rattle.cops_causal.proofs.Closure.{IsHere, IsFoundHere, RepliesAreHere, IsActorAtHome, IsClosed, past-here}

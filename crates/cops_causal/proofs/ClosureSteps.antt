@@ -10,15 +10,15 @@ use Rattle.cops_types.specs.Pairs.{holds}
 use Rattle.cops_types.specs.Records.{exact, latest, greatest_of, kept}
 use Rattle.cops_types.specs.TenantConfig.{TenantConfig}
 use Rattle.cops_types.specs.Version.{Timestamp}
-use Rattle.cops_node.specs.declared.NodeCall.TheVariants.{Get}
-use Rattle.cops_node.specs.declared.NodeReply.{NodeReply}
-use Rattle.cops_node.specs.Place.{Place}
-use Rattle.cops_node.specs.declared.Wanted.{Wanted}
-use Rattle.cops_node.specs.declared.Wanted.TheVariants.{Latest, Exactly}
-use Rattle.cops_node.specs.SoloNode.{SoloNode}
-use Rattle.cops_node.specs.Step.{reply_latest, reply_exact, was_committed}
-use Rattle.cops_repl.specs.Carrier.{pair_of_entry}
-use Rattle.cops_session.specs.Session.{Session, Running, OpenContext, is_open, context_extended}
+use Rattle.cops_model.specs.declared.calls.NodeCall.TheVariants.{Get}
+use Rattle.cops_model.specs.declared.calls.NodeReply.{NodeReply}
+use Rattle.cops_model.specs.Place.{Place}
+use Rattle.cops_model.specs.declared.calls.Wanted.{Wanted}
+use Rattle.cops_model.specs.declared.calls.Wanted.TheVariants.{Latest, Exactly}
+use Rattle.cops_model.specs.SoloNode.{SoloNode}
+use Rattle.cops_model.specs.Step.{reply_latest, reply_exact, was_committed}
+use Rattle.cops_model.specs.Carrier.{pair_of_entry}
+use Rattle.cops_model.specs.Session.{Session, Running, OpenContext, is_open, context_extended}
 use Rattle.cops_model.specs.Causal.{Traced, Operation, Effect, put_by, returned_by, leads_to, past_after, past_of_put}
 use Rattle.cops_model.specs.Cluster.{SoloCluster, Actor, OfSession, OfCarrier, find_session, with_actor}
 use Rattle.cops_causal.proofs.ActorsKeep.{actor_found, session_actor, each-with_actor}

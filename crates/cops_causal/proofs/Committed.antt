@@ -8,18 +8,18 @@ use Rattle.cops_types.specs.declared.records.EntryParts.{EntryParts as Entry}
 use Rattle.cops_types.specs.Context.{all_of, near_of}
 use Rattle.cops_types.specs.Key.{shard_of}
 use Rattle.cops_types.specs.TenantConfig.{TenantConfig}
-use Rattle.cops_node.specs.declared.NodeCall.TheVariants as node_call
-use Rattle.cops_node.specs.declared.NodeId.{NodeId}
-use Rattle.cops_node.specs.declared.NodeReply.{NodeReply}
-use Rattle.cops_node.specs.Log.{LogStep, Late, Replied, Directed, Next, Call, Restart}
-use Rattle.cops_node.specs.Place.{node_number, place_of}
-use Rattle.cops_node.specs.SoloNode.{new_node}
-use Rattle.cops_repl.specs.declared.Progress.{Progress as CarrierProgress}
-use Rattle.cops_repl.specs.declared.Progress.TheVariants as carrier_progress
-use Rattle.cops_repl.specs.Carrier.{Carrier, Stream, ack_call, check, commit_call, new_carrier, pair_of_entry, pull}
-use Rattle.cops_session.specs.declared.Answer.{Answer}
-use Rattle.cops_session.specs.Request.{Action, Fetch, Write, attempt_of, key_home, next}
-use Rattle.cops_session.specs.Session.{Session, Running, OpenContext, obs_of, request_of}
+use Rattle.cops_model.specs.declared.calls.NodeCall.TheVariants as node_call
+use Rattle.cops_model.specs.declared.calls.NodeId.{NodeId}
+use Rattle.cops_model.specs.declared.calls.NodeReply.{NodeReply}
+use Rattle.cops_model.specs.Log.{LogStep, Late, Replied, Directed, Next, Call, Restart}
+use Rattle.cops_model.specs.Place.{node_number, place_of}
+use Rattle.cops_model.specs.SoloNode.{new_node}
+use Rattle.cops_model.specs.declared.deliveries.Progress.{Progress as CarrierProgress}
+use Rattle.cops_model.specs.declared.deliveries.Progress.TheVariants as carrier_progress
+use Rattle.cops_model.specs.Carrier.{Carrier, Stream, ack_call, check, commit_call, new_carrier, pair_of_entry, pull}
+use Rattle.cops_model.specs.declared.requests.Answer.{Answer}
+use Rattle.cops_model.specs.Request.{Action, Fetch, Write, attempt_of, key_home, next}
+use Rattle.cops_model.specs.Session.{Session, Running, OpenContext, obs_of, request_of}
 use Rattle.cops_model.specs.Causal.{Traced}
 use Rattle.cops_model.specs.Cluster.{SoloCluster, Actor, OfSession, OfCarrier, find_session, with_actor, call_node, session_stepped}
 use Rattle.cops_causal.proofs.Closure.{IsHere, IsFoundHere, RepliesAreHere, IsAtHome, IsActorAtHome, IsClosed}
@@ -33,7 +33,7 @@ use Rattle.cops_causal.proofs.NodeEffects.{node_of, call_changes, entries_grow}
 use Rattle.cops_types.proofs.PairSets.{at, Among-holds}
 use Rattle.cops_causal.proofs.Provenance.{IsTraced, IsPutEntry, IsRunning}
 use Rattle.std.specs.Prelude.{not, ◌==◌}
-use Rattle.cops_session.specs.Session.{new_session, context_created, context_deleted, request_begun}
+use Rattle.cops_model.specs.Session.{new_session, context_created, context_deleted, request_begun}
 use Rattle.cops_model.specs.declared.acts.Act.{Act}
 use Rattle.cops_model.specs.Causal.{past_of_put}
 use Rattle.cops_model.specs.Cluster.{NamedActor, new_cluster, has_node, with_new_actor, without_actor, carrier_stepped}
@@ -50,7 +50,7 @@ use Rattle.cops_causal.proofs.StreamMoves.{stage_now, stream_is, flowing_kept, f
 use Rattle.cops_causal.proofs.Streams.{IsFlowing, Delivered}
 use Rattle.cops_causal.proofs.TracedCalls.{home-there}
 use Rattle.cops_causal.proofs.TracedIdle.{session_of, fresh_context}
-use Rattle.cops_session.specs.Request.{call_after, is_late}
+use Rattle.cops_model.specs.Request.{call_after, is_late}
 
 abbrev Before : TenantConfig → SoloCluster → List Traced → Type 0
 Before config = Both (Both (IsTraced config) (IsFlowing config)) (IsClosed config)

@@ -12,7 +12,7 @@ use Rattle.cops_types.specs.Records.{ever, kept, of_key, latest, greatest_of, Ke
 use Rattle.cops_types.specs.TenantConfig.{TenantConfig}
 use Rattle.cops_types.specs.Version.{Timestamp, no_version, version_eq, version_le, version_lt, version_max, greatest}
 use Rattle.cops_types.proofs.VersionOrder.{version_eq-refl, version_le-trans, version_le-antisym, version_max-left, version_max-right, version_max_is_one, version_lt-le_trans, version_lt-irrefl}
-use Rattle.cops_node.specs.SoloNode.{SoloNode}
+use Rattle.cops_model.specs.SoloNode.{SoloNode}
 use Rattle.cops_model.specs.declared.acts.Act.{Act}
 use Rattle.cops_model.specs.Cluster.{SoloCluster}
 use Rattle.cops_model.specs.Laws.{cluster_of, node_at, latest_entry, entries_of, IsConvergent}

@@ -4,21 +4,21 @@ use Rattle.std.specs.Prelude.{Option, Some, None, zero, suc, max, slice_get}
 use Rattle.std.specs.Option.{option_and_then}
 use Rattle.cops_types.specs.TenantConfig.{TenantConfig}
 use Rattle.cops_types.proofs.Zipped.{Zipped}
-use Rattle.cops_node.specs.declared.NodeReply.{NodeReply}
-use Rattle.cops_node.specs.declared.NodeReply.TheVariants.{Pulled}
-use Rattle.cops_node.specs.Log.{Call, Directed, Ended, Late, LogStep, Next, Outcome, Replied, Restart, replies_of}
-use Rattle.cops_repl.specs.declared.Delivery.{Delivery}
-use Rattle.cops_repl.specs.declared.Progress.{Progress as CarrierProgress}
-use Rattle.cops_repl.specs.declared.Progress.TheVariants as carrier_progress
+use Rattle.cops_model.specs.declared.calls.NodeReply.{NodeReply}
+use Rattle.cops_model.specs.declared.calls.NodeReply.TheVariants.{Pulled}
+use Rattle.cops_model.specs.Log.{Call, Directed, Ended, Late, LogStep, Next, Outcome, Replied, Restart, replies_of}
+use Rattle.cops_model.specs.declared.deliveries.Delivery.{Delivery}
+use Rattle.cops_model.specs.declared.deliveries.Progress.{Progress as CarrierProgress}
+use Rattle.cops_model.specs.declared.deliveries.Progress.TheVariants as carrier_progress
 use Rattle.cops_repl.specs.Bounds.{near_in}
-use Rattle.cops_repl.specs.Carrier.{Carrier, carrier_after, finished_delivery, first_end, stream_calls}
-use Rattle.cops_repl.specs.Carrier as carrier
+use Rattle.cops_model.specs.Carrier.{Carrier, carrier_after, finished_delivery, first_end, stream_calls}
+use Rattle.cops_model.specs.Carrier as carrier
 use Rattle.cops_repl.proofs.CarrierCalls.{carrier_replies}
 use Rattle.cops_repl.proofs.CarrierCounts.{call-within, never-restarts}
-use Rattle.cops_session.specs.declared.Answer.{Answer}
-use Rattle.cops_session.specs.Request.{Action, Write, Fetch, Request, Attempt, begins_again, attempt_of, answer, call_after, is_late}
-use Rattle.cops_session.specs.Request as request
-use Rattle.cops_session.specs.Session.{Session, Running, obs_of, has_restarted, moment_at, request_of, session_after, shown}
+use Rattle.cops_model.specs.declared.requests.Answer.{Answer}
+use Rattle.cops_model.specs.Request.{Action, Write, Fetch, Request, Attempt, begins_again, attempt_of, answer, call_after, is_late}
+use Rattle.cops_model.specs.Request as request
+use Rattle.cops_model.specs.Session.{Session, Running, obs_of, has_restarted, moment_at, request_of, session_after, shown}
 use Rattle.cops_session.proofs.ReplyCounts.{gets-few, replies-push, attempt-push}
 use Rattle.cops_session.proofs.RequestReplies.{put-next, put-ends, replies_in, unspent, unanswered-within}
 use Rattle.cops_model.specs.declared.acts.Act.{Act}

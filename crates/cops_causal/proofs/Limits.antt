@@ -13,25 +13,25 @@ use Rattle.cops_types.specs.TenantConfig.{TenantConfig}
 use Rattle.cops_types.proofs.ContextRule.{IsDeps-all_of, all_of-push, near_of-put}
 use Rattle.cops_types.proofs.Elements.{Among, Among-cases, Among-filter, Every-append, Every-at, Every-filter, and_left, and_right, or_cases, map-Among, slice_get-Among}
 use Rattle.cops_types.proofs.PairSets.{at}
-use Rattle.cops_node.specs.declared.NodeCall.TheVariants as node_call
-use Rattle.cops_node.specs.declared.NodeReply.{NodeReply}
-use Rattle.cops_node.specs.declared.NodeReply.TheVariants as node_reply
-use Rattle.cops_node.specs.Log.{LogStep, Outcome, Late, Replied, Directed, Call}
-use Rattle.cops_node.specs.Place.{node_number, place_of}
-use Rattle.cops_node.specs.SoloNode.{new_node}
+use Rattle.cops_model.specs.declared.calls.NodeCall.TheVariants as node_call
+use Rattle.cops_model.specs.declared.calls.NodeReply.{NodeReply}
+use Rattle.cops_model.specs.declared.calls.NodeReply.TheVariants as node_reply
+use Rattle.cops_model.specs.Log.{LogStep, Outcome, Late, Replied, Directed, Call}
+use Rattle.cops_model.specs.Place.{node_number, place_of}
+use Rattle.cops_model.specs.SoloNode.{new_node}
 use Rattle.cops_node.proofs.Chains.{of_origin}
 use Rattle.cops_node.proofs.NodeTurns.{entries, Stores}
-use Rattle.cops_repl.specs.declared.Progress.{Progress as CarrierProgress}
-use Rattle.cops_repl.specs.declared.Progress.TheVariants as carrier_progress
-use Rattle.cops_repl.specs.Carrier.{Carrier, Stream, new_carrier}
+use Rattle.cops_model.specs.declared.deliveries.Progress.{Progress as CarrierProgress}
+use Rattle.cops_model.specs.declared.deliveries.Progress.TheVariants as carrier_progress
+use Rattle.cops_model.specs.Carrier.{Carrier, Stream, new_carrier}
 use Rattle.cops_repl.proofs.CarrierStages.{Stage, Pulling, Delivering, InDelivery, Checking, Committing, Acking}
-use Rattle.cops_session.specs.declared.Answer.{Answer}
-use Rattle.cops_session.specs.declared.Answer.TheVariants as answer_is
-use Rattle.cops_session.specs.declared.Progress.{Progress}
-use Rattle.cops_session.specs.declared.Progress.TheVariants as session_progress
-use Rattle.cops_session.specs.Request.{Action, Fetch, Write, answer, key_home, next}
-use Rattle.cops_session.specs.Session.{OpenContext, Running, Session, context_created, context_deleted, context_extended, get_refusal, has_repeats, is_busy, is_open, new_session, obs_of, request_begun, request_of, seen_in, session_after, session_put_refusal}
-use Rattle.cops_session.specs.Session as session
+use Rattle.cops_model.specs.declared.requests.Answer.{Answer}
+use Rattle.cops_model.specs.declared.requests.Answer.TheVariants as answer_is
+use Rattle.cops_model.specs.declared.requests.Progress.{Progress}
+use Rattle.cops_model.specs.declared.requests.Progress.TheVariants as session_progress
+use Rattle.cops_model.specs.Request.{Action, Fetch, Write, answer, key_home, next}
+use Rattle.cops_model.specs.Session.{OpenContext, Running, Session, context_created, context_deleted, context_extended, get_refusal, has_repeats, is_busy, is_open, new_session, obs_of, request_begun, request_of, seen_in, session_after, session_put_refusal, is_spent}
+use Rattle.cops_model.specs.Session as session
 use Rattle.cops_session.proofs.RequestReplies.{put_request, put-next, put-ends, put-late, put-refused, put-stored, get-next, get-answer}
 use Rattle.cops_model.specs.Causal.{Traced}
 use Rattle.cops_model.specs.Cluster.{SoloCluster, Actor, OfSession, OfCarrier, new_cluster, find_session, with_actor, with_new_actor, call_node, session_stepped, carrier_stepped, has_node}
@@ -49,7 +49,6 @@ use Rattle.cops_causal.proofs.StreamMoves.{stage_now, stream_is}
 use Rattle.cops_causal.proofs.Streams.{Delivered}
 use Rattle.cops_causal.proofs.TracedIdle.{session_of}
 use Rattle.cops_causal.proofs.TracedSteps.{context_of}
-use Rattle.cops_handles.specs.Rows.{is_spent}
 
 never_less : (n : ℕ) → nat_lt n 0 ≡ false
 never_less n = grind (arith, nat_tests)

@@ -8,21 +8,21 @@ use Rattle.cops_types.specs.declared.faults.Fault.TheVariants.{UnknownName, Name
 use Rattle.cops_types.specs.Key.{is_key}
 use Rattle.cops_types.specs.Search.{first_refusal}
 use Rattle.cops_types.specs.TenantConfig.{TenantConfig}
-use Rattle.cops_node.specs.declared.NodeCall.TheVariants as node_call
-use Rattle.cops_node.specs.declared.NodeId.{NodeId}
-use Rattle.cops_node.specs.declared.NodeReply.{NodeReply}
-use Rattle.cops_node.specs.declared.NodeReply.TheVariants as node_reply
-use Rattle.cops_node.specs.Log.{LogStep, Late, Replied, Next, Call, Restart, Ended, Directed}
-use Rattle.cops_session.specs.declared.Answer.{Answer}
-use Rattle.cops_session.specs.Request.{Action, Write, Fetch}
-use Rattle.cops_session.specs.Request as request
-use Rattle.cops_session.specs.Session.{Running, Session, context_created, context_deleted, get_refusal, moment_at, new_session, request_begun, request_of, session_put_refusal}
-use Rattle.cops_repl.specs.declared.Delivery.{Delivery}
-use Rattle.cops_repl.specs.declared.Delivery.TheVariants as delivery
-use Rattle.cops_repl.specs.declared.Progress.{Progress as CarrierProgress}
-use Rattle.cops_repl.specs.declared.Progress.TheVariants as carrier_progress
-use Rattle.cops_repl.specs.Carrier.{Carrier, Stream, new_carrier, carrier_after}
-use Rattle.cops_repl.specs.Carrier as carrier
+use Rattle.cops_model.specs.declared.calls.NodeCall.TheVariants as node_call
+use Rattle.cops_model.specs.declared.calls.NodeId.{NodeId}
+use Rattle.cops_model.specs.declared.calls.NodeReply.{NodeReply}
+use Rattle.cops_model.specs.declared.calls.NodeReply.TheVariants as node_reply
+use Rattle.cops_model.specs.Log.{LogStep, Late, Replied, Next, Call, Restart, Ended, Directed}
+use Rattle.cops_model.specs.declared.requests.Answer.{Answer}
+use Rattle.cops_model.specs.Request.{Action, Write, Fetch}
+use Rattle.cops_model.specs.Request as request
+use Rattle.cops_model.specs.Session.{Running, Session, context_created, context_deleted, get_refusal, moment_at, new_session, request_begun, request_of, session_put_refusal}
+use Rattle.cops_model.specs.declared.deliveries.Delivery.{Delivery}
+use Rattle.cops_model.specs.declared.deliveries.Delivery.TheVariants as delivery
+use Rattle.cops_model.specs.declared.deliveries.Progress.{Progress as CarrierProgress}
+use Rattle.cops_model.specs.declared.deliveries.Progress.TheVariants as carrier_progress
+use Rattle.cops_model.specs.Carrier.{Carrier, Stream, new_carrier, carrier_after}
+use Rattle.cops_model.specs.Carrier as carrier
 use Rattle.cops_model.specs.declared.acts.Act.{Act}
 use Rattle.cops_model.specs.declared.acts.Act.TheVariants.{Step}
 use Rattle.cops_model.specs.declared.replies.Reply.{Reply}

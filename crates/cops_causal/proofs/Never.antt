@@ -9,23 +9,23 @@ use Rattle.cops_types.specs.Key.{is_key}
 use Rattle.cops_types.specs.Search.{first_refusal}
 use Rattle.cops_types.specs.TenantConfig.{TenantConfig}
 use Rattle.cops_types.specs.Value.{is_value}
-use Rattle.cops_node.specs.declared.AuditEntry.{AuditEntry}
-use Rattle.cops_node.specs.declared.NodeCall.TheVariants as node_call
-use Rattle.cops_node.specs.declared.NodeId.{NodeId}
-use Rattle.cops_node.specs.declared.NodeReply.{NodeReply}
-use Rattle.cops_node.specs.declared.NodeReply.TheVariants as node_reply
-use Rattle.cops_node.specs.Log.{LogStep, Late, Replied, Next, Call, Restart, Ended, is_asked}
-use Rattle.cops_node.specs.Place.{node_number, place_of}
-use Rattle.cops_session.specs.declared.Answer.{Answer}
-use Rattle.cops_session.specs.Request.{Action, Write, Fetch, answer, attempt_of, call_after, is_late}
-use Rattle.cops_session.specs.Request as request
-use Rattle.cops_session.specs.Session.{Session, Running, new_session, obs_of, is_open, is_busy, has_repeats, has_restarted, context_created, context_deleted, request_begun, request_of, moment_at}
-use Rattle.cops_session.specs.Session as session
-use Rattle.cops_repl.specs.declared.Delivery.{Delivery}
-use Rattle.cops_repl.specs.declared.Progress.{Progress as CarrierProgress}
-use Rattle.cops_repl.specs.declared.Progress.TheVariants as carrier_progress
-use Rattle.cops_repl.specs.Carrier.{Carrier, Stream, new_carrier, carrier_after}
-use Rattle.cops_repl.specs.Carrier as carrier
+use Rattle.cops_model.specs.declared.calls.AuditEntry.{AuditEntry}
+use Rattle.cops_model.specs.declared.calls.NodeCall.TheVariants as node_call
+use Rattle.cops_model.specs.declared.calls.NodeId.{NodeId}
+use Rattle.cops_model.specs.declared.calls.NodeReply.{NodeReply}
+use Rattle.cops_model.specs.declared.calls.NodeReply.TheVariants as node_reply
+use Rattle.cops_model.specs.Log.{LogStep, Late, Replied, Next, Call, Restart, Ended, is_asked}
+use Rattle.cops_model.specs.Place.{node_number, place_of}
+use Rattle.cops_model.specs.declared.requests.Answer.{Answer}
+use Rattle.cops_model.specs.Request.{Action, Write, Fetch, answer, attempt_of, call_after, is_late}
+use Rattle.cops_model.specs.Request as request
+use Rattle.cops_model.specs.Session.{Session, Running, new_session, obs_of, is_open, is_busy, has_repeats, has_restarted, context_created, context_deleted, request_begun, request_of, moment_at, is_spent}
+use Rattle.cops_model.specs.Session as session
+use Rattle.cops_model.specs.declared.deliveries.Delivery.{Delivery}
+use Rattle.cops_model.specs.declared.deliveries.Progress.{Progress as CarrierProgress}
+use Rattle.cops_model.specs.declared.deliveries.Progress.TheVariants as carrier_progress
+use Rattle.cops_model.specs.Carrier.{Carrier, Stream, new_carrier, carrier_after}
+use Rattle.cops_model.specs.Carrier as carrier
 use Rattle.cops_model.specs.declared.acts.Act.{Act}
 use Rattle.cops_model.specs.declared.acts.Act.TheVariants.{Open, Create, Delete, Put, Get, Show, Carry, Step, Done, Collect}
 use Rattle.cops_model.specs.declared.replies.Reply.{Reply}
@@ -46,7 +46,6 @@ use Rattle.cops_causal.proofs.Served.{IsServed, FineTurn, called, collect_ready,
 use Rattle.cops_causal.proofs.Sound.{IsSound, sound_kept, sound_at_first}
 use Rattle.cops_causal.proofs.TracedIdle.{session_of}
 use Rattle.cops_causal.proofs.Unbroken.{IsFineDelivery, shown_fine, ended_fine, carrier_shown_fine}
-use Rattle.cops_handles.specs.Rows.{is_spent}
 
 abbrev IsFine : Reply → Type 0
 IsFine r = is_expected r ≡ true

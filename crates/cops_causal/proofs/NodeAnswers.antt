@@ -9,21 +9,20 @@ use Rattle.cops_types.specs.declared.records.Record.{Record}
 use Rattle.cops_types.specs.Records.{exact, latest, mark}
 use Rattle.cops_types.specs.Version.{Timestamp, version_eq}
 use Rattle.cops_types.proofs.VersionOrder.{version_eq-refl}
-use Rattle.cops_node.specs.declared.AuditEntry.{AuditEntry}
-use Rattle.cops_node.specs.declared.NodeCall.{NodeCall}
-use Rattle.cops_node.specs.declared.NodeCall.TheVariants.{Get, Put, DepCheck, Pull, Commit, Ack, Collect}
-use Rattle.cops_node.specs.declared.NodeReply.{NodeReply}
-use Rattle.cops_node.specs.declared.NodeReply.TheVariants.{Stored, Committed, Already, OutOfOrder, Acked, NotFront, Refused}
-use Rattle.cops_node.specs.Place.{Place}
-use Rattle.cops_node.specs.declared.Wanted.TheVariants.{Latest, Exactly}
-use Rattle.cops_node.specs.Log.{is_asked, fault_in}
-use Rattle.cops_node.specs.SoloNode.{SoloNode, queue}
-use Rattle.cops_node.specs.Step.{CallEffect, acknowledge, audited, commit_refusal, effect, entry_of_put, node_put_refusal, node_step, put_with_version, reply_exact, reply_latest, reply_pull, store_unless, unchanged, version_of_put, was_committed}
+use Rattle.cops_model.specs.declared.calls.AuditEntry.{AuditEntry}
+use Rattle.cops_model.specs.declared.calls.NodeCall.{NodeCall}
+use Rattle.cops_model.specs.declared.calls.NodeCall.TheVariants.{Get, Put, DepCheck, Pull, Commit, Ack, Collect}
+use Rattle.cops_model.specs.declared.calls.NodeReply.{NodeReply}
+use Rattle.cops_model.specs.declared.calls.NodeReply.TheVariants.{Stored, Committed, Already, OutOfOrder, Acked, NotFront, Refused}
+use Rattle.cops_model.specs.Place.{Place}
+use Rattle.cops_model.specs.declared.calls.Wanted.TheVariants.{Latest, Exactly}
+use Rattle.cops_model.specs.Log.{is_asked, fault_in}
+use Rattle.cops_model.specs.SoloNode.{SoloNode, queue, front}
+use Rattle.cops_model.specs.Step.{CallEffect, acknowledge, audited, commit_refusal, effect, entry_of_put, node_put_refusal, node_step, put_with_version, reply_exact, reply_latest, reply_pull, store_unless, unchanged, version_of_put, was_committed}
 use Rattle.cops_model.specs.declared.replies.Reply.TheVariants as reply
 use Rattle.cops_model.specs.Laws.{is_expected_of_node, is_expected}
 use Rattle.cops_node.proofs.NodeTurns.{Change, IsRefused, Answers, Joined, Taken, IsReply, Stores, Takes, IsRefusal, is_node_fault}
 use Rattle.cops_causal.proofs.TracedCalls.{exact-is}
-use Rattle.cops_node.specs.Queues.{front}
 
 -- ---- the replies
 

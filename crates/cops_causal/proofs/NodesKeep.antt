@@ -4,17 +4,17 @@ use Rattle.std.proofs.lemmas.Bool.Decides.{eqb_tells, leb_tells}
 use Rattle.std.proofs.lemmas.List.{get_or_past}
 use Rattle.cops_types.specs.Records.{KeepsGreatest}
 use Rattle.cops_types.specs.TenantConfig.{TenantConfig}
-use Rattle.cops_node.specs.declared.NodeCall.{NodeCall}
-use Rattle.cops_node.specs.declared.NodeCall.TheVariants.{Collect}
-use Rattle.cops_node.specs.declared.NodeId.{NodeId}
-use Rattle.cops_node.specs.Place.{Place, node_number, place_of}
-use Rattle.cops_node.specs.SoloNode.{SoloNode, new_node}
-use Rattle.cops_node.specs.Step.{node_step}
+use Rattle.cops_model.specs.declared.calls.NodeCall.{NodeCall}
+use Rattle.cops_model.specs.declared.calls.NodeCall.TheVariants.{Collect}
+use Rattle.cops_model.specs.declared.calls.NodeId.{NodeId}
+use Rattle.cops_model.specs.Place.{Place, node_number, place_of}
+use Rattle.cops_model.specs.SoloNode.{SoloNode, new_node}
+use Rattle.cops_model.specs.Step.{node_step}
 use Rattle.cops_node.proofs.Greatest.{KeepsGreatest-push, KeepsGreatest-collected}
 use Rattle.cops_node.proofs.Turns.{after_turn}
-use Rattle.cops_repl.specs.declared.Progress.{Progress}
-use Rattle.cops_repl.specs.declared.Progress.TheVariants as carrier_progress
-use Rattle.cops_repl.specs.Carrier.{Carrier}
+use Rattle.cops_model.specs.declared.deliveries.Progress.{Progress}
+use Rattle.cops_model.specs.declared.deliveries.Progress.TheVariants as carrier_progress
+use Rattle.cops_model.specs.Carrier.{Carrier}
 use Rattle.cops_model.specs.declared.acts.Act.{Act}
 use Rattle.cops_model.specs.Causal.{Traced}
 use Rattle.cops_model.specs.Cluster.{SoloCluster, new_cluster, call_node, carrier_stepped}

@@ -9,12 +9,12 @@ use Rattle.cops_types.specs.Records.{mark}
 use Rattle.cops_types.specs.TenantConfig.{TenantConfig}
 use Rattle.cops_types.specs.Version.{no_version, version_lt, version_le, version_eq}
 use Rattle.cops_types.proofs.VersionOrder.{version_eq-true, version_eq-refl, version_lt-irrefl, version_le-lt_trans}
-use Rattle.cops_node.specs.declared.NodeCall.TheVariants as node_call
-use Rattle.cops_node.specs.declared.NodeReply.{NodeReply}
-use Rattle.cops_node.specs.Place.{node_number, place_of}
-use Rattle.cops_node.specs.SoloNode.{queue}
-use Rattle.cops_node.specs.Step.{was_committed}
-use Rattle.cops_repl.specs.Carrier.{Stream}
+use Rattle.cops_model.specs.declared.calls.NodeCall.TheVariants as node_call
+use Rattle.cops_model.specs.declared.calls.NodeReply.{NodeReply}
+use Rattle.cops_model.specs.Place.{node_number, place_of}
+use Rattle.cops_model.specs.SoloNode.{queue, front}
+use Rattle.cops_model.specs.Step.{was_committed}
+use Rattle.cops_model.specs.Carrier.{Stream}
 use Rattle.cops_model.specs.Cluster.{SoloCluster}
 use Rattle.cops_node.proofs.Chains.{of_origin, IsChain, last_version, chain-at, chain-left, chain-greatest, chain-distinct, front-get, front-next, mark-is, le-mark}
 use Rattle.cops_types.proofs.Elements.{slice_get-Among, Among-filter, and_right}
@@ -22,7 +22,6 @@ use Rattle.cops_causal.proofs.Moves.{IsStream}
 use Rattle.cops_node.proofs.NodeTurns.{entries, Takes}
 use Rattle.cops_causal.proofs.NodeEffects.{node_of}
 use Rattle.cops_causal.proofs.StreamNodes.{held, IsStreamed, MayJoin, AsNext}
-use Rattle.cops_node.specs.Queues.{front}
 
 abbrev pub origin_of : TenantConfig → Stream → ℕ
 origin_of config stream = node_number config.shards stream.origin

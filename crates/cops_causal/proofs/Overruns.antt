@@ -9,26 +9,26 @@ use Rattle.cops_types.specs.Context.{Observation, all_of, near_of, observations_
 use Rattle.cops_types.specs.TenantConfig.{TenantConfig}
 use Rattle.cops_types.proofs.PairSets.{at}
 use Rattle.cops_types.proofs.Zipped.{Zipped}
-use Rattle.cops_node.specs.declared.NodeCall.{NodeCall}
-use Rattle.cops_node.specs.declared.NodeCall.TheVariants.{Get, DepCheck, Pull, Commit}
-use Rattle.cops_node.specs.declared.NodeCall.TheVariants as node_call
-use Rattle.cops_node.specs.declared.NodeReply.{NodeReply}
-use Rattle.cops_node.specs.declared.NodeReply.TheVariants as node_reply
-use Rattle.cops_node.specs.Log.{LogStep, Replied, Directed, Call, Ended, is_asked, fault_in, first_fault}
-use Rattle.cops_node.specs.Place.{place_of}
-use Rattle.cops_node.specs.SoloNode.{SoloNode}
+use Rattle.cops_model.specs.declared.calls.NodeCall.{NodeCall}
+use Rattle.cops_model.specs.declared.calls.NodeCall.TheVariants.{Get, DepCheck, Pull, Commit}
+use Rattle.cops_model.specs.declared.calls.NodeCall.TheVariants as node_call
+use Rattle.cops_model.specs.declared.calls.NodeReply.{NodeReply}
+use Rattle.cops_model.specs.declared.calls.NodeReply.TheVariants as node_reply
+use Rattle.cops_model.specs.Log.{LogStep, Replied, Directed, Call, Ended, is_asked, fault_in, first_fault}
+use Rattle.cops_model.specs.Place.{place_of}
+use Rattle.cops_model.specs.SoloNode.{SoloNode}
 use Rattle.cops_node.proofs.NodeTurns.{Change, IsRefused, Answers, Joined, Taken, IsRefusal, is_node_fault}
-use Rattle.cops_session.specs.declared.Answer.{Answer}
-use Rattle.cops_session.specs.declared.Answer.TheVariants as answer_is
-use Rattle.cops_session.specs.Request.{Attempt, Fetch, answer, answer_in, attempt_of, begins_again, call_or_answer, key_home, next, unless_fault, values_or_full}
-use Rattle.cops_session.specs.Session.{shown}
-use Rattle.cops_session.specs.Transaction.{ReadRequest, gets, final_reads}
+use Rattle.cops_model.specs.declared.requests.Answer.{Answer}
+use Rattle.cops_model.specs.declared.requests.Answer.TheVariants as answer_is
+use Rattle.cops_model.specs.Request.{Attempt, Fetch, answer, answer_in, attempt_of, begins_again, call_or_answer, key_home, next, unless_fault, values_or_full}
+use Rattle.cops_model.specs.Session.{shown}
+use Rattle.cops_model.specs.Transaction.{ReadRequest, gets, final_reads}
 use Rattle.cops_session.proofs.ReplyCounts.{attempt-push}
 use Rattle.cops_session.proofs.RequestReplies.{replies_in, get_request, put_request, call_of, get-next, get-stepped, put-stored, put-refused, unspent}
-use Rattle.cops_repl.specs.declared.Delivery.{Delivery}
-use Rattle.cops_repl.specs.declared.Delivery.TheVariants as delivery
-use Rattle.cops_repl.specs.Carrier.{Stream, call_or_end, end_by, fault_or_end, finished_delivery, first_end, is_foreign, stream_calls, unless_end}
-use Rattle.cops_repl.specs.Carrier as carrier
+use Rattle.cops_model.specs.declared.deliveries.Delivery.{Delivery}
+use Rattle.cops_model.specs.declared.deliveries.Delivery.TheVariants as delivery
+use Rattle.cops_model.specs.Carrier.{Stream, call_or_end, end_by, fault_or_end, finished_delivery, first_end, is_foreign, stream_calls, unless_end}
+use Rattle.cops_model.specs.Carrier as carrier
 use Rattle.cops_repl.proofs.CarrierCalls.{carrier_replies, carrier-next}
 use Rattle.cops_repl.proofs.CarrierStages.{carrier-stepped}
 use Rattle.cops_model.specs.declared.replies.Reply.TheVariants.{Refused}

@@ -7,14 +7,14 @@ use Rattle.std.proofs.lemmas.List.{length-replicate, get_or-replicate, get_or_pa
 use Rattle.cops_types.specs.declared.records.EntryParts.{EntryParts as Entry}
 use Rattle.cops_types.specs.Context.{all_of, near_of}
 use Rattle.cops_types.specs.TenantConfig.{TenantConfig}
-use Rattle.cops_node.specs.declared.NodeCall.TheVariants as node_call
-use Rattle.cops_node.specs.Log.{LogStep, Late, Replied, Directed, Next, Call, Restart, Ended}
-use Rattle.cops_node.specs.Place.{node_number, place_of}
-use Rattle.cops_node.specs.SoloNode.{SoloNode, new_node}
-use Rattle.cops_repl.specs.Carrier.{pair_of_entry}
-use Rattle.cops_session.specs.declared.Answer.{Answer}
-use Rattle.cops_session.specs.Request.{Action, Fetch, Write, answer_in, attempt_of, call_after, is_late, key_home, next, unless_late}
-use Rattle.cops_session.specs.Session.{Session, Running, obs_of, request_of}
+use Rattle.cops_model.specs.declared.calls.NodeCall.TheVariants as node_call
+use Rattle.cops_model.specs.Log.{LogStep, Late, Replied, Directed, Next, Call, Restart, Ended}
+use Rattle.cops_model.specs.Place.{node_number, place_of}
+use Rattle.cops_model.specs.SoloNode.{SoloNode, new_node}
+use Rattle.cops_model.specs.Carrier.{pair_of_entry}
+use Rattle.cops_model.specs.declared.requests.Answer.{Answer}
+use Rattle.cops_model.specs.Request.{Action, Fetch, Write, answer_in, attempt_of, call_after, is_late, key_home, next, unless_late}
+use Rattle.cops_model.specs.Session.{Session, Running, obs_of, request_of}
 use Rattle.cops_model.specs.declared.acts.Act.{Act}
 use Rattle.cops_model.specs.Causal.{Traced, deps_of}
 use Rattle.cops_model.specs.Cluster.{SoloCluster, new_cluster, find_session, call_node, session_stepped}

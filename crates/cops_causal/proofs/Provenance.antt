@@ -8,13 +8,13 @@ use Rattle.cops_types.specs.Context.{all_of, near_of}
 use Rattle.cops_types.specs.Key.{key_eq}
 use Rattle.cops_types.specs.Pairs.{holds, greatest_per_key}
 use Rattle.cops_types.specs.TenantConfig.{TenantConfig}
-use Rattle.cops_node.specs.declared.NodeReply.{NodeReply}
-use Rattle.cops_node.specs.declared.NodeReply.TheVariants.{Found, Pulled}
-use Rattle.cops_node.specs.Log.{LogStep, Outcome, Replied}
-use Rattle.cops_session.specs.Request.{Action, Write, Fetch, answer}
-use Rattle.cops_session.specs.Session.{Session, Running, OpenContext, is_open, request_of}
-use Rattle.cops_session.specs.Transaction.{ReadRequest, gets}
-use Rattle.cops_repl.specs.Carrier.{Carrier, pair_of_entry}
+use Rattle.cops_model.specs.declared.calls.NodeReply.{NodeReply}
+use Rattle.cops_model.specs.declared.calls.NodeReply.TheVariants.{Found, Pulled}
+use Rattle.cops_model.specs.Log.{LogStep, Outcome, Replied}
+use Rattle.cops_model.specs.Request.{Action, Write, Fetch, answer}
+use Rattle.cops_model.specs.Session.{Session, Running, OpenContext, is_open, request_of}
+use Rattle.cops_model.specs.Transaction.{ReadRequest, gets}
+use Rattle.cops_model.specs.Carrier.{Carrier, pair_of_entry}
 use Rattle.cops_model.specs.Causal.{Traced, Operation, put_by, past_of_put, past_after, deps_of}
 use Rattle.cops_model.specs.Cluster.{SoloCluster, Actor, OfSession, OfCarrier}
 use Rattle.cops_causal.proofs.ActorsKeep.{EachActor, IsKnown}

@@ -9,9 +9,9 @@ use Rattle.cops_types.specs.TenantConfig.{TenantConfig}
 use Rattle.cops_types.specs.Version.{Timestamp, version_le}
 use Rattle.cops_types.proofs.PairLists.{version_of-greatest_per_key}
 use Rattle.cops_types.proofs.VersionOrder.{version_le-refl, version_le-trans, version_max-left, version_max-right}
-use Rattle.cops_node.specs.declared.NodeReply.{NodeReply}
-use Rattle.cops_node.specs.Log.{first_fault}
-use Rattle.cops_session.specs.Transaction.{gets, wanted_version, last_read, final_reads}
+use Rattle.cops_model.specs.declared.calls.NodeReply.{NodeReply}
+use Rattle.cops_model.specs.Log.{first_fault}
+use Rattle.cops_model.specs.Transaction.{gets, wanted_version, last_read, final_reads}
 use Rattle.cops_model.specs.Causal.{Traced, Operation, Returned, pair_read, returned_by, past_after, past_of_put, is_not_older, answers_consistently}
 use Rattle.cops_types.proofs.KeyTests.{key_eq-true}
 use Rattle.cops_causal.proofs.ContextPasts.{IsRead}

@@ -10,17 +10,17 @@ use Rattle.cops_types.specs.Context.{all_of, near_of}
 use Rattle.cops_types.specs.Key.{shard_of}
 use Rattle.cops_types.specs.TenantConfig.{TenantConfig}
 use Rattle.cops_types.specs.Version.{Timestamp, version_le}
-use Rattle.cops_node.specs.declared.NodeCall.TheVariants as node_call
-use Rattle.cops_node.specs.declared.NodeReply.{NodeReply}
-use Rattle.cops_node.specs.declared.NodeReply.TheVariants.{Found}
-use Rattle.cops_node.specs.Log.{LogStep, Directed, Call}
-use Rattle.cops_node.specs.Place.{node_number, place_of}
-use Rattle.cops_node.specs.SoloNode.{SoloNode, queue}
-use Rattle.cops_node.specs.Step.{was_committed, reply_pull}
-use Rattle.cops_repl.specs.Carrier.{Stream, ack_call, check, commit_call, is_foreign, pair_of_entry, pull}
-use Rattle.cops_session.specs.Request.{Action, Fetch, Write, key_home, next}
-use Rattle.cops_session.specs.Session.{Session, Running, obs_of, request_of}
-use Rattle.cops_session.specs.Transaction.{ReadRequest, gets, read_of, reads_of, wanted_version}
+use Rattle.cops_model.specs.declared.calls.NodeCall.TheVariants as node_call
+use Rattle.cops_model.specs.declared.calls.NodeReply.{NodeReply}
+use Rattle.cops_model.specs.declared.calls.NodeReply.TheVariants.{Found}
+use Rattle.cops_model.specs.Log.{LogStep, Directed, Call}
+use Rattle.cops_model.specs.Place.{node_number, place_of}
+use Rattle.cops_model.specs.SoloNode.{SoloNode, queue, front}
+use Rattle.cops_model.specs.Step.{was_committed, reply_pull}
+use Rattle.cops_model.specs.Carrier.{Stream, ack_call, check, commit_call, is_foreign, pair_of_entry, pull}
+use Rattle.cops_model.specs.Request.{Action, Fetch, Write, key_home, next}
+use Rattle.cops_model.specs.Session.{Session, Running, obs_of, request_of}
+use Rattle.cops_model.specs.Transaction.{ReadRequest, gets, read_of, reads_of, wanted_version}
 use Rattle.cops_model.specs.Causal.{Traced, past_of_put}
 use Rattle.cops_model.specs.Cluster.{SoloCluster, find_session, call_node, has_node}
 use Rattle.cops_node.proofs.Chains.{of_origin, mark-is, le-mark}
@@ -48,7 +48,6 @@ use Rattle.cops_causal.proofs.TracedCalls.{home-there}
 use Rattle.cops_causal.proofs.TracedIdle.{session_of}
 use Rattle.cops_causal.proofs.Unbroken.{IsOwn, IsFineStep, step_fine}
 use Rattle.cops_session.proofs.WantedVersions.{deps_read, IsAskedFor, IsFirst, IsSecond, asked_for, outdated-is, wanted-among, IsBare, reads_bare}
-use Rattle.cops_node.specs.Queues.{front}
 
 -- a call at a node that is there and ready
 pub record ReadyCall (config : TenantConfig) (c : SoloCluster) (directed : Directed) : Type 0 where

@@ -19,27 +19,27 @@ use Rattle.cops_types.proofs.Elements.{Among, Every-at, Among-map, map-Among, fi
 use Rattle.cops_types.proofs.KeyTests.{key_eq-refl}
 use Rattle.cops_types.proofs.PairSets.{at}
 use Rattle.cops_types.proofs.Zipped.{Zipped, Zipped-left}
-use Rattle.cops_node.specs.declared.NodeCall.TheVariants as node_call
-use Rattle.cops_node.specs.declared.NodeReply.{NodeReply}
-use Rattle.cops_node.specs.declared.NodeReply.TheVariants.{Gone}
-use Rattle.cops_node.specs.declared.Wanted.TheVariants.{Latest, Exactly}
-use Rattle.cops_node.specs.Log.{Call, Directed, Ended, LogStep, Next, Replied, Restart, fault_in, first_fault, replies_of}
-use Rattle.cops_node.specs.Place.{node_number, place_of}
-use Rattle.cops_node.specs.SoloNode.{SoloNode}
+use Rattle.cops_model.specs.declared.calls.NodeCall.TheVariants as node_call
+use Rattle.cops_model.specs.declared.calls.NodeReply.{NodeReply}
+use Rattle.cops_model.specs.declared.calls.NodeReply.TheVariants.{Gone}
+use Rattle.cops_model.specs.declared.calls.Wanted.TheVariants.{Latest, Exactly}
+use Rattle.cops_model.specs.Log.{Call, Directed, Ended, LogStep, Next, Replied, Restart, fault_in, first_fault, replies_of, first_moment}
+use Rattle.cops_model.specs.Place.{node_number, place_of}
+use Rattle.cops_model.specs.SoloNode.{SoloNode}
 use Rattle.cops_node.proofs.NodeTurns.{entries}
-use Rattle.cops_session.specs.declared.Answer.{Answer}
-use Rattle.cops_session.specs.declared.Answer.TheVariants as answer_is
-use Rattle.cops_session.specs.Request.{Action, Attempt, Fetch, Write, answer, attempt_of, begins_again, call_after, call_or_answer, complete, is_late, key_home, request_calls, unless_fault, unless_late}
-use Rattle.cops_session.specs.Request as request
-use Rattle.cops_session.specs.Session.{Session, Running, obs_of, request_of, has_restarted, moment_at}
-use Rattle.cops_session.specs.Session as session
-use Rattle.cops_session.specs.Transaction.{ReadRequest, gets, first_round, second_round, outdated, wanted_version, read_of, reads_of}
+use Rattle.cops_model.specs.declared.requests.Answer.{Answer}
+use Rattle.cops_model.specs.declared.requests.Answer.TheVariants as answer_is
+use Rattle.cops_model.specs.Request.{Action, Attempt, Fetch, Write, answer, attempt_of, begins_again, call_after, call_or_answer, complete, is_late, key_home, request_calls, unless_fault, unless_late}
+use Rattle.cops_model.specs.Request as request
+use Rattle.cops_model.specs.Session.{Session, Running, obs_of, request_of, has_restarted, moment_at}
+use Rattle.cops_model.specs.Session as session
+use Rattle.cops_model.specs.Transaction.{ReadRequest, gets, first_round, second_round, outdated, wanted_version, read_of, reads_of}
 use Rattle.cops_session.proofs.DistinctKeys.{key-read_of}
 use Rattle.cops_session.proofs.RequestReplies.{replies_in, get-next, call_of, put-next}
 use Rattle.cops_session.proofs.WantedVersions.{IsAskedFor, IsFirst, IsSecond, asked_for, outdated-is, wanted-among}
-use Rattle.cops_repl.specs.declared.Delivery.{Delivery}
-use Rattle.cops_repl.specs.Carrier.{Carrier, carrier_after}
-use Rattle.cops_repl.specs.Carrier as carrier
+use Rattle.cops_model.specs.declared.deliveries.Delivery.{Delivery}
+use Rattle.cops_model.specs.Carrier.{Carrier, carrier_after}
+use Rattle.cops_model.specs.Carrier as carrier
 use Rattle.cops_model.specs.declared.acts.Act.{Act}
 use Rattle.cops_model.specs.declared.acts.Act.TheVariants.{Step, Done}
 use Rattle.cops_model.specs.Causal.{Traced}
@@ -64,7 +64,6 @@ use Rattle.cops_causal.proofs.Readiness.{session_ready, carrier_served, deps_her
 use Rattle.cops_causal.proofs.Sound.{IsSound, sound_kept, sound_at_first}
 use Rattle.cops_causal.proofs.StreamMoves.{stage_now, stream_is}
 use Rattle.cops_causal.proofs.TracedIdle.{session_of}
-use Rattle.cops_session.specs.Reading.{first_moment}
 
 -- ---- what is gone was removed
 

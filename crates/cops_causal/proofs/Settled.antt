@@ -9,17 +9,17 @@ use Rattle.cops_types.specs.Key.{shard_of}
 use Rattle.cops_types.specs.TenantConfig.{TenantConfig}
 use Rattle.cops_types.specs.Records.{clock}
 use Rattle.cops_types.specs.Pairs.{greatest_clock}
-use Rattle.cops_node.specs.declared.NodeCall.{NodeCall}
-use Rattle.cops_node.specs.declared.NodeCall.TheVariants as node_call
-use Rattle.cops_node.specs.declared.NodeId.{NodeId}
-use Rattle.cops_node.specs.declared.NodeReply.{NodeReply}
-use Rattle.cops_node.specs.Log.{Directed}
-use Rattle.cops_node.specs.Place.{node_number, own_number, place_of}
-use Rattle.cops_node.specs.SoloNode.{new_node}
-use Rattle.cops_repl.specs.declared.Progress.{Progress}
-use Rattle.cops_repl.specs.declared.Progress.TheVariants as carrier_progress
-use Rattle.cops_repl.specs.Carrier.{Carrier, Stream, ack_call, check, commit_call, pull}
-use Rattle.cops_session.specs.Request.{key_home}
+use Rattle.cops_model.specs.declared.calls.NodeCall.{NodeCall}
+use Rattle.cops_model.specs.declared.calls.NodeCall.TheVariants as node_call
+use Rattle.cops_model.specs.declared.calls.NodeId.{NodeId}
+use Rattle.cops_model.specs.declared.calls.NodeReply.{NodeReply}
+use Rattle.cops_model.specs.Log.{Directed}
+use Rattle.cops_model.specs.Place.{node_number, own_number, place_of}
+use Rattle.cops_model.specs.SoloNode.{new_node}
+use Rattle.cops_model.specs.declared.deliveries.Progress.{Progress}
+use Rattle.cops_model.specs.declared.deliveries.Progress.TheVariants as carrier_progress
+use Rattle.cops_model.specs.Carrier.{Carrier, Stream, ack_call, check, commit_call, pull}
+use Rattle.cops_model.specs.Request.{key_home}
 use Rattle.cops_model.specs.declared.acts.Act.{Act}
 use Rattle.cops_model.specs.Causal.{Traced}
 use Rattle.cops_model.specs.Cluster.{SoloCluster, new_cluster, has_node, call_node, carrier_stepped}

@@ -7,21 +7,21 @@ use Rattle.cops_types.specs.declared.records.EntryParts.{EntryParts as Entry}
 use Rattle.cops_types.specs.Context.{all_of, near_of}
 use Rattle.cops_types.specs.TenantConfig.{TenantConfig}
 use Rattle.cops_types.specs.Version.{no_version}
-use Rattle.cops_node.specs.declared.NodeCall.{NodeCall}
-use Rattle.cops_node.specs.declared.NodeCall.TheVariants as node_call
-use Rattle.cops_node.specs.declared.NodeId.{NodeId}
-use Rattle.cops_node.specs.declared.NodeReply.{NodeReply}
-use Rattle.cops_node.specs.declared.NodeReply.TheVariants.{Checked, Committed, Already}
-use Rattle.cops_node.specs.Log.{LogStep, Replied, Directed, Call}
-use Rattle.cops_node.specs.Place.{node_number, place_of}
-use Rattle.cops_node.specs.SoloNode.{SoloNode, queue}
-use Rattle.cops_node.specs.Step.{was_committed, reply_pull}
-use Rattle.cops_repl.specs.declared.Progress.{Progress}
-use Rattle.cops_repl.specs.declared.Progress.TheVariants as carrier_progress
-use Rattle.cops_repl.specs.Carrier.{Carrier, Stream, ack_call, carrier_after, check, commit_call, new_carrier, pair_of_entry, pull, stream_calls}
-use Rattle.cops_repl.specs.Carrier as carrier
-use Rattle.cops_session.specs.Request.{Action, Fetch, Write, key_home, next}
-use Rattle.cops_session.specs.Session.{Session, Running, obs_of, request_of}
+use Rattle.cops_model.specs.declared.calls.NodeCall.{NodeCall}
+use Rattle.cops_model.specs.declared.calls.NodeCall.TheVariants as node_call
+use Rattle.cops_model.specs.declared.calls.NodeId.{NodeId}
+use Rattle.cops_model.specs.declared.calls.NodeReply.{NodeReply}
+use Rattle.cops_model.specs.declared.calls.NodeReply.TheVariants.{Checked, Committed, Already}
+use Rattle.cops_model.specs.Log.{LogStep, Replied, Directed, Call}
+use Rattle.cops_model.specs.Place.{node_number, place_of}
+use Rattle.cops_model.specs.SoloNode.{SoloNode, queue, front}
+use Rattle.cops_model.specs.Step.{was_committed, reply_pull}
+use Rattle.cops_model.specs.declared.deliveries.Progress.{Progress}
+use Rattle.cops_model.specs.declared.deliveries.Progress.TheVariants as carrier_progress
+use Rattle.cops_model.specs.Carrier.{Carrier, Stream, ack_call, carrier_after, check, commit_call, new_carrier, pair_of_entry, pull, stream_calls}
+use Rattle.cops_model.specs.Carrier as carrier
+use Rattle.cops_model.specs.Request.{Action, Fetch, Write, key_home, next}
+use Rattle.cops_model.specs.Session.{Session, Running, obs_of, request_of}
 use Rattle.cops_model.specs.Causal.{Traced}
 use Rattle.cops_model.specs.Cluster.{SoloCluster, Actor, OfSession, OfCarrier, find_actor, with_actor, with_new_actor, without_actor, has_node, call_node, carrier_stepped}
 use Rattle.cops_causal.proofs.ActorsKeep.{actor_found, each-with_actor, each-with_new, each-without}
@@ -38,8 +38,8 @@ use Rattle.cops_session.proofs.RequestReplies.{put-next, get-next}
 use Rattle.cops_causal.proofs.StreamNodes.{held, MayJoin, streamed_called, held-here}
 use Rattle.cops_causal.proofs.TracedCalls.{home-there}
 use Rattle.cops_causal.proofs.TracedIdle.{session_of}
-use Rattle.cops_node.specs.declared.Wanted.{Wanted}
-use Rattle.cops_node.specs.SoloNode.{new_node}
+use Rattle.cops_model.specs.declared.calls.Wanted.{Wanted}
+use Rattle.cops_model.specs.SoloNode.{new_node}
 use Rattle.cops_model.specs.declared.acts.Act.{Act}
 use Rattle.cops_model.specs.Cluster.{new_cluster}
 use Rattle.cops_model.specs.Laws.{cluster_of, history_of}
@@ -47,7 +47,6 @@ use Rattle.cops_causal.proofs.AfterActs.{after_acts}
 use Rattle.cops_causal.proofs.Past.{traced_kept, traced_at_first, new_nodes}
 use Rattle.cops_causal.proofs.Streams.{DeliveredBy, Delivered, OnStream, IsFlowing, committed-grown, offered-grown, arrived-grown, still_at, carriers_called, carriers_same, put-joins, on_stream-grown}
 use Rattle.std.proofs.lemmas.Bool.Decides.{leb_tells}
-use Rattle.cops_node.specs.Queues.{front}
 
 -- ---- the calls of sessions
 

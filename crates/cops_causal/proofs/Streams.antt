@@ -12,15 +12,15 @@ use Rattle.cops_types.specs.Records.{clock}
 use Rattle.cops_types.specs.TenantConfig.{TenantConfig}
 use Rattle.cops_types.specs.Version.{Timestamp, no_version, version_lt, version_le, version_max, greatest}
 use Rattle.cops_types.proofs.VersionOrder.{greatest-append, version_le-trans, version_max-left}
-use Rattle.cops_node.specs.declared.NodeCall.{NodeCall}
-use Rattle.cops_node.specs.declared.NodeCall.TheVariants as node_call
-use Rattle.cops_node.specs.declared.NodeId.{NodeId}
-use Rattle.cops_node.specs.declared.NodeReply.{NodeReply}
-use Rattle.cops_node.specs.declared.NodeReply.TheVariants.{Checked, Pulled, Committed, Already}
-use Rattle.cops_node.specs.Log.{Directed}
-use Rattle.cops_node.specs.Place.{node_number, own_number, place_of}
-use Rattle.cops_node.specs.Step.{was_committed}
-use Rattle.cops_repl.specs.Carrier.{Stream, pair_of_entry, stream_calls}
+use Rattle.cops_model.specs.declared.calls.NodeCall.{NodeCall}
+use Rattle.cops_model.specs.declared.calls.NodeCall.TheVariants as node_call
+use Rattle.cops_model.specs.declared.calls.NodeId.{NodeId}
+use Rattle.cops_model.specs.declared.calls.NodeReply.{NodeReply}
+use Rattle.cops_model.specs.declared.calls.NodeReply.TheVariants.{Checked, Pulled, Committed, Already}
+use Rattle.cops_model.specs.Log.{Directed}
+use Rattle.cops_model.specs.Place.{node_number, own_number, place_of}
+use Rattle.cops_model.specs.Step.{was_committed}
+use Rattle.cops_model.specs.Carrier.{Stream, pair_of_entry, stream_calls}
 use Rattle.cops_model.specs.Causal.{Traced}
 use Rattle.cops_model.specs.Cluster.{SoloCluster, NamedActor, Actor, OfSession, OfCarrier}
 use Rattle.cops_causal.proofs.ActorsKeep.{EachActor}

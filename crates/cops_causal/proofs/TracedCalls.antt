@@ -15,17 +15,17 @@ use Rattle.cops_types.specs.Records.{Tracked, ever, kept, of_key, exact, latest,
 use Rattle.cops_types.specs.TenantConfig.{TenantConfig}
 use Rattle.cops_types.specs.Version.{Timestamp, version_eq, next_version, last_clock}
 use Rattle.cops_types.proofs.VersionOrder.{version_eq-true}
-use Rattle.cops_node.specs.declared.NodeCall.{NodeCall}
-use Rattle.cops_node.specs.declared.NodeCall.TheVariants.{Get}
-use Rattle.cops_node.specs.declared.NodeId.{NodeId}
-use Rattle.cops_node.specs.declared.NodeReply.{NodeReply}
-use Rattle.cops_node.specs.declared.Wanted.{Wanted}
-use Rattle.cops_node.specs.declared.Wanted.TheVariants.{Latest, Exactly}
-use Rattle.cops_node.specs.Place.{Place, node_number, place_of}
-use Rattle.cops_node.specs.SoloNode.{SoloNode}
-use Rattle.cops_node.specs.Step.{was_committed, reply_latest, reply_exact}
-use Rattle.cops_repl.specs.Carrier.{pair_of_entry}
-use Rattle.cops_session.specs.Request.{key_home}
+use Rattle.cops_model.specs.declared.calls.NodeCall.{NodeCall}
+use Rattle.cops_model.specs.declared.calls.NodeCall.TheVariants.{Get}
+use Rattle.cops_model.specs.declared.calls.NodeId.{NodeId}
+use Rattle.cops_model.specs.declared.calls.NodeReply.{NodeReply}
+use Rattle.cops_model.specs.declared.calls.Wanted.{Wanted}
+use Rattle.cops_model.specs.declared.calls.Wanted.TheVariants.{Latest, Exactly}
+use Rattle.cops_model.specs.Place.{Place, node_number, place_of}
+use Rattle.cops_model.specs.SoloNode.{SoloNode}
+use Rattle.cops_model.specs.Step.{was_committed, reply_latest, reply_exact}
+use Rattle.cops_model.specs.Carrier.{pair_of_entry}
+use Rattle.cops_model.specs.Request.{key_home}
 use Rattle.cops_model.specs.Causal.{Traced}
 use Rattle.cops_model.specs.Cluster.{SoloCluster, NamedActor, Actor, find_actor, session_in, has_node}
 use Rattle.cops_causal.proofs.ActorsKeep.{EachActor, IsKnown}

@@ -6,18 +6,18 @@ use Rattle.cops_types.specs.declared.pairs.Pair.{Pair}
 use Rattle.cops_types.specs.declared.records.EntryParts.{EntryParts as Entry}
 use Rattle.cops_types.specs.TenantConfig.{TenantConfig}
 use Rattle.cops_types.specs.Version.{Timestamp}
-use Rattle.cops_node.specs.declared.NodeCall.TheVariants as node_call
-use Rattle.cops_node.specs.declared.NodeId.{NodeId}
-use Rattle.cops_node.specs.declared.NodeReply.{NodeReply}
-use Rattle.cops_node.specs.declared.NodeReply.TheVariants.{Pulled}
-use Rattle.cops_node.specs.Log.{LogStep, Replied, Directed, Call}
-use Rattle.cops_node.specs.Place.{Place, node_number, own_number, place_of}
-use Rattle.cops_node.specs.SoloNode.{SoloNode, issued, queue}
-use Rattle.cops_node.specs.Step.{reply_pull}
-use Rattle.cops_repl.specs.declared.Progress.{Progress}
-use Rattle.cops_repl.specs.declared.Progress.TheVariants as carrier_progress
-use Rattle.cops_repl.specs.Carrier.{Carrier, Stream, ack_call, carrier_after, check, commit_call, pull}
-use Rattle.cops_repl.specs.Carrier as carrier
+use Rattle.cops_model.specs.declared.calls.NodeCall.TheVariants as node_call
+use Rattle.cops_model.specs.declared.calls.NodeId.{NodeId}
+use Rattle.cops_model.specs.declared.calls.NodeReply.{NodeReply}
+use Rattle.cops_model.specs.declared.calls.NodeReply.TheVariants.{Pulled}
+use Rattle.cops_model.specs.Log.{LogStep, Replied, Directed, Call}
+use Rattle.cops_model.specs.Place.{Place, node_number, own_number, place_of}
+use Rattle.cops_model.specs.SoloNode.{SoloNode, issued, queue, front}
+use Rattle.cops_model.specs.Step.{reply_pull}
+use Rattle.cops_model.specs.declared.deliveries.Progress.{Progress}
+use Rattle.cops_model.specs.declared.deliveries.Progress.TheVariants as carrier_progress
+use Rattle.cops_model.specs.Carrier.{Carrier, Stream, ack_call, carrier_after, check, commit_call, pull}
+use Rattle.cops_model.specs.Carrier as carrier
 use Rattle.cops_model.specs.Causal.{Traced}
 use Rattle.cops_model.specs.Cluster.{SoloCluster, OfCarrier, find_actor, has_node, call_node, carrier_stepped}
 use Rattle.cops_causal.proofs.ActorsKeep.{actor_found, each-with_actor, each-without, known-with_carrier, known-without}
@@ -27,7 +27,6 @@ use Rattle.cops_node.proofs.NodeTurns.{entries, Stores, Change, IsRefused, Answe
 use Rattle.cops_causal.proofs.NodeEffects.{node_of, call_changes}
 use Rattle.cops_causal.proofs.Provenance.{IsPutEntry, IsPulled, IsTraced, IsActor, IsCarrier}
 use Rattle.cops_causal.proofs.TracedCalls.{traced-call, home-there}
-use Rattle.cops_node.specs.Queues.{front}
 
 drop-Among : {A : Type 0} (n : ℕ) (xs : List A) (x : A) → Among x (drop n xs) → Among x xs
 drop-Among zero xs x there = there

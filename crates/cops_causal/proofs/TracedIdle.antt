@@ -9,9 +9,9 @@ use Rattle.cops_types.specs.Context.{can_put}
 use Rattle.cops_types.specs.Key.{key_eq}
 use Rattle.cops_types.specs.Pairs.{holds, greatest_per_key}
 use Rattle.cops_types.specs.TenantConfig.{TenantConfig}
-use Rattle.cops_session.specs.Request.{Action, Write, Fetch}
-use Rattle.cops_session.specs.Session.{Running, Session, context_created, context_deleted, get_refusal, has_repeats, is_busy, is_open, new_session, obs_of, request_begun, session_put_refusal}
-use Rattle.cops_repl.specs.Carrier.{Stream, new_carrier}
+use Rattle.cops_model.specs.Request.{Action, Write, Fetch}
+use Rattle.cops_model.specs.Session.{Running, Session, context_created, context_deleted, get_refusal, has_repeats, is_busy, is_open, new_session, obs_of, request_begun, session_put_refusal, is_spent}
+use Rattle.cops_model.specs.Carrier.{Stream, new_carrier}
 use Rattle.cops_model.specs.Causal.{Traced, put_by, past_after}
 use Rattle.cops_model.specs.Cluster.{SoloCluster, OfSession, OfCarrier, find_actor, find_session, with_actor, with_new_actor}
 use Rattle.cops_causal.proofs.ActorsKeep.{actor_found, session_actor, known_session, each-with_actor, each-with_new, known-with_session, known-with_new}
@@ -21,7 +21,6 @@ use Rattle.cops_types.proofs.Elements.{Among, Every-append, Every-weaker, Every-
 use Rattle.cops_causal.proofs.Moves.{IsStream, head_passes, flipped}
 use Rattle.cops_causal.proofs.Provenance.{IsTraced, IsActor, IsSession, IsContext, IsRunning, IsFound}
 use Rattle.cops_session.proofs.RequestReplies.{put-open, get-open, get-begun}
-use Rattle.cops_handles.specs.Rows.{is_spent}
 
 module _ (config : TenantConfig) (c : SoloCluster) (ts : List Traced) (inv : IsTraced config c ts) where
   pub session_of : (name : List ℕ) (s : Session) → find_session name c ≡ Some s → IsSession config ts name s

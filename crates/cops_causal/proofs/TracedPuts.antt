@@ -11,22 +11,22 @@ use Rattle.cops_types.specs.Pairs.{greatest_per_key, greatest_clock}
 use Rattle.cops_types.specs.Records.{clock}
 use Rattle.cops_types.specs.TenantConfig.{TenantConfig}
 use Rattle.cops_types.specs.Version.{Timestamp}
-use Rattle.cops_node.specs.declared.NodeCall.{NodeCall}
-use Rattle.cops_node.specs.declared.NodeCall.TheVariants.{Put}
-use Rattle.cops_node.specs.declared.NodeId.{NodeId}
-use Rattle.cops_node.specs.declared.NodeReply.{NodeReply}
-use Rattle.cops_node.specs.declared.NodeReply.TheVariants.{Stored, Refused}
-use Rattle.cops_node.specs.Log.{LogStep, Replied}
-use Rattle.cops_node.specs.Place.{node_number, own_number, place_of}
-use Rattle.cops_node.specs.SoloNode.{SoloNode}
-use Rattle.cops_node.specs.Step.{entry_of_put, version_of_put}
-use Rattle.cops_repl.specs.Carrier.{pair_of_entry}
-use Rattle.cops_session.specs.declared.Answer.{Answer}
-use Rattle.cops_session.specs.declared.Answer.TheVariants as answer_is
-use Rattle.cops_session.specs.declared.Progress.{Progress}
-use Rattle.cops_session.specs.declared.Progress.TheVariants as session_progress
-use Rattle.cops_session.specs.Request.{Write, answer, attempt_of, key_home}
-use Rattle.cops_session.specs.Session.{Session, Running, OpenContext, is_open, obs_of, request_of, context_extended, session_after, moment_after, shown, has_restarted}
+use Rattle.cops_model.specs.declared.calls.NodeCall.{NodeCall}
+use Rattle.cops_model.specs.declared.calls.NodeCall.TheVariants.{Put}
+use Rattle.cops_model.specs.declared.calls.NodeId.{NodeId}
+use Rattle.cops_model.specs.declared.calls.NodeReply.{NodeReply}
+use Rattle.cops_model.specs.declared.calls.NodeReply.TheVariants.{Stored, Refused}
+use Rattle.cops_model.specs.Log.{LogStep, Replied}
+use Rattle.cops_model.specs.Place.{node_number, own_number, place_of}
+use Rattle.cops_model.specs.SoloNode.{SoloNode}
+use Rattle.cops_model.specs.Step.{entry_of_put, version_of_put}
+use Rattle.cops_model.specs.Carrier.{pair_of_entry}
+use Rattle.cops_model.specs.declared.requests.Answer.{Answer}
+use Rattle.cops_model.specs.declared.requests.Answer.TheVariants as answer_is
+use Rattle.cops_model.specs.declared.requests.Progress.{Progress}
+use Rattle.cops_model.specs.declared.requests.Progress.TheVariants as session_progress
+use Rattle.cops_model.specs.Request.{Write, answer, attempt_of, key_home}
+use Rattle.cops_model.specs.Session.{Session, Running, OpenContext, is_open, obs_of, request_of, context_extended, session_after, moment_after, shown, has_restarted}
 use Rattle.cops_model.specs.Causal.{Traced, Wrote, past_of_put}
 use Rattle.cops_model.specs.Cluster.{SoloCluster, OfSession, find_session, with_actor, reply_of_progress, session_stepped}
 use Rattle.cops_causal.proofs.ContextPasts.{put_deps, put_past, put_context, put_covered}

@@ -10,17 +10,17 @@ use Rattle.cops_types.specs.Context.{Observation, all_of, near_of, observations_
 use Rattle.cops_types.specs.Key.{key_eq}
 use Rattle.cops_types.specs.Pairs.{greatest_per_key}
 use Rattle.cops_types.specs.TenantConfig.{TenantConfig}
-use Rattle.cops_node.specs.declared.NodeReply.{NodeReply}
-use Rattle.cops_node.specs.declared.NodeReply.TheVariants.{Found}
-use Rattle.cops_node.specs.Log.{LogStep}
-use Rattle.cops_session.specs.declared.Answer.{Answer}
-use Rattle.cops_session.specs.declared.Answer.TheVariants as answer_is
-use Rattle.cops_session.specs.declared.Progress.{Progress}
-use Rattle.cops_session.specs.declared.Progress.TheVariants as session_progress
-use Rattle.cops_session.specs.Request.{Fetch, answer, attempt_of}
-use Rattle.cops_session.specs.Session.{Session, Running, OpenContext, is_open, find_context, obs_of, request_of, context_extended, session_after, moment_after, shown, has_restarted}
-use Rattle.cops_session.specs.Transaction.{ReadRequest, gets, read_of}
-use Rattle.cops_repl.specs.Carrier.{pair_of_entry}
+use Rattle.cops_model.specs.declared.calls.NodeReply.{NodeReply}
+use Rattle.cops_model.specs.declared.calls.NodeReply.TheVariants.{Found}
+use Rattle.cops_model.specs.Log.{LogStep}
+use Rattle.cops_model.specs.declared.requests.Answer.{Answer}
+use Rattle.cops_model.specs.declared.requests.Answer.TheVariants as answer_is
+use Rattle.cops_model.specs.declared.requests.Progress.{Progress}
+use Rattle.cops_model.specs.declared.requests.Progress.TheVariants as session_progress
+use Rattle.cops_model.specs.Request.{Fetch, answer, attempt_of}
+use Rattle.cops_model.specs.Session.{Session, Running, OpenContext, is_open, find_context, obs_of, request_of, context_extended, session_after, moment_after, shown, has_restarted}
+use Rattle.cops_model.specs.Transaction.{ReadRequest, gets, read_of}
+use Rattle.cops_model.specs.Carrier.{pair_of_entry}
 use Rattle.cops_model.specs.Causal.{Traced, Operation, Effect, Returned, put_by, past_after, past_of_put, operation_by}
 use Rattle.cops_model.specs.Cluster.{SoloCluster, OfSession, find_session, with_actor, reply_of_progress, session_stepped}
 use Rattle.cops_causal.proofs.ActorsKeep.{EachActor, IsKnown, each-with_actor, known-with_session}

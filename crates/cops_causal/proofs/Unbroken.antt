@@ -7,21 +7,21 @@ use Rattle.cops_types.specs.declared.faults.Fault.TheVariants.{Overrun, Dependen
 use Rattle.cops_types.specs.declared.records.EntryParts.{EntryParts as Entry}
 use Rattle.cops_types.specs.Context.{Observation, observations_of, can_observe}
 use Rattle.cops_types.specs.TenantConfig.{TenantConfig}
-use Rattle.cops_node.specs.declared.NodeCall.{NodeCall}
-use Rattle.cops_node.specs.declared.NodeCall.TheVariants.{Get, DepCheck, Pull, Commit}
-use Rattle.cops_node.specs.declared.NodeReply.{NodeReply}
-use Rattle.cops_node.specs.declared.NodeReply.TheVariants as node_reply
-use Rattle.cops_node.specs.Log.{Directed, Ended, LogStep, Next, fault_in, first_fault, is_asked, replies_of}
-use Rattle.cops_session.specs.declared.Answer.{Answer}
-use Rattle.cops_session.specs.declared.Answer.TheVariants as answer_is
-use Rattle.cops_session.specs.Request.{Action, Write, Fetch, attempt_of, values_or_full, call_or_answer, unless_fault, answer_in, answer}
-use Rattle.cops_session.specs.Session.{shown}
-use Rattle.cops_session.specs.Transaction.{ReadRequest, gets, final_reads}
-use Rattle.cops_repl.specs.declared.Delivery.{Delivery}
-use Rattle.cops_repl.specs.declared.Progress.{Progress as CarrierProgress}
-use Rattle.cops_repl.specs.declared.Progress.TheVariants as carrier_progress
-use Rattle.cops_repl.specs.Carrier.{Stream, call_or_end, carrier_next, end_by, fault_or_end, finished_delivery, first_end, is_foreign, pull, stream_calls, unless_end}
-use Rattle.cops_repl.specs.Carrier as carrier
+use Rattle.cops_model.specs.declared.calls.NodeCall.{NodeCall}
+use Rattle.cops_model.specs.declared.calls.NodeCall.TheVariants.{Get, DepCheck, Pull, Commit}
+use Rattle.cops_model.specs.declared.calls.NodeReply.{NodeReply}
+use Rattle.cops_model.specs.declared.calls.NodeReply.TheVariants as node_reply
+use Rattle.cops_model.specs.Log.{Directed, Ended, LogStep, Next, fault_in, first_fault, is_asked, replies_of}
+use Rattle.cops_model.specs.declared.requests.Answer.{Answer}
+use Rattle.cops_model.specs.declared.requests.Answer.TheVariants as answer_is
+use Rattle.cops_model.specs.Request.{Action, Write, Fetch, attempt_of, values_or_full, call_or_answer, unless_fault, answer_in, answer}
+use Rattle.cops_model.specs.Session.{shown}
+use Rattle.cops_model.specs.Transaction.{ReadRequest, gets, final_reads}
+use Rattle.cops_model.specs.declared.deliveries.Delivery.{Delivery}
+use Rattle.cops_model.specs.declared.deliveries.Progress.{Progress as CarrierProgress}
+use Rattle.cops_model.specs.declared.deliveries.Progress.TheVariants as carrier_progress
+use Rattle.cops_model.specs.Carrier.{Stream, call_or_end, carrier_next, end_by, fault_or_end, finished_delivery, first_end, is_foreign, pull, stream_calls, unless_end}
+use Rattle.cops_model.specs.Carrier as carrier
 use Rattle.cops_model.specs.Cluster.{reply_of_answer, reply_of_progress, reply_of_delivery}
 use Rattle.cops_model.specs.Laws.{is_expected_of_node, is_expected}
 use Rattle.cops_repl.proofs.CarrierCalls.{carrier_replies}

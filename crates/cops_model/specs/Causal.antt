@@ -8,7 +8,7 @@ use Rattle.cops_types.specs.Key.{key_eq}
 use Rattle.cops_types.specs.Pairs.{holds, greatest_per_key}
 use Rattle.cops_types.specs.TenantConfig.{TenantConfig}
 use Rattle.cops_types.specs.Version.{version_le}
-use Rattle.cops_session.specs.Session.{Session, Running}
+use Rattle.cops_model.specs.Session.{Session, Running}
 use Rattle.cops_model.specs.declared.acts.Act.{Act}
 use Rattle.cops_model.specs.declared.acts.Act.TheVariants.{Step, Done}
 use Rattle.cops_model.specs.declared.replies.Reply.{Reply}

@@ -9,12 +9,12 @@ use Rattle.cops_types.specs.Key.{shard_of}
 use Rattle.cops_types.specs.Pairs.{holds}
 use Rattle.cops_types.specs.Records.{ever, of_key, latest}
 use Rattle.cops_types.specs.TenantConfig.{TenantConfig}
-use Rattle.cops_node.specs.declared.AuditEntry.{AuditEntry}
-use Rattle.cops_node.specs.declared.NodeReply.{NodeReply}
-use Rattle.cops_node.specs.declared.NodeReply.TheVariants as node_reply
-use Rattle.cops_node.specs.Place.{place_of}
-use Rattle.cops_node.specs.SoloNode.{SoloNode, new_node, queue}
-use Rattle.cops_repl.specs.Carrier.{pair_of_entry}
+use Rattle.cops_model.specs.declared.calls.AuditEntry.{AuditEntry}
+use Rattle.cops_model.specs.declared.calls.NodeReply.{NodeReply}
+use Rattle.cops_model.specs.declared.calls.NodeReply.TheVariants as node_reply
+use Rattle.cops_model.specs.Place.{place_of}
+use Rattle.cops_model.specs.SoloNode.{SoloNode, new_node, queue}
+use Rattle.cops_model.specs.Carrier.{pair_of_entry}
 use Rattle.cops_model.specs.declared.acts.Act.{Act}
 use Rattle.cops_model.specs.declared.acts.Act.TheVariants.{Done}
 use Rattle.cops_model.specs.declared.replies.Reply.{Reply}

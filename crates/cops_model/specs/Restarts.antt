@@ -4,15 +4,15 @@ use Rattle.std.specs.List.{list_all, list_any}
 use Rattle.std.specs.Option.{option_and_then}
 use Rattle.cops_types.specs.declared.faults.Fault.TheVariants.{Overrun}
 use Rattle.cops_types.specs.TenantConfig.{TenantConfig}
-use Rattle.cops_session.specs.Request.{attempt_of}
-use Rattle.cops_session.specs.Session.{Session, Running}
+use Rattle.cops_model.specs.Request.{attempt_of}
+use Rattle.cops_model.specs.Session.{Session, Running}
 use Rattle.cops_model.specs.declared.acts.Act.{Act}
 use Rattle.cops_model.specs.declared.acts.Act.TheVariants.{Step, Done, Collect}
 use Rattle.cops_model.specs.declared.replies.Reply.{Reply}
 use Rattle.cops_model.specs.declared.replies.Reply.TheVariants.{Restarted, Refused}
 use Rattle.cops_model.specs.Cluster.{SoloCluster, find_session, actor_step, goes_on, most_steps}
 use Rattle.cops_model.specs.Laws.{cluster_of}
-use Rattle.cops_session.specs.Reading.{first_moment}
+use Rattle.cops_model.specs.Log.{first_moment}
 
 -- the moment that an act hands in, and those of a list of acts
 abbrev pub moment_in : Act → Option ℕ

@@ -11,11 +11,11 @@ use Rattle.cops_types.specs.Version.{last_clock}
 use Rattle.cops_store.specs.Contents.{Contents, rows_of}
 use Rattle.cops_outbox.specs.Queues.{Queues, queue_of}
 use Rattle.cops_node.specs.declared.Terms.{Terms}
-use Rattle.cops_node.specs.Place.{Place}
+use Rattle.cops_model.specs.Place.{Place}
 use Rattle.cops_node.specs.declared.parts.Part.{Part}
 use Rattle.cops_node.specs.declared.Home.{Home}
 use Rattle.cops_node.specs.Parts.{AllFit, IsFresh, IsNode, IsSlotKept, OthersStay, StandsForTrail, place_at, place_for, place_under, solo_in, trail_in, trail_of, trails_of}
-use Rattle.cops_node.specs.declared.AuditEntry.{AuditEntry}
+use Rattle.cops_model.specs.declared.calls.AuditEntry.{AuditEntry}
 use Rattle.cops_node.proofs.Fresh.{fresh_part}
 use Rattle.cops_node.proofs.Slots.{IsNode-set, PlaceIn, map_read, place_elsewhere, place_shown, terms_in_part, trail_elsewhere, trail_read, view_of}
 

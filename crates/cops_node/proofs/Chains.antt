@@ -7,7 +7,7 @@ use Rattle.cops_types.specs.declared.records.Record.{Record}
 use Rattle.cops_types.specs.Records.{mark, ever}
 use Rattle.cops_types.specs.Version.{Timestamp, no_version, version_lt, version_le, version_max, greatest}
 use Rattle.cops_types.proofs.VersionOrder.{version_le-trans, version_lt-trans, version_lt-irrefl, version_lt-le, version_max-left, version_max-right, version_max-absorbs, version_max-comm, version_max-no_version, version_lt-le_trans}
-use Rattle.cops_node.specs.SoloNode.{SoloNode}
+use Rattle.cops_model.specs.SoloNode.{SoloNode}
 use Rattle.cops_node.proofs.NodeTurns.{entries}
 
 abbrev pub of_origin : ℕ → List Entry → List Entry

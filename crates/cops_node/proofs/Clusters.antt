@@ -14,18 +14,18 @@ use Rattle.cops_types.specs.declared.faults.Fault.TheVariants.{OutOfMemory, Audi
 use Rattle.cops_types.specs.Layout.{NODES}
 use Rattle.cops_types.specs.declared.configs.Tenant.{Tenant}
 use Rattle.cops_types.specs.TenantConfig.{TenantConfig, tenant_config}
-use Rattle.cops_node.specs.declared.NodeCall.{NodeCall}
-use Rattle.cops_node.specs.declared.NodeId.{NodeId}
-use Rattle.cops_node.specs.declared.NodeReply.{NodeReply}
-use Rattle.cops_node.specs.declared.NodeReply.TheVariants.{Refused}
+use Rattle.cops_model.specs.declared.calls.NodeCall.{NodeCall}
+use Rattle.cops_model.specs.declared.calls.NodeId.{NodeId}
+use Rattle.cops_model.specs.declared.calls.NodeReply.{NodeReply}
+use Rattle.cops_model.specs.declared.calls.NodeReply.TheVariants.{Refused}
 use Rattle.cops_node.specs.Clusters.{Cluster, nodes_of, HasTenant, solo_at, turn_at, IsTurnOf, IsCall, IsCluster, id_of, new_shared, new_nodes, shape_of, HoldsNodes}
 use Rattle.cops_node.specs.declared.Home.{Home}
 use Rattle.cops_node.specs.Parts.{Shared, home_of, opening_terms, place_at, place_under, site_in, terms_of, trail_of, solo_of, left_by, has_audit_room, IsTurn, AllFit, AuditFits, IsAudited}
-use Rattle.cops_node.specs.Place.{Place, fits, node_number, place_of}
+use Rattle.cops_model.specs.Place.{Place, fits, node_number, place_of}
 use Rattle.cops_node.specs.declared.Shape.{Shape}
 use Rattle.cops_node.specs.Shape.{place_in}
-use Rattle.cops_node.specs.SoloNode.{SoloNode, new_node}
-use Rattle.cops_node.specs.Step.{CallEffect, node_step}
+use Rattle.cops_model.specs.SoloNode.{SoloNode, new_node}
+use Rattle.cops_model.specs.Step.{CallEffect, node_step}
 use Rattle.cops_node.proofs.Slots.{AuditFits-noted, some_same}
 use Rattle.cops_node.proofs.Fresh.{no_calls_fit, replicate_read}
 

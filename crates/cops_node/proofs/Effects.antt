@@ -16,13 +16,12 @@ use Rattle.cops_types.specs.Records.{Tracked, StandsFor, mark, ever, collected, 
 use Rattle.cops_types.specs.Version.{Timestamp, version_le, next_version, last_clock}
 use Rattle.cops_store.specs.Contents.{Contents, rows_of, NoneLater}
 use Rattle.cops_outbox.specs.Queues.{Queues, queue_of, is_full, is_front}
-use Rattle.cops_outbox.specs.Queues as outbox_queues
 use Rattle.cops_node.specs.declared.parts.Counters.{Counters}
-use Rattle.cops_node.specs.declared.NodeReply.TheVariants.{Acked, NotFront, Refused, Stored}
+use Rattle.cops_model.specs.declared.calls.NodeReply.TheVariants.{Acked, NotFront, Refused, Stored}
 use Rattle.cops_node.specs.Parts.{AreMarks, StandsAt, home_at, mark_in}
-use Rattle.cops_node.specs.Place.{Place, is_other_dc, own_number}
-use Rattle.cops_node.specs.SoloNode.{SoloNode, queue, issued}
-use Rattle.cops_node.specs.Step.{CallEffect, acknowledge, committed, entry_of_put, is_outbox_full, node_put_refusal, put, put_with_version, store_unless, unchanged, version_of_put}
+use Rattle.cops_model.specs.Place.{Place, is_other_dc, own_number}
+use Rattle.cops_model.specs.SoloNode.{SoloNode, queue, issued, front}
+use Rattle.cops_model.specs.Step.{CallEffect, acknowledge, committed, entry_of_put, is_outbox_full, node_put_refusal, put, put_with_version, store_unless, unchanged, version_of_put}
 use Rattle.cops_node.proofs.NewRecords.{AreMarks-push, NoneLater-push, NoneLater-raised, clock-push}
 use Rattle.cops_node.proofs.MarkLaws.{ever-collected}
 
@@ -134,7 +133,7 @@ acknowledge_is dc version solo None = refl
 acknowledge_is dc version solo (Some e) = refl
 
 pub StandsAt-acked : (slot dc : ℕ) (version : Timestamp) (b : Bool) (place : Place) (counters : Counters) (store : Contents) (outbox outbox' : Queues) (solo : SoloNode) → StandsAt slot place counters store outbox solo →
-    IsTrue (is_other_dc place dc) → b ≡ is_front version (outbox_queues.front (queue_of slot dc outbox)) →
+    IsTrue (is_other_dc place dc) → b ≡ is_front version (front (queue_of slot dc outbox)) →
     queue_of slot dc outbox' ≡ (if b then drop 1 (queue_of slot dc outbox) else queue_of slot dc outbox) →
     ((at : ℕ) → at ≢ dc → queue_of slot at outbox' ≡ queue_of slot at outbox) →
     outbox'.own ≡ outbox.own → outbox'.tenants ≡ outbox.tenants → length outbox'.queues ≡ length outbox.queues → dc < place.data_centres →
@@ -167,7 +166,7 @@ StandsAt-acked slot dc version true place counters store outbox outbox' solo h o
         let differ : at ≢ dc = λ same. true≢false (sym ((Decides-eqb at dc).1 same) ∙ e) in
         elsewhere at differ ∙ h.queues at is_other ∙ ap (λ n. drop n (issued place solo)) (sym (get_or-set_other solo.acked dc at (get_or solo.acked dc 0 + 1) 0 differ))
 
-    first : (es : List Entry) → drop (get_or solo.acked dc 0) (issued place solo) ≡ es → true ≡ is_front version (outbox_queues.front es) → get_or solo.acked dc 0 + 1 ≤ length (issued place solo)
+    first : (es : List Entry) → drop (get_or solo.acked dc 0) (issued place solo) ≡ es → true ≡ is_front version (front es) → get_or solo.acked dc 0 + 1 ≤ length (issued place solo)
     first [] is h = absurd (true≢false h)
     first (e ∷ es) is h = within_drop (get_or solo.acked dc 0) (issued place solo) e es is
 
@@ -175,7 +174,7 @@ StandsAt-acked slot dc version true place counters store outbox outbox' solo h o
     bound at true e =
         let same : at ≡ dc = (Decides-eqb at dc).0 e in
         subst (λ m. get_or (set solo.acked dc (get_or solo.acked dc 0 + 1)) m 0 ≤ length (issued place solo)) (sym same)
-        (subst (λ n. n ≤ length (issued place solo)) (sym (get_or-set_same solo.acked dc (get_or solo.acked dc 0 + 1) 0 long)) (first (drop (get_or solo.acked dc 0) (issued place solo)) refl (found ∙ ap (λ es. is_front version (outbox_queues.front es)) (h.queues dc other))))
+        (subst (λ n. n ≤ length (issued place solo)) (sym (get_or-set_same solo.acked dc (get_or solo.acked dc 0 + 1) 0 long)) (first (drop (get_or solo.acked dc 0) (issued place solo)) refl (found ∙ ap (λ es. is_front version (front es)) (h.queues dc other))))
     bound at false e =
         let differ : at ≢ dc = λ same. true≢false (sym ((Decides-eqb at dc).1 same) ∙ e) in
         subst (λ n. n ≤ length (issued place solo)) (sym (get_or-set_other solo.acked dc at (get_or solo.acked dc 0 + 1) 0 differ)) (h.acked at)

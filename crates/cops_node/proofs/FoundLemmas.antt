@@ -9,13 +9,13 @@ use Rattle.cops_types.specs.Version.{Timestamp, version_eq}
 use Rattle.cops_types.proofs.Elements.{Among-find, Among-filter}
 use Rattle.cops_types.proofs.GreatestLists.{key_eq-true}
 use Rattle.cops_types.proofs.VersionOrder.{version_eq-true}
-use Rattle.cops_node.specs.declared.NodeCall.TheVariants.{Get}
-use Rattle.cops_node.specs.declared.NodeReply.{NodeReply}
-use Rattle.cops_node.specs.declared.NodeReply.TheVariants.{Found}
-use Rattle.cops_node.specs.declared.Wanted.{Wanted}
-use Rattle.cops_node.specs.declared.Wanted.TheVariants.{Latest, Exactly}
+use Rattle.cops_model.specs.declared.calls.NodeCall.TheVariants.{Get}
+use Rattle.cops_model.specs.declared.calls.NodeReply.{NodeReply}
+use Rattle.cops_model.specs.declared.calls.NodeReply.TheVariants.{Found}
+use Rattle.cops_model.specs.declared.calls.Wanted.{Wanted}
+use Rattle.cops_model.specs.declared.calls.Wanted.TheVariants.{Latest, Exactly}
 use Rattle.cops_node.specs.declared.rows.Exchange.{Exchange}
-use Rattle.cops_node.specs.Step.{found}
+use Rattle.cops_model.specs.Step.{found}
 
 exact_is : (key : List ℕ) (version : Timestamp) (tracked : List Tracked) (r : Record) → Some r ≡ exact key version tracked → (r.entry.key ≡ key) × (r.entry.version ≡ version)
 exact_is key version tracked r is =

@@ -17,12 +17,12 @@ use Rattle.cops_types.specs.Records.{StandsFor}
 use Rattle.cops_types.specs.Version.{Timestamp, no_version, last_clock}
 use Rattle.cops_store.specs.Contents.{Contents, rows_of}
 use Rattle.cops_outbox.specs.Queues.{Queues, queue_of}
-use Rattle.cops_node.specs.declared.NodeId.{NodeId}
+use Rattle.cops_model.specs.declared.calls.NodeId.{NodeId}
 use Rattle.cops_node.specs.declared.Terms.{Terms}
 use Rattle.cops_node.specs.declared.parts.Part.{Part}
 use Rattle.cops_node.specs.declared.Home.{Home}
 use Rattle.cops_node.specs.Parts.{AllFit, IsFresh, IsHome, IsNode, StandsAt, StandsForTrail, home_of, left_by, mark_in, no_calls, opening_terms, place_under, terms_in, terms_of, trails_of}
-use Rattle.cops_node.specs.Place.{Place}
+use Rattle.cops_model.specs.Place.{Place}
 use Rattle.cops_node.proofs.Slots.{PlaceIn, some_same, some_there, terms_in_part, terms_shown, view_of}
 
 -- a list of copies

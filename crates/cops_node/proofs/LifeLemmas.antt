@@ -7,8 +7,8 @@ use Rattle.cops_types.specs.declared.faults.Fault.{Fault}
 use Rattle.cops_types.specs.declared.faults.Fault.TheVariants.{NoSlot, OutOfMemory}
 use Rattle.cops_types.specs.Refusal.{refused_if}
 use Rattle.cops_types.specs.declared.quotas.Quota.{Quota}
-use Rattle.cops_node.specs.declared.AuditEntry.{AuditEntry}
-use Rattle.cops_node.specs.Place.{Place}
+use Rattle.cops_model.specs.declared.calls.AuditEntry.{AuditEntry}
+use Rattle.cops_model.specs.Place.{Place}
 use Rattle.cops_node.specs.Clusters.{HoldsNodes, IsCluster}
 use Rattle.cops_node.specs.declared.Home.{Home}
 use Rattle.cops_node.specs.Parts.{AllFit, AuditFits, IsSlotKept, Shared, is_taken, trail_of}

@@ -10,16 +10,15 @@ use Rattle.cops_types.specs.declared.records.Record.{Record}
 use Rattle.cops_types.specs.Records.{Tracked, ever, exact, latest, mark, collectable}
 use Rattle.cops_types.specs.Search.{first_refusal}
 use Rattle.cops_types.specs.Version.{Timestamp, version_eq}
-use Rattle.cops_node.specs.declared.NodeCall.{NodeCall}
-use Rattle.cops_node.specs.declared.NodeCall.TheVariants.{Get, Put, DepCheck, Pull, Commit, Ack, Collect}
-use Rattle.cops_node.specs.declared.NodeReply.{NodeReply}
-use Rattle.cops_node.specs.declared.NodeReply.TheVariants.{Stored, Checked, Committed, Already, OutOfOrder, Acked, NotFront, Removed, Refused}
-use Rattle.cops_node.specs.Place.{Place}
-use Rattle.cops_node.specs.declared.Wanted.TheVariants.{Latest, Exactly}
-use Rattle.cops_node.specs.SoloNode.{SoloNode, queue}
-use Rattle.cops_node.specs.Step.{CallEffect, acknowledge, audited, commit_refusal, committed, effect, entry_of_put, is_bytes_full, is_outbox_full, is_versions_full, node_put_refusal, node_step, put_with_version, reply_exact, reply_latest, reply_pull, store_unless, unchanged, version_of_put, was_committed}
+use Rattle.cops_model.specs.declared.calls.NodeCall.{NodeCall}
+use Rattle.cops_model.specs.declared.calls.NodeCall.TheVariants.{Get, Put, DepCheck, Pull, Commit, Ack, Collect}
+use Rattle.cops_model.specs.declared.calls.NodeReply.{NodeReply}
+use Rattle.cops_model.specs.declared.calls.NodeReply.TheVariants.{Stored, Checked, Committed, Already, OutOfOrder, Acked, NotFront, Removed, Refused}
+use Rattle.cops_model.specs.Place.{Place}
+use Rattle.cops_model.specs.declared.calls.Wanted.TheVariants.{Latest, Exactly}
+use Rattle.cops_model.specs.SoloNode.{SoloNode, queue, front}
+use Rattle.cops_model.specs.Step.{CallEffect, acknowledge, audited, commit_refusal, committed, effect, entry_of_put, is_bytes_full, is_outbox_full, is_versions_full, node_put_refusal, node_step, put_with_version, reply_exact, reply_latest, reply_pull, store_unless, unchanged, version_of_put, was_committed}
 use Rattle.cops_node.proofs.MarkLaws.{ever-collected}
-use Rattle.cops_outbox.specs.Queues.{front}
 
 -- the entries that the node ever committed, in order
 abbrev pub entries : SoloNode → List Entry

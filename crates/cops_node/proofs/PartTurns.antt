@@ -4,17 +4,17 @@ use Rattle.cops_types.specs.declared.faults.Fault.TheVariants.{AuditFull}
 use Rattle.cops_types.specs.Records.{StandsFor}
 use Rattle.cops_store.specs.Contents.{Contents, rows_of}
 use Rattle.cops_outbox.specs.Queues.{Queues, queue_of}
-use Rattle.cops_node.specs.declared.AuditEntry.{AuditEntry}
-use Rattle.cops_node.specs.declared.NodeCall.{NodeCall}
-use Rattle.cops_node.specs.declared.NodeReply.{NodeReply}
-use Rattle.cops_node.specs.declared.NodeReply.TheVariants.{Refused}
+use Rattle.cops_model.specs.declared.calls.AuditEntry.{AuditEntry}
+use Rattle.cops_model.specs.declared.calls.NodeCall.{NodeCall}
+use Rattle.cops_model.specs.declared.calls.NodeReply.{NodeReply}
+use Rattle.cops_model.specs.declared.calls.NodeReply.TheVariants.{Refused}
 use Rattle.cops_node.specs.declared.Terms.{Terms}
 use Rattle.cops_node.specs.declared.parts.Counters.{Counters}
 use Rattle.cops_node.specs.declared.parts.Part.{Part}
 use Rattle.cops_node.specs.declared.Home.{Home}
 use Rattle.cops_node.specs.Parts.{HasPartRoom, HasSolo, IsDone, IsPartTurn, IsUnchanged, JoinsCalls, OthersStay, StandsAt, StandsForTrail, left_by, place_under, solo_in}
-use Rattle.cops_node.specs.SoloNode.{SoloNode}
-use Rattle.cops_node.specs.Step.{CallEffect, audited, effect, node_step, unchanged}
+use Rattle.cops_model.specs.SoloNode.{SoloNode}
+use Rattle.cops_model.specs.Step.{CallEffect, audited, effect, node_step, unchanged}
 use Rattle.cops_node.proofs.AuditLaws.{trail_of_effect}
 use Rattle.cops_node.proofs.Effects.{StandsAt-raised}
 use Rattle.cops_node.proofs.Slots.{StandsAt-audited, left_by-push, moment_of_effect, step_full, step_open}

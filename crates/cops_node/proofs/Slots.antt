@@ -15,23 +15,23 @@ use Rattle.cops_types.specs.declared.records.EntryParts.{EntryParts as Entry}
 use Rattle.cops_types.specs.Records.{StandsFor, mark}
 use Rattle.cops_types.specs.Version.{Timestamp, version_eq}
 use Rattle.cops_store.specs.Contents.{Contents}
-use Rattle.cops_outbox.specs.Queues.{Queues, front}
-use Rattle.cops_node.specs.declared.AuditEntry.{AuditEntry}
-use Rattle.cops_node.specs.declared.NodeCall.{NodeCall}
-use Rattle.cops_node.specs.declared.NodeCall.TheVariants.{Get, Put, DepCheck, Pull, Commit, Ack, Collect}
+use Rattle.cops_outbox.specs.Queues.{Queues}
+use Rattle.cops_model.specs.declared.calls.AuditEntry.{AuditEntry}
+use Rattle.cops_model.specs.declared.calls.NodeCall.{NodeCall}
+use Rattle.cops_model.specs.declared.calls.NodeCall.TheVariants.{Get, Put, DepCheck, Pull, Commit, Ack, Collect}
 use Rattle.cops_node.specs.declared.Terms.{Terms}
-use Rattle.cops_node.specs.declared.NodeReply.{NodeReply}
-use Rattle.cops_node.specs.declared.NodeReply.TheVariants.{Refused, Stored, Committed}
+use Rattle.cops_model.specs.declared.calls.NodeReply.{NodeReply}
+use Rattle.cops_model.specs.declared.calls.NodeReply.TheVariants.{Refused, Stored, Committed}
 use Rattle.cops_node.specs.declared.parts.Counters.{Counters}
 use Rattle.cops_node.specs.declared.parts.Part.{Part}
 use Rattle.cops_node.specs.Lacking.{MayLack}
 use Rattle.cops_node.specs.declared.Home.{Home}
 use Rattle.cops_node.specs.Parts.{AllFit, HasPartRoom, IsNode, IsPartTurn, IsSoloTurn, IsUnused, JoinsCalls, JoinsTrail, OthersStay, Shared, StandsAt, StandsForTrail, has_audit_room, left_by, noted, place_at, place_under, solo_in, terms_in, trail_in, trail_of, trails_of}
-use Rattle.cops_node.specs.Place.{Place, fits}
+use Rattle.cops_model.specs.Place.{Place, fits}
 use Rattle.cops_node.specs.Run.{calls_in_trail, node_after}
 use Rattle.cops_node.specs.Shape.{place_in}
-use Rattle.cops_node.specs.SoloNode.{SoloNode, new_node, queue}
-use Rattle.cops_node.specs.Step.{CallEffect, acknowledge, audited, commit_refusal, effect, entry_of_put, node_put_refusal, node_step, put_with_version, store_unless, unchanged, version_of_put, was_committed}
+use Rattle.cops_model.specs.SoloNode.{SoloNode, new_node, queue, front}
+use Rattle.cops_model.specs.Step.{CallEffect, acknowledge, audited, commit_refusal, effect, entry_of_put, node_put_refusal, node_step, put_with_version, store_unless, unchanged, version_of_put, was_committed}
 use Rattle.cops_node.proofs.AuditLaws.{node_after-push}
 
 -- ---- the audit

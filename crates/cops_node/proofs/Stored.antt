@@ -10,18 +10,17 @@ use Rattle.cops_types.specs.Pairs.{greatest_clock}
 use Rattle.cops_types.specs.Records.{Tracked, StandsFor, clock, mark}
 use Rattle.cops_types.specs.Version.{Timestamp, version_le, version_eq, next_version, last_clock}
 use Rattle.cops_store.specs.Contents.{Contents, rows_of, rows_in, NoneLater, LacksVersion}
-use Rattle.cops_outbox.specs.Queues.{Queues, front, is_front, queue_of}
-use Rattle.cops_outbox.specs.Queues as outbox_queues
+use Rattle.cops_outbox.specs.Queues.{Queues, is_front, queue_of}
 use Rattle.cops_outbox.specs.declared.outbox.Ack.{Ack as Answer}
 use Rattle.cops_outbox.specs.declared.outbox.Ack.TheVariants as answer
 use Rattle.cops_node.specs.declared.parts.Counters.{Counters}
-use Rattle.cops_node.specs.declared.NodeCall.TheVariants.{Put, Commit, Ack}
-use Rattle.cops_node.specs.declared.NodeReply.{NodeReply}
-use Rattle.cops_node.specs.declared.NodeReply.TheVariants.{Stored, Committed, Already, OutOfOrder, Refused, Acked, NotFront}
+use Rattle.cops_model.specs.declared.calls.NodeCall.TheVariants.{Put, Commit, Ack}
+use Rattle.cops_model.specs.declared.calls.NodeReply.{NodeReply}
+use Rattle.cops_model.specs.declared.calls.NodeReply.TheVariants.{Stored, Committed, Already, OutOfOrder, Refused, Acked, NotFront}
 use Rattle.cops_node.specs.Parts.{IsHome, StandsAt, home_at}
-use Rattle.cops_node.specs.Place.{Place, is_other_dc, is_other_equivalent, own_number}
-use Rattle.cops_node.specs.SoloNode.{SoloNode, queue}
-use Rattle.cops_node.specs.Step.{CallEffect, commit, commit_refusal, committed, effect, entry_of_put, node_put_refusal, put, put_with_version, store_unless, unchanged, version_of_put, was_committed}
+use Rattle.cops_model.specs.Place.{Place, is_other_dc, is_other_equivalent, own_number}
+use Rattle.cops_model.specs.SoloNode.{SoloNode, queue, front}
+use Rattle.cops_model.specs.Step.{CallEffect, commit, commit_refusal, committed, effect, entry_of_put, node_put_refusal, put, put_with_version, store_unless, unchanged, version_of_put, was_committed}
 use Rattle.cops_node.proofs.Effects.{StandsAt-committed, sent, StandsAt-acked, ack_turn, acknowledge_is}
 use Rattle.cops_node.proofs.NewRecords.{is_new, above_marks}
 
@@ -212,7 +211,7 @@ module _ (slot now : ℕ) (place : Place) (counters counters' : Counters) (store
 
 -- ---- an acknowledgement
 
-same_front : (es : List Entry) → front es ≡ outbox_queues.front es
+same_front : (es : List Entry) → front es ≡ front es
 same_front [] = refl
 same_front (e ∷ es) = refl
 
@@ -222,14 +221,14 @@ told_acked true is told found acked not_front = acked found
 told_acked false is told found acked not_front = not_front found
 
 pub ack_done : (slot dc : ℕ) (version : Timestamp) (b : Bool) (place : Place) (counters : Counters) (store : Contents) (outbox outbox' : Queues) (solo : SoloNode) (told : NodeReply) → StandsAt slot place counters store outbox solo →
-    IsTrue (is_other_dc place dc) → b ≡ is_front version (outbox_queues.front (queue_of slot dc outbox)) →
+    IsTrue (is_other_dc place dc) → b ≡ is_front version (front (queue_of slot dc outbox)) →
     queue_of slot dc outbox' ≡ (if b then drop 1 (queue_of slot dc outbox) else queue_of slot dc outbox) →
     ((at : ℕ) → at ≢ dc → queue_of slot at outbox' ≡ queue_of slot at outbox) →
     outbox'.own ≡ outbox.own → outbox'.tenants ≡ outbox.tenants → length outbox'.queues ≡ length outbox.queues →
     told ≡ (if b then Acked else NotFront) →
     (told ≡ (effect place (Ack dc version) solo).reply) × StandsAt slot place counters store outbox' (effect place (Ack dc version) solo).after
 ack_done slot dc version b place counters store outbox outbox' solo told h other found entry elsewhere own queued dcs is =
-    let test : b ≡ is_front version (front (queue place dc solo)) = found ∙ ap (λ es. is_front version (outbox_queues.front es)) (h.queues dc other) ∙ ap (is_front version) (sym (same_front (queue place dc solo))) in
+    let test : b ≡ is_front version (front (queue place dc solo)) = found ∙ ap (λ es. is_front version (front es)) (h.queues dc other) ∙ ap (is_front version) (sym (same_front (queue place dc solo))) in
     let turn : ack_turn b dc solo ≡ effect place (Ack dc version) solo = ap (λ t. ack_turn t dc solo) test ∙ sym (acknowledge_is dc version solo (front (queue place dc solo))) in (
       is ∙ reply b ∙ ap (λ (t : CallEffect). t.reply) turn,
       subst (λ (t : CallEffect). StandsAt slot place counters store outbox' t.after) turn (StandsAt-acked slot dc version b place counters store outbox outbox' solo h other found entry elsewhere own queued dcs (other_dc place dc other).0),

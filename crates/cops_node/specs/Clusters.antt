@@ -5,15 +5,15 @@ use Rattle.cops_types.specs.declared.configs.Config.{Config}
 use Rattle.cops_types.specs.declared.faults.Fault.TheVariants.{OutOfMemory, AuditFull}
 use Rattle.cops_types.specs.Layout.{NODES}
 use Rattle.cops_types.specs.TenantConfig.{TenantConfig}
-use Rattle.cops_node.specs.declared.NodeCall.{NodeCall}
-use Rattle.cops_node.specs.declared.NodeId.{NodeId}
-use Rattle.cops_node.specs.declared.NodeReply.{NodeReply}
-use Rattle.cops_node.specs.declared.NodeReply.TheVariants.{Refused}
+use Rattle.cops_model.specs.declared.calls.NodeCall.{NodeCall}
+use Rattle.cops_model.specs.declared.calls.NodeId.{NodeId}
+use Rattle.cops_model.specs.declared.calls.NodeReply.{NodeReply}
+use Rattle.cops_model.specs.declared.calls.NodeReply.TheVariants.{Refused}
 use Rattle.cops_node.specs.Parts.{AuditFits, Shared, home_of, no_calls, opening_terms, place_at, site_in, solo_of}
-use Rattle.cops_node.specs.Place.{node_number, place_of}
+use Rattle.cops_model.specs.Place.{node_number, place_of}
 use Rattle.cops_node.specs.declared.Shape.{Shape}
-use Rattle.cops_node.specs.SoloNode.{SoloNode, new_node}
-use Rattle.cops_node.specs.Step.{CallEffect, node_step}
+use Rattle.cops_model.specs.SoloNode.{SoloNode, new_node}
+use Rattle.cops_model.specs.Step.{CallEffect, node_step}
 
 -- the sizes, and the nodes by number
 pub record Cluster : Type 0 where

@@ -4,18 +4,18 @@ use Rattle.std.specs.Option.{option_map}
 use Rattle.cops_types.specs.declared.configs.Tenant.{Tenant}
 use Rattle.cops_types.specs.declared.faults.Fault.TheVariants.{NoSlot, UnknownTenant}
 use Rattle.cops_types.specs.Version.{last_clock}
-use Rattle.cops_node.specs.declared.NodeCall.{NodeCall}
-use Rattle.cops_node.specs.declared.NodeReply.TheVariants as node_reply
+use Rattle.cops_model.specs.declared.calls.NodeCall.{NodeCall}
+use Rattle.cops_model.specs.declared.calls.NodeReply.TheVariants as node_reply
 use Rattle.cops_node.specs.declared.hosted.SlotCall.{SlotCall}
 use Rattle.cops_node.specs.declared.hosted.SlotCall.TheVariants.{Own, Admit, Close}
 use Rattle.cops_node.specs.declared.hosted.SlotReply.{SlotReply}
 use Rattle.cops_node.specs.declared.hosted.SlotReply.TheVariants as told
 use Rattle.cops_node.specs.declared.Home.{Home}
 use Rattle.cops_node.specs.Parts.{MOST_SLOTS, Shared, place_at, place_for, solo_of}
-use Rattle.cops_node.specs.Place.{Place, fits}
+use Rattle.cops_model.specs.Place.{Place, fits}
 use Rattle.cops_node.specs.Shape.{place_in}
-use Rattle.cops_node.specs.SoloNode.{SoloNode, new_node}
-use Rattle.cops_node.specs.Step.{node_step}
+use Rattle.cops_model.specs.SoloNode.{SoloNode, new_node}
+use Rattle.cops_model.specs.Step.{node_step}
 
 -- ---- what a slot holds
 

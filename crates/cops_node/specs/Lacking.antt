@@ -1,7 +1,7 @@
 -- Where a turn of a node may be refused for want of memory.
 use Rattle.std.specs.Prelude.{◌≡◌, ℕ, false, IsTrue, Some}
-use Rattle.cops_node.specs.declared.NodeCall.{NodeCall}
-use Rattle.cops_node.specs.Place.{Place}
+use Rattle.cops_model.specs.declared.calls.NodeCall.{NodeCall}
+use Rattle.cops_model.specs.Place.{Place}
 use Rattle.cops_node.specs.declared.hosted.SlotCall.{SlotCall}
 use Rattle.cops_node.specs.declared.hosted.SlotCall.TheVariants.{Own, Admit, Close}
 use Rattle.cops_node.specs.Parts.{Shared, has_audit_room, is_taken, place_at}

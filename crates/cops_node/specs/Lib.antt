@@ -1,11 +1,11 @@
-pub mod Log
-pub mod Place
+pub use Rattle.cops_model.specs.Log
+pub use Rattle.cops_model.specs.Place
 pub mod Rows
 pub mod Run
-pub mod Same
+pub use Rattle.cops_model.specs.Same
 pub mod Shape
-pub mod SoloNode
-pub mod Step
+pub use Rattle.cops_model.specs.SoloNode
+pub use Rattle.cops_model.specs.Step
 pub use Rattle.cops_types.specs.Context
 pub use Rattle.cops_types.specs.Key
 pub use Rattle.cops_types.specs.Pairs

@@ -13,20 +13,20 @@ use Rattle.cops_types.specs.Refusal.{refused_if}
 use Rattle.cops_types.specs.Version.{Timestamp, no_version, last_clock}
 use Rattle.cops_store.specs.Contents.{Contents, rows_of, NoneLater}
 use Rattle.cops_outbox.specs.Queues.{Queues, queue_of}
-use Rattle.cops_node.specs.declared.AuditEntry.{AuditEntry}
+use Rattle.cops_model.specs.declared.calls.AuditEntry.{AuditEntry}
 use Rattle.cops_node.specs.declared.Home.{Home}
-use Rattle.cops_node.specs.declared.NodeCall.{NodeCall}
-use Rattle.cops_node.specs.declared.NodeId.{NodeId}
-use Rattle.cops_node.specs.declared.NodeReply.{NodeReply}
-use Rattle.cops_node.specs.declared.NodeReply.TheVariants.{Refused}
+use Rattle.cops_model.specs.declared.calls.NodeCall.{NodeCall}
+use Rattle.cops_model.specs.declared.calls.NodeId.{NodeId}
+use Rattle.cops_model.specs.declared.calls.NodeReply.{NodeReply}
+use Rattle.cops_model.specs.declared.calls.NodeReply.TheVariants.{Refused}
 use Rattle.cops_node.specs.declared.Terms.{Terms}
 use Rattle.cops_node.specs.declared.parts.Counters.{Counters}
 use Rattle.cops_node.specs.declared.parts.Part.{Part}
-use Rattle.cops_node.specs.Place.{Place, fits, is_other_dc}
+use Rattle.cops_model.specs.Place.{Place, fits, is_other_dc}
 use Rattle.cops_node.specs.Run.{calls_in_trail, node_after}
 use Rattle.cops_node.specs.Shape.{place_in}
-use Rattle.cops_node.specs.SoloNode.{SoloNode, new_node, queue, issued}
-use Rattle.cops_node.specs.Step.{node_step, effect}
+use Rattle.cops_model.specs.SoloNode.{SoloNode, new_node, queue, issued}
+use Rattle.cops_model.specs.Step.{node_step, effect}
 
 -- ---- a node as contracts see it
 

@@ -1,8 +1,8 @@
 -- The calls and replies that rows of an audit stand for.
 use Rattle.std.specs.Prelude.{true, false}
-use Rattle.cops_node.specs.declared.NodeCall.TheVariants.{Get, Put, DepCheck, Pull, Commit, Ack, Collect}
-use Rattle.cops_node.specs.declared.NodeReply.TheVariants.{Found, Absent, NotYet, Stored, Checked, Pulled, Nothing, Committed, Already, OutOfOrder, Acked, NotFront, Removed}
-use Rattle.cops_node.specs.declared.Wanted.TheVariants.{Latest, Exactly}
+use Rattle.cops_model.specs.declared.calls.NodeCall.TheVariants.{Get, Put, DepCheck, Pull, Commit, Ack, Collect}
+use Rattle.cops_model.specs.declared.calls.NodeReply.TheVariants.{Found, Absent, NotYet, Stored, Checked, Pulled, Nothing, Committed, Already, OutOfOrder, Acked, NotFront, Removed}
+use Rattle.cops_model.specs.declared.calls.Wanted.TheVariants.{Latest, Exactly}
 use Rattle.cops_node.specs.declared.rows.Exchange.{Exchange}
 use Rattle.cops_node.specs.declared.rows.Packing.{Packing}
 use Rattle.cops_node.specs.declared.rows.Packing.TheVariants.{PutStored, LatestFound, ExactFound, LatestAbsent, NotCome, WasCommitted, WasNotCommitted, EntryPulled, NothingPulled, EntryCommitted, CommittedBefore, EntryOutOfOrder, FrontAcked, FrontNotAcked, Collected, InFull}

@@ -1,5 +1,5 @@
 -- What came of a step, beside what was to come next.
-use Rattle.cops_node.specs.Log.{Outcome, Late, Replied, Next, Call, Restart}
+use Rattle.cops_model.specs.Log.{Outcome, Late, Replied, Next, Call, Restart}
 
 -- a call was answered by some reply, and a restart made no call
 abbrev pub IsTaken : {A : Type 0} → Next A → Outcome → Type 0

@@ -1,7 +1,7 @@
 -- The calls of a slot at a node, in blocks of one length.
 use Rattle.std.specs.Prelude.{◌≡◌, ℕ, ◌≤◌, List, [], ◌∷◌, ◌++◌, length}
 use Rattle.std.specs.List.{AllByRecursion}
-use Rattle.cops_node.specs.declared.AuditEntry.{AuditEntry}
+use Rattle.cops_model.specs.declared.calls.AuditEntry.{AuditEntry}
 
 -- the calls in order, and how many more can be noted without memory
 pub record Noted : Type 0 where

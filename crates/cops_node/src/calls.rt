@@ -1,7 +1,7 @@
 //! What a call does to what a node keeps of a slot.
 ghost use Rattle.std.specs.Prelude.{◌≡◌, IsTrue, IfOk, OnErr};
 ghost use Rattle.cops_node.specs.Parts.{HasSolo, IsDone, IsUnchanged, OthersStay, place_under};
-ghost use Rattle.cops_node.specs.Place.{fits};
+ghost use Rattle.cops_model.specs.Place.{fits};
 
 use crate::answered::Answered;
 use crate::parts::{self, Counters};

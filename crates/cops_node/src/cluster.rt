@@ -7,13 +7,13 @@ ghost use Rattle.cops_types.specs.Refusal.{IsAnswer, refused_if};
 ghost use Rattle.cops_types.specs.TenantConfig.{tenant_config};
 ghost use Rattle.cops_types.specs.Version.{last_clock};
 ghost use Rattle.cops_types.specs.declared.faults.Fault.TheVariants.{NoSlot};
-ghost use Rattle.cops_node.specs.declared.NodeCall.{NodeCall};
-ghost use Rattle.cops_node.specs.declared.NodeReply.{NodeReply};
+ghost use Rattle.cops_model.specs.declared.calls.NodeCall.{NodeCall};
+ghost use Rattle.cops_model.specs.declared.calls.NodeReply.{NodeReply};
 ghost use Rattle.cops_node.specs.Clusters.{IsCall, IsCluster, HasTenant, nodes_of, new_nodes};
 ghost use Rattle.cops_node.specs.Lives.{AtEach, IsAdmitted, IsClosed};
 ghost use Rattle.cops_node.specs.Parts.{AuditFits, are_clocks, is_taken};
 ghost use Rattle.cops_node.specs.Shape.{Fits};
-ghost use Rattle.cops_node.specs.SoloNode.{new_node};
+ghost use Rattle.cops_model.specs.SoloNode.{new_node};
 ghost use Rattle.std.specs.List.{AllByRecursion, list_any};
 
 use crate::lives::{admit_at_all, close_at_all, is_taken_at_any};

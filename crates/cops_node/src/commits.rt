@@ -4,9 +4,9 @@ ghost use Rattle.cops_types.specs.Records.{Tracked, StandsFor};
 ghost use Rattle.cops_types.specs.Version.{last_clock};
 ghost use Rattle.cops_store.specs.Contents.{rows_of, use_of, refusal, size_of, HasRoom, LacksVersion, NoneLater};
 ghost use Rattle.cops_outbox.specs.Queues.{Queues};
-ghost use Rattle.cops_node.specs.declared.NodeCall.{NodeCall};
+ghost use Rattle.cops_model.specs.declared.calls.NodeCall.{NodeCall};
 ghost use Rattle.cops_node.specs.Parts.{HasSolo, IsDone, IsHome, place_under};
-ghost use Rattle.cops_node.specs.Place.{fits};
+ghost use Rattle.cops_model.specs.Place.{fits};
 
 use crate::answered::Answered;
 use crate::parts::{self, Counters};

@@ -3,8 +3,8 @@ ghost use Rattle.std.specs.Prelude.{◌≡◌, List, None, IfOk};
 ghost use Rattle.cops_types.specs.Records.{Tracked, StandsFor, latest as latest_record, exact as exact_record};
 ghost use Rattle.cops_store.specs.Contents.{rows_of};
 ghost use Rattle.cops_node.specs.Parts.{AreMarks, IsHome};
-ghost use Rattle.cops_node.specs.SoloNode.{SoloNode};
-ghost use Rattle.cops_node.specs.Step.{found as found_reply, reply_latest, reply_exact, reply_get};
+ghost use Rattle.cops_model.specs.SoloNode.{SoloNode};
+ghost use Rattle.cops_model.specs.Step.{found as found_reply, reply_latest, reply_exact, reply_get};
 
 use crate::answered::Answered;
 use crate::parts::{self, Counters};

@@ -7,7 +7,7 @@ ghost use Rattle.cops_types.specs.Version.{last_clock};
 ghost use Rattle.cops_types.specs.Refusal.{IsAnswer};
 ghost use Rattle.cops_node.specs.Lacking.{MayLack};
 ghost use Rattle.cops_node.specs.Parts.{AuditFits, IsAudited, IsSlotKept, IsSoloTurn, IsTurn, JoinsTrail, admit_refusal, are_clocks, has_audit_room, home_of, is_opened_as, is_taken, no_calls, opening_terms, place_at, place_for, solo_of, terms_at, trail_of};
-ghost use Rattle.cops_node.specs.Place.{Place, is_home, is_other_dc, is_other_equivalent, fits};
+ghost use Rattle.cops_model.specs.Place.{Place, is_home, is_other_dc, is_other_equivalent, fits};
 ghost use Rattle.cops_node.specs.Shape.{place_in};
 
 use crate::parts::{self, Part};

@@ -1,7 +1,7 @@
 //! One call at what a node keeps of one slot.
 ghost use Rattle.std.specs.Prelude.{◌≡◌, IsTrue, IfOk, OnErr};
 ghost use Rattle.cops_node.specs.Parts.{HasPartRoom, IsPartTurn, JoinsCalls, OthersStay, StandsForTrail, place_under};
-ghost use Rattle.cops_node.specs.Place.{fits};
+ghost use Rattle.cops_model.specs.Place.{fits};
 
 use crate::parts::{self, Part};
 use crate::{AuditRow, Home, NodeCall, NodeReply, calls};

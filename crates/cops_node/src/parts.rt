@@ -6,7 +6,7 @@ ghost use Rattle.cops_types.specs.Layout.{NODES};
 ghost use Rattle.cops_types.specs.Records.{Tracked, mark};
 ghost use Rattle.cops_types.specs.Version.{version_le, last_clock};
 ghost use Rattle.cops_node.specs.Parts.{AreMarks, IsFresh, IsHome, is_opened_as, mark_in, opening_terms, terms_in, terms_of};
-ghost use Rattle.cops_node.specs.Place.{node_number};
+ghost use Rattle.cops_model.specs.Place.{node_number};
 
 use crate::trails::Trail;
 use crate::{Home, Terms};

@@ -7,12 +7,12 @@ ghost use Rattle.cops_types.specs.Records.{Tracked, StandsFor};
 ghost use Rattle.cops_types.specs.Version.{next_version as version_after, last_clock};
 ghost use Rattle.cops_store.specs.Contents.{rows_of, use_of, refusal, size_of, HasRoom, LacksVersion, NoneLater};
 ghost use Rattle.cops_outbox.specs.Queues.{queue_of, is_full};
-ghost use Rattle.cops_node.specs.declared.NodeCall.{NodeCall};
-ghost use Rattle.cops_node.specs.declared.NodeReply.{NodeReply};
+ghost use Rattle.cops_model.specs.declared.calls.NodeCall.{NodeCall};
+ghost use Rattle.cops_model.specs.declared.calls.NodeReply.{NodeReply};
 ghost use Rattle.cops_node.specs.Parts.{HasSolo, IsDone, IsHome, IsUnchanged, OthersStay, StandsAt, place_under};
-ghost use Rattle.cops_node.specs.Place.{node_number, fits};
-ghost use Rattle.cops_node.specs.SoloNode.{SoloNode};
-ghost use Rattle.cops_node.specs.Step.{node_put_refusal, put as put_turn, unchanged, version_of_put};
+ghost use Rattle.cops_model.specs.Place.{node_number, fits};
+ghost use Rattle.cops_model.specs.SoloNode.{SoloNode};
+ghost use Rattle.cops_model.specs.Step.{node_put_refusal, put as put_turn, unchanged, version_of_put};
 
 use crate::answered::Answered;
 use crate::parts::{self, Counters};

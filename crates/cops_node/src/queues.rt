@@ -1,7 +1,8 @@
 //! What a node answers of its queues.
 ghost use Rattle.std.specs.Prelude.{◌≡◌, ◌<◌, length, IfOk};
-ghost use Rattle.cops_node.specs.Step.{reply_pull};
-ghost use Rattle.cops_outbox.specs.Queues.{front, queue_of};
+ghost use Rattle.cops_model.specs.Step.{reply_pull};
+ghost use Rattle.cops_outbox.specs.Queues.{queue_of};
+ghost use Rattle.cops_model.specs.SoloNode.{front};
 
 use crate::answered::Answered;
 use crate::rows::PackedExchange;

@@ -60,7 +60,7 @@ pub struct AuditRow {
 }
 
 impl Model for AuditRow {
-    ghost use Rattle.cops_node.specs.declared.AuditEntry.{AuditEntry};
+    ghost use Rattle.cops_model.specs.declared.calls.AuditEntry.{AuditEntry};
 
     ghost Value = { AuditEntry };
 

@@ -11,9 +11,9 @@ use Rattle.cops_types.specs.declared.records.EntryParts.{EntryParts as Entry}
 use Rattle.cops_outbox.specs.declared.rows.Row.{Row}
 use Rattle.cops_outbox.specs.declared.rows.Span.{Span}
 use Rattle.cops_outbox.specs.declared.rows.Line.{Line}
-use Rattle.cops_outbox.specs.Queues.{front}
 use Rattle.cops_outbox.specs.Lines.{IsAdded, IsGone, IsLine, IsLineChange, IsLonger, IsNeeded, IsQueueChain, IsRowOf, IsShorter, cell_at, entries_from, entries_in, entry_in, extended, next_in, nowhere, span_at}
 use Rattle.cops_outbox.proofs.Chains.{apart, chain_head, chain_last, chain_rest, chain_front, span_longer, added_elsewhere, gone_behind, gone_elsewhere}
+use Rattle.cops_model.specs.SoloNode.{front}
 
 -- spans written over all of a vector
 pub refilled : (n : ℕ) (new old : List Span) → length new ≡ n → take n (new ++ drop (length new) old) ≡ new

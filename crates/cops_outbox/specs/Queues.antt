@@ -14,10 +14,6 @@ pub record Queues : Type 0 where
 abbrev pub queue_of : ℕ → ℕ → Queues → List Entry
 queue_of slot dc outbox = slice_index_or (slice_index_or outbox.queues dc []) slot []
 
-abbrev pub front : List Entry → Option Entry
-front [] = None
-front (e ∷ es) = Some e
-
 -- the front has this version
 abbrev pub is_front : Timestamp → Option Entry → Bool
 is_front version (Some e) = version_eq e.version version

@@ -3,8 +3,9 @@ ghost use Rattle.std.specs.Prelude.{◌≡◌, ◌≢◌, ℕ, ◌+◌, ◌-◌,
 ghost use Rattle.std.specs.Option.{option_copied};
 ghost use Rattle.std.specs.List.{list_any, range_with_len, AllByRecursion};
 ghost use Rattle.slab.specs.Slab.{HasRoomFor, slab_len};
-ghost use Rattle.cops_outbox.specs.Queues.{front, is_front};
+ghost use Rattle.cops_outbox.specs.Queues.{is_front};
 ghost use Rattle.cops_outbox.specs.Lines.{IsAdded, IsCleared, IsEmpty, IsGone, IsLine, IsLonger, IsNeeded, IsQueueChain, IsRowOf, IsShorter, cell_at, entries_in, extended as span_with, next_in, nowhere, span_at};
+ghost use Rattle.cops_model.specs.SoloNode.{front};
 
 use cops_types::{Entry, Version};
 use slab::Slab;

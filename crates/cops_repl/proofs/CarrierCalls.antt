@@ -4,11 +4,11 @@ use Rattle.std.specs.Prelude.{Option, Some, None, filter_map, length, slice_get}
 use Rattle.std.specs.List.{AllByRecursion, cons_option}
 use Rattle.cops_types.specs.declared.pairs.Pair.{Pair}
 use Rattle.cops_types.specs.declared.records.EntryParts.{EntryParts as Entry}
-use Rattle.cops_node.specs.declared.NodeReply.{NodeReply}
-use Rattle.cops_node.specs.declared.NodeReply.TheVariants.{Pulled}
-use Rattle.cops_node.specs.Log.{LogStep, Outcome, Late, Replied, reply_in, Directed, Call}
-use Rattle.cops_repl.specs.declared.Delivery.{Delivery}
-use Rattle.cops_repl.specs.Carrier.{Stream, ack_call, call_or_end, carrier_next, check, commit_call, delivery, finished_delivery, first_end, pull, stream_calls, unless_end}
+use Rattle.cops_model.specs.declared.calls.NodeReply.{NodeReply}
+use Rattle.cops_model.specs.declared.calls.NodeReply.TheVariants.{Pulled}
+use Rattle.cops_model.specs.Log.{LogStep, Outcome, Late, Replied, reply_in, Directed, Call}
+use Rattle.cops_model.specs.declared.deliveries.Delivery.{Delivery}
+use Rattle.cops_model.specs.Carrier.{Stream, ack_call, call_or_end, carrier_next, check, commit_call, delivery, finished_delivery, first_end, pull, stream_calls, unless_end}
 use Rattle.cops_types.proofs.Elements.{Among, Among-cases, map-Among, slice_get-Among}
 
 abbrev pub carrier_replies : List LogStep → List NodeReply

@@ -3,13 +3,13 @@ use Rattle.std.proofs.Common.{◌≡◌, ℕ, ◌+◌, ◌≤◌, ◌<◌, List,
 use Rattle.std.specs.Prelude.{Option, Some, None, slice_get}
 use Rattle.std.proofs.lemmas.List.{length-map}
 use Rattle.cops_types.proofs.Elements.{slice_get-within}
-use Rattle.cops_node.specs.declared.NodeReply.{NodeReply}
-use Rattle.cops_node.specs.declared.NodeReply.TheVariants.{Pulled}
-use Rattle.cops_node.specs.Log.{LogStep, Directed, Next, Call, Restart, Ended}
-use Rattle.cops_repl.specs.declared.Delivery.{Delivery}
-use Rattle.cops_repl.specs.declared.Progress.TheVariants.{Working}
+use Rattle.cops_model.specs.declared.calls.NodeReply.{NodeReply}
+use Rattle.cops_model.specs.declared.calls.NodeReply.TheVariants.{Pulled}
+use Rattle.cops_model.specs.Log.{LogStep, Directed, Next, Call, Restart, Ended}
+use Rattle.cops_model.specs.declared.deliveries.Delivery.{Delivery}
+use Rattle.cops_model.specs.declared.deliveries.Progress.TheVariants.{Working}
 use Rattle.cops_repl.specs.Bounds.{IsDeliveryBounded, near_in}
-use Rattle.cops_repl.specs.Carrier.{Stream, ack_call, call_or_end, carrier_next, check, commit_call, delivery, finished_delivery, first_end, progress_of, stream_calls, unless_end}
+use Rattle.cops_model.specs.Carrier.{Stream, ack_call, call_or_end, carrier_next, check, commit_call, delivery, finished_delivery, first_end, progress_of, stream_calls, unless_end}
 use Rattle.cops_repl.proofs.CarrierCalls.{carrier_replies, carrier-next}
 
 calls-few : (shards : ℕ) (stream : Stream) (rs : List NodeReply) → length (stream_calls shards stream rs) ≤ length (near_in rs) + 3

@@ -6,12 +6,12 @@ use Rattle.std.specs.Option.{option_or}
 use Rattle.std.proofs.lemmas.List.Elements.{filter_map-append}
 use Rattle.cops_types.specs.declared.pairs.Pair.{Pair}
 use Rattle.cops_types.specs.declared.records.EntryParts.{EntryParts as Entry}
-use Rattle.cops_node.specs.declared.NodeCall.TheVariants as node_call
-use Rattle.cops_node.specs.declared.NodeReply.{NodeReply}
-use Rattle.cops_node.specs.declared.NodeReply.TheVariants.{Checked, Pulled, Committed, Already, OutOfOrder}
-use Rattle.cops_node.specs.Log.{LogStep, Replied, reply_in, Directed, fault_in}
-use Rattle.cops_repl.specs.declared.Delivery.{Delivery}
-use Rattle.cops_repl.specs.Carrier.{Stream, ack_call, check, commit_call, delivery, fault_or_end, first_end, pull, stream_calls}
+use Rattle.cops_model.specs.declared.calls.NodeCall.TheVariants as node_call
+use Rattle.cops_model.specs.declared.calls.NodeReply.{NodeReply}
+use Rattle.cops_model.specs.declared.calls.NodeReply.TheVariants.{Checked, Pulled, Committed, Already, OutOfOrder}
+use Rattle.cops_model.specs.Log.{LogStep, Replied, reply_in, Directed, fault_in}
+use Rattle.cops_model.specs.declared.deliveries.Delivery.{Delivery}
+use Rattle.cops_model.specs.Carrier.{Stream, ack_call, check, commit_call, delivery, fault_or_end, first_end, pull, stream_calls}
 use Rattle.cops_repl.proofs.CarrierCalls.{carrier_replies, NextOf}
 use Rattle.cops_types.proofs.Elements.{Among}
 use Rattle.cops_types.proofs.Zipped.{Zipped, Zipped-push}

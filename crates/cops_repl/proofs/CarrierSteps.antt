@@ -5,14 +5,14 @@ use Rattle.std.proofs.lemmas.List.Elements.{filter_map-append}
 use Rattle.std.proofs.lemmas.Option.{slice_get-get_or}
 use Rattle.cops_types.specs.declared.pairs.Pair.{Pair}
 use Rattle.cops_types.specs.Version.{no_version}
-use Rattle.cops_node.specs.declared.NodeReply.{NodeReply}
-use Rattle.cops_node.specs.Log.{Call, Directed, LogStep, Replied, replies_of, reply_in}
-use Rattle.cops_repl.specs.declared.Delivery.{Delivery}
-use Rattle.cops_repl.specs.declared.Progress.TheVariants.{Working, Done}
+use Rattle.cops_model.specs.declared.calls.NodeReply.{NodeReply}
+use Rattle.cops_model.specs.Log.{Call, Directed, LogStep, Replied, replies_of, reply_in}
+use Rattle.cops_model.specs.declared.deliveries.Delivery.{Delivery}
+use Rattle.cops_model.specs.declared.deliveries.Progress.TheVariants.{Working, Done}
 use Rattle.cops_repl.specs.declared.stages.After.TheVariants.{Goes, Ends}
 use Rattle.cops_repl.specs.declared.stages.Stage.{Stage}
 use Rattle.cops_repl.specs.declared.stages.Stage.TheVariants.{Pulling, Carrying, Stored, Over}
-use Rattle.cops_repl.specs.Carrier.{Carrier, Stream, next_after, progress_of}
+use Rattle.cops_model.specs.Carrier.{Carrier, Stream, next_after, progress_of}
 use Rattle.cops_repl.specs.Stands.{CarrierStandsFor, IsStepFrom, IsStepOf, KeptCarrier, LeadTo, has_ended, stage_is_over}
 use Rattle.cops_repl.proofs.NextSteps.{asks_acknowledge, asks_check, asks_commit, asks_pull}
 

@@ -5,11 +5,11 @@ use Rattle.std.proofs.lemmas.Bool.Decides.{nat_tests}
 use Rattle.std.proofs.lemmas.Nat.{div-mul-add, mod-mul-add}
 use Rattle.cops_types.specs.declared.records.EntryParts.{EntryParts as Entry}
 use Rattle.cops_types.specs.Key.{shard_of}
-use Rattle.cops_node.specs.declared.NodeCall.TheVariants.{Commit}
-use Rattle.cops_node.specs.Place.{fits, node_number}
+use Rattle.cops_model.specs.declared.calls.NodeCall.TheVariants.{Commit}
+use Rattle.cops_model.specs.Place.{fits, node_number}
 use Rattle.cops_node.specs.declared.Shape.{Shape}
 use Rattle.cops_node.specs.Shape.{place_in}
-use Rattle.cops_repl.specs.Carrier.{Stream, is_foreign}
+use Rattle.cops_model.specs.Carrier.{Stream, is_foreign}
 use Rattle.cops_repl.specs.Stands.{RunsIn}
 
 neither : (b c : Bool) → (not b || not c) ≡ false → (b ≡ true) × (c ≡ true)

@@ -7,15 +7,15 @@ use Rattle.std.specs.Option.{option_or}
 use Rattle.cops_types.specs.declared.pairs.Pair.{Pair}
 use Rattle.cops_types.specs.declared.records.EntryParts.{EntryParts as Entry}
 use Rattle.cops_types.specs.Version.{Timestamp}
-use Rattle.cops_node.specs.declared.NodeCall.TheVariants.{Ack, Commit, DepCheck}
-use Rattle.cops_node.specs.declared.NodeReply.{NodeReply}
-use Rattle.cops_node.specs.declared.NodeReply.TheVariants.{Checked, Pulled, Committed, Already, Acked, NotFront}
-use Rattle.cops_node.specs.Log.{Directed, Next, Call, Ended}
-use Rattle.cops_repl.specs.declared.Delivery.{Delivery}
-use Rattle.cops_repl.specs.declared.Delivery.TheVariants.{Carried}
+use Rattle.cops_model.specs.declared.calls.NodeCall.TheVariants.{Ack, Commit, DepCheck}
+use Rattle.cops_model.specs.declared.calls.NodeReply.{NodeReply}
+use Rattle.cops_model.specs.declared.calls.NodeReply.TheVariants.{Checked, Pulled, Committed, Already, Acked, NotFront}
+use Rattle.cops_model.specs.Log.{Directed, Next, Call, Ended}
+use Rattle.cops_model.specs.declared.deliveries.Delivery.{Delivery}
+use Rattle.cops_model.specs.declared.deliveries.Delivery.TheVariants.{Carried}
 use Rattle.cops_repl.specs.declared.stages.After.TheVariants.{Goes, Ends}
 use Rattle.cops_repl.specs.declared.stages.Stage.TheVariants.{Pulling, Carrying, Stored}
-use Rattle.cops_repl.specs.Carrier.{Stream, ack_call, call_or_end, check, commit_call, end_of, first_end, is_acked, is_committed, is_foreign, next_after, pair_of_entry, pull, unless_end}
+use Rattle.cops_model.specs.Carrier.{Stream, ack_call, call_or_end, check, commit_call, end_of, first_end, is_acked, is_committed, is_foreign, next_after, pair_of_entry, pull, unless_end}
 use Rattle.cops_repl.specs.Stands.{AsksNext, FollowsReply, reply_of_ack, reply_of_commit}
 
 module _ (shards : ℕ) (stream : Stream) where

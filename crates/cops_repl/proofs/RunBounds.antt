@@ -4,11 +4,11 @@ use Rattle.std.specs.Prelude.{Option, Some, None, slice_get}
 use Rattle.std.proofs.lemmas.List.{length-append, length-map}
 use Rattle.std.proofs.lemmas.Option.{slice_get_within}
 use Rattle.cops_types.specs.declared.pairs.Pair.{Pair}
-use Rattle.cops_node.specs.declared.NodeReply.{NodeReply}
-use Rattle.cops_node.specs.declared.NodeReply.TheVariants.{Pulled}
-use Rattle.cops_node.specs.Log.{Directed, LogStep, replies_of}
-use Rattle.cops_repl.specs.declared.Delivery.{Delivery}
-use Rattle.cops_repl.specs.Carrier.{Stream, ack_call, call_or_end, carrier_next, check, commit_call, finished_delivery, first_end, has_answer, near_pairs, stream_calls, unless_end}
+use Rattle.cops_model.specs.declared.calls.NodeReply.{NodeReply}
+use Rattle.cops_model.specs.declared.calls.NodeReply.TheVariants.{Pulled}
+use Rattle.cops_model.specs.Log.{Directed, LogStep, replies_of}
+use Rattle.cops_model.specs.declared.deliveries.Delivery.{Delivery}
+use Rattle.cops_model.specs.Carrier.{Stream, ack_call, call_or_end, carrier_next, check, commit_call, finished_delivery, first_end, has_answer, near_pairs, stream_calls, unless_end}
 
 -- a carrier without an answer has a call left
 unanswered : (ending : Option Delivery) (call : Option Directed) (answer : Delivery) → has_answer (unless_end ending (call_or_end call answer)) ≡ false → (d : Directed) × (call ≡ Some d)

@@ -1,11 +1,11 @@
 -- How many node replies a carrier has.
 use Rattle.std.specs.Prelude.{◌≡◌, ℕ, ◌+◌, ◌≤◌, List, [], ◌∷◌, length}
 use Rattle.cops_types.specs.declared.pairs.Pair.{Pair}
-use Rattle.cops_node.specs.declared.NodeReply.{NodeReply}
-use Rattle.cops_node.specs.declared.NodeReply.TheVariants.{Pulled}
-use Rattle.cops_node.specs.Log.{LogStep, replies_of}
-use Rattle.cops_repl.specs.declared.Progress.TheVariants.{Working}
-use Rattle.cops_repl.specs.Carrier.{Stream, carrier_next, progress_of}
+use Rattle.cops_model.specs.declared.calls.NodeReply.{NodeReply}
+use Rattle.cops_model.specs.declared.calls.NodeReply.TheVariants.{Pulled}
+use Rattle.cops_model.specs.Log.{LogStep, replies_of}
+use Rattle.cops_model.specs.declared.deliveries.Progress.TheVariants.{Working}
+use Rattle.cops_model.specs.Carrier.{Stream, carrier_next, progress_of}
 
 -- the near pairs of the entry that was pulled, none before
 abbrev pub near_in : List NodeReply → List Pair

@@ -3,12 +3,12 @@ use Rattle.std.specs.Prelude.{◌≡◌, ℕ, ◌+◌, ◌^◌, ◌<◌, ◌≤�
 use Rattle.std.specs.List.{flat_map, range_with_len}
 use Rattle.cops_types.specs.declared.faults.Fault.{Fault}
 use Rattle.cops_types.specs.declared.faults.Fault.TheVariants.{Torn}
-use Rattle.cops_node.specs.declared.NodeCall.{NodeCall}
-use Rattle.cops_node.specs.declared.NodeCall.TheVariants.{Collect}
-use Rattle.cops_node.specs.declared.NodeId.{NodeId}
-use Rattle.cops_node.specs.declared.NodeReply.{NodeReply}
-use Rattle.cops_node.specs.declared.NodeReply.TheVariants.{Removed}
-use Rattle.cops_node.specs.Log.{fault_in}
+use Rattle.cops_model.specs.declared.calls.NodeCall.{NodeCall}
+use Rattle.cops_model.specs.declared.calls.NodeCall.TheVariants.{Collect}
+use Rattle.cops_model.specs.declared.calls.NodeId.{NodeId}
+use Rattle.cops_model.specs.declared.calls.NodeReply.{NodeReply}
+use Rattle.cops_model.specs.declared.calls.NodeReply.TheVariants.{Removed}
+use Rattle.cops_model.specs.Log.{fault_in}
 
 -- the nodes of a data centre, by shard
 abbrev pub nodes_of_data_centre : ℕ → ℕ → List NodeId

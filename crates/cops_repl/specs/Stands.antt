@@ -1,18 +1,18 @@
 -- What a carrier keeps, and which carriers of the definition it stands for.
 use Rattle.std.specs.Prelude.{◌≡◌, ◌≢◌, ℕ, ◌<◌, ◌≤◌, Bool, true, false, List, [], ◌∷◌, ◌++◌, length, replicate, if◌then◌else◌}
 use Rattle.cops_types.specs.declared.records.EntryParts.{EntryParts as Entry}
-use Rattle.cops_node.specs.declared.NodeReply.{NodeReply}
-use Rattle.cops_node.specs.declared.NodeReply.TheVariants.{Checked, Pulled, Committed, Already, Acked, NotFront}
-use Rattle.cops_node.specs.Log.{Call, Directed, Ended, LogStep, replies_of}
+use Rattle.cops_model.specs.declared.calls.NodeReply.{NodeReply}
+use Rattle.cops_model.specs.declared.calls.NodeReply.TheVariants.{Checked, Pulled, Committed, Already, Acked, NotFront}
+use Rattle.cops_model.specs.Log.{Call, Directed, Ended, LogStep, replies_of}
 use Rattle.cops_node.specs.declared.Shape.{Shape}
-use Rattle.cops_repl.specs.declared.Progress.{Progress}
-use Rattle.cops_repl.specs.declared.Progress.TheVariants.{Working, Done}
+use Rattle.cops_model.specs.declared.deliveries.Progress.{Progress}
+use Rattle.cops_model.specs.declared.deliveries.Progress.TheVariants.{Working, Done}
 use Rattle.cops_repl.specs.declared.stages.After.{After}
 use Rattle.cops_repl.specs.declared.stages.After.TheVariants.{Goes, Ends}
 use Rattle.cops_repl.specs.declared.stages.Route.{Route}
 use Rattle.cops_repl.specs.declared.stages.Stage.{Stage}
 use Rattle.cops_repl.specs.declared.stages.Stage.TheVariants.{Pulling, Carrying, Stored, Over}
-use Rattle.cops_repl.specs.Carrier.{Carrier, Stream, carrier_after, carrier_next, delivery_progress, is_foreign, next_after, pair_of_entry}
+use Rattle.cops_model.specs.Carrier.{Carrier, Stream, carrier_after, carrier_next, delivery_progress, is_foreign, next_after, pair_of_entry}
 
 -- ---- what contracts see of a carrier
 

@@ -1,7 +1,7 @@
 ghost use Rattle.std.specs.Prelude.{ℕ, List};
-ghost use Rattle.cops_node.specs.Log.{LogStep};
+ghost use Rattle.cops_model.specs.Log.{LogStep};
 ghost use Rattle.cops_repl.specs.Bounds.{IsDeliveryBounded};
-ghost use Rattle.cops_repl.specs.Carrier.{Stream};
+ghost use Rattle.cops_model.specs.Carrier.{Stream};
 
 /// Whatever the nodes reply, a carrier without an answer has had at most one reply for each near pair
 /// of the entry that it pulled, and three more.

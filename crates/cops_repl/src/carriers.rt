@@ -1,7 +1,7 @@
 ghost use Rattle.std.specs.Prelude.{◌≡◌, ℕ, ◌<◌, max, false};
-ghost use Rattle.cops_node.specs.declared.NodeReply.{NodeReply};
-ghost use Rattle.cops_node.specs.Log.{Directed, Replied};
-ghost use Rattle.cops_repl.specs.Carrier.{Carrier as Solo, new_carrier};
+ghost use Rattle.cops_model.specs.declared.calls.NodeReply.{NodeReply};
+ghost use Rattle.cops_model.specs.Log.{Directed, Replied};
+ghost use Rattle.cops_model.specs.Carrier.{Carrier as Solo, new_carrier};
 ghost use Rattle.cops_repl.specs.Stands.{CarrierStandsFor, IsStepOf, RunsIn, has_ended, is_done};
 
 use crate::Progress;

@@ -1,5 +1,5 @@
 ghost use Rattle.std.specs.Prelude.{◌≡◌, ℕ, ◌+◌, ◌^◌, ◌<◌, MatchResult};
-ghost use Rattle.cops_node.specs.declared.NodeReply.TheVariants.{Removed};
+ghost use Rattle.cops_model.specs.declared.calls.NodeReply.TheVariants.{Removed};
 ghost use Rattle.cops_repl.specs.Collections.{CollectsAll, StopsAt, all_nodes, nodes_of_data_centre};
 
 use cops_node::{NodeCall, NodeId, NodeReply, Nodes};

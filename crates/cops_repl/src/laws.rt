@@ -1,6 +1,6 @@
 ghost use Rattle.std.specs.Prelude.{◌≡◌, ℕ, ◌+◌, ◌≤◌, List, length, false};
-ghost use Rattle.cops_node.specs.Log.{LogStep, replies_of};
-ghost use Rattle.cops_repl.specs.Carrier.{Stream, carrier_next, has_answer, near_pairs};
+ghost use Rattle.cops_model.specs.Log.{LogStep, replies_of};
+ghost use Rattle.cops_model.specs.Carrier.{Stream, carrier_next, has_answer, near_pairs};
 
 /// A carrier without an answer has had at most as many replies as the entry has near pairs, and two
 /// more: with one more reply at the latest it has ended.

@@ -1,11 +1,11 @@
 //! How far a carrier has come, and the call that each stage makes.
 ghost use Rattle.std.specs.Prelude.{◌≡◌, ℕ, ◌<◌, ◌^◌, ◌==◌, length, false};
-ghost use Rattle.cops_node.specs.declared.NodeReply.{NodeReply};
-ghost use Rattle.cops_node.specs.declared.NodeCall.TheVariants.{DepCheck};
-ghost use Rattle.cops_node.specs.Log.{Directed};
-ghost use Rattle.cops_node.specs.Place.{node_number};
+ghost use Rattle.cops_model.specs.declared.calls.NodeReply.{NodeReply};
+ghost use Rattle.cops_model.specs.declared.calls.NodeCall.TheVariants.{DepCheck};
+ghost use Rattle.cops_model.specs.Log.{Directed};
+ghost use Rattle.cops_model.specs.Place.{node_number};
 ghost use Rattle.cops_types.specs.declared.records.EntryParts.{EntryParts};
-ghost use Rattle.cops_repl.specs.Carrier.{Stream, end_of, is_foreign, pair_of_entry};
+ghost use Rattle.cops_model.specs.Carrier.{Stream, end_of, is_foreign, pair_of_entry};
 ghost use Rattle.cops_repl.specs.Stands.{FollowsReply, IsSound, IsSoundAfter, IsStepFrom, RunsIn, stage_is_over, stream_of};
 ghost use Rattle.cops_repl.specs.declared.stages.Stage.TheVariants.{Pulling, Carrying, Stored};
 

@@ -20,7 +20,7 @@ use Rattle.cops_types.specs.Words.{first_word, newline, space, spaced}
 use Rattle.cops_types.proofs.FrontLemmas.{head_of-says}
 use Rattle.cops_types.proofs.HeadLemmas.{tenant_fits}
 use Rattle.cops_types.proofs.WordLemmas.{Lacks, both, first_word-more, name_lacks, same_bytes, same_value, space_foreign}
-use Rattle.cops_node.specs.SoloNode.{SoloNode}
+use Rattle.cops_model.specs.SoloNode.{SoloNode}
 use Rattle.cops_world.proofs.ApartTenants.{AreApart, apart_push, none_apart, of_name, only_one}
 use Rattle.cops_world.proofs.HeadRuns.{tenants_in}
 use Rattle.cops_replay.specs.declared.Record.{Record}

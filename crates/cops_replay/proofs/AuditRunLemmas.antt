@@ -13,7 +13,7 @@ use Rattle.cops_types.specs.OpenSlots.{open_at}
 use Rattle.cops_types.specs.Sink.{AppendsFront}
 use Rattle.cops_types.specs.TenantConfig.{TenantConfig, tenant_config}
 use Rattle.cops_node.specs.Clusters.{HasTenant, nodes_of, shape_of}
-use Rattle.cops_node.specs.SoloNode.{SoloNode}
+use Rattle.cops_model.specs.SoloNode.{SoloNode}
 use Rattle.cops_model.specs.Setups.{Setup, config_in, config_of, is_open_at}
 use Rattle.cops_world.specs.declared.scripts.BadConfig.{BadConfig}
 use Rattle.cops_world.specs.Script.{Written}

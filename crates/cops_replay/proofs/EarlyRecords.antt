@@ -12,7 +12,7 @@ use Rattle.cops_types.specs.TenantConfig.{TenantConfig, tenant_config}
 use Rattle.cops_types.specs.Version.{Timestamp}
 use Rattle.cops_types.specs.Words.{first_word, number_of, parts_at, space}
 use Rattle.cops_types.proofs.WordLemmas.{both}
-use Rattle.cops_node.specs.SoloNode.{SoloNode}
+use Rattle.cops_model.specs.SoloNode.{SoloNode}
 use Rattle.cops_replay.specs.declared.Record.{Record}
 use Rattle.cops_replay.specs.declared.Replayed.{Replayed}
 use Rattle.cops_replay.specs.declared.layouts.Layout.{Layout}

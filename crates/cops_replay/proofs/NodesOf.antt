@@ -8,7 +8,7 @@ use Rattle.cops_types.specs.TenantConfig.{tenant_config}
 use Rattle.cops_node.specs.Clusters.{id_of}
 use Rattle.cops_node.specs.Parts.{Shared, Site, place_at, site_in, site_of}
 use Rattle.cops_node.proofs.Clusters.{place_new}
-use Rattle.cops_node.specs.Place.{Place, place_of}
+use Rattle.cops_model.specs.Place.{Place, place_of}
 use Rattle.cops_replay.specs.AuditText.{AreNodesOf}
 
 all_from : (P : Shared → Type 0) (nodes : List Shared) → ((i : ℕ) (node : Shared) → i < length nodes → node ≡ get_or nodes i node → P node) → AllByRecursion P nodes

@@ -18,7 +18,7 @@ use Rattle.cops_types.specs.TenantConfig.{TenantConfig, tenant_config}
 use Rattle.cops_types.specs.Words.{first_word}
 use Rattle.cops_types.proofs.KnownLemmas.{AppendsFront-nil, input_is, known_lines, known_whole}
 use Rattle.cops_types.proofs.WordLemmas.{bytes_from_test}
-use Rattle.cops_node.specs.SoloNode.{SoloNode}
+use Rattle.cops_model.specs.SoloNode.{SoloNode}
 use Rattle.cops_world.proofs.ApartTenants.{found_at}
 use Rattle.cops_world.proofs.HeadRuns.{real_lines}
 use Rattle.cops_world.proofs.ApartTenants.{name_of, short_name}

@@ -12,7 +12,7 @@ use Rattle.cops_types.specs.LineAnswers.{Answers}
 use Rattle.cops_types.specs.Refusal.{refused_if}
 use Rattle.cops_types.specs.TenantConfig.{TenantConfig, tenant_config}
 use Rattle.cops_node.specs.Clusters.{Cluster, HasTenant, new_nodes, nodes_of}
-use Rattle.cops_node.specs.SoloNode.{new_node}
+use Rattle.cops_model.specs.SoloNode.{new_node}
 use Rattle.cops_world.specs.GoodHeads.{HeadContinues}
 use Rattle.cops_world.specs.declared.scripts.HeadSoFar.{HeadSoFar}
 use Rattle.cops_replay.specs.declared.layouts.Layout.{Layout}

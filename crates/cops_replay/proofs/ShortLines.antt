@@ -8,10 +8,10 @@ use Rattle.cops_types.specs.declared.configs.Tenant.{Tenant}
 use Rattle.cops_types.specs.Head.{Whole, head_of}
 use Rattle.cops_types.specs.Key.{is_name}
 use Rattle.cops_types.specs.TenantConfig.{TenantConfig, tenant_config}
-use Rattle.cops_node.specs.declared.AuditEntry.{AuditEntry}
-use Rattle.cops_node.specs.declared.NodeId.{NodeId}
+use Rattle.cops_model.specs.declared.calls.AuditEntry.{AuditEntry}
+use Rattle.cops_model.specs.declared.calls.NodeId.{NodeId}
 use Rattle.cops_node.specs.Clusters.{id_of}
-use Rattle.cops_node.specs.SoloNode.{SoloNode}
+use Rattle.cops_model.specs.SoloNode.{SoloNode}
 use Rattle.cops_model.specs.Events.{config_at, own}
 use Rattle.cops_model.specs.Laws.{cluster_of}
 use Rattle.cops_model.specs.Lives.{of_lives, with_all_lives}

@@ -14,13 +14,13 @@ use Rattle.cops_types.specs.Search.{is_rising}
 use Rattle.cops_types.specs.Version.{Timestamp}
 use Rattle.cops_types.specs.Words.{is_u64, list_text, pair_text, version_text}
 use Rattle.cops_types.proofs.WordLemmas.{IsForeign, Lacks, both, decimal_lacks, key_lacks, name_lacks}
-use Rattle.cops_node.specs.declared.NodeCall.{NodeCall}
-use Rattle.cops_node.specs.declared.NodeCall.TheVariants.{Get, Put, DepCheck, Pull, Commit, Ack, Collect}
-use Rattle.cops_node.specs.declared.NodeId.{NodeId}
-use Rattle.cops_node.specs.declared.NodeReply.{NodeReply}
-use Rattle.cops_node.specs.declared.NodeReply.TheVariants.{Found, Absent, Gone, NotYet, Stored, Checked, Pulled, Nothing, Committed, Already, OutOfOrder, Acked, NotFront, Removed, Refused}
-use Rattle.cops_node.specs.declared.Wanted.{Wanted}
-use Rattle.cops_node.specs.declared.Wanted.TheVariants.{Latest, Exactly}
+use Rattle.cops_model.specs.declared.calls.NodeCall.{NodeCall}
+use Rattle.cops_model.specs.declared.calls.NodeCall.TheVariants.{Get, Put, DepCheck, Pull, Commit, Ack, Collect}
+use Rattle.cops_model.specs.declared.calls.NodeId.{NodeId}
+use Rattle.cops_model.specs.declared.calls.NodeReply.{NodeReply}
+use Rattle.cops_model.specs.declared.calls.NodeReply.TheVariants.{Found, Absent, Gone, NotYet, Stored, Checked, Pulled, Nothing, Committed, Already, OutOfOrder, Acked, NotFront, Removed, Refused}
+use Rattle.cops_model.specs.declared.calls.Wanted.{Wanted}
+use Rattle.cops_model.specs.declared.calls.Wanted.TheVariants.{Latest, Exactly}
 use Rattle.cops_replay.specs.declared.Record.{Record}
 use Rattle.cops_types.specs.PairForms.{are_deps, are_near, is_pair, is_version}
 use Rattle.cops_replay.specs.RecordText.{bytes_text, call_words, digit_text, entry_words, is_audited, is_bytes, is_call, is_entry, is_record, is_reply, is_wanted, node_text, record_value, reply_words, wanted_text}

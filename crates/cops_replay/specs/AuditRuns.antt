@@ -11,7 +11,7 @@ use Rattle.cops_types.specs.OpenSlots.{open_at}
 use Rattle.cops_types.specs.Sink.{AppendsFront}
 use Rattle.cops_types.specs.TenantConfig.{TenantConfig, tenant_config}
 use Rattle.cops_node.specs.Clusters.{HasTenant}
-use Rattle.cops_node.specs.SoloNode.{SoloNode}
+use Rattle.cops_model.specs.SoloNode.{SoloNode}
 use Rattle.cops_world.specs.declared.scripts.BadConfig.{BadConfig as BadHead}
 use Rattle.cops_world.specs.Script.{Output, Written, BadConfig}
 use Rattle.cops_world.specs.ScriptRuns.{text_in}

@@ -8,7 +8,7 @@ use Rattle.cops_types.specs.TenantConfig.{TenantConfig, tenant_config}
 use Rattle.cops_types.specs.Words.{newline}
 use Rattle.cops_node.specs.Clusters.{HasTenant, IsCluster, nodes_of, shape_of}
 use Rattle.cops_node.specs.Parts.{Shared}
-use Rattle.cops_node.specs.SoloNode.{SoloNode}
+use Rattle.cops_model.specs.SoloNode.{SoloNode}
 use Rattle.cops_replay.specs.declared.Record.{Record}
 use Rattle.cops_replay.specs.Audits.{records_of}
 use Rattle.cops_replay.specs.RecordText.{record_line}

@@ -5,7 +5,7 @@ use Rattle.cops_types.specs.declared.configs.Config.{Config}
 use Rattle.cops_types.specs.declared.configs.Tenant.{Tenant}
 use Rattle.cops_types.specs.Head.{HeadReading, Whole, BadAt}
 use Rattle.cops_types.specs.TenantConfig.{TenantConfig, tenant_config}
-use Rattle.cops_node.specs.SoloNode.{SoloNode}
+use Rattle.cops_model.specs.SoloNode.{SoloNode}
 use Rattle.cops_replay.specs.declared.Record.{Record}
 use Rattle.cops_replay.specs.declared.Replayed.TheVariants.{Same}
 use Rattle.cops_replay.specs.Audits.{records_of}

@@ -5,7 +5,7 @@ ghost use Rattle.cops_types.specs.declared.configs.Tenant.{Tenant};
 ghost use Rattle.cops_types.specs.Head.{Whole, head_of};
 ghost use Rattle.cops_types.specs.Lines.{lines_of};
 ghost use Rattle.cops_types.specs.TenantConfig.{TenantConfig, tenant_config};
-ghost use Rattle.cops_node.specs.SoloNode.{SoloNode};
+ghost use Rattle.cops_model.specs.SoloNode.{SoloNode};
 ghost use Rattle.cops_world.specs.Script.{Written};
 ghost use Rattle.cops_replay.specs.declared.Replayed.TheVariants.{Same};
 ghost use Rattle.cops_replay.specs.Audits.{ReplaysSame};

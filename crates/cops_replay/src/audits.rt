@@ -9,7 +9,7 @@ ghost use Rattle.cops_types.specs.Sink.{AppendsFront, sink_failures, sink_writer
 ghost use Rattle.cops_types.specs.TenantConfig.{tenant_config};
 ghost use Rattle.cops_node.specs.Clusters.{HasTenant, IsCluster, shape_of};
 ghost use Rattle.cops_node.specs.Parts.{place_at, solo_of};
-ghost use Rattle.cops_node.specs.Place.{place_of};
+ghost use Rattle.cops_model.specs.Place.{place_of};
 ghost use Rattle.cops_replay.specs.declared.Record.{Record};
 ghost use Rattle.cops_replay.specs.Audits.{record_of, records_of};
 ghost use Rattle.cops_replay.specs.AuditText.{AreNodesOf, audit_of, config_text, ended, head_text, his_nodes, records_text, tenants_text, tenant_text};

@@ -10,8 +10,8 @@ use Rattle.cops_node.specs.Hosting.{Held, IsSlotTurn, SlotEffect, admit_turn, sl
 use Rattle.cops_node.specs.declared.Home.{Home}
 use Rattle.cops_node.specs.Parts.{MOST_SLOTS, Shared, place_for}
 use Rattle.cops_node.specs.Run.{TimedCall, node_replies}
-use Rattle.cops_node.specs.SoloNode.{new_node}
-use Rattle.cops_node.specs.Step.{node_step}
+use Rattle.cops_model.specs.SoloNode.{new_node}
+use Rattle.cops_model.specs.Step.{node_step}
 use Rattle.cops_service.specs.Hosted.{HostedEntry, HostedLog, own_call, slot_calls_at, timed_slot}
 use Rattle.cops_service.specs.Slots.{joins_at, replies_at, slot_entries}
 use Rattle.cops_service.proofs.Told.{goes_on}

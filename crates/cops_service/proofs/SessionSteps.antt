@@ -1,14 +1,14 @@
 -- A session's step where more is known of the nodes.
 use Rattle.std.specs.Prelude.{ℕ, Result, Ok, Err, MatchResult}
 use Rattle.cops_types.specs.TenantConfig.{TenantConfig}
-use Rattle.cops_node.specs.declared.NodeCall.{NodeCall}
-use Rattle.cops_node.specs.declared.NodeId.{NodeId}
-use Rattle.cops_node.specs.declared.NodeReply.{NodeReply}
-use Rattle.cops_node.specs.Log.{Next, Call, Restart, Ended}
-use Rattle.cops_session.specs.declared.Answer.{Answer}
-use Rattle.cops_session.specs.declared.Progress.{Progress}
+use Rattle.cops_model.specs.declared.calls.NodeCall.{NodeCall}
+use Rattle.cops_model.specs.declared.calls.NodeId.{NodeId}
+use Rattle.cops_model.specs.declared.calls.NodeReply.{NodeReply}
+use Rattle.cops_model.specs.Log.{Next, Call, Restart, Ended}
+use Rattle.cops_model.specs.declared.requests.Answer.{Answer}
+use Rattle.cops_model.specs.declared.requests.Progress.{Progress}
 use Rattle.cops_session.specs.Kept.{KeptSession}
-use Rattle.cops_session.specs.Session.{Running, Session}
+use Rattle.cops_model.specs.Session.{Running, Session}
 use Rattle.cops_session.specs.Stepping.{DoesNext}
 
 pub match_weaker : {A E : Type 0} (r : Result A E) (P P' : A → Type 0) (Q Q' : E → Type 0) → ((a : A) → P a → P' a) → ((e : E) → Q e → Q' e) → MatchResult r P Q → MatchResult r P' Q'

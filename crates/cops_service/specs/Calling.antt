@@ -1,10 +1,10 @@
 -- Calls that a thread makes at nodes for what is noted.
 use Rattle.std.specs.Prelude.{◌≡◌, ℕ, zero, suc, ◌⊎◌, List, [], ◌∷◌}
 use Rattle.cops_types.specs.declared.configs.Config.{Config}
-use Rattle.cops_node.specs.declared.NodeCall.{NodeCall}
-use Rattle.cops_node.specs.declared.NodeCall.TheVariants.{Collect}
-use Rattle.cops_node.specs.declared.NodeId.{NodeId}
-use Rattle.cops_node.specs.declared.NodeReply.{NodeReply}
+use Rattle.cops_model.specs.declared.calls.NodeCall.{NodeCall}
+use Rattle.cops_model.specs.declared.calls.NodeCall.TheVariants.{Collect}
+use Rattle.cops_model.specs.declared.calls.NodeId.{NodeId}
+use Rattle.cops_model.specs.declared.calls.NodeReply.{NodeReply}
 use Rattle.cops_service.specs.Noted.{IsThere}
 use Rattle.cops_service.specs.declared.notes.TenantNode.{TenantNode}
 

@@ -4,10 +4,10 @@ use Rattle.cops_types.specs.declared.faults.Fault.TheVariants.{OutOfMemory, Gate
 use Rattle.cops_types.specs.Version.{last_clock}
 use Rattle.cops_gate.specs.History.{LeavesLacking, entry}
 use Rattle.cops_gate.specs.Seats.{Origin, Known, Extends}
-use Rattle.cops_node.specs.declared.NodeCall.{NodeCall}
-use Rattle.cops_node.specs.declared.NodeId.{NodeId}
-use Rattle.cops_node.specs.declared.NodeReply.{NodeReply}
-use Rattle.cops_node.specs.declared.NodeReply.TheVariants as node_reply
+use Rattle.cops_model.specs.declared.calls.NodeCall.{NodeCall}
+use Rattle.cops_model.specs.declared.calls.NodeId.{NodeId}
+use Rattle.cops_model.specs.declared.calls.NodeReply.{NodeReply}
+use Rattle.cops_model.specs.declared.calls.NodeReply.TheVariants as node_reply
 use Rattle.cops_node.specs.declared.hosted.SlotCall.{SlotCall}
 use Rattle.cops_node.specs.declared.hosted.SlotCall.TheVariants.{Own, Admit, Close}
 use Rattle.cops_node.specs.declared.hosted.SlotReply.{SlotReply}
@@ -15,7 +15,7 @@ use Rattle.cops_node.specs.declared.hosted.SlotReply.TheVariants as told
 use Rattle.cops_node.specs.Hosting.{IsSlotTurn}
 use Rattle.cops_node.specs.Lacking.{MayLackAtSlot}
 use Rattle.cops_node.specs.Parts.{Shared}
-use Rattle.cops_node.specs.Place.{fits}
+use Rattle.cops_model.specs.Place.{fits}
 use Rattle.cops_node.specs.declared.Shape.{Shape}
 use Rattle.cops_node.specs.Shape.{place_in}
 use Rattle.cops_service.specs.Gates.{Gates, At}

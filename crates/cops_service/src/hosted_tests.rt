@@ -2,9 +2,9 @@ ghost use Rattle.std.specs.Prelude.{◌≡◌, ◌<◌, ◌≤◌, ◌⊎◌, �
 ghost use Rattle.cops_types.specs.HeadLines.{are_sizes};
 ghost use Rattle.cops_types.specs.Version.{last_clock};
 ghost use Rattle.cops_node.specs.Parts.{are_clocks};
-ghost use Rattle.cops_node.specs.declared.NodeCall.{NodeCall as Call};
-ghost use Rattle.cops_node.specs.declared.NodeId.{NodeId as Id};
-ghost use Rattle.cops_node.specs.declared.NodeReply.{NodeReply as Told};
+ghost use Rattle.cops_model.specs.declared.calls.NodeCall.{NodeCall as Call};
+ghost use Rattle.cops_model.specs.declared.calls.NodeId.{NodeId as Id};
+ghost use Rattle.cops_model.specs.declared.calls.NodeReply.{NodeReply as Told};
 ghost use Rattle.cops_service.specs.Desks.{shape_in};
 
 use crate::tests::{QUOTA, config};

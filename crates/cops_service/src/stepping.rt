@@ -1,12 +1,12 @@
 //! Sessions and carriers at a desk: a step of theirs is at most one turn of one node's gate.
 ghost use Rattle.std.specs.Prelude.{◌≡◌, ◌<◌, ℕ, Some, max, false, MatchResult, OnErr};
 ghost use Rattle.cops_types.specs.TenantConfig.{TenantConfig};
-ghost use Rattle.cops_node.specs.declared.NodeReply.{NodeReply};
-ghost use Rattle.cops_node.specs.Log.{Directed, Replied};
-ghost use Rattle.cops_repl.specs.Carrier.{Carrier as SoloCarrier};
+ghost use Rattle.cops_model.specs.declared.calls.NodeReply.{NodeReply};
+ghost use Rattle.cops_model.specs.Log.{Directed, Replied};
+ghost use Rattle.cops_model.specs.Carrier.{Carrier as SoloCarrier};
 ghost use Rattle.cops_repl.specs.Stands.{CarrierStandsFor, IsStepOf, RunsIn, has_ended, is_done};
-ghost use Rattle.cops_session.specs.Request.{next};
-ghost use Rattle.cops_session.specs.Session.{Session as SoloSession, Running as SoloRunning, moment_at, request_of};
+ghost use Rattle.cops_model.specs.Request.{next};
+ghost use Rattle.cops_model.specs.Session.{Session as SoloSession, Running as SoloRunning, moment_at, request_of};
 ghost use Rattle.cops_session.specs.SessionStands.{SessionStandsFor};
 ghost use Rattle.cops_session.specs.Stepping.{DoesNext};
 ghost use Rattle.cops_service.specs.Desks.{IsDeskCall, MakesOneTurnAtMost, shape_in};

@@ -13,7 +13,7 @@ use Rattle.cops_types.proofs.SortedSet.{AllAbove, Rises}
 use Rattle.cops_context.specs.Lists.{Lists, ListsStandFor}
 use Rattle.cops_handles.specs.declared.tables.Open.{Open}
 use Rattle.cops_handles.specs.Rows.{AreIssued, row_at, replaced, closed}
-use Rattle.cops_session.specs.Session.{OpenContext, context_extended}
+use Rattle.cops_model.specs.Session.{OpenContext, context_extended}
 use Rattle.cops_session.specs.SessionStands.{ContextsStandFor, obs_in}
 
 by_number_total : IsTotalOrder (on (λ (o : Open Lists). o.number) nat_cmp)

@@ -9,10 +9,10 @@ use Rattle.cops_types.specs.Key.{key_cmp}
 use Rattle.cops_types.specs.Search.{add_item, sorted_set}
 use Rattle.cops_types.proofs.PairLists.{key_cmp_total, key_cmp-IsAntisymmetric}
 use Rattle.cops_types.proofs.SortedSet.{sorted_set-same}
-use Rattle.cops_node.specs.declared.NodeReply.{NodeReply}
-use Rattle.cops_node.specs.declared.NodeReply.TheVariants.{Found}
-use Rattle.cops_session.specs.Session.{has_repeats}
-use Rattle.cops_session.specs.Transaction.{read_of, reads_of}
+use Rattle.cops_model.specs.declared.calls.NodeReply.{NodeReply}
+use Rattle.cops_model.specs.declared.calls.NodeReply.TheVariants.{Found}
+use Rattle.cops_model.specs.Session.{has_repeats}
+use Rattle.cops_model.specs.Transaction.{read_of, reads_of}
 use Rattle.cops_types.proofs.Elements.{Among, any_intro, or_cases, or_right, same_test}
 
 abbrev pub IsDistinct : List (List ℕ) → Type 0

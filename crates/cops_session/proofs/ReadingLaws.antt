@@ -8,26 +8,26 @@ use Rattle.cops_types.specs.declared.faults.Fault.{Fault}
 use Rattle.cops_types.specs.declared.faults.Fault.TheVariants.{Overrun, OutOfMemory, Torn}
 use Rattle.cops_types.specs.Context.{Observation}
 use Rattle.cops_types.specs.TenantConfig.{TenantConfig}
-use Rattle.cops_node.specs.declared.NodeCall.{NodeCall}
-use Rattle.cops_node.specs.declared.NodeCall.TheVariants.{Get}
-use Rattle.cops_node.specs.declared.NodeReply.{NodeReply}
-use Rattle.cops_node.specs.declared.NodeReply.TheVariants.{Gone, Refused}
-use Rattle.cops_node.specs.declared.Wanted.TheVariants.{Latest, Exactly}
-use Rattle.cops_node.specs.Log.{Call, Directed, Ended, LogStep, Replied, Restart, fault_in, first_fault, is_asked, replies_of, reply_in}
-use Rattle.cops_session.specs.declared.Answer.{Answer}
-use Rattle.cops_session.specs.declared.Answer.TheVariants as ended
-use Rattle.cops_session.specs.declared.Progress.TheVariants as shows
+use Rattle.cops_model.specs.declared.calls.NodeCall.{NodeCall}
+use Rattle.cops_model.specs.declared.calls.NodeCall.TheVariants.{Get}
+use Rattle.cops_model.specs.declared.calls.NodeReply.{NodeReply}
+use Rattle.cops_model.specs.declared.calls.NodeReply.TheVariants.{Gone, Refused}
+use Rattle.cops_model.specs.declared.calls.Wanted.TheVariants.{Latest, Exactly}
+use Rattle.cops_model.specs.Log.{Call, Directed, Ended, LogStep, Replied, Restart, fault_in, first_fault, is_asked, replies_of, reply_in, first_moment}
+use Rattle.cops_model.specs.declared.requests.Answer.{Answer}
+use Rattle.cops_model.specs.declared.requests.Answer.TheVariants as ended
+use Rattle.cops_model.specs.declared.requests.Progress.TheVariants as shows
 use Rattle.cops_session.specs.declared.ongoing.Reading.{Reading}
 use Rattle.cops_session.specs.declared.ongoing.Round.{Round}
 use Rattle.cops_session.specs.declared.ongoing.Round.TheVariants.{First, Second}
 use Rattle.cops_session.specs.declared.rounds.Wish.{Wish}
 use Rattle.cops_session.specs.Asking.{is_gone}
-use Rattle.cops_session.specs.Reading.{IsOfAttempt, IsReading, RoundStandsFor, first_moment, is_past}
-use Rattle.cops_session.specs.Request.{Attempt, Fetch, Request, answer_in, attempt_of, begins_again, call_after, call_or_answer, complete, is_late, key_home, next, request_calls, unless_fault, unless_late, values_or_full}
+use Rattle.cops_session.specs.Reading.{IsOfAttempt, IsReading, RoundStandsFor, is_past}
+use Rattle.cops_model.specs.Request.{Attempt, Fetch, Request, answer_in, attempt_of, begins_again, call_after, call_or_answer, complete, is_late, key_home, next, request_calls, unless_fault, unless_late, values_or_full}
 use Rattle.cops_session.specs.Rounds.{FirstReads, wishes_of}
-use Rattle.cops_session.specs.Session.{has_restarted, progress, shown}
+use Rattle.cops_model.specs.Session.{has_restarted, progress, shown}
 use Rattle.cops_session.specs.Stands.{IsFirstOf, IsOver}
-use Rattle.cops_session.specs.Transaction.{ReadRequest, gets, reads_of}
+use Rattle.cops_model.specs.Transaction.{ReadRequest, gets, reads_of}
 use Rattle.cops_session.proofs.Faults.{attempt_of-push, ended_by_fault, ended_with_reads, fault_of_next}
 use Rattle.cops_session.proofs.RoundsStand.{length-gets, length-push, slice_get-at}
 use Rattle.std.proofs.lemmas.List.{length-drop, length-map}

@@ -7,17 +7,17 @@ use Rattle.std.proofs.lemmas.Option.{slice_get_within}
 use Rattle.cops_types.specs.declared.faults.Fault.{Fault}
 use Rattle.cops_types.specs.declared.faults.Fault.TheVariants.{Overrun}
 use Rattle.cops_types.specs.TenantConfig.{TenantConfig}
-use Rattle.cops_node.specs.declared.NodeCall.TheVariants.{Get}
-use Rattle.cops_node.specs.declared.NodeReply.{NodeReply}
-use Rattle.cops_node.specs.declared.NodeReply.TheVariants as node_reply
-use Rattle.cops_node.specs.Log.{Call, Directed, Ended, LogStep, Next, Replied, Restart, first_fault, replies_of, reply_in}
-use Rattle.cops_session.specs.declared.Answer.{Answer}
-use Rattle.cops_session.specs.declared.Answer.TheVariants.{Refused}
-use Rattle.cops_session.specs.declared.Progress.TheVariants as progress
-use Rattle.cops_session.specs.Request.{Action, Attempt, Fetch, Request, Write, answer_in, attempt_of, begins_again, call_after, call_or_answer, complete, is_late, key_home, next, request_calls, unless_fault, unless_late}
-use Rattle.cops_session.specs.Session.{progress, has_restarted}
-use Rattle.cops_session.specs.Session as session
-use Rattle.cops_session.specs.Transaction.{ReadRequest, gets}
+use Rattle.cops_model.specs.declared.calls.NodeCall.TheVariants.{Get}
+use Rattle.cops_model.specs.declared.calls.NodeReply.{NodeReply}
+use Rattle.cops_model.specs.declared.calls.NodeReply.TheVariants as node_reply
+use Rattle.cops_model.specs.Log.{Call, Directed, Ended, LogStep, Next, Replied, Restart, first_fault, replies_of, reply_in}
+use Rattle.cops_model.specs.declared.requests.Answer.{Answer}
+use Rattle.cops_model.specs.declared.requests.Answer.TheVariants.{Refused}
+use Rattle.cops_model.specs.declared.requests.Progress.TheVariants as progress
+use Rattle.cops_model.specs.Request.{Action, Attempt, Fetch, Request, Write, answer_in, attempt_of, begins_again, call_after, call_or_answer, complete, is_late, key_home, next, request_calls, unless_fault, unless_late}
+use Rattle.cops_model.specs.Session.{progress, has_restarted}
+use Rattle.cops_model.specs.Session as session
+use Rattle.cops_model.specs.Transaction.{ReadRequest, gets}
 use Rattle.cops_session.proofs.Faults.{first_fault-push, fault_of_next, attempt_of-push}
 
 not_late : (late : Bool) (n : Next Answer) (d : Directed) → unless_late late n ≡ Call d → n ≡ Call d

@@ -12,7 +12,7 @@ use Rattle.cops_types.specs.Key.{key_eq, key_cmp}
 use Rattle.cops_types.specs.Search.{add_item, sorted_set}
 use Rattle.cops_types.proofs.PairLists.{key_cmp_total, key_eq-tie}
 use Rattle.cops_types.proofs.SortedSet.{AllAbove, Rises, Rises-sorted_set, contained-sorted_set}
-use Rattle.cops_session.specs.Session.{has_repeats}
+use Rattle.cops_model.specs.Session.{has_repeats}
 use Rattle.cops_session.specs.Stands.{AreDistinctKeys}
 
 module _ {K : Type 0} {R : K → K → Ordering} (o : IsTotalOrder R) where

@@ -9,13 +9,13 @@ use Rattle.cops_types.specs.Context.{Observation}
 use Rattle.cops_types.specs.TenantConfig.{TenantConfig}
 use Rattle.cops_types.specs.Version.{version_lt}
 use Rattle.cops_types.proofs.Elements.{fold-push, slice_get-within}
-use Rattle.cops_node.specs.declared.NodeReply.{NodeReply}
-use Rattle.cops_node.specs.Log.{Call, Directed, Ended, Late, LogStep, Next, Outcome, Replied, Restart, replies_of, reply_in}
+use Rattle.cops_model.specs.declared.calls.NodeReply.{NodeReply}
+use Rattle.cops_model.specs.Log.{Call, Directed, Ended, Late, LogStep, Next, Outcome, Replied, Restart, replies_of, reply_in}
 use Rattle.cops_node.specs.Taken.{IsTaken}
-use Rattle.cops_session.specs.declared.Answer.{Answer}
+use Rattle.cops_model.specs.declared.requests.Answer.{Answer}
 use Rattle.cops_session.specs.Bounds.{IsLogAfter, IsLogOf, HasFewReplies, IsBounded}
-use Rattle.cops_session.specs.Request.{Action, Write, Fetch, Request, Attempt, begins_again, attempt_after, attempt_of, next, answer}
-use Rattle.cops_session.specs.Transaction.{gets, first_round, second_round, wanted_version, outdated, reads_of}
+use Rattle.cops_model.specs.Request.{Action, Write, Fetch, Request, Attempt, begins_again, attempt_after, attempt_of, next, answer}
+use Rattle.cops_model.specs.Transaction.{gets, first_round, second_round, wanted_version, outdated, reads_of}
 use Rattle.cops_session.proofs.ReplyRounds.{length-first_round}
 use Rattle.cops_session.proofs.RequestReplies.{get_request, put_request, put-next, put-ends, get-next, replies_in, unspent}
 use Rattle.cops_session.proofs.WantedVersions.{asked_exactly}

@@ -6,9 +6,9 @@ use Rattle.std.proofs.lemmas.List.{length-map}
 use Rattle.std.proofs.lemmas.Bool.Decides.{nat_tests}
 use Rattle.cops_types.specs.declared.contexts.Read.{Read}
 use Rattle.cops_types.specs.Key.{key_eq}
-use Rattle.cops_node.specs.declared.NodeReply.{NodeReply}
-use Rattle.cops_node.specs.declared.Wanted.TheVariants.{Latest, Exactly}
-use Rattle.cops_session.specs.Transaction.{ReadRequest, gets, first_round, second_round, wanted_version, outdated, read_of, reads_of, last_read, final_reads}
+use Rattle.cops_model.specs.declared.calls.NodeReply.{NodeReply}
+use Rattle.cops_model.specs.declared.calls.Wanted.TheVariants.{Latest, Exactly}
+use Rattle.cops_model.specs.Transaction.{ReadRequest, gets, first_round, second_round, wanted_version, outdated, read_of, reads_of, last_read, final_reads}
 use Rattle.cops_types.proofs.Elements.{Every-find, Every-map, Every-from, Every-at}
 use Rattle.cops_types.proofs.Zipped.{Zipped, Zipped-left, Zipped-right, Zipped-front, Zipped-push}
 

@@ -11,14 +11,14 @@ use Rattle.cops_types.specs.declared.faults.Fault.TheVariants.{Overrun, Dependen
 use Rattle.cops_types.specs.Context.{Observation, all_of, near_of, observations_of, can_observe}
 use Rattle.cops_types.specs.TenantConfig.{TenantConfig}
 use Rattle.cops_types.specs.Version.{Timestamp}
-use Rattle.cops_node.specs.declared.NodeCall.TheVariants.{Get, Put}
-use Rattle.cops_node.specs.declared.NodeReply.{NodeReply}
-use Rattle.cops_node.specs.declared.NodeReply.TheVariants as node_reply
-use Rattle.cops_node.specs.Log.{Call, Directed, Ended, Late, LogStep, Next, Outcome, Replied, first_fault, replies_of, reply_in}
-use Rattle.cops_session.specs.declared.Answer.{Answer}
-use Rattle.cops_session.specs.declared.Answer.TheVariants.{Stored, Values, Refused}
-use Rattle.cops_session.specs.Request.{Attempt, Fetch, Request, Write, answer, answer_in, attempt_after, attempt_of, begins_again, call_or_answer, is_late, key_home, next, unless_fault, unless_late, values_or_full}
-use Rattle.cops_session.specs.Transaction.{ReadRequest, gets, first_round, second_round, reads_of, final_reads}
+use Rattle.cops_model.specs.declared.calls.NodeCall.TheVariants.{Get, Put}
+use Rattle.cops_model.specs.declared.calls.NodeReply.{NodeReply}
+use Rattle.cops_model.specs.declared.calls.NodeReply.TheVariants as node_reply
+use Rattle.cops_model.specs.Log.{Call, Directed, Ended, Late, LogStep, Next, Outcome, Replied, first_fault, replies_of, reply_in}
+use Rattle.cops_model.specs.declared.requests.Answer.{Answer}
+use Rattle.cops_model.specs.declared.requests.Answer.TheVariants.{Stored, Values, Refused}
+use Rattle.cops_model.specs.Request.{Attempt, Fetch, Request, Write, answer, answer_in, attempt_after, attempt_of, begins_again, call_or_answer, is_late, key_home, next, unless_fault, unless_late, values_or_full}
+use Rattle.cops_model.specs.Transaction.{ReadRequest, gets, first_round, second_round, reads_of, final_reads}
 use Rattle.cops_types.proofs.Elements.{fold-push, slice_get-within}
 use Rattle.cops_types.proofs.PairSets.{at}
 use Rattle.cops_types.proofs.Zipped.{Zipped}

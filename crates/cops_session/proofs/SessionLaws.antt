@@ -8,19 +8,19 @@ use Rattle.cops_types.specs.Context.{all_of, near_of, can_put}
 use Rattle.cops_types.specs.Refusal.{IsAnswer, refused_if}
 use Rattle.cops_types.specs.Search.{first_refusal}
 use Rattle.cops_types.specs.TenantConfig.{TenantConfig}
-use Rattle.cops_node.specs.Log.{Directed, first_fault}
+use Rattle.cops_model.specs.Log.{Directed, first_fault}
 use Rattle.cops_context.specs.Lists.{Lists, ListsStandFor}
 use Rattle.cops_handles.specs.declared.tables.Open.{Open}
-use Rattle.cops_handles.specs.Rows.{closed, is_spent, open_refusal, opened, row_at}
+use Rattle.cops_handles.specs.Rows.{closed, open_refusal, opened, row_at}
 use Rattle.cops_session.specs.declared.ongoing.Ongoing.{Ongoing}
 use Rattle.cops_session.specs.declared.ongoing.Round.TheVariants.{First}
 use Rattle.cops_session.specs.declared.ongoing.Work.TheVariants.{Put, Get}
 use Rattle.cops_session.specs.declared.ongoing.PendingPut.{PendingPut}
 use Rattle.cops_session.specs.Kept.{KeptSession, is_running}
 use Rattle.cops_session.specs.Reading.{IsReading}
-use Rattle.cops_session.specs.Request.{Fetch, Request, Write, request_calls}
+use Rattle.cops_model.specs.Request.{Fetch, Request, Write, request_calls}
 use Rattle.cops_session.specs.Rounds.{FirstReads}
-use Rattle.cops_session.specs.Session.{Running, Session, context_created, context_deleted, context_refusal, create_refusal, get_refusal, has_repeats, obs_of, request_begun, session_put_refusal}
+use Rattle.cops_model.specs.Session.{Running, Session, context_created, context_deleted, context_refusal, create_refusal, get_refusal, has_repeats, obs_of, request_begun, session_put_refusal, is_spent}
 use Rattle.cops_session.specs.SessionStands.{ContextsStandFor, RunningStandsFor, SessionStandsFor}
 use Rattle.cops_session.specs.Stepping.{runs}
 use Rattle.cops_session.specs.Stands.{AreDistinctKeys, IsFirstOf}

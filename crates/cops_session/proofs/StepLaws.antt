@@ -9,18 +9,18 @@ use Rattle.cops_types.specs.declared.pairs.Pair.{Pair}
 use Rattle.cops_types.specs.Context.{Observation, all_of, near_of}
 use Rattle.cops_types.specs.Key.{shard_of}
 use Rattle.cops_types.specs.TenantConfig.{TenantConfig}
-use Rattle.cops_node.specs.declared.NodeCall.{NodeCall}
-use Rattle.cops_node.specs.declared.NodeCall.TheVariants as call
-use Rattle.cops_node.specs.declared.NodeId.{NodeId}
-use Rattle.cops_node.specs.declared.NodeReply.{NodeReply}
-use Rattle.cops_node.specs.declared.NodeReply.TheVariants as reply
-use Rattle.cops_node.specs.Log.{LogStep, Replied, Next, Call, Restart, Ended}
+use Rattle.cops_model.specs.declared.calls.NodeCall.{NodeCall}
+use Rattle.cops_model.specs.declared.calls.NodeCall.TheVariants as call
+use Rattle.cops_model.specs.declared.calls.NodeId.{NodeId}
+use Rattle.cops_model.specs.declared.calls.NodeReply.{NodeReply}
+use Rattle.cops_model.specs.declared.calls.NodeReply.TheVariants as reply
+use Rattle.cops_model.specs.Log.{LogStep, Replied, Next, Call, Restart, Ended}
 use Rattle.cops_handles.specs.declared.tables.Open.{Open}
 use Rattle.cops_context.specs.Lists.{Lists}
-use Rattle.cops_session.specs.declared.Answer.{Answer}
-use Rattle.cops_session.specs.declared.Answer.TheVariants as answer
-use Rattle.cops_session.specs.declared.Progress.{Progress}
-use Rattle.cops_session.specs.declared.Progress.TheVariants.{Working, Restarted, Done}
+use Rattle.cops_model.specs.declared.requests.Answer.{Answer}
+use Rattle.cops_model.specs.declared.requests.Answer.TheVariants as answer
+use Rattle.cops_model.specs.declared.requests.Progress.{Progress}
+use Rattle.cops_model.specs.declared.requests.Progress.TheVariants.{Working, Restarted, Done}
 use Rattle.cops_session.specs.declared.ongoing.Ongoing.{Ongoing}
 use Rattle.cops_session.specs.declared.ongoing.Reading.{Reading}
 use Rattle.cops_session.specs.declared.ongoing.Work.TheVariants.{Put, Get}
@@ -31,8 +31,8 @@ use Rattle.cops_session.specs.declared.reading.ReadStep.{ReadStep}
 use Rattle.cops_session.specs.declared.settings.Setting.{Setting}
 use Rattle.cops_session.specs.Kept.{KeptSession}
 use Rattle.cops_session.specs.Reading.{IsReading}
-use Rattle.cops_session.specs.Request.{Fetch, Request, Write, key_home, next, values_or_full}
-use Rattle.cops_session.specs.Session.{OpenContext, Running, Session, context_extended, has_restarted, moment_after, moment_at, obs_of, progress, raised, request_of, seen_in, session_after}
+use Rattle.cops_model.specs.Request.{Fetch, Request, Write, key_home, next, values_or_full}
+use Rattle.cops_model.specs.Session.{OpenContext, Running, Session, context_extended, has_restarted, moment_after, moment_at, obs_of, progress, raised, request_of, seen_in, session_after}
 use Rattle.cops_session.specs.SessionStands.{ContextsStandFor, IsSettingOf, IsWriting, RunningStandsFor, SessionStandsFor, obs_in}
 use Rattle.cops_session.specs.Stepping.{DoesNext, HasStepped}
 use Rattle.cops_session.specs.Turns.{CameOf, HasTurned, TurnsNext}

@@ -7,15 +7,15 @@ use Rattle.cops_types.specs.declared.faults.Fault.TheVariants.{Overrun, OutOfMem
 use Rattle.cops_types.specs.Context.{Observation}
 use Rattle.cops_types.specs.Key.{shard_of}
 use Rattle.cops_types.specs.TenantConfig.{TenantConfig}
-use Rattle.cops_node.specs.declared.NodeCall.{NodeCall}
-use Rattle.cops_node.specs.declared.NodeCall.TheVariants.{Get}
-use Rattle.cops_node.specs.declared.NodeId.{NodeId}
-use Rattle.cops_node.specs.declared.NodeReply.{NodeReply}
-use Rattle.cops_node.specs.declared.NodeReply.TheVariants.{Gone as GoneAt}
-use Rattle.cops_node.specs.declared.Wanted.TheVariants.{Latest, Exactly}
-use Rattle.cops_node.specs.Log.{Late, LogStep, Next, Replied, fault_in, replies_of}
-use Rattle.cops_session.specs.declared.Answer.{Answer}
-use Rattle.cops_session.specs.declared.Progress.TheVariants as shows
+use Rattle.cops_model.specs.declared.calls.NodeCall.{NodeCall}
+use Rattle.cops_model.specs.declared.calls.NodeCall.TheVariants.{Get}
+use Rattle.cops_model.specs.declared.calls.NodeId.{NodeId}
+use Rattle.cops_model.specs.declared.calls.NodeReply.{NodeReply}
+use Rattle.cops_model.specs.declared.calls.NodeReply.TheVariants.{Gone as GoneAt}
+use Rattle.cops_model.specs.declared.calls.Wanted.TheVariants.{Latest, Exactly}
+use Rattle.cops_model.specs.Log.{Late, LogStep, Next, Replied, fault_in, replies_of}
+use Rattle.cops_model.specs.declared.requests.Answer.{Answer}
+use Rattle.cops_model.specs.declared.requests.Progress.TheVariants as shows
 use Rattle.cops_session.specs.declared.asking.FirstAnswer.{FirstAnswer}
 use Rattle.cops_session.specs.declared.asking.FirstAnswer.TheVariants as first
 use Rattle.cops_session.specs.declared.asking.SecondAnswer.{SecondAnswer}
@@ -32,13 +32,13 @@ use Rattle.cops_session.specs.declared.rounds.Wish.{Wish}
 use Rattle.cops_session.specs.declared.settings.Setting.{Setting}
 use Rattle.cops_session.specs.Asking.{StandsAfterAsking, StandsAfterAskingAgain}
 use Rattle.cops_session.specs.Reading.{IsReading, RoundStandsFor, is_past}
-use Rattle.cops_session.specs.Request.{Request, Fetch, attempt_of, begins_again, next, values_or_full}
+use Rattle.cops_model.specs.Request.{Request, Fetch, attempt_of, begins_again, next, values_or_full}
 use Rattle.cops_session.specs.Rounds.{FirstReads, SecondReads}
-use Rattle.cops_session.specs.Session.{has_restarted}
-use Rattle.cops_session.specs.Session as session
+use Rattle.cops_model.specs.Session.{has_restarted}
+use Rattle.cops_model.specs.Session as session
 use Rattle.cops_session.specs.SessionStands.{IsSettingOf}
 use Rattle.cops_session.specs.Stands.{AreDistinctKeys, IsFirstOf, IsOver, IsSecondOf}
-use Rattle.cops_session.specs.Transaction.{ReadRequest, gets}
+use Rattle.cops_model.specs.Transaction.{ReadRequest, gets}
 use Rattle.cops_session.specs.Turns.{CameOf, HasTurned, TurnsNext}
 use Rattle.cops_session.proofs.ReadingLaws.{again_in_second, ends_with_fault, ends_with_reads, goes_on, goes_on_in_first, goes_on_unless_gone, next_call, next_late, not_gone_of_faulty, overruns, refused_for_memory, restarts}
 use Rattle.cops_session.proofs.RoundsStand.{first_ends, length-push}

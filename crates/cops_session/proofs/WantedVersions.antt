@@ -7,10 +7,10 @@ use Rattle.cops_types.specs.declared.pairs.Pair.{Pair}
 use Rattle.cops_types.specs.Pairs.{version_of}
 use Rattle.cops_types.specs.Version.{no_version, version_lt}
 use Rattle.cops_types.proofs.VersionOrder.{version_lt-irrefl, version_lt-le_trans, version_max_is_one, no_version-least}
-use Rattle.cops_node.specs.declared.NodeReply.{NodeReply}
-use Rattle.cops_node.specs.declared.NodeReply.TheVariants.{Found}
-use Rattle.cops_node.specs.declared.Wanted.TheVariants.{Latest, Exactly}
-use Rattle.cops_session.specs.Transaction.{ReadRequest, gets, first_round, second_round, wanted_version, outdated, read_of, reads_of}
+use Rattle.cops_model.specs.declared.calls.NodeReply.{NodeReply}
+use Rattle.cops_model.specs.declared.calls.NodeReply.TheVariants.{Found}
+use Rattle.cops_model.specs.declared.calls.Wanted.TheVariants.{Latest, Exactly}
+use Rattle.cops_model.specs.Transaction.{ReadRequest, gets, first_round, second_round, wanted_version, outdated, read_of, reads_of}
 use Rattle.cops_types.proofs.Elements.{Among, Among-cases, Among-filter, map-Among}
 use Rattle.cops_types.proofs.PairSets.{at, version_of-Among}
 

@@ -1,9 +1,9 @@
 -- The logs of a request, and how many node replies they have.
 use Rattle.std.specs.Prelude.{◌≡◌, ◌+◌, ◌*◌, ◌≤◌, List, [], ◌∷◌, ◌++◌, length, None}
 use Rattle.cops_types.specs.TenantConfig.{TenantConfig}
-use Rattle.cops_node.specs.Log.{LogStep, replies_of}
+use Rattle.cops_model.specs.Log.{LogStep, replies_of}
 use Rattle.cops_node.specs.Taken.{IsTaken}
-use Rattle.cops_session.specs.Request.{Action, Write, Fetch, Request, next, answer}
+use Rattle.cops_model.specs.Request.{Action, Write, Fetch, Request, next, answer}
 
 -- each later step is what the request did next, whatever the nodes replied
 abbrev pub IsLogAfter : TenantConfig → Request → List LogStep → List LogStep → Type 0

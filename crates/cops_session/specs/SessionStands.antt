@@ -3,7 +3,7 @@ use Rattle.std.specs.Prelude.{◌≡◌, ℕ, ◌==◌, List, [], ◌∷◌, fin
 use Rattle.std.specs.Option.{option_map}
 use Rattle.cops_types.specs.Context.{Observation, all_of, near_of}
 use Rattle.cops_types.specs.TenantConfig.{TenantConfig}
-use Rattle.cops_node.specs.Log.{LogStep}
+use Rattle.cops_model.specs.Log.{LogStep}
 use Rattle.cops_context.specs.Lists.{Lists, ListsStandFor}
 use Rattle.cops_handles.specs.declared.tables.Open.{Open}
 use Rattle.cops_session.specs.declared.ongoing.Ongoing.{Ongoing}
@@ -13,8 +13,8 @@ use Rattle.cops_session.specs.declared.ongoing.PendingPut.{PendingPut}
 use Rattle.cops_session.specs.declared.settings.Setting.{Setting}
 use Rattle.cops_session.specs.Kept.{KeptSession}
 use Rattle.cops_session.specs.Reading.{IsReading}
-use Rattle.cops_session.specs.Request.{Request, Write, Fetch}
-use Rattle.cops_session.specs.Session.{OpenContext, Running, Session, request_of}
+use Rattle.cops_model.specs.Request.{Request, Write, Fetch}
+use Rattle.cops_model.specs.Session.{OpenContext, Running, Session, request_of}
 
 -- the sizes and limits are those of the configuration
 pub record IsSettingOf (config : TenantConfig) (setting : Setting) : Type 0 where

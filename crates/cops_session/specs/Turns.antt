@@ -2,21 +2,21 @@
 use Rattle.std.specs.Prelude.{◌≡◌, ◌⊎◌, ℕ, false, List, [], ◌∷◌, ◌++◌, if◌then◌else◌}
 use Rattle.cops_types.specs.declared.faults.Fault.TheVariants.{OutOfMemory}
 use Rattle.cops_types.specs.TenantConfig.{TenantConfig}
-use Rattle.cops_node.specs.declared.NodeCall.{NodeCall}
-use Rattle.cops_node.specs.declared.NodeId.{NodeId}
-use Rattle.cops_node.specs.declared.NodeReply.{NodeReply}
-use Rattle.cops_node.specs.declared.NodeReply.TheVariants.{Refused as RefusedAt}
-use Rattle.cops_node.specs.Log.{LogStep, Late, Replied, Next, Call, Restart, Ended}
-use Rattle.cops_session.specs.declared.Answer.{Answer}
-use Rattle.cops_session.specs.declared.Answer.TheVariants as answer
-use Rattle.cops_session.specs.declared.Progress.TheVariants as progress
+use Rattle.cops_model.specs.declared.calls.NodeCall.{NodeCall}
+use Rattle.cops_model.specs.declared.calls.NodeId.{NodeId}
+use Rattle.cops_model.specs.declared.calls.NodeReply.{NodeReply}
+use Rattle.cops_model.specs.declared.calls.NodeReply.TheVariants.{Refused as RefusedAt}
+use Rattle.cops_model.specs.Log.{LogStep, Late, Replied, Next, Call, Restart, Ended}
+use Rattle.cops_model.specs.declared.requests.Answer.{Answer}
+use Rattle.cops_model.specs.declared.requests.Answer.TheVariants as answer
+use Rattle.cops_model.specs.declared.requests.Progress.TheVariants as progress
 use Rattle.cops_session.specs.declared.reading.Came.{Came}
 use Rattle.cops_session.specs.declared.reading.Came.TheVariants.{Working, Restarted, Complete, Failed}
 use Rattle.cops_session.specs.declared.reading.ReadStep.{ReadStep}
 use Rattle.cops_session.specs.Reading.{IsReading}
-use Rattle.cops_session.specs.Request.{Request, Fetch, values_or_full}
-use Rattle.cops_session.specs.Session.{has_restarted, raised}
-use Rattle.cops_session.specs.Session as session
+use Rattle.cops_model.specs.Request.{Request, Fetch, values_or_full}
+use Rattle.cops_model.specs.Session.{has_restarted, raised}
+use Rattle.cops_model.specs.Session as session
 use Rattle.cops_session.specs.Wants.{EndsRound}
 
 -- what the step shows, and that the transaction stands for one more step, where it goes on

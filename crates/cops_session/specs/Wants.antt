@@ -3,11 +3,11 @@ use Rattle.std.specs.Prelude.{◌≡◌, ◌⊎◌, ℕ, ◌+◌, false, List, l
 use Rattle.cops_types.specs.declared.contexts.Read.{Read}
 use Rattle.cops_types.specs.declared.faults.Fault.TheVariants.{OutOfMemory}
 use Rattle.cops_types.specs.TenantConfig.{TenantConfig}
-use Rattle.cops_node.specs.declared.NodeReply.TheVariants.{Refused}
-use Rattle.cops_node.specs.Log.{LogStep, Replied, replies_of}
-use Rattle.cops_session.specs.declared.Progress.TheVariants.{Working, Done}
-use Rattle.cops_session.specs.Request.{Action, Fetch, Request, Write, attempt_of, values_or_full}
-use Rattle.cops_session.specs.Session.{has_restarted, progress}
+use Rattle.cops_model.specs.declared.calls.NodeReply.TheVariants.{Refused}
+use Rattle.cops_model.specs.Log.{LogStep, Replied, replies_of}
+use Rattle.cops_model.specs.declared.requests.Progress.TheVariants.{Working, Done}
+use Rattle.cops_model.specs.Request.{Action, Fetch, Request, Write, attempt_of, values_or_full}
+use Rattle.cops_model.specs.Session.{has_restarted, progress}
 
 -- the reply to this step is the last of a round of a transaction, which goes on to its second round, or is read and answers so
 pub record EndsRound (config : TenantConfig) (request : Request) (keys : List (List ℕ)) (log : List LogStep) (step : LogStep) : Type 0 where

@@ -1,8 +1,8 @@
 ghost use Rattle.std.specs.Prelude.{List};
 ghost use Rattle.cops_types.specs.TenantConfig.{TenantConfig};
-ghost use Rattle.cops_node.specs.Log.{LogStep};
+ghost use Rattle.cops_model.specs.Log.{LogStep};
 ghost use Rattle.cops_session.specs.Bounds.{IsBounded};
-ghost use Rattle.cops_session.specs.Request.{Request};
+ghost use Rattle.cops_model.specs.Request.{Request};
 
 /// Whatever the nodes reply, a request without an answer has had no reply if it is a put, and at
 /// most two for each key in each attempt if it is a transaction.

@@ -3,7 +3,7 @@ ghost use Rattle.std.specs.Prelude.{◌≡◌, [], ◌∷◌, List, not, IfOk, O
 ghost use Rattle.cops_types.specs.Context.{Put, all_of, near_of, observations_of, can_put, can_observe};
 ghost use Rattle.cops_types.specs.Refusal.{IsAnswer, refused_if};
 ghost use Rattle.cops_session.specs.Kept.{HasRoomInContext, IsOpen};
-ghost use Rattle.cops_session.specs.Session.{OpenContext, context_extended};
+ghost use Rattle.cops_model.specs.Session.{OpenContext, context_extended};
 ghost use Rattle.cops_session.specs.SessionStands.{ContextsStandFor, obs_in};
 
 use crate::kinds::Contexts;

@@ -1,7 +1,7 @@
 ghost use Rattle.std.specs.Prelude.{◌≡◌, ℕ, Bool, true, false};
 ghost use Rattle.std.specs.List.{list_any};
 ghost use Rattle.cops_types.specs.Key.{key_eq};
-ghost use Rattle.cops_session.specs.Session.{has_repeats};
+ghost use Rattle.cops_model.specs.Session.{has_repeats};
 
 use cops_types::Key;
 

@@ -2,12 +2,12 @@ ghost use Rattle.std.specs.Prelude.{◌≡◌, ◌⊎◌, ◌<◌, ◌+◌, ◌-
 ghost use Rattle.std.specs.Option.{option_map};
 ghost use Rattle.cops_types.specs.Refusal.{IsAnswer};
 ghost use Rattle.cops_types.specs.TenantConfig.{TenantConfig, tenant_config};
-ghost use Rattle.cops_node.specs.declared.NodeCall.{NodeCall};
-ghost use Rattle.cops_node.specs.declared.NodeId.{NodeId};
-ghost use Rattle.cops_node.specs.declared.NodeReply.{NodeReply};
+ghost use Rattle.cops_model.specs.declared.calls.NodeCall.{NodeCall};
+ghost use Rattle.cops_model.specs.declared.calls.NodeId.{NodeId};
+ghost use Rattle.cops_model.specs.declared.calls.NodeReply.{NodeReply};
 ghost use Rattle.cops_context.specs.Lists.{ListsStandFor};
 ghost use Rattle.cops_types.specs.declared.faults.Fault.TheVariants.{OutOfMemory};
-ghost use Rattle.cops_session.specs.declared.Answer.TheVariants as answer;
+ghost use Rattle.cops_model.specs.declared.requests.Answer.TheVariants as answer;
 ghost use Rattle.cops_session.specs.declared.ongoing.Work.TheVariants as work;
 
 use crate::contexts::{prepare_put, see_put, see_reads};
@@ -50,11 +50,10 @@ impl Model for Session {
 
 impl Session {
     ghost use Rattle.cops_session.specs.Kept.{HasRoomInContext, IsOpen, IsPlaced, IsReadyFor, KeptSession, is_running};
-    ghost use Rattle.cops_session.specs.Request.{Write, Fetch, next, values_or_full};
-    ghost use Rattle.cops_session.specs.Session.{OpenContext, Running as SoloRunning, Session as SoloSession, context_created, context_deleted, context_extended, context_refusal, create_refusal, get_refusal, moment_at, new_session, obs_of, request_begun, request_of, seen_in, session_put_refusal};
+    ghost use Rattle.cops_model.specs.Request.{Write, Fetch, next, values_or_full};
+    ghost use Rattle.cops_model.specs.Session.{OpenContext, Running as SoloRunning, Session as SoloSession, context_created, context_deleted, context_extended, context_refusal, create_refusal, get_refusal, moment_at, new_session, obs_of, request_begun, request_of, seen_in, session_put_refusal, is_spent};
     ghost use Rattle.cops_session.specs.SessionStands.{SessionStandsFor, ContextsStandFor, obs_in};
     ghost use Rattle.cops_session.specs.Stepping.{DoesNext, runs};
-    ghost use Rattle.cops_handles.specs.Rows.{is_spent};
 
     /// A session of a tenant of the configuration in a data centre, with no contexts. Its first
     /// numbers are 1.

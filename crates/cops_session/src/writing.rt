@@ -1,7 +1,7 @@
 ghost use Rattle.std.specs.Prelude.{◌≡◌, ◌<◌};
 ghost use Rattle.cops_types.specs.Key.{shard_of};
-ghost use Rattle.cops_node.specs.declared.NodeCall.TheVariants.{Put};
-ghost use Rattle.cops_node.specs.declared.NodeReply.{NodeReply};
+ghost use Rattle.cops_model.specs.declared.calls.NodeCall.TheVariants.{Put};
+ghost use Rattle.cops_model.specs.declared.calls.NodeReply.{NodeReply};
 ghost use Rattle.cops_session.specs.Kept.{IsAmong};
 ghost use Rattle.cops_session.specs.Writing.{answer_to_put};
 

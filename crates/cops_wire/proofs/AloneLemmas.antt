@@ -4,21 +4,21 @@ use Rattle.std.specs.Prelude.{Option, Some, None, slice_index_or, slice_set}
 use Rattle.cops_types.specs.declared.faults.Fault.{Fault}
 use Rattle.cops_types.specs.declared.faults.Fault.TheVariants.{OutOfMemory}
 use Rattle.cops_types.specs.TenantConfig.{TenantConfig}
-use Rattle.cops_node.specs.declared.NodeCall.{NodeCall}
-use Rattle.cops_node.specs.declared.NodeId.{NodeId}
-use Rattle.cops_node.specs.declared.NodeReply.{NodeReply}
-use Rattle.cops_node.specs.declared.NodeReply.TheVariants as node_reply
+use Rattle.cops_model.specs.declared.calls.NodeCall.{NodeCall}
+use Rattle.cops_model.specs.declared.calls.NodeId.{NodeId}
+use Rattle.cops_model.specs.declared.calls.NodeReply.{NodeReply}
+use Rattle.cops_model.specs.declared.calls.NodeReply.TheVariants as node_reply
 use Rattle.cops_node.specs.Clusters.{Cluster, HasTenant, nodes_of, turn_at}
-use Rattle.cops_node.specs.Log.{LogStep, Late, Replied, Next, Call, Restart, Ended}
-use Rattle.cops_node.specs.Place.{node_number, place_of}
-use Rattle.cops_node.specs.SoloNode.{SoloNode, new_node}
-use Rattle.cops_node.specs.Step.{CallEffect, node_step}
-use Rattle.cops_session.specs.declared.Answer.{Answer}
-use Rattle.cops_session.specs.declared.Answer.TheVariants as answer
-use Rattle.cops_session.specs.declared.Progress.{Progress}
-use Rattle.cops_session.specs.declared.Progress.TheVariants.{Working, Restarted, Done}
-use Rattle.cops_session.specs.Request.{Action, next}
-use Rattle.cops_session.specs.Session.{Running, Session, moment_at, progress, request_begun, request_of, session_after}
+use Rattle.cops_model.specs.Log.{LogStep, Late, Replied, Next, Call, Restart, Ended}
+use Rattle.cops_model.specs.Place.{node_number, place_of}
+use Rattle.cops_model.specs.SoloNode.{SoloNode, new_node}
+use Rattle.cops_model.specs.Step.{CallEffect, node_step}
+use Rattle.cops_model.specs.declared.requests.Answer.{Answer}
+use Rattle.cops_model.specs.declared.requests.Answer.TheVariants as answer
+use Rattle.cops_model.specs.declared.requests.Progress.{Progress}
+use Rattle.cops_model.specs.declared.requests.Progress.TheVariants.{Working, Restarted, Done}
+use Rattle.cops_model.specs.Request.{Action, next}
+use Rattle.cops_model.specs.Session.{Running, Session, moment_at, progress, request_begun, request_of, session_after}
 use Rattle.cops_wire.specs.declared.messages.Message.{Message}
 use Rattle.cops_wire.specs.declared.messages.Message.TheVariants.{CreateContext, DeleteContext, Put, GetTrans}
 use Rattle.cops_wire.specs.Alone.{AreGiven, AreMessagesSpared, CallsAmid, CallsCluster, IsConnectionToldAlone, IsServedAt, OthersCall, ReplyAlone, SlotCall, StepAlone, answer_alone, does_alone, further, replied, replies_after, replies_alone, runs_on, stepped, steps_alone, tells_out_of_memory, unless_told}

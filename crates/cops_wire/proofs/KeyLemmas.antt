@@ -11,7 +11,7 @@ use Rattle.cops_types.specs.Key.{is_key}
 use Rattle.cops_types.specs.Refusal.{IsAnswer}
 use Rattle.cops_types.specs.Search.{first_refusal}
 use Rattle.cops_types.specs.TenantConfig.{TenantConfig}
-use Rattle.cops_session.specs.Session.{Session, get_refusal}
+use Rattle.cops_model.specs.Session.{Session, get_refusal}
 use Rattle.cops_wire.specs.declared.messages.Message.{Message}
 use Rattle.cops_wire.specs.declared.messages.Message.TheVariants.{GetTrans}
 use Rattle.cops_wire.specs.Reading.{Reader, all_at, cells_at, counted_parts, get_at, message_of, number_at, parts_of_tag, text_at}

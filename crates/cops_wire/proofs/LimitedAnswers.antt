@@ -8,7 +8,7 @@ use Rattle.byteorder.specs.Endian.{big_bytes}
 use Rattle.byteorder.specs.Numbers.{length-bytes_high_first}
 use Rattle.cops_types.specs.declared.contexts.Read.{Read}
 use Rattle.cops_types.specs.declared.pairs.Pair.{Pair}
-use Rattle.cops_session.specs.declared.Answer.TheVariants as answer
+use Rattle.cops_model.specs.declared.requests.Answer.TheVariants as answer
 use Rattle.cops_wire.specs.Fitting.{longest_body}
 use Rattle.cops_wire.specs.Requests.{AreLimited, IsLimited, are_counted, is_counted, is_one_frame, link_to, message_of_answer, outcome_of_read, values_of}
 use Rattle.cops_types.specs.Layout.{number_of_version}

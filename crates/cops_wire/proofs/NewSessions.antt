@@ -9,11 +9,11 @@ use Rattle.cops_types.specs.HeadLines.{are_sizes}
 use Rattle.cops_types.specs.TenantConfig.{tenant_config}
 use Rattle.cops_node.specs.Clusters.{shape_of}
 use Rattle.cops_node.specs.declared.Shape.{Shape}
-use Rattle.cops_node.specs.declared.NodeCall.{NodeCall}
-use Rattle.cops_node.specs.declared.NodeId.{NodeId}
-use Rattle.cops_node.specs.declared.NodeReply.{NodeReply}
+use Rattle.cops_model.specs.declared.calls.NodeCall.{NodeCall}
+use Rattle.cops_model.specs.declared.calls.NodeId.{NodeId}
+use Rattle.cops_model.specs.declared.calls.NodeReply.{NodeReply}
 use Rattle.cops_session.specs.Kept.{IsOfSizes, KeptSession}
-use Rattle.cops_session.specs.Session.{Session, new_session}
+use Rattle.cops_model.specs.Session.{Session, new_session}
 use Rattle.cops_session.specs.SessionStands.{SessionStandsFor}
 use Rattle.cops_wire.specs.declared.messages.Message.{Message}
 use Rattle.cops_wire.specs.declared.serving.Ended.{Ended}

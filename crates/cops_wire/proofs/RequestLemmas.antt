@@ -10,18 +10,17 @@ use Rattle.cops_types.specs.Refusal.{IsAnswer, refused_if}
 use Rattle.cops_types.specs.Search.{first_refusal}
 use Rattle.cops_types.specs.TenantConfig.{TenantConfig}
 use Rattle.cops_types.specs.Value.{is_too_long}
-use Rattle.cops_node.specs.declared.NodeCall.{NodeCall}
-use Rattle.cops_node.specs.declared.NodeId.{NodeId}
-use Rattle.cops_node.specs.declared.NodeReply.{NodeReply}
+use Rattle.cops_model.specs.declared.calls.NodeCall.{NodeCall}
+use Rattle.cops_model.specs.declared.calls.NodeId.{NodeId}
+use Rattle.cops_model.specs.declared.calls.NodeReply.{NodeReply}
 use Rattle.cops_session.specs.Kept.{KeptSession}
-use Rattle.cops_session.specs.Request.{Action}
-use Rattle.cops_session.specs.Session.{Session, has_repeats, is_busy, is_open, request_begun, session_put_refusal}
+use Rattle.cops_model.specs.Request.{Action}
+use Rattle.cops_model.specs.Session.{Session, has_repeats, is_busy, is_open, request_begun, session_put_refusal, is_spent}
 use Rattle.cops_session.specs.SessionStands.{SessionStandsFor}
 use Rattle.cops_wire.specs.declared.messages.Message.{Message}
 use Rattle.cops_wire.specs.declared.messages.Message.TheVariants.{Refused}
 use Rattle.cops_wire.specs.Requests.{Answers, AnswersSo, Backend, Becomes, Ends, HasAnswered, HasFewRestarts, Runs, UnlessRefused, backend, message_of_answer, naming_refusal, number_in, reading_refusal, writing_refusal}
 use Rattle.cops_wire.specs.Running.{HasFewKeys, HasRun, IsRequestDone, IsTold}
-use Rattle.cops_handles.specs.Rows.{is_spent}
 
 -- ---- refusals
 

@@ -6,14 +6,14 @@ use Rattle.std.proofs.lemmas.List.{length-map}
 use Rattle.cops_types.specs.TenantConfig.{TenantConfig}
 use Rattle.cops_types.specs.Version.{version_lt}
 use Rattle.cops_types.proofs.Elements.{fold-push}
-use Rattle.cops_node.specs.declared.NodeCall.{NodeCall}
-use Rattle.cops_node.specs.declared.NodeId.{NodeId}
-use Rattle.cops_node.specs.declared.NodeReply.{NodeReply}
-use Rattle.cops_node.specs.Log.{Call, Ended, Late, LogStep, Next, Replied, Restart, replies_of}
+use Rattle.cops_model.specs.declared.calls.NodeCall.{NodeCall}
+use Rattle.cops_model.specs.declared.calls.NodeId.{NodeId}
+use Rattle.cops_model.specs.declared.calls.NodeReply.{NodeReply}
+use Rattle.cops_model.specs.Log.{Call, Ended, Late, LogStep, Next, Replied, Restart, replies_of}
 use Rattle.cops_node.specs.declared.Shape.{Shape}
-use Rattle.cops_session.specs.declared.Answer.{Answer}
-use Rattle.cops_session.specs.declared.Progress.{Progress}
-use Rattle.cops_session.specs.declared.Progress.TheVariants.{Working, Restarted, Done}
+use Rattle.cops_model.specs.declared.requests.Answer.{Answer}
+use Rattle.cops_model.specs.declared.requests.Progress.{Progress}
+use Rattle.cops_model.specs.declared.requests.Progress.TheVariants.{Working, Restarted, Done}
 use Rattle.cops_session.specs.declared.ongoing.Ongoing.{Ongoing}
 use Rattle.cops_session.specs.declared.ongoing.Round.{Round}
 use Rattle.cops_session.specs.declared.ongoing.Round.TheVariants.{First, Second}
@@ -21,12 +21,12 @@ use Rattle.cops_session.specs.declared.ongoing.Work.{Work}
 use Rattle.cops_session.specs.declared.ongoing.Work.TheVariants.{Put, Get}
 use Rattle.cops_session.specs.Kept.{KeptSession}
 use Rattle.cops_session.specs.Reading.{IsReading, RoundStandsFor}
-use Rattle.cops_session.specs.Request.{Action, Fetch, Attempt, attempt_after, attempt_of, begins_again, next}
+use Rattle.cops_model.specs.Request.{Action, Fetch, Attempt, attempt_after, attempt_of, begins_again, next}
 use Rattle.cops_session.specs.Rounds.{wishes_of}
-use Rattle.cops_session.specs.Session.{Running, Session, moment_at, request_of, session_after}
+use Rattle.cops_model.specs.Session.{Running, Session, moment_at, request_of, session_after}
 use Rattle.cops_session.specs.SessionStands.{RunningStandsFor, SessionStandsFor, WorkStandsFor}
 use Rattle.cops_session.specs.Stepping as stepping
-use Rattle.cops_session.specs.Transaction.{outdated, reads_of, wanted_version}
+use Rattle.cops_model.specs.Transaction.{outdated, reads_of, wanted_version}
 use Rattle.cops_wire.specs.Requests.{Backend, DoesNext, Ends, HasFewRestarts, KeepsShape, RequestGoesOn, Steps, backend}
 use Rattle.cops_wire.specs.Running.{ShowsAnswer, HasEnded, HasFewKeys, HasStepped}
 

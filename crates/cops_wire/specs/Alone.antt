@@ -5,19 +5,19 @@ use Rattle.cops_types.specs.declared.faults.Fault.{Fault}
 use Rattle.cops_types.specs.declared.faults.Fault.TheVariants.{OutOfMemory}
 use Rattle.cops_types.specs.TenantConfig.{TenantConfig}
 use Rattle.cops_handles.specs.Wire.{wire_of}
-use Rattle.cops_node.specs.declared.NodeCall.{NodeCall}
-use Rattle.cops_node.specs.declared.NodeId.{NodeId}
-use Rattle.cops_node.specs.declared.NodeReply.{NodeReply}
+use Rattle.cops_model.specs.declared.calls.NodeCall.{NodeCall}
+use Rattle.cops_model.specs.declared.calls.NodeId.{NodeId}
+use Rattle.cops_model.specs.declared.calls.NodeReply.{NodeReply}
 use Rattle.cops_node.specs.Clusters.{Cluster, HasTenant, IsCall, nodes_of}
-use Rattle.cops_node.specs.Log.{LogStep, Late, Replied, Next, Call, Restart, Ended}
-use Rattle.cops_node.specs.Place.{node_number, place_of}
-use Rattle.cops_node.specs.SoloNode.{SoloNode, new_node}
-use Rattle.cops_node.specs.Step.{node_step}
-use Rattle.cops_session.specs.declared.Answer.{Answer}
-use Rattle.cops_session.specs.declared.Progress.{Progress}
-use Rattle.cops_session.specs.declared.Progress.TheVariants.{Working, Restarted, Done}
-use Rattle.cops_session.specs.Request.{Write, Fetch, next}
-use Rattle.cops_session.specs.Session.{Running, Session, context_created, context_deleted, create_refusal, moment_at, progress, request_begun, request_of, session_after}
+use Rattle.cops_model.specs.Log.{LogStep, Late, Replied, Next, Call, Restart, Ended}
+use Rattle.cops_model.specs.Place.{node_number, place_of}
+use Rattle.cops_model.specs.SoloNode.{SoloNode, new_node}
+use Rattle.cops_model.specs.Step.{node_step}
+use Rattle.cops_model.specs.declared.requests.Answer.{Answer}
+use Rattle.cops_model.specs.declared.requests.Progress.{Progress}
+use Rattle.cops_model.specs.declared.requests.Progress.TheVariants.{Working, Restarted, Done}
+use Rattle.cops_model.specs.Request.{Write, Fetch, next}
+use Rattle.cops_model.specs.Session.{Running, Session, context_created, context_deleted, create_refusal, moment_at, progress, request_begun, request_of, session_after}
 use Rattle.cops_wire.specs.declared.messages.Message.{Message}
 use Rattle.cops_wire.specs.declared.messages.Message.TheVariants.{CreateContext, DeleteContext, Put, GetTrans, Created, Deleted, Refused}
 use Rattle.cops_wire.specs.Requests.{Answers, Backend, KeepsShape, backend, deletion_refusal, message_of_answer, number_in, reading_refusal, writing_refusal}

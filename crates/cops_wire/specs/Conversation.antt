@@ -4,11 +4,11 @@ use Rattle.std.specs.List.{flat_map}
 use Rattle.cops_types.specs.declared.configs.Config.{Config}
 use Rattle.cops_types.specs.declared.configs.Tenant.{Tenant}
 use Rattle.cops_types.specs.TenantConfig.{TenantConfig, tenant_config}
-use Rattle.cops_node.specs.declared.NodeCall.{NodeCall}
-use Rattle.cops_node.specs.declared.NodeId.{NodeId}
-use Rattle.cops_node.specs.declared.NodeReply.{NodeReply}
+use Rattle.cops_model.specs.declared.calls.NodeCall.{NodeCall}
+use Rattle.cops_model.specs.declared.calls.NodeId.{NodeId}
+use Rattle.cops_model.specs.declared.calls.NodeReply.{NodeReply}
 use Rattle.cops_node.specs.Clusters.{Cluster, HasTenant, nodes_of}
-use Rattle.cops_session.specs.Session.{Session, new_session}
+use Rattle.cops_model.specs.Session.{Session, new_session}
 use Rattle.cops_wire.specs.declared.messages.Message.{Message}
 use Rattle.cops_wire.specs.declared.messages.Message.TheVariants.{Ready}
 use Rattle.cops_wire.specs.declared.serving.Ended.{Ended}

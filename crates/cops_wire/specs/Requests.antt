@@ -12,18 +12,18 @@ use Rattle.cops_types.specs.Search.{first_refusal}
 use Rattle.cops_types.specs.TenantConfig.{TenantConfig}
 use Rattle.cops_types.specs.Value.{is_too_long}
 use Rattle.cops_handles.specs.Wire.{wire_of}
-use Rattle.cops_node.specs.declared.NodeCall.{NodeCall}
-use Rattle.cops_node.specs.declared.NodeId.{NodeId}
-use Rattle.cops_node.specs.declared.NodeReply.{NodeReply}
-use Rattle.cops_node.specs.Log.{LogStep, Late, Replied, Next, Call, Restart, Ended}
+use Rattle.cops_model.specs.declared.calls.NodeCall.{NodeCall}
+use Rattle.cops_model.specs.declared.calls.NodeId.{NodeId}
+use Rattle.cops_model.specs.declared.calls.NodeReply.{NodeReply}
+use Rattle.cops_model.specs.Log.{LogStep, Late, Replied, Next, Call, Restart, Ended}
 use Rattle.cops_node.specs.declared.Shape.{Shape}
-use Rattle.cops_session.specs.declared.Answer.{Answer}
-use Rattle.cops_session.specs.declared.Answer.TheVariants as answer
-use Rattle.cops_session.specs.declared.Progress.{Progress}
-use Rattle.cops_session.specs.declared.Progress.TheVariants.{Working, Restarted, Done}
+use Rattle.cops_model.specs.declared.requests.Answer.{Answer}
+use Rattle.cops_model.specs.declared.requests.Answer.TheVariants as answer
+use Rattle.cops_model.specs.declared.requests.Progress.{Progress}
+use Rattle.cops_model.specs.declared.requests.Progress.TheVariants.{Working, Restarted, Done}
 use Rattle.cops_session.specs.Kept.{KeptSession}
-use Rattle.cops_session.specs.Request.{Action, Write, Fetch, next}
-use Rattle.cops_session.specs.Session.{Running, Session, context_created, context_deleted, context_refusal, create_refusal, get_refusal, is_busy, moment_at, progress, request_begun, request_of, session_after, session_put_refusal}
+use Rattle.cops_model.specs.Request.{Action, Write, Fetch, next}
+use Rattle.cops_model.specs.Session.{Running, Session, context_created, context_deleted, context_refusal, create_refusal, get_refusal, is_busy, moment_at, progress, request_begun, request_of, session_after, session_put_refusal}
 use Rattle.cops_session.specs.SessionStands.{SessionStandsFor}
 use Rattle.cops_wire.specs.declared.messages.Link.{Link}
 use Rattle.cops_wire.specs.declared.messages.Message.{Message}

@@ -3,8 +3,8 @@ ghost use Rattle.std.specs.Prelude.{◌≡◌, ℕ, List, [], Some, None, IsTrue
 ghost use Rattle.cops_types.specs.Refusal.{IsAnswer};
 ghost use Rattle.cops_types.specs.TenantConfig.{TenantConfig};
 ghost use Rattle.cops_session.specs.Kept.{IsOfSizes};
-ghost use Rattle.cops_session.specs.Request.{Write, Fetch};
-ghost use Rattle.cops_session.specs.Session.{Session as SoloSession, context_created, context_deleted, create_refusal, request_begun};
+ghost use Rattle.cops_model.specs.Request.{Write, Fetch};
+ghost use Rattle.cops_model.specs.Session.{Session as SoloSession, context_created, context_deleted, create_refusal, request_begun};
 ghost use Rattle.cops_session.specs.SessionStands.{SessionStandsFor};
 ghost use Rattle.cops_wire.specs.declared.messages.Message.{Message};
 ghost use Rattle.cops_wire.specs.Fitting.{CanBeWritten};

@@ -2,7 +2,7 @@
 ghost use Rattle.std.specs.Prelude.{◌≡◌, [], Some};
 ghost use Rattle.cops_types.specs.TenantConfig.{TenantConfig};
 ghost use Rattle.cops_session.specs.Kept.{IsOfSizes};
-ghost use Rattle.cops_session.specs.Session.{Running as SoloRunning, Session as SoloSession};
+ghost use Rattle.cops_model.specs.Session.{Running as SoloRunning, Session as SoloSession};
 ghost use Rattle.cops_session.specs.SessionStands.{SessionStandsFor};
 ghost use Rattle.cops_wire.specs.Requests.{KeepsShape, HasFewRestarts, backend};
 ghost use Rattle.cops_wire.specs.Running.{HasEnded, HasStepped, HasFewKeys};

@@ -1,14 +1,14 @@
 -- A step of a session or a carrier is a step of the actor that it is.
 use Rattle.std.proofs.Common.{◌≡◌, ℕ, false, subst, refl}
 use Rattle.cops_types.specs.TenantConfig.{TenantConfig}
-use Rattle.cops_node.specs.declared.NodeCall.{NodeCall}
-use Rattle.cops_node.specs.declared.NodeId.{NodeId}
-use Rattle.cops_node.specs.declared.NodeReply.{NodeReply}
+use Rattle.cops_model.specs.declared.calls.NodeCall.{NodeCall}
+use Rattle.cops_model.specs.declared.calls.NodeId.{NodeId}
+use Rattle.cops_model.specs.declared.calls.NodeReply.{NodeReply}
 use Rattle.cops_node.specs.declared.Shape.{Shape}
 use Rattle.cops_session.specs.Kept.{KeptSession}
-use Rattle.cops_session.specs.Session.{Session}
+use Rattle.cops_model.specs.Session.{Session}
 use Rattle.cops_session.specs.SessionStands.{SessionStandsFor}
-use Rattle.cops_repl.specs.Carrier.{Carrier}
+use Rattle.cops_model.specs.Carrier.{Carrier}
 use Rattle.cops_repl.specs.Stands.{CarrierStandsFor, KeptCarrier}
 use Rattle.cops_model.specs.declared.replies.Reply.{Reply}
 use Rattle.cops_model.specs.Cluster.{Actor, OfSession, OfCarrier}

@@ -12,8 +12,8 @@ use Rattle.cops_types.specs.Refusal.{refused_if}
 use Rattle.cops_types.specs.Search.{first_refusal}
 use Rattle.cops_types.specs.Value.{is_value, is_too_long}
 use Rattle.cops_types.specs.Words.{no_words}
-use Rattle.cops_session.specs.Request.{Write, Fetch}
-use Rattle.cops_session.specs.Session.{get_refusal, request_begun, session_put_refusal}
+use Rattle.cops_model.specs.Request.{Write, Fetch}
+use Rattle.cops_model.specs.Session.{get_refusal, request_begun, session_put_refusal}
 use Rattle.cops_model.specs.declared.acts.Act.TheVariants as acts
 use Rattle.cops_model.specs.declared.replies.Reply.{Reply}
 use Rattle.cops_model.specs.declared.replies.Reply.TheVariants.{Started, Refused}

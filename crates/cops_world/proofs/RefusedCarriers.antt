@@ -4,14 +4,14 @@ use Rattle.std.specs.Prelude.{Option, Some, None, slice_get}
 use Rattle.std.specs.Option.{option_or}
 use Rattle.std.proofs.lemmas.List.Elements.{filter_map-append}
 use Rattle.cops_types.specs.declared.faults.Fault.{Fault}
-use Rattle.cops_node.specs.declared.NodeReply.{NodeReply}
-use Rattle.cops_node.specs.declared.NodeReply.TheVariants as node_reply
-use Rattle.cops_node.specs.declared.NodeReply.TheVariants.{Pulled}
-use Rattle.cops_node.specs.Log.{LogStep, Replied, replies_of, reply_in, Directed, Call, Ended}
-use Rattle.cops_repl.specs.declared.Delivery.{Delivery}
-use Rattle.cops_repl.specs.declared.Delivery.TheVariants as delivery
-use Rattle.cops_repl.specs.Carrier.{Stream, call_or_end, end_of, first_end, next_after, unless_end}
-use Rattle.cops_repl.specs.Carrier as carrier
+use Rattle.cops_model.specs.declared.calls.NodeReply.{NodeReply}
+use Rattle.cops_model.specs.declared.calls.NodeReply.TheVariants as node_reply
+use Rattle.cops_model.specs.declared.calls.NodeReply.TheVariants.{Pulled}
+use Rattle.cops_model.specs.Log.{LogStep, Replied, replies_of, reply_in, Directed, Call, Ended}
+use Rattle.cops_model.specs.declared.deliveries.Delivery.{Delivery}
+use Rattle.cops_model.specs.declared.deliveries.Delivery.TheVariants as delivery
+use Rattle.cops_model.specs.Carrier.{Stream, call_or_end, end_of, first_end, next_after, unless_end}
+use Rattle.cops_model.specs.Carrier as carrier
 
 calls_same : (shards : ℕ) (stream : Stream) (replies : List NodeReply) (fault : Fault) → carrier.stream_calls shards stream (replies ++ node_reply.Refused fault ∷ []) ≡ carrier.stream_calls shards stream replies
 calls_same shards stream [] fault = refl

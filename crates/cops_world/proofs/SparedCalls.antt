@@ -10,20 +10,20 @@ use Rattle.cops_types.specs.declared.records.Record.{Record}
 use Rattle.cops_types.specs.Records.{exact, latest, mark}
 use Rattle.cops_types.specs.Search.{first_refusal}
 use Rattle.cops_types.specs.Version.{Timestamp, version_eq}
-use Rattle.cops_node.specs.declared.NodeCall.{NodeCall}
-use Rattle.cops_node.specs.declared.NodeCall.TheVariants.{Get, Put, DepCheck, Pull, Commit, Ack, Collect}
-use Rattle.cops_node.specs.declared.NodeReply.{NodeReply}
-use Rattle.cops_node.specs.declared.NodeReply.TheVariants as node_reply
-use Rattle.cops_node.specs.Place.{Place}
-use Rattle.cops_node.specs.declared.Wanted.TheVariants.{Latest, Exactly}
-use Rattle.cops_node.specs.Log.{LogStep, Replied, replies_of, reply_in, Directed, Next, Call, is_asked}
-use Rattle.cops_node.specs.Queues.{front}
-use Rattle.cops_node.specs.SoloNode.{SoloNode, queue}
-use Rattle.cops_node.specs.Step.{CallEffect, acknowledge, audited, effect, is_bytes_full, is_outbox_full, is_versions_full, node_step, put_with_version, reply_exact, reply_latest, reply_pull, store_unless, unchanged, version_of_put, was_committed}
-use Rattle.cops_repl.specs.declared.Delivery.{Delivery}
-use Rattle.cops_repl.specs.declared.Delivery.TheVariants as delivery
-use Rattle.cops_repl.specs.Carrier.{Stream, call_or_end, end_by, end_of, fault_or_end, finished_delivery, first_end, is_foreign, next_after, progress_of, unless_end}
-use Rattle.cops_repl.specs.Carrier as carrier
+use Rattle.cops_model.specs.declared.calls.NodeCall.{NodeCall}
+use Rattle.cops_model.specs.declared.calls.NodeCall.TheVariants.{Get, Put, DepCheck, Pull, Commit, Ack, Collect}
+use Rattle.cops_model.specs.declared.calls.NodeReply.{NodeReply}
+use Rattle.cops_model.specs.declared.calls.NodeReply.TheVariants as node_reply
+use Rattle.cops_model.specs.Place.{Place}
+use Rattle.cops_model.specs.declared.calls.Wanted.TheVariants.{Latest, Exactly}
+use Rattle.cops_model.specs.Log.{LogStep, Replied, replies_of, reply_in, Directed, Next, Call, is_asked}
+use Rattle.cops_model.specs.SoloNode.{front}
+use Rattle.cops_model.specs.SoloNode.{SoloNode, queue}
+use Rattle.cops_model.specs.Step.{CallEffect, acknowledge, audited, effect, is_bytes_full, is_outbox_full, is_versions_full, node_step, put_with_version, reply_exact, reply_latest, reply_pull, store_unless, unchanged, version_of_put, was_committed}
+use Rattle.cops_model.specs.declared.deliveries.Delivery.{Delivery}
+use Rattle.cops_model.specs.declared.deliveries.Delivery.TheVariants as delivery
+use Rattle.cops_model.specs.Carrier.{Stream, call_or_end, end_by, end_of, fault_or_end, finished_delivery, first_end, is_foreign, next_after, progress_of, unless_end}
+use Rattle.cops_model.specs.Carrier as carrier
 use Rattle.cops_model.specs.declared.replies.Reply.TheVariants.{Refused}
 use Rattle.cops_model.specs.Cluster.{reply_of_delivery}
 use Rattle.cops_model.specs.Events.{is_out_of_memory}

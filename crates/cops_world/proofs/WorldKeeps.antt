@@ -17,13 +17,13 @@ use Rattle.cops_types.specs.declared.configs.Config.{Config}
 use Rattle.cops_types.specs.declared.configs.Tenant.{Tenant}
 use Rattle.cops_types.specs.TenantConfig.{TenantConfig, tenant_config}
 use Rattle.cops_node.specs.Clusters.{Cluster, HasTenant, IsCall, id_of, new_nodes, new_shared, nodes_of, shape_of}
-use Rattle.cops_node.specs.declared.NodeCall.{NodeCall}
-use Rattle.cops_node.specs.declared.NodeId.{NodeId}
-use Rattle.cops_node.specs.declared.NodeReply.{NodeReply}
+use Rattle.cops_model.specs.declared.calls.NodeCall.{NodeCall}
+use Rattle.cops_model.specs.declared.calls.NodeId.{NodeId}
+use Rattle.cops_model.specs.declared.calls.NodeReply.{NodeReply}
 use Rattle.cops_node.specs.Parts.{Site, are_clocks, home_of, place_under, site_in, terms_of}
-use Rattle.cops_node.specs.Place.{place_of}
+use Rattle.cops_model.specs.Place.{place_of}
 use Rattle.cops_node.specs.declared.Shape.{Shape}
-use Rattle.cops_node.specs.SoloNode.{new_node}
+use Rattle.cops_model.specs.SoloNode.{new_node}
 use Rattle.cops_model.specs.Events.{config_at}
 use Rattle.cops_model.specs.Setups.{Setup, config_in, config_of, is_open_at, new_setup}
 use Rattle.cops_model.specs.Cluster.{new_cluster}

@@ -19,8 +19,8 @@ use Rattle.cops_node.specs.Clusters.{Cluster, HasTenant, nodes_of}
 use Rattle.cops_node.specs.Lives.{AtEach, IsAdmitted, IsClosed}
 use Rattle.cops_node.specs.declared.Home.{Home}
 use Rattle.cops_node.specs.Parts.{IsSlotKept, Shared, Site, is_taken, left_by, place_at, place_for, site_in, solo_of, trail_of}
-use Rattle.cops_node.specs.Place.{Place, place_of}
-use Rattle.cops_node.specs.SoloNode.{new_node}
+use Rattle.cops_model.specs.Place.{Place, place_of}
+use Rattle.cops_model.specs.SoloNode.{new_node}
 use Rattle.cops_model.specs.declared.acts.Event.{Event}
 use Rattle.cops_model.specs.declared.replies.Reply.{Reply}
 use Rattle.cops_model.specs.declared.replies.Reply.TheVariants.{Refused}

@@ -4,12 +4,12 @@ use Rattle.std.specs.Prelude.{slice_get, Option, Some}
 use Rattle.std.specs.List.{AllByRecursion}
 use Rattle.std.proofs.lemmas.List.{get_or-map}
 use Rattle.cops_types.specs.TenantConfig.{TenantConfig}
-use Rattle.cops_node.specs.declared.AuditEntry.{AuditEntry}
-use Rattle.cops_node.specs.declared.NodeId.{NodeId}
+use Rattle.cops_model.specs.declared.calls.AuditEntry.{AuditEntry}
+use Rattle.cops_model.specs.declared.calls.NodeId.{NodeId}
 use Rattle.cops_node.specs.Clusters.{nodes_of}
 use Rattle.cops_node.specs.Parts.{Shared, place_at, solo_of}
-use Rattle.cops_node.specs.Place.{Place, node_number, place_of}
-use Rattle.cops_node.specs.SoloNode.{SoloNode, new_node}
+use Rattle.cops_model.specs.Place.{Place, node_number, place_of}
+use Rattle.cops_model.specs.SoloNode.{SoloNode, new_node}
 use Rattle.cops_model.specs.Cluster.{SoloCluster}
 use Rattle.cops_model.specs.Setups.{config_in}
 use Rattle.cops_world.specs.Trails.{audited_at}

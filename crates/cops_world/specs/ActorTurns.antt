@@ -3,7 +3,7 @@ use Rattle.std.specs.Prelude.{Option, Some, None}
 use Rattle.cops_types.specs.declared.faults.Fault.{Fault}
 use Rattle.cops_types.specs.declared.faults.Fault.TheVariants.{UnknownName}
 use Rattle.cops_types.specs.TenantConfig.{TenantConfig}
-use Rattle.cops_session.specs.Session.{Session}
+use Rattle.cops_model.specs.Session.{Session}
 use Rattle.cops_model.specs.declared.replies.Reply.{Reply}
 use Rattle.cops_model.specs.declared.replies.Reply.TheVariants.{Refused}
 use Rattle.cops_model.specs.Cluster.{Actor, OfSession, OfCarrier, SessionAct, create_act, delete_act, get_act, put_act, show_act}

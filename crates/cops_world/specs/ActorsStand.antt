@@ -2,24 +2,24 @@
 use Rattle.std.specs.Prelude.{◌≡◌, ◌⊎◌, ℕ, Bool, true, false, max, IsFalse, List, slice_index_or, slice_set, Option, Some, None}
 use Rattle.cops_types.specs.declared.faults.Fault.TheVariants.{Idle, OutOfMemory}
 use Rattle.cops_types.specs.TenantConfig.{TenantConfig}
-use Rattle.cops_node.specs.declared.NodeCall.{NodeCall}
-use Rattle.cops_node.specs.declared.NodeId.{NodeId}
-use Rattle.cops_node.specs.declared.NodeReply.{NodeReply}
-use Rattle.cops_node.specs.declared.NodeReply.TheVariants as node_reply
-use Rattle.cops_node.specs.Log.{Directed, Replied}
-use Rattle.cops_node.specs.Place.{node_number, place_of}
+use Rattle.cops_model.specs.declared.calls.NodeCall.{NodeCall}
+use Rattle.cops_model.specs.declared.calls.NodeId.{NodeId}
+use Rattle.cops_model.specs.declared.calls.NodeReply.{NodeReply}
+use Rattle.cops_model.specs.declared.calls.NodeReply.TheVariants as node_reply
+use Rattle.cops_model.specs.Log.{Directed, Replied}
+use Rattle.cops_model.specs.Place.{node_number, place_of}
 use Rattle.cops_node.specs.declared.Shape.{Shape}
-use Rattle.cops_node.specs.SoloNode.{SoloNode, new_node}
-use Rattle.cops_node.specs.Step.{node_step}
-use Rattle.cops_session.specs.declared.Progress.{Progress}
+use Rattle.cops_model.specs.SoloNode.{SoloNode, new_node}
+use Rattle.cops_model.specs.Step.{node_step}
+use Rattle.cops_model.specs.declared.requests.Progress.{Progress}
 use Rattle.cops_session.specs.Kept.{KeptSession}
-use Rattle.cops_session.specs.Request.{next}
-use Rattle.cops_session.specs.Session.{Session, Running, request_of, moment_at}
+use Rattle.cops_model.specs.Request.{next}
+use Rattle.cops_model.specs.Session.{Session, Running, request_of, moment_at}
 use Rattle.cops_session.specs.Stepping.{DoesNext}
 use Rattle.cops_session.specs.SessionStands.{SessionStandsFor}
-use Rattle.cops_repl.specs.declared.Progress.{Progress as CarrierProgress}
-use Rattle.cops_repl.specs.declared.Progress.TheVariants as carrying
-use Rattle.cops_repl.specs.Carrier.{Carrier}
+use Rattle.cops_model.specs.declared.deliveries.Progress.{Progress as CarrierProgress}
+use Rattle.cops_model.specs.declared.deliveries.Progress.TheVariants as carrying
+use Rattle.cops_model.specs.Carrier.{Carrier}
 use Rattle.cops_repl.specs.Stands.{CarrierStandsFor, IsStepOf, KeptCarrier, RunsIn, is_done}
 use Rattle.cops_model.specs.declared.replies.Reply.{Reply}
 use Rattle.cops_model.specs.declared.replies.Reply.TheVariants.{Working, Refused}

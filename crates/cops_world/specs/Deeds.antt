@@ -1,7 +1,7 @@
 -- What a deed does to the cluster of a tenant.
 use Rattle.std.specs.Prelude.{ℕ, List}
 use Rattle.cops_types.specs.TenantConfig.{TenantConfig}
-use Rattle.cops_session.specs.Session.{Session}
+use Rattle.cops_model.specs.Session.{Session}
 use Rattle.cops_model.specs.Cluster.{ActEffect, SoloCluster, create_act, delete_act, get_act, on_session, put_act, session_acts, session_shows, show_act}
 use Rattle.cops_world.specs.declared.actors.Deed.{Deed}
 use Rattle.cops_world.specs.declared.actors.Deed.TheVariants.{Create, Delete, Put, Get, Show}

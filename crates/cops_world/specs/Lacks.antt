@@ -1,9 +1,9 @@
 -- What is left of a tenant's cluster by an act that was answered that memory was refused.
 use Rattle.std.specs.Prelude.{◌≡◌, ◌⊎◌, ℕ, true, zero, suc, List, Option, Some, None}
 use Rattle.cops_types.specs.TenantConfig.{TenantConfig}
-use Rattle.cops_node.specs.Log.{Call, Directed, LogStep, Replied}
-use Rattle.cops_session.specs.Request.{Fetch, next}
-use Rattle.cops_session.specs.Session.{Running, Session, moment_at, request_of}
+use Rattle.cops_model.specs.Log.{Call, Directed, LogStep, Replied}
+use Rattle.cops_model.specs.Request.{Fetch, next}
+use Rattle.cops_model.specs.Session.{Running, Session, moment_at, request_of}
 use Rattle.cops_session.specs.Wants.{EndsRound}
 use Rattle.cops_model.specs.declared.acts.Act.{Act}
 use Rattle.cops_model.specs.declared.acts.Act.TheVariants.{Open, Create, Delete, Put, Get, Show, Carry, Step, Done, Collect}

@@ -1,10 +1,10 @@
 -- What the audit of a node shows of one tenant.
 use Rattle.std.specs.Prelude.{ℕ, List, Option, slice_get, slice_index_or}
 use Rattle.cops_types.specs.TenantConfig.{TenantConfig}
-use Rattle.cops_node.specs.declared.AuditEntry.{AuditEntry}
-use Rattle.cops_node.specs.declared.NodeId.{NodeId}
-use Rattle.cops_node.specs.Place.{node_number}
-use Rattle.cops_node.specs.SoloNode.{new_node}
+use Rattle.cops_model.specs.declared.calls.AuditEntry.{AuditEntry}
+use Rattle.cops_model.specs.declared.calls.NodeId.{NodeId}
+use Rattle.cops_model.specs.Place.{node_number}
+use Rattle.cops_model.specs.SoloNode.{new_node}
 use Rattle.cops_model.specs.Cluster.{SoloCluster}
 
 -- the audit of a node of the tenant's cluster

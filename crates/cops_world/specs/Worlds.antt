@@ -9,7 +9,7 @@ use Rattle.cops_types.specs.OpenSlots.{open_at}
 use Rattle.cops_types.specs.TenantConfig.{TenantConfig, tenant_config}
 use Rattle.cops_node.specs.Clusters.{Cluster, HasTenant, nodes_of, shape_of}
 use Rattle.cops_node.specs.Parts.{Site, place_at, place_under, site_in, trail_of}
-use Rattle.cops_node.specs.Place.{place_of}
+use Rattle.cops_model.specs.Place.{place_of}
 use Rattle.cops_model.specs.declared.replies.Reply.{Reply}
 use Rattle.cops_model.specs.Cluster.{ActEffect, Actor, SoloCluster, actor_refusal, new_cluster, reply_with, unless_refused, with_new_actor}
 use Rattle.cops_model.specs.Events.{is_out_of_memory}

@@ -2,12 +2,12 @@
 ghost use Rattle.std.specs.Prelude.{◌≡◌, ◌<◌, ◌⊎◌, ℕ, false, IfOk, IsTrue};
 ghost use Rattle.cops_types.specs.TenantConfig.{TenantConfig};
 ghost use Rattle.cops_node.specs.declared.Shape.{Shape};
-ghost use Rattle.cops_session.specs.Session.{Session as SoloSession};
+ghost use Rattle.cops_model.specs.Session.{Session as SoloSession};
 ghost use Rattle.cops_session.specs.SessionStands.{SessionStandsFor};
-ghost use Rattle.cops_node.specs.declared.NodeCall.{NodeCall};
-ghost use Rattle.cops_node.specs.declared.NodeId.{NodeId};
-ghost use Rattle.cops_node.specs.declared.NodeReply.{NodeReply};
-ghost use Rattle.cops_repl.specs.Carrier.{Carrier as SoloCarrier};
+ghost use Rattle.cops_model.specs.declared.calls.NodeCall.{NodeCall};
+ghost use Rattle.cops_model.specs.declared.calls.NodeId.{NodeId};
+ghost use Rattle.cops_model.specs.declared.calls.NodeReply.{NodeReply};
+ghost use Rattle.cops_model.specs.Carrier.{Carrier as SoloCarrier};
 ghost use Rattle.cops_repl.specs.Stands.{CarrierStandsFor, RunsIn, has_ended};
 ghost use Rattle.cops_model.specs.Cluster.{Actor as Solo, reply_of_answer, reply_of_progress, reply_of_delivery};
 ghost use Rattle.cops_model.specs.Events.{is_out_of_memory};

@@ -3,8 +3,8 @@ ghost use Rattle.std.specs.Prelude.{◌≡◌, ◌<◌, ◌⊎◌, ℕ, true, fa
 ghost use Rattle.cops_types.specs.TenantConfig.{TenantConfig, tenant_config};
 ghost use Rattle.cops_node.specs.Clusters.{IsCluster, shape_of};
 ghost use Rattle.cops_node.specs.Parts.{AuditFits, site_in};
-ghost use Rattle.cops_session.specs.Session.{new_session};
-ghost use Rattle.cops_repl.specs.Carrier.{new_carrier};
+ghost use Rattle.cops_model.specs.Session.{new_session};
+ghost use Rattle.cops_model.specs.Carrier.{new_carrier};
 ghost use Rattle.cops_repl.specs.Stands.{RunsIn};
 ghost use Rattle.cops_types.specs.HeadLines.{is_tenant};
 ghost use Rattle.cops_types.specs.Key.{is_key};

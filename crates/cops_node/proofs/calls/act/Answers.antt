@@ -1,14 +1,15 @@
 use Rattle.std.proofs.Common.{◌≡◌, ◌∙◌, refl, ap, sym, subst, IsTrue}
 use Rattle.cops_types.specs.Records.{StandsFor, collected, collectable}
 use Rattle.cops_store.specs.Contents.{rows_of}
-use Rattle.cops_outbox.specs.Queues.{queue_of, front, is_front}
-use Rattle.cops_node.specs.declared.NodeCall.{NodeCall}
-use Rattle.cops_node.specs.declared.NodeReply.TheVariants.{Removed}
+use Rattle.cops_outbox.specs.Queues.{queue_of, is_front}
+use Rattle.cops_model.specs.declared.calls.NodeCall.{NodeCall}
+use Rattle.cops_model.specs.declared.calls.NodeReply.TheVariants.{Removed}
 use Rattle.cops_node.specs.Parts.{StandsAt, place_under}
-use Rattle.cops_node.specs.Place.{fits}
-use Rattle.cops_node.specs.Step.{effect}
+use Rattle.cops_model.specs.Place.{fits}
+use Rattle.cops_model.specs.Step.{effect}
 use Rattle.cops_node.proofs.Effects.{StandsAt-collected}
 use Rattle.cops_node.proofs.Stored.{ack_done, told_acked}
+use Rattle.cops_model.specs.SoloNode.{front}
 use Rattle.cops_node.proofs.calls.act.Goals as goal
 
 pub returns-in-Ack-clause-done : goal.returns-in-Ack-clause-done

@@ -2,10 +2,10 @@ use Rattle.std.proofs.Common.{◌∙◌, ap, sym, subst}
 use Rattle.cops_types.specs.Records.{mark}
 use Rattle.cops_types.specs.Version.{Timestamp, version_le, version_eq}
 use Rattle.cops_store.specs.Contents.{LacksVersion, rows_in}
-use Rattle.cops_node.specs.declared.NodeReply.TheVariants.{OutOfOrder}
+use Rattle.cops_model.specs.declared.calls.NodeReply.TheVariants.{OutOfOrder}
 use Rattle.cops_node.specs.Parts.{StandsAt, place_under}
-use Rattle.cops_node.specs.Place.{is_home, is_other_equivalent}
-use Rattle.cops_node.specs.Step.{CallEffect, commit_refusal}
+use Rattle.cops_model.specs.Place.{is_home, is_other_equivalent}
+use Rattle.cops_model.specs.Step.{CallEffect, commit_refusal}
 use Rattle.cops_node.proofs.Stored.{commit_is_new, commit_out_of_order, commit_refused, commit_done, next_is, not_true, not_false, equivalent_of}
 use Rattle.cops_node.proofs.commits.commit.Goals as goal
 

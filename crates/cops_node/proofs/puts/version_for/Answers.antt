@@ -3,7 +3,7 @@ use Rattle.std.specs.Prelude.{Some, None, if◌then◌else◌}
 use Rattle.cops_types.specs.declared.faults.Fault.TheVariants.{OutboxFull}
 use Rattle.cops_types.specs.Records.{records_in_use, bytes_in_use}
 use Rattle.cops_node.specs.Parts.{place_under}
-use Rattle.cops_node.specs.Step.{is_outbox_full}
+use Rattle.cops_model.specs.Step.{is_outbox_full}
 use Rattle.cops_node.proofs.Effects.{full_is, quota_refuses, quota_allows, refused_put, version_found}
 use Rattle.cops_node.proofs.puts.version_for.Goals as goal
 

@@ -1,11 +1,11 @@
 use Rattle.std.proofs.Common.{ap, sym, subst, rules, true, false}
 use Rattle.cops_types.specs.declared.faults.Fault.TheVariants.{Torn}
-use Rattle.cops_node.specs.declared.NodeCall.TheVariants.{Ack}
-use Rattle.cops_node.specs.declared.NodeReply.{NodeReply}
-use Rattle.cops_repl.specs.declared.Delivery.TheVariants.{Carried, Refused}
+use Rattle.cops_model.specs.declared.calls.NodeCall.TheVariants.{Ack}
+use Rattle.cops_model.specs.declared.calls.NodeReply.{NodeReply}
+use Rattle.cops_model.specs.declared.deliveries.Delivery.TheVariants.{Carried, Refused}
 use Rattle.cops_repl.specs.declared.stages.After.TheVariants.{Ends}
 use Rattle.cops_repl.specs.declared.stages.Stage.TheVariants.{Stored}
-use Rattle.cops_repl.specs.Carrier.{end_of}
+use Rattle.cops_model.specs.Carrier.{end_of}
 use Rattle.cops_repl.specs.Stands.{FollowsReply}
 use Rattle.cops_repl.proofs.NextSteps.{acknowledged, ends_acknowledge}
 use Rattle.cops_repl.proofs.stages.after_acknowledge.Goals as goal

@@ -1,8 +1,8 @@
 use Rattle.std.proofs.Common.{ap, rules}
 use Rattle.cops_types.specs.declared.faults.Fault.TheVariants.{Torn}
-use Rattle.cops_repl.specs.declared.Delivery.TheVariants.{OutOfOrder, Refused}
-use Rattle.cops_repl.specs.Carrier.{end_of}
-use Rattle.cops_node.specs.declared.NodeCall.TheVariants.{Commit}
+use Rattle.cops_model.specs.declared.deliveries.Delivery.TheVariants.{OutOfOrder, Refused}
+use Rattle.cops_model.specs.Carrier.{end_of}
+use Rattle.cops_model.specs.declared.calls.NodeCall.TheVariants.{Commit}
 use Rattle.cops_repl.proofs.NextSteps.{ends_commit}
 use Rattle.cops_repl.proofs.stages.after_commit.Goals as goal
 

@@ -2,9 +2,9 @@ use Rattle.std.proofs.Common.{suc, ◌≡◌, List, length, map, take, drop, sym
 use Rattle.std.specs.Prelude.{slice_get}
 use Rattle.cops_types.specs.Sink.{sink_failures, sink_writer}
 use Rattle.cops_types.specs.TenantConfig.{tenant_config}
-use Rattle.cops_node.specs.declared.AuditEntry.{AuditEntry}
+use Rattle.cops_model.specs.declared.calls.AuditEntry.{AuditEntry}
 use Rattle.cops_node.specs.Parts.{solo_of}
-use Rattle.cops_node.specs.Place.{place_of}
+use Rattle.cops_model.specs.Place.{place_of}
 use Rattle.cops_replay.specs.Audits.{record_of}
 use Rattle.cops_replay.specs.AuditText.{ended, records_text}
 use Rattle.cops_replay.specs.Pages.{PutsText, page}

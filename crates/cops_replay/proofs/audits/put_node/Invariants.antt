@@ -2,7 +2,7 @@ use Rattle.std.proofs.Common.{Ok, map, take}
 use Rattle.cops_types.specs.Sink.{sink_failures, sink_writer}
 use Rattle.cops_types.specs.TenantConfig.{tenant_config}
 use Rattle.cops_node.specs.Parts.{solo_of}
-use Rattle.cops_node.specs.Place.{place_of}
+use Rattle.cops_model.specs.Place.{place_of}
 use Rattle.cops_replay.specs.Audits.{record_of}
 use Rattle.cops_replay.specs.AuditText.{records_text}
 use Rattle.cops_replay.specs.Pages.{PutsText, page}

@@ -2,7 +2,7 @@ use Rattle.std.proofs.Common.{subst}
 use Rattle.std.specs.Prelude.{IsTrue}
 use Rattle.std.proofs.lemmas.Result.{err_from_is_err_and}
 use Rattle.cops_types.specs.Sink.{sink_failures, sink_writer}
-use Rattle.cops_node.specs.declared.AuditEntry.{AuditEntry}
+use Rattle.cops_model.specs.declared.calls.AuditEntry.{AuditEntry}
 use Rattle.cops_replay.specs.Audits.{record_of}
 use Rattle.cops_replay.specs.AuditText.{ended}
 use Rattle.cops_replay.specs.RecordText.{has_form, is_record, record_line}

@@ -3,7 +3,7 @@ use Rattle.cops_types.specs.Sink.{sink_failures, sink_writer}
 use Rattle.cops_types.specs.TenantConfig.{tenant_config}
 use Rattle.cops_node.specs.Clusters.{id_of}
 use Rattle.cops_node.specs.Parts.{solo_of}
-use Rattle.cops_node.specs.Place.{place_of}
+use Rattle.cops_model.specs.Place.{place_of}
 use Rattle.cops_replay.specs.Audits.{record_of, records_from}
 use Rattle.cops_replay.specs.AuditText.{his_nodes, records_text}
 use Rattle.cops_replay.specs.Pages.{PutsText, page}

@@ -1,5 +1,5 @@
 use Rattle.std.proofs.Common.{◌≡◌, drop}
-use Rattle.cops_session.specs.Session.{has_repeats}
+use Rattle.cops_model.specs.Session.{has_repeats}
 use Rattle.cops_session.proofs.RepeatLaws.{comes_again}
 use Rattle.cops_session.proofs.repeats.has_repeats.Given as goal
 

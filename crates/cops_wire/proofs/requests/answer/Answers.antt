@@ -1,6 +1,6 @@
 use Rattle.std.proofs.Common.{sym, ap, subst, ◌∙◌}
 use Rattle.cops_handles.specs.Wire.{wire_of}
-use Rattle.cops_session.specs.Session.{context_created, context_deleted, create_refusal}
+use Rattle.cops_model.specs.Session.{context_created, context_deleted, create_refusal}
 use Rattle.cops_wire.specs.declared.messages.Message.{Message}
 use Rattle.cops_wire.specs.declared.messages.Message.TheVariants.{CreateContext, DeleteContext, Put, Created, Deleted}
 use Rattle.cops_wire.specs.Requests.{KeepsShape, HasAnswered, backend, deletion_refusal, number_in}

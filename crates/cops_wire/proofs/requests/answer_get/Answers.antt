@@ -1,4 +1,4 @@
-use Rattle.cops_session.specs.Request.{Fetch}
+use Rattle.cops_model.specs.Request.{Fetch}
 use Rattle.cops_wire.specs.declared.messages.Message.TheVariants.{GetTrans}
 use Rattle.cops_wire.specs.Requests.{KeepsShape, backend, number_in, reading_refusal}
 use Rattle.cops_wire.specs.Running.{PutsFrame}

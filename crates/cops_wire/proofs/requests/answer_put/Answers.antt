@@ -1,4 +1,4 @@
-use Rattle.cops_session.specs.Request.{Write}
+use Rattle.cops_model.specs.Request.{Write}
 use Rattle.cops_wire.specs.declared.messages.Message.TheVariants.{Put}
 use Rattle.cops_wire.specs.Requests.{KeepsShape, backend, number_in, writing_refusal}
 use Rattle.cops_wire.specs.Running.{PutsFrame}

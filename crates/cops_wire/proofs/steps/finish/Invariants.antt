@@ -1,7 +1,7 @@
 use Rattle.std.proofs.Common.{◌≡◌, []}
 use Rattle.std.specs.Prelude.{Some}
 use Rattle.cops_types.specs.TenantConfig.{TenantConfig}
-use Rattle.cops_session.specs.Session.{Running, Session}
+use Rattle.cops_model.specs.Session.{Running, Session}
 use Rattle.cops_session.specs.SessionStands.{SessionStandsFor}
 use Rattle.cops_wire.specs.Requests.{KeepsShape, HasFewRestarts, backend}
 use Rattle.cops_wire.specs.Running.{HasFewKeys}

@@ -1,7 +1,7 @@
 use Rattle.std.proofs.Common.{◌<◌, ◌∙◌, sym, subst, length, set, IsTrue}
-use Rattle.cops_node.specs.declared.NodeId.{NodeId}
+use Rattle.cops_model.specs.declared.calls.NodeId.{NodeId}
 use Rattle.cops_node.specs.Clusters.{Cluster, IsCall}
-use Rattle.cops_node.specs.Place.{fits, node_number}
+use Rattle.cops_model.specs.Place.{fits, node_number}
 use Rattle.cops_node.specs.declared.Shape.{Shape}
 use Rattle.cops_node.specs.Shape.{Fits, place_in}
 use Rattle.cops_node.specs.Parts.{AuditFits}

@@ -1,6 +1,6 @@
 use Rattle.std.proofs.Common.{◌∙◌, ap, sym, true≢false}
 use Rattle.cops_node.specs.Parts.{solo_of}
-use Rattle.cops_node.specs.Step.{CallEffect}
+use Rattle.cops_model.specs.Step.{CallEffect}
 use Rattle.cops_node.proofs.Slots.{has_room, step_full}
 use Rattle.cops_node.proofs.node.Node.step.Goals as goal
 

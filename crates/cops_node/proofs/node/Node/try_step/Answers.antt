@@ -3,7 +3,7 @@ use Rattle.std.specs.Prelude.{None, Some}
 use Rattle.std.proofs.lemmas.List.{get_or_default}
 use Rattle.cops_node.specs.Lacking.{MayLack}
 use Rattle.cops_node.specs.Parts.{IsSoloTurn, JoinsTrail, Shared, place_at, trail_of}
-use Rattle.cops_node.specs.Place.{fits}
+use Rattle.cops_model.specs.Place.{fits}
 use Rattle.cops_node.specs.Shape.{place_in}
 use Rattle.cops_node.proofs.Slots.{OnErr-any, fits_under, lack_shown, node_joined, node_same, solo_turned, terms_set, trail_elsewhere, trail_joined, view_of, view_set}
 use Rattle.cops_node.proofs.node.Node.try_step.Goals as goal

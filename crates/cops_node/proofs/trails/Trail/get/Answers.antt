@@ -1,6 +1,6 @@
 use Rattle.std.proofs.Common.{◌≡◌, ◌*◌, ◌<◌, ◌≤◌, ◌∙◌, ap, sym, subst, length, List, get_or, Vec, Global}
 use Rattle.std.specs.Prelude.{◌-◌, ◌/◌, ◌%◌, slice_get}
-use Rattle.cops_node.specs.declared.AuditEntry.{AuditEntry}
+use Rattle.cops_model.specs.declared.calls.AuditEntry.{AuditEntry}
 use Rattle.cops_node.specs.Trails.{BLOCK, Noted}
 use Rattle.cops_node.proofs.TrailLemmas.{found_at, at_block, at_last}
 use Rattle.cops_node.proofs.trails.Trail.get.Goals as goal

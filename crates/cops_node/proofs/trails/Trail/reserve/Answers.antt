@@ -1,6 +1,6 @@
 use Rattle.std.proofs.Common.{◌≡◌, ◌∙◌, ap, sym, subst, arith, length, map, List, [], ◌++◌, ◌∷◌, Vec, Global}
 use Rattle.std.proofs.lemmas.List.{map-append}
-use Rattle.cops_node.specs.declared.AuditEntry.{AuditEntry}
+use Rattle.cops_model.specs.declared.calls.AuditEntry.{AuditEntry}
 use Rattle.cops_node.specs.Trails.{BLOCK, IsTrail, Noted, concat_blocks}
 use Rattle.cops_node.proofs.TrailLemmas.{IsTrail-next, joined_next}
 use Rattle.cops_node.proofs.trails.Trail.reserve.Goals as goal

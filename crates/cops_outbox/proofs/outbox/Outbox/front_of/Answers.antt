@@ -1,6 +1,6 @@
 use Rattle.std.proofs.Common.{◌∙◌, ap, sym}
-use Rattle.cops_outbox.specs.Queues.{front}
 use Rattle.cops_outbox.proofs.Views.{dc_of_line, queue_shown}
+use Rattle.cops_model.specs.SoloNode.{front}
 use Rattle.cops_outbox.proofs.outbox.Outbox.front_of.Goals as goal
 
 pub first-requires-clause-dc : goal.first-requires-clause-dc

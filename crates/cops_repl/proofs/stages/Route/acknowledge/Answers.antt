@@ -1,5 +1,5 @@
-use Rattle.cops_node.specs.Log.{Directed}
-use Rattle.cops_node.specs.declared.NodeCall.TheVariants.{Ack}
+use Rattle.cops_model.specs.Log.{Directed}
+use Rattle.cops_model.specs.declared.calls.NodeCall.TheVariants.{Ack}
 use Rattle.cops_repl.specs.Stands.{stream_of}
 use Rattle.cops_repl.proofs.NextSteps.{asks_acknowledge}
 use Rattle.cops_repl.proofs.stages.Route.acknowledge.Goals as goal

@@ -2,7 +2,7 @@ use Rattle.std.proofs.Common.{◌≡◌, ◌∙◌, List, Some, ap, get_or, leng
 use Rattle.std.specs.Prelude.{slice_get}
 use Rattle.std.proofs.lemmas.Option.{slice_get_read}
 use Rattle.cops_types.specs.declared.pairs.Pair.{Pair}
-use Rattle.cops_repl.specs.Carrier.{check}
+use Rattle.cops_model.specs.Carrier.{check}
 use Rattle.cops_repl.specs.Stands.{stream_of}
 use Rattle.cops_repl.proofs.NextSteps.{asks_check, ends_check, goes_check}
 use Rattle.cops_repl.proofs.stages.Route.check.Goals as goal

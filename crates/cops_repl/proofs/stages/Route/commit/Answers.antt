@@ -1,4 +1,4 @@
-use Rattle.cops_repl.specs.Carrier.{commit_call}
+use Rattle.cops_model.specs.Carrier.{commit_call}
 use Rattle.cops_repl.specs.Stands.{stream_of}
 use Rattle.cops_repl.proofs.Fitting.{commit_fits}
 use Rattle.cops_repl.proofs.NextSteps.{asks_commit}

@@ -1,4 +1,4 @@
-use Rattle.cops_repl.specs.Carrier.{pull}
+use Rattle.cops_model.specs.Carrier.{pull}
 use Rattle.cops_repl.specs.Stands.{stream_of}
 use Rattle.cops_repl.proofs.NextSteps.{asks_pull}
 use Rattle.cops_repl.proofs.stages.Route.pull.Goals as goal

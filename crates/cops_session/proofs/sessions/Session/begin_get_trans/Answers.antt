@@ -1,13 +1,13 @@
 use Rattle.std.proofs.Common.{◌≡◌, ◌∙◌, true, false, length, ap, sym, refl, subst, arith, inr}
 use Rattle.std.specs.Prelude.{Some, nat_lt}
 use Rattle.std.proofs.lemmas.Bool.Decides.{nat_tests}
-use Rattle.cops_handles.specs.Rows.{is_spent, row_at}
+use Rattle.cops_handles.specs.Rows.{row_at}
 use Rattle.cops_session.specs.Kept.{KeptSession}
 use Rattle.cops_session.specs.SessionStands.{SessionStandsFor}
 use Rattle.std.proofs.lemmas.Result.{err_from_is_err_and}
 use Rattle.cops_session.proofs.RepeatLaws.{AreDistinct-no_repeats}
 use Rattle.cops_session.proofs.SessionLaws.{get_refusal-closed, get_refusal-open, SessionStandsFor-get_begun}
-use Rattle.cops_session.specs.Session.{has_repeats}
+use Rattle.cops_model.specs.Session.{has_repeats, is_spent}
 use Rattle.cops_session.proofs.sessions.Session.begin_get_trans.Goals as goal
 
 pub returns-in_err-get-clause-refused : goal.returns-in_err-get-clause-refused

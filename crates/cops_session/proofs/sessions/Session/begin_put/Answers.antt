@@ -5,7 +5,7 @@ use Rattle.cops_session.specs.SessionStands.{SessionStandsFor}
 use Rattle.std.proofs.lemmas.Result.{err_from_is_err_and}
 use Rattle.cops_session.proofs.ContextRows.{obs_in-stands}
 use Rattle.cops_session.proofs.SessionLaws.{is_allowed, memory_or_full, put_refusal-closed, put_refusal-open}
-use Rattle.cops_handles.specs.Rows.{is_spent}
+use Rattle.cops_model.specs.Session.{is_spent}
 use Rattle.cops_session.proofs.sessions.Session.begin_put.Goals as goal
 
 pub returns-in_err-seen-clause-refused : goal.returns-in_err-seen-clause-refused

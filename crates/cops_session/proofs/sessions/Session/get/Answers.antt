@@ -1,12 +1,12 @@
 use Rattle.std.proofs.Common.{◌≡◌, ◌∙◌, ap, sym, refl, subst}
 use Rattle.std.specs.Prelude.{Some}
-use Rattle.cops_session.specs.declared.Progress.TheVariants.{Working, Restarted, Done}
-use Rattle.cops_session.specs.declared.Answer.{Answer}
-use Rattle.cops_session.specs.declared.Answer.TheVariants as answer
+use Rattle.cops_model.specs.declared.requests.Progress.TheVariants.{Working, Restarted, Done}
+use Rattle.cops_model.specs.declared.requests.Answer.{Answer}
+use Rattle.cops_model.specs.declared.requests.Answer.TheVariants as answer
 use Rattle.cops_session.specs.declared.ongoing.Work.TheVariants.{Get}
 use Rattle.cops_session.specs.Kept.{KeptSession}
-use Rattle.cops_session.specs.Request.{next}
-use Rattle.cops_session.specs.Session.{moment_at, request_of}
+use Rattle.cops_model.specs.Request.{next}
+use Rattle.cops_model.specs.Session.{moment_at, request_of}
 use Rattle.cops_session.specs.SessionStands.{SessionStandsFor}
 use Rattle.cops_session.specs.Stepping.{DoesNext}
 use Rattle.cops_session.proofs.StepLaws.{completes, fails, get_steps, restarts, works}

@@ -3,8 +3,8 @@ use Rattle.std.specs.Prelude.{Option, Some}
 use Rattle.cops_session.specs.declared.ongoing.Ongoing.{Ongoing}
 use Rattle.cops_session.specs.declared.ongoing.Work.TheVariants.{Put, Get}
 use Rattle.cops_session.specs.Kept.{KeptSession, is_running}
-use Rattle.cops_session.specs.Request.{next}
-use Rattle.cops_session.specs.Session.{moment_at, request_of}
+use Rattle.cops_model.specs.Request.{next}
+use Rattle.cops_model.specs.Session.{moment_at, request_of}
 use Rattle.cops_session.specs.SessionStands.{RunningStandsFor, SessionStandsFor}
 use Rattle.cops_session.specs.Stepping.{DoesNext}
 use Rattle.cops_session.proofs.SessionLaws.{has_running, is_number}

@@ -1,6 +1,6 @@
 use Rattle.std.proofs.Common.{List, sym, subst}
 use Rattle.cops_session.specs.Kept.{KeptSession}
-use Rattle.cops_session.specs.Session.{OpenContext, context_extended}
+use Rattle.cops_model.specs.Session.{OpenContext, context_extended}
 use Rattle.cops_session.specs.SessionStands.{ContextsStandFor}
 use Rattle.cops_types.specs.Context.{observations_of}
 use Rattle.cops_types.specs.declared.contexts.Read.{Read}

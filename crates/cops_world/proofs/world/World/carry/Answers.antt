@@ -2,7 +2,7 @@ use Rattle.std.specs.Prelude.{IsTrue}
 use Rattle.std.proofs.Common.{◌≡◌, refl, sym, subst, ap, ◌∙◌}
 use Rattle.cops_types.specs.declared.faults.Fault.TheVariants.{NoSuchPlace, OutOfMemory}
 use Rattle.cops_node.specs.Clusters.{shape_of}
-use Rattle.cops_repl.specs.Carrier.{new_carrier}
+use Rattle.cops_model.specs.Carrier.{new_carrier}
 use Rattle.cops_model.specs.declared.replies.Reply.TheVariants.{Started, Refused}
 use Rattle.cops_model.specs.Cluster.{OfCarrier, has_stream}
 use Rattle.cops_model.specs.Setups.{Setup, config_in, is_open_at}

@@ -3,7 +3,7 @@ use Rattle.std.specs.Prelude.{nat_lt}
 use Rattle.std.proofs.lemmas.Bool.{lt-ltb, le-ltb}
 use Rattle.cops_types.specs.declared.faults.Fault.TheVariants.{NoSuchPlace, OutOfMemory}
 use Rattle.cops_types.specs.OpenSlots.{open_at}
-use Rattle.cops_session.specs.Session.{new_session}
+use Rattle.cops_model.specs.Session.{new_session}
 use Rattle.cops_model.specs.declared.replies.Reply.TheVariants.{Opened, Refused}
 use Rattle.cops_model.specs.Cluster.{OfSession}
 use Rattle.cops_model.specs.Setups.{config_in, config_of}

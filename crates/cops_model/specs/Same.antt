@@ -10,12 +10,12 @@ use Rattle.cops_types.specs.Pairs.{pairs_eq}
 use Rattle.cops_types.proofs.FaultLemmas.{fault_back}
 use Rattle.cops_types.specs.Same.{TellsSame, both, entry_eq, same_bytes, same_versions, same_pairs, same_entries}
 use Rattle.cops_types.specs.Version.{version_eq}
-use Rattle.cops_node.specs.declared.Wanted.{Wanted}
-use Rattle.cops_node.specs.declared.Wanted.TheVariants.{Latest, Exactly}
-use Rattle.cops_node.specs.declared.NodeCall.{NodeCall}
-use Rattle.cops_node.specs.declared.NodeCall.TheVariants.{Get, Put, DepCheck, Pull, Commit, Ack, Collect}
-use Rattle.cops_node.specs.declared.NodeReply.{NodeReply}
-use Rattle.cops_node.specs.declared.NodeReply.TheVariants.{Found, Absent, Gone, NotYet, Stored, Checked, Pulled, Nothing, Committed, Already, OutOfOrder, Acked, NotFront, Removed, Refused}
+use Rattle.cops_model.specs.declared.calls.Wanted.{Wanted}
+use Rattle.cops_model.specs.declared.calls.Wanted.TheVariants.{Latest, Exactly}
+use Rattle.cops_model.specs.declared.calls.NodeCall.{NodeCall}
+use Rattle.cops_model.specs.declared.calls.NodeCall.TheVariants.{Get, Put, DepCheck, Pull, Commit, Ack, Collect}
+use Rattle.cops_model.specs.declared.calls.NodeReply.{NodeReply}
+use Rattle.cops_model.specs.declared.calls.NodeReply.TheVariants.{Found, Absent, Gone, NotYet, Stored, Checked, Pulled, Nothing, Committed, Already, OutOfOrder, Acked, NotFront, Removed, Refused}
 
 -- ---- numbers, answers and faults
 

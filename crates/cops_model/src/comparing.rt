@@ -2,7 +2,7 @@
 ghost use Rattle.std.specs.Prelude.{◌≡◌, ◌↔◌, IsTrue};
 ghost use Rattle.std.specs.Cmp.{partial_equiv_from_equiv};
 ghost use Rattle.cops_types.specs.Same.{same_equivalence};
-ghost use Rattle.cops_node.specs.Same.{call_eq, reply_eq, same_calls, same_replies};
+ghost use Rattle.cops_model.specs.Same.{call_eq, reply_eq, same_calls, same_replies};
 
 use crate::{NodeCall, NodeReply, Wanted};
 use cops_types::{Fault, Key, Value, Version};
