@@ -1,8 +1,8 @@
 -- What ends before it has read or written has written a front.
 use Rattle.std.proofs.Common.{◌≡◌, IfSome, ℕ, List, Option, Some, None, Result, Ok, Err, IsErrAnd, inl, refl, subst, sym}
 use Rattle.std.specs.Io.KnownBytes.{Keeps}
-use Rattle.cops_world.specs.ScriptRuns.{WritesFront}
-use Rattle.cops_world.specs.SoloRuns.{WritesSoloFront}
+use Rattle.cops_script.specs.ScriptRuns.{WritesFront}
+use Rattle.cops_script.specs.SoloRuns.{WritesSoloFront}
 use Rattle.cops_types.specs.Sink.{AppendsFront}
 use Rattle.cops_replay.specs.MigratedText.{migration_of}
 use Rattle.cops_replay.proofs.PageLemmas.{front_of_none}

@@ -5,11 +5,11 @@ use Rattle.clap.specs.declared.error.Error.{Error}
 use Rattle.clap.specs.declared.error.kind.ErrorKind.TheVariants as kind
 use Rattle.cops_types.specs.declared.faults.Fault.{Fault}
 use Rattle.cops_types.specs.declared.faults.Fault.TheVariants as fault
-use Rattle.cops_types.specs.declared.line_runs.fault.RunFault.{RunFault}
-use Rattle.cops_types.specs.declared.line_runs.fault.RunFault.TheVariants as run
-use Rattle.cops_world.specs.declared.scripts.BadConfig.{BadConfig}
-use Rattle.cops_world.specs.declared.solo_machine.SoloRefusal.{SoloRefusal}
-use Rattle.cops_world.specs.declared.solo_machine.SoloRefusal.TheVariants as solo
+use Rattle.cops_script.specs.declared.line_runs.fault.RunFault.{RunFault}
+use Rattle.cops_script.specs.declared.line_runs.fault.RunFault.TheVariants as run
+use Rattle.cops_script.specs.declared.scripts.BadConfig.{BadConfig}
+use Rattle.cops_script.specs.declared.solo_machine.SoloRefusal.{SoloRefusal}
+use Rattle.cops_script.specs.declared.solo_machine.SoloRefusal.TheVariants as solo
 use Rattle.cops_replay.specs.declared.migrations.MigrationRefusal.{MigrationRefusal}
 use Rattle.cops_replay.specs.declared.migrations.MigrationRefusal.TheVariants as migration
 use Rattle.cops_replay.specs.declared.refusals.ReplayRefusal.{ReplayRefusal}

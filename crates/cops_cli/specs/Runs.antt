@@ -12,8 +12,8 @@ use Rattle.cops_replay.specs.ReplayText.{IsReplayOf, RefusesReplayOf, ReplaysFro
 use Rattle.cops_node.specs.Clusters.{new_nodes}
 use Rattle.cops_node.specs.Parts.{Shared}
 use Rattle.cops_service.specs.Left.{AreLeft}
-use Rattle.cops_world.specs.ScriptRuns.{WritesFront, WritesScript}
-use Rattle.cops_world.specs.SoloRuns.{IsRefusedFor, WritesSolo, WritesSoloFront}
+use Rattle.cops_script.specs.ScriptRuns.{WritesFront, WritesScript}
+use Rattle.cops_script.specs.SoloRuns.{IsRefusedFor, WritesSolo, WritesSoloFront}
 use Rattle.cops_cli.specs.Faults.{IfBadHead, IfBadLine, IfClockTooGreat, IfNotAnswered, IfNotMigrated, IfNotReplayed, IfOfTenant, IfOfWords}
 use Rattle.cops_cli.specs.declared.faults.CliFault.{CliFault}
 

@@ -6,8 +6,8 @@ ghost use Rattle.cops_cli.specs.declared.faults.CliFault.TheVariants.{OutOfMemor
 
 use clap::error::ErrorKind;
 use cops_replay::{MigrationRefusal, ReplayRefusal};
-use cops_types::{Fault, RunFault};
-use cops_world::{BadConfig, SoloRefusal};
+use cops_script::{BadConfig, RunFault, SoloRefusal};
+use cops_types::Fault;
 use std::alloc::AllocError;
 use thiserror::Error;
 

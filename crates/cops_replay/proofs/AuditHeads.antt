@@ -9,7 +9,7 @@ use Rattle.cops_types.specs.declared.configs.Tenant.{Tenant}
 use Rattle.cops_types.specs.Counts.{counted}
 use Rattle.cops_types.specs.Head.{Front, AtStart, Within, Begun, Follows, HeadReading, Whole, BadAt, is_begun, may_join, reading_from}
 use Rattle.cops_types.specs.HeadLines.{is_distinct, is_name}
-use Rattle.cops_types.specs.LineRules.{Run}
+use Rattle.cops_script.specs.LineRules.{Run}
 use Rattle.cops_types.specs.Lines.{cut_line}
 use Rattle.cops_types.specs.OldHead.{last_old_clock, old_front_after, old_reading_from}
 use Rattle.cops_types.specs.Version.{last_clock}
@@ -18,7 +18,7 @@ use Rattle.cops_types.proofs.HeadLemmas.{tenant_fits}
 use Rattle.cops_types.proofs.HeadLengths.{front_after-short}
 use Rattle.cops_types.proofs.WordLemmas.{both}
 use Rattle.cops_types.specs.Slots.{AreNamed}
-use Rattle.cops_world.proofs.HeadRuns as today
+use Rattle.cops_script.proofs.HeadRuns as today
 use Rattle.cops_replay.specs.declared.layouts.Layout.{Layout}
 use Rattle.cops_replay.specs.declared.layouts.Layout.TheVariants.{Today, Early, Old}
 use Rattle.cops_replay.specs.declared.replay_machine.ReplayScript.{ReplayScript}

@@ -21,8 +21,8 @@ use Rattle.cops_types.proofs.FrontLemmas.{head_of-says}
 use Rattle.cops_types.proofs.HeadLemmas.{tenant_fits}
 use Rattle.cops_types.proofs.WordLemmas.{Lacks, both, first_word-more, name_lacks, same_bytes, same_value, space_foreign}
 use Rattle.cops_model.specs.SoloNode.{SoloNode}
-use Rattle.cops_world.proofs.ApartTenants.{AreApart, apart_push, none_apart, of_name, only_one}
-use Rattle.cops_world.proofs.HeadRuns.{tenants_in}
+use Rattle.cops_script.proofs.ApartTenants.{AreApart, apart_push, none_apart, of_name, only_one}
+use Rattle.cops_script.proofs.HeadRuns.{tenants_in}
 use Rattle.cops_replay.specs.declared.Record.{Record}
 use Rattle.cops_replay.specs.AuditText.{ended, tenants_text}
 use Rattle.cops_replay.specs.OwnLines.{alone_lines}

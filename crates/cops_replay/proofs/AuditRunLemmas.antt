@@ -4,10 +4,10 @@ use Rattle.std.specs.Prelude.{Option, Some, None, IfErr, IfSome, OnErr, OnOk, Re
 use Rattle.std.specs.List.{AllByRecursion}
 use Rattle.std.specs.Io.KnownBytes.{Appends}
 use Rattle.cops_types.specs.declared.configs.Tenant.{Tenant}
-use Rattle.cops_types.specs.declared.line_runs.fault.RunFault.{RunFault}
-use Rattle.cops_types.specs.declared.line_runs.fault.RunFault.TheVariants.{Refused, OutOfMemory, ReadFault, WriteFault}
+use Rattle.cops_script.specs.declared.line_runs.fault.RunFault.{RunFault}
+use Rattle.cops_script.specs.declared.line_runs.fault.RunFault.TheVariants.{Refused, OutOfMemory, ReadFault, WriteFault}
 use Rattle.cops_types.specs.Head.{head_of}
-use Rattle.cops_types.specs.LineRuns.{IfRunRefused}
+use Rattle.cops_script.specs.LineRuns.{IfRunRefused}
 use Rattle.cops_types.specs.Lines.{lines_of}
 use Rattle.cops_types.specs.OpenSlots.{open_at}
 use Rattle.cops_types.specs.Sink.{AppendsFront}
@@ -15,10 +15,10 @@ use Rattle.cops_types.specs.TenantConfig.{TenantConfig, tenant_config}
 use Rattle.cops_node.specs.Clusters.{HasTenant, nodes_of, shape_of}
 use Rattle.cops_model.specs.SoloNode.{SoloNode}
 use Rattle.cops_model.specs.Setups.{Setup, config_in, config_of, is_open_at}
-use Rattle.cops_world.specs.declared.scripts.BadConfig.{BadConfig}
-use Rattle.cops_world.specs.Script.{Written}
-use Rattle.cops_world.specs.ScriptRuns.{text_in}
-use Rattle.cops_world.specs.ScriptWorlds.{IsLeftBy, IsLeftByRead, cluster_left, life_left}
+use Rattle.cops_script.specs.declared.scripts.BadConfig.{BadConfig}
+use Rattle.cops_script.specs.Script.{Written}
+use Rattle.cops_script.specs.ScriptRuns.{text_in}
+use Rattle.cops_script.specs.ScriptWorlds.{IsLeftBy, IsLeftByRead, cluster_left, life_left}
 use Rattle.cops_world.specs.Worlds.{HasOpenCluster, KeptWorld, open_setup}
 use Rattle.cops_replay.specs.declared.Record.{Record}
 use Rattle.cops_replay.specs.Audits.{HasShape, ReplaysSame, records_of}

@@ -2,7 +2,7 @@
 use Rattle.std.proofs.Common.{◌≡◌, ℕ, Bool, true, false, List, [], refl, sym, ◌∙◌, append-nil}
 use Rattle.std.specs.Prelude.{Option}
 use Rattle.cops_types.specs.Head.{Front}
-use Rattle.cops_types.specs.LineAnswers.{Answers}
+use Rattle.cops_script.specs.LineAnswers.{Answers}
 use Rattle.cops_replay.specs.AuditText.{head_text}
 use Rattle.cops_replay.specs.declared.migration_machine.OldPart.TheVariants.{Head, Records}
 use Rattle.cops_replay.specs.MigratedHeads.{MigratedHeadAnswers}

@@ -14,7 +14,7 @@ use Rattle.cops_types.specs.OldHead.{has_clocks_to, last_old_clock, most_old_sha
 use Rattle.cops_types.specs.Version.{last_clock}
 use Rattle.cops_types.proofs.HeadLemmas.{tenant_in-finds, tenant_in_to-is}
 use Rattle.cops_types.proofs.WordLemmas.{both}
-use Rattle.cops_world.proofs.HeadRuns.{read_once}
+use Rattle.cops_script.proofs.HeadRuns.{read_once}
 use Rattle.cops_replay.specs.declared.Record.{Record}
 use Rattle.cops_replay.specs.MigrationLaws.{IsAuditInBoth, ReadsAlike}
 use Rattle.cops_replay.specs.OldRecords.{last_early_clock, old_record_in}

@@ -9,18 +9,18 @@ use Rattle.cops_types.specs.declared.configs.Config.{Config}
 use Rattle.cops_types.specs.declared.configs.Tenant.{Tenant}
 use Rattle.cops_types.specs.declared.faults.Fault.{Fault}
 use Rattle.cops_types.specs.declared.faults.Fault.TheVariants.{Syntax, ClockTooGreat}
-use Rattle.cops_types.specs.declared.line_runs.fault.RunFault.{RunFault}
-use Rattle.cops_types.specs.declared.line_runs.fault.RunFault.TheVariants as fault
+use Rattle.cops_script.specs.declared.line_runs.fault.RunFault.{RunFault}
+use Rattle.cops_script.specs.declared.line_runs.fault.RunFault.TheVariants as fault
 use Rattle.cops_types.specs.Counts.{counted}
 use Rattle.cops_types.specs.Head.{Front, AtStart, Within, Begun, is_begun, head_with, may_join, with_tenant}
 use Rattle.cops_types.specs.HeadLines.{begin_line}
-use Rattle.cops_types.specs.LineRules.{Run}
-use Rattle.cops_types.specs.LineRuns.{AnswersAll, IfRunRefused, StopsEarly}
+use Rattle.cops_script.specs.LineRules.{Run}
+use Rattle.cops_script.specs.LineRuns.{AnswersAll, IfRunRefused, StopsEarly}
 use Rattle.cops_types.specs.Lines.{lines_of, cut_line, cut_lines}
 use Rattle.cops_types.specs.OldHead.{has_clocks_to, old_cluster_in, old_front_after, old_tenant_in}
 use Rattle.cops_types.specs.Sink.{AppendsFront}
-use Rattle.cops_types.proofs.KnownLemmas.{AppendsFront-more, input_is, known_lines, known_whole}
-use Rattle.cops_world.proofs.HeadRuns.{real_lines}
+use Rattle.cops_script.proofs.KnownLemmas.{AppendsFront-more, input_is, known_lines, known_whole}
+use Rattle.cops_script.proofs.HeadRuns.{real_lines}
 use Rattle.cops_replay.specs.declared.migration_machine.OldAudit.{OldAudit}
 use Rattle.cops_replay.specs.declared.migration_machine.OldPart.{OldPart}
 use Rattle.cops_replay.specs.declared.migration_machine.OldPart.TheVariants.{Head, Records}

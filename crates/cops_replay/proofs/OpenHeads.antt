@@ -11,7 +11,7 @@ use Rattle.cops_types.specs.declared.faults.Fault.{Fault}
 use Rattle.cops_types.specs.declared.faults.Fault.TheVariants.{NameTaken, NoSlot}
 use Rattle.cops_types.specs.Head.{Front, AtStart, Within, Begun, Follows, Leads, Whole, Says, head_of}
 use Rattle.cops_types.specs.HeadLines.{are_sizes, begin_line, is_distinct, is_tenant, most_tenants, tenant_in}
-use Rattle.cops_types.specs.HostLines.{admitted_in, closed_in, plus}
+use Rattle.cops_script.specs.HostLines.{admitted_in, closed_in, plus}
 use Rattle.cops_types.specs.OpenSlots.{admission_refusal, begun_with, has_name, has_token, open_at, open_slot_of_name}
 use Rattle.cops_types.specs.Search.{first_refusal}
 use Rattle.cops_types.specs.TenantTexts.{AreApart, has_text}
@@ -19,15 +19,15 @@ use Rattle.cops_types.specs.Words.{first_word}
 use Rattle.cops_types.proofs.BegunSlots.{apart_behind, apart_more}
 use Rattle.cops_types.proofs.FrontLemmas.{head_of-says}
 use Rattle.cops_types.proofs.HeadLemmas.{tenant_in-is}
-use Rattle.cops_types.proofs.HostLineLemmas.{admitted-good}
+use Rattle.cops_script.proofs.HostLineLemmas.{admitted-good}
 use Rattle.cops_types.proofs.OpenSlotLemmas.{apart_left, apart_put, both_fail, left_fails, right_fails, swapped}
 use Rattle.cops_types.proofs.WordLemmas.{both}
 use Rattle.cops_model.specs.declared.acts.Act.{Act}
-use Rattle.cops_model.specs.ActLines.{act_in}
-use Rattle.cops_model.specs.Said.{Said, OfHost, admission_of, admission_unless, begins_admission, begins_closing, closing_at, closing_of, said_found, said_by, said_in, tenants_after, tenants_past}
+use Rattle.cops_script.specs.ActLines.{act_in}
+use Rattle.cops_script.specs.Said.{Said, OfHost, admission_of, admission_unless, begins_admission, begins_closing, closing_at, closing_of, said_found, said_by, said_in, tenants_after, tenants_past}
 use Rattle.cops_model.specs.Setups.{next_slot}
-use Rattle.cops_world.specs.Script.{said_to}
-use Rattle.cops_world.proofs.OpenSets.{may_be_given}
+use Rattle.cops_script.specs.Script.{said_to}
+use Rattle.cops_script.proofs.OpenSets.{may_be_given}
 use Rattle.cops_replay.specs.OpenAudits.{left_config, open_tenants, with_tenants}
 use Rattle.cops_replay.proofs.HeadsBack.{IsToken, head_read, parsed_token, tenant_written, written_head, written_tenant}
 

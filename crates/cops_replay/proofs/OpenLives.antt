@@ -6,13 +6,13 @@ use Rattle.cops_types.specs.declared.configs.Tenant.{Tenant}
 use Rattle.cops_types.specs.OpenSlots.{begun_with, open_at}
 use Rattle.cops_types.specs.TenantConfig.{tenant_config}
 use Rattle.cops_model.specs.Events.{config_at}
-use Rattle.cops_model.specs.Lives.{Lives, first_lives, lives_after, lives_past, with_all_lives}
-use Rattle.cops_model.specs.Said.{said_in, tenants_after, tenants_past}
-use Rattle.cops_world.specs.Script.{said_by_lines, said_to}
-use Rattle.cops_world.specs.ScriptWorlds.{life_left, setup_left}
-use Rattle.cops_world.proofs.Numbered.{AreNumbered, AreOf, next_numbered, numbered_first, of_all_lives}
-use Rattle.cops_world.proofs.SaidLines.{said_in-placed}
-use Rattle.cops_world.proofs.WorldJoins.{quota_at}
+use Rattle.cops_script.specs.Lives.{Lives, first_lives, lives_after, lives_past, with_all_lives}
+use Rattle.cops_script.specs.Said.{said_in, tenants_after, tenants_past}
+use Rattle.cops_script.specs.Script.{said_by_lines, said_to}
+use Rattle.cops_script.specs.ScriptWorlds.{life_left, setup_left}
+use Rattle.cops_script.proofs.Numbered.{AreNumbered, AreOf, next_numbered, numbered_first, of_all_lives}
+use Rattle.cops_script.proofs.SaidLines.{said_in-placed}
+use Rattle.cops_script.proofs.TenantConfigs.{quota_at}
 
 past_numbered : (config : Config) (tenants : List (Option Tenant)) (lives : Lives) (lines : List (List ℕ)) → AreNumbered config tenants lives → AreOf config lives (said_to tenants lines) →
     AreNumbered config (tenants_past tenants (said_to tenants lines)) (lives_past lives (said_to tenants lines))

@@ -5,7 +5,7 @@ use Rattle.std.proofs.KnownBytes.{Appends-nil, Appends-trans}
 use Rattle.cops_types.specs.declared.faults.Fault.{Fault}
 use Rattle.cops_types.specs.declared.faults.Fault.TheVariants.{OutOfMemory}
 use Rattle.cops_types.specs.Sink.{AppendsAllBut, AppendsFront}
-use Rattle.cops_types.proofs.KnownLemmas.{AppendsFront-more}
+use Rattle.cops_script.proofs.KnownLemmas.{AppendsFront-more}
 use Rattle.cops_replay.specs.Pages.{FailsBy, Page, PutsText, page}
 
 -- nothing is written

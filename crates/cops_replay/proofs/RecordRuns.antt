@@ -6,12 +6,12 @@ use Rattle.std.specs.Option.{is_none, option_map}
 use Rattle.std.specs.Str.{bytes_eq}
 use Rattle.std.proofs.lemmas.Bool.Decides.{nat_tests}
 use Rattle.cops_types.specs.Counts.{counted}
-use Rattle.cops_types.specs.LineRules.{Run}
+use Rattle.cops_script.specs.LineRules.{Run}
 use Rattle.cops_types.specs.Lines.{cut_line}
 use Rattle.cops_types.specs.TenantConfig.{TenantConfig}
 use Rattle.cops_types.specs.Words.{first_word, newline}
 use Rattle.cops_node.specs.Clusters.{nodes_of}
-use Rattle.cops_world.proofs.CutLemmas.{same_first_at}
+use Rattle.cops_script.proofs.CutLemmas.{same_first_at}
 use Rattle.cops_replay.specs.declared.layouts.Layout.{Layout}
 use Rattle.cops_replay.specs.declared.layouts.Layout.TheVariants.{Today, Early, Old}
 use Rattle.cops_replay.specs.declared.Record.{Record}

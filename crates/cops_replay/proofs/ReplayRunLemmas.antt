@@ -6,22 +6,22 @@ use Rattle.std.specs.Str.{bytes_eq}
 use Rattle.std.specs.Io.KnownBytes.{Appends, Keeps}
 use Rattle.cops_types.specs.declared.configs.Config.{Config}
 use Rattle.cops_types.specs.declared.configs.Tenant.{Tenant}
-use Rattle.cops_types.specs.declared.line_runs.fault.RunFault.{RunFault}
-use Rattle.cops_types.specs.declared.line_runs.fault.RunFault.TheVariants as fault
+use Rattle.cops_script.specs.declared.line_runs.fault.RunFault.{RunFault}
+use Rattle.cops_script.specs.declared.line_runs.fault.RunFault.TheVariants as fault
 use Rattle.cops_types.specs.Head.{Front, AtStart, Begun, is_begun, Whole, BadAt}
-use Rattle.cops_types.specs.LineRules.{Run}
-use Rattle.cops_types.specs.LineRuns.{AnswersAll, IfRunRefused, IsWhole, StopsEarly}
+use Rattle.cops_script.specs.LineRules.{Run}
+use Rattle.cops_script.specs.LineRuns.{AnswersAll, IfRunRefused, IsWhole, StopsEarly}
 use Rattle.cops_types.specs.Lines.{lines_of, cut_line, cut_lines}
 use Rattle.cops_types.specs.Sink.{AppendsFront}
 use Rattle.cops_types.specs.Slots.{AreNamed, slot_of_name}
 use Rattle.cops_types.specs.TenantConfig.{TenantConfig, tenant_config}
 use Rattle.cops_types.specs.Words.{first_word}
-use Rattle.cops_types.proofs.KnownLemmas.{AppendsFront-nil, input_is, known_lines, known_whole}
+use Rattle.cops_script.proofs.KnownLemmas.{AppendsFront-nil, input_is, known_lines, known_whole}
 use Rattle.cops_types.proofs.WordLemmas.{bytes_from_test}
 use Rattle.cops_model.specs.SoloNode.{SoloNode}
-use Rattle.cops_world.proofs.ApartTenants.{found_at}
-use Rattle.cops_world.proofs.HeadRuns.{real_lines}
-use Rattle.cops_world.proofs.ApartTenants.{name_of, short_name}
+use Rattle.cops_script.proofs.ApartTenants.{found_at}
+use Rattle.cops_script.proofs.HeadRuns.{real_lines}
+use Rattle.cops_script.proofs.ApartTenants.{name_of, short_name}
 use Rattle.cops_replay.specs.declared.layouts.Layout.{Layout}
 use Rattle.cops_replay.specs.declared.layouts.Layout.TheVariants.{Today, Early, Old}
 use Rattle.cops_replay.specs.declared.old_heads.OldHeadSoFar.{OldHeadSoFar}

@@ -8,13 +8,13 @@ use Rattle.cops_types.specs.Counts.{counted}
 use Rattle.cops_types.specs.declared.faults.Fault.{Fault}
 use Rattle.cops_types.specs.declared.faults.Fault.TheVariants as fault
 use Rattle.cops_types.specs.Head.{Front, AtStart, Begun, Within}
-use Rattle.cops_types.specs.LineAnswers.{Answers}
+use Rattle.cops_script.specs.LineAnswers.{Answers}
 use Rattle.cops_types.specs.Refusal.{refused_if}
 use Rattle.cops_types.specs.TenantConfig.{TenantConfig, tenant_config}
 use Rattle.cops_node.specs.Clusters.{Cluster, HasTenant, new_nodes, nodes_of}
 use Rattle.cops_model.specs.SoloNode.{new_node}
-use Rattle.cops_world.specs.GoodHeads.{HeadContinues}
-use Rattle.cops_world.specs.declared.scripts.HeadSoFar.{HeadSoFar}
+use Rattle.cops_script.specs.GoodHeads.{HeadContinues}
+use Rattle.cops_script.specs.declared.scripts.HeadSoFar.{HeadSoFar}
 use Rattle.cops_replay.specs.declared.layouts.Layout.{Layout}
 use Rattle.cops_replay.specs.declared.layouts.Layout.TheVariants.{Today, Early, Old}
 use Rattle.cops_replay.specs.declared.old_heads.OldHeadSoFar.{OldHeadSoFar}

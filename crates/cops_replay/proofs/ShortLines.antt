@@ -14,12 +14,12 @@ use Rattle.cops_node.specs.Clusters.{id_of}
 use Rattle.cops_model.specs.SoloNode.{SoloNode}
 use Rattle.cops_model.specs.Events.{config_at, own}
 use Rattle.cops_model.specs.Laws.{cluster_of}
-use Rattle.cops_model.specs.Lives.{of_lives, with_all_lives}
+use Rattle.cops_script.specs.Lives.{of_lives, with_all_lives}
 use Rattle.cops_model.specs.ListLimits.{HasFew, HasFewInAudit}
 use Rattle.cops_causal.proofs.AuditLists.{audits_few}
-use Rattle.cops_world.specs.Script.{events_in, said_by_lines}
-use Rattle.cops_world.specs.ScriptWorlds.{life_left, setup_left}
-use Rattle.cops_world.proofs.WholeHeads.{few_deps, shards_of}
+use Rattle.cops_script.specs.Script.{events_in, said_by_lines}
+use Rattle.cops_script.specs.ScriptWorlds.{life_left, setup_left}
+use Rattle.cops_script.proofs.WholeHeads.{few_deps, shards_of}
 use Rattle.cops_replay.specs.declared.Record.{Record}
 use Rattle.cops_replay.specs.Audits.{record_of, records_from}
 use Rattle.cops_replay.specs.OpenAudits.{left_config, left_nodes, open_slots}

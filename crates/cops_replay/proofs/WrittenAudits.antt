@@ -7,7 +7,7 @@ use Rattle.cops_types.specs.Head.{HeadReading, Whole, BadAt, head_of}
 use Rattle.cops_types.specs.Lines.{lines_of}
 use Rattle.cops_types.specs.TenantConfig.{TenantConfig, tenant_config}
 use Rattle.cops_model.specs.SoloNode.{SoloNode}
-use Rattle.cops_world.specs.Script.{Written}
+use Rattle.cops_script.specs.Script.{Written}
 use Rattle.cops_replay.specs.declared.layouts.Layout.TheVariants.{Today}
 use Rattle.cops_replay.specs.declared.Replayed.TheVariants.{Same}
 use Rattle.cops_replay.specs.Audits.{ReplaysSame}

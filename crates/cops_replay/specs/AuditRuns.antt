@@ -3,8 +3,8 @@ use Rattle.std.specs.Prelude.{◌≡◌, ℕ, ⊤, List, Option, Some, slice_get
 use Rattle.std.specs.Io.KnownBytes.{Appends}
 use Rattle.cops_types.specs.declared.configs.Config.{Config}
 use Rattle.cops_types.specs.declared.configs.Tenant.{Tenant}
-use Rattle.cops_types.specs.declared.line_runs.fault.RunFault.{RunFault}
-use Rattle.cops_types.specs.declared.line_runs.fault.RunFault.TheVariants.{OutOfMemory, WriteFault}
+use Rattle.cops_script.specs.declared.line_runs.fault.RunFault.{RunFault}
+use Rattle.cops_script.specs.declared.line_runs.fault.RunFault.TheVariants.{OutOfMemory, WriteFault}
 use Rattle.cops_types.specs.Head.{HeadReading, Whole, BadAt, head_of}
 use Rattle.cops_types.specs.Lines.{lines_of}
 use Rattle.cops_types.specs.OpenSlots.{open_at}
@@ -12,9 +12,9 @@ use Rattle.cops_types.specs.Sink.{AppendsFront}
 use Rattle.cops_types.specs.TenantConfig.{TenantConfig, tenant_config}
 use Rattle.cops_node.specs.Clusters.{HasTenant}
 use Rattle.cops_model.specs.SoloNode.{SoloNode}
-use Rattle.cops_world.specs.declared.scripts.BadConfig.{BadConfig as BadHead}
-use Rattle.cops_world.specs.Script.{Output, Written, BadConfig}
-use Rattle.cops_world.specs.ScriptRuns.{text_in}
+use Rattle.cops_script.specs.declared.scripts.BadConfig.{BadConfig as BadHead}
+use Rattle.cops_script.specs.Script.{Output, Written, BadConfig}
+use Rattle.cops_script.specs.ScriptRuns.{text_in}
 use Rattle.cops_world.specs.Worlds.{KeptWorld}
 use Rattle.cops_replay.specs.Audits.{ReplaysSame}
 use Rattle.cops_replay.specs.AuditText.{audit_text}

@@ -3,7 +3,7 @@ use Rattle.std.specs.Prelude.{◌≡◌, ℕ, false, List, [], Option, None, Som
 use Rattle.cops_types.specs.Counts.{counted}
 use Rattle.cops_types.specs.declared.faults.Fault.TheVariants.{ClockTooGreat}
 use Rattle.cops_types.specs.Head.{Front, Begun, is_begun}
-use Rattle.cops_types.specs.LineRules.{LineRules}
+use Rattle.cops_script.specs.LineRules.{LineRules}
 use Rattle.cops_types.specs.OldHead.{has_clocks_to, old_front_with}
 use Rattle.cops_replay.specs.declared.migration_machine.OldAudit.{OldAudit}
 use Rattle.cops_replay.specs.declared.migration_machine.OldPart.{OldPart}

@@ -6,7 +6,7 @@ use Rattle.cops_types.specs.TenantConfig.{TenantConfig, tenant_config}
 use Rattle.cops_node.specs.Clusters.{HasTenant, IsCluster, shape_of}
 use Rattle.cops_node.specs.Parts.{Shared}
 use Rattle.cops_model.specs.SoloNode.{SoloNode}
-use Rattle.cops_world.specs.ScriptWorlds.{cluster_left, life_left, setup_left}
+use Rattle.cops_script.specs.ScriptWorlds.{cluster_left, life_left, setup_left}
 use Rattle.cops_replay.specs.AuditText.{audit_text, his_nodes}
 
 -- ---- who is open

@@ -6,7 +6,7 @@ use Rattle.cops_types.specs.declared.configs.Config.{Config}
 use Rattle.cops_types.specs.declared.configs.Tenant.{Tenant}
 use Rattle.cops_types.specs.Counts.{counted}
 use Rattle.cops_types.specs.Head.{Front, AtStart, Within, Begun, front_after}
-use Rattle.cops_types.specs.LineRules.{LineRules}
+use Rattle.cops_script.specs.LineRules.{LineRules}
 use Rattle.cops_types.specs.OldHead.{old_front_after}
 use Rattle.cops_types.specs.Slots.{slot_of_name}
 use Rattle.cops_types.specs.TenantConfig.{tenant_config}

@@ -6,7 +6,7 @@ ghost use Rattle.cops_types.specs.Head.{Whole, head_of};
 ghost use Rattle.cops_types.specs.Lines.{lines_of};
 ghost use Rattle.cops_types.specs.TenantConfig.{TenantConfig, tenant_config};
 ghost use Rattle.cops_model.specs.SoloNode.{SoloNode};
-ghost use Rattle.cops_world.specs.Script.{Written};
+ghost use Rattle.cops_script.specs.Script.{Written};
 ghost use Rattle.cops_replay.specs.declared.Replayed.TheVariants.{Same};
 ghost use Rattle.cops_replay.specs.Audits.{ReplaysSame};
 ghost use Rattle.cops_replay.specs.AuditRuns.{ReplaysSameFor, audit_out};

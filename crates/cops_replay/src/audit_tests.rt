@@ -1,7 +1,8 @@
 //! Audits of scripts in which tenants come and go, and their replays. Run with the Nth request for
 //! memory refused, for each N.
 use crate::{ReplayRefusal, audit_text, replay_text};
-use cops_types::{RunFault, Sink, Source};
+use cops_script::RunFault;
+use cops_types::{Sink, Source};
 use std::alloc::Global;
 use std::process::Abort;
 

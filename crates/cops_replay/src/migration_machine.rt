@@ -1,7 +1,7 @@
 //! The machine that migrates an audit of layout 1, line by line.
 ghost use Rattle.std.specs.Prelude.{◌≡◌, ◌++◌, flat_map, IfErr, IfNone, IfOk, IfSome, None, OnOk, Some};
 ghost use Rattle.cops_types.specs.Head.{AtStart};
-ghost use Rattle.cops_types.specs.LineAnswers.{Answers, IfRefused};
+ghost use Rattle.cops_script.specs.LineAnswers.{Answers, IfRefused};
 ghost use Rattle.cops_replay.specs.AuditText.{ended, head_text, tenant_text};
 ghost use Rattle.cops_replay.specs.declared.migration_machine.OldPart.TheVariants.{Head};
 ghost use Rattle.cops_replay.specs.MigratedHeads.{MigratedHeadAnswers};
@@ -14,10 +14,8 @@ use crate::layouts::{LAST_EARLY_CLOCK, Layout};
 use crate::migrations::{BadLine, MigrationRefusal};
 use crate::reading::old_fault;
 use crate::replayings::LONGEST_RECORD;
-use cops_types::{
-    Config, ConfigReader, Fault, HeadLine, LineMachine, OldConfigReader, Stop, Tenant,
-};
-use cops_world::BadConfig;
+use cops_script::{BadConfig, LineMachine, Stop};
+use cops_types::{Config, ConfigReader, Fault, HeadLine, OldConfigReader, Tenant};
 use std::alloc::{AllocError, Global};
 
 /// Where an audit of layout 1 stands: in its head, or after so many records.

@@ -3,7 +3,7 @@ ghost use Rattle.std.specs.Prelude.{◌≡◌, ◌⊎◌, Err, IfErr, IfOk, IfSo
 ghost use Rattle.std.specs.Io.KnownBytes.{Appends, IsAtEnd};
 ghost use Rattle.cops_types.specs.Counts.{HasRisen, HasRisenBy};
 ghost use Rattle.cops_types.specs.Head.{AtStart};
-ghost use Rattle.cops_types.specs.LineRuns.{IfRunRefused};
+ghost use Rattle.cops_script.specs.LineRuns.{IfRunRefused};
 ghost use Rattle.cops_types.specs.Sink.{AppendsFront, sink_failures, sink_writer};
 ghost use Rattle.cops_types.specs.Source.{source_failures, source_reader, source_reads};
 ghost use Rattle.cops_replay.specs.declared.migration_machine.OldPart.TheVariants.{Head};
@@ -12,8 +12,8 @@ ghost use Rattle.cops_replay.specs.MigrationRules.{records_in};
 
 use crate::migration_machine::{OldAudit, OldPart, new_old_audit};
 use crate::replayings::LONGEST_RECORD;
-use cops_types::{Fault, RunFault, Sink, Source, run_lines};
-use cops_world::BadConfig;
+use cops_script::{BadConfig, RunFault, run_lines};
+use cops_types::{Fault, Sink, Source};
 use std::alloc::Global;
 use std::io::{Read, Write};
 

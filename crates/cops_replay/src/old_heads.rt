@@ -3,12 +3,12 @@ ghost use Rattle.std.specs.Prelude.{◌≡◌, None, Some, IfErr, IfNone, IfOk, 
 ghost use Rattle.cops_types.specs.Counts.{counted};
 ghost use Rattle.cops_types.specs.Head.{Begun};
 ghost use Rattle.cops_types.specs.HeadLines.{are_sizes};
-ghost use Rattle.cops_types.specs.LineAnswers.{IfRefused};
+ghost use Rattle.cops_script.specs.LineAnswers.{IfRefused};
 ghost use Rattle.cops_types.specs.OldHead.{old_front_with};
 ghost use Rattle.cops_replay.specs.OldHeads.{OldHeadContinues, has_sizes};
 
-use cops_types::{Config, HeadLine, OldConfigReader, Stop};
-use cops_world::BadConfig;
+use cops_script::{BadConfig, Stop};
+use cops_types::{Config, HeadLine, OldConfigReader};
 use std::alloc::Global;
 
 /// The head of an audit of layout 1 so far, and how many lines it has.

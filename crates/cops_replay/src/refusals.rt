@@ -1,6 +1,6 @@
 //! Why a tenant's records are not replayed.
 
-use cops_world::BadConfig;
+use cops_script::BadConfig;
 
 /// Why a tenant's records are not replayed.
 #[derive(Clone, Copy, Debug, PartialEq, Eq)]

@@ -6,12 +6,12 @@ ghost use Rattle.cops_types.specs.declared.configs.Tenant.{Tenant as TenantLine}
 ghost use Rattle.cops_types.specs.Head.{AtStart, Begun};
 ghost use Rattle.cops_types.specs.HeadLines.{are_sizes};
 ghost use Rattle.cops_types.specs.HeadReader.{front_with};
-ghost use Rattle.cops_types.specs.LineAnswers.{IfRefused};
+ghost use Rattle.cops_script.specs.LineAnswers.{IfRefused};
 ghost use Rattle.cops_types.specs.OldHead.{old_front_with};
 ghost use Rattle.cops_types.specs.Words.{first_word, newline};
 ghost use Rattle.cops_node.specs.Parts.{are_clocks};
 ghost use Rattle.cops_model.specs.MainTheorem.{with_tenant_alone};
-ghost use Rattle.cops_world.specs.GoodHeads.{HeadContinues};
+ghost use Rattle.cops_script.specs.GoodHeads.{HeadContinues};
 ghost use Rattle.cops_replay.specs.declared.layouts.Layout.TheVariants.{Early, Today};
 ghost use Rattle.cops_replay.specs.OldHeads.{OldHeadContinues};
 ghost use Rattle.cops_replay.specs.ReplayRules.{HeadRefusesBy, IsHeadBy, IsNotBegun, RefusesOwn, ReplaysOwn, StartsFor, tells_today};
@@ -22,10 +22,10 @@ use crate::layouts::{LAST_EARLY_CLOCK, Layout};
 use crate::old_heads::{OldHeadSoFar, read_old_head};
 use crate::refusals::ReplayRefusal;
 use crate::replayings::Replay;
+use cops_script::{BadConfig, HeadSoFar, LineMachine, Stop, read_head};
 use cops_types::texts::push_number;
 use cops_types::words::split_word;
-use cops_types::{Bytes, Config, ConfigReader, Fault, LineMachine, Stop, Tenant};
-use cops_world::{BadConfig, HeadSoFar, read_head};
+use cops_types::{Bytes, Config, ConfigReader, Fault, Tenant};
 use std::alloc::{AllocError, Global};
 
 /// How far an audit has come.

@@ -2,7 +2,7 @@
 ghost use Rattle.std.specs.Prelude.{◌≡◌, ◌⊎◌, ℕ, List, IfErr, IfSome, IsErrOf, OnErr, OnOk};
 ghost use Rattle.std.specs.Io.KnownBytes.{Appends, IsAtEnd, Keeps};
 ghost use Rattle.cops_types.specs.Counts.{HasRisen, HasRisenBy};
-ghost use Rattle.cops_types.specs.LineRuns.{IfRunRefused};
+ghost use Rattle.cops_script.specs.LineRuns.{IfRunRefused};
 ghost use Rattle.cops_types.specs.Sink.{sink_failures, sink_writer};
 ghost use Rattle.cops_types.specs.Source.{source_failures, source_reader, source_reads};
 ghost use Rattle.cops_replay.specs.ReplayText.{IsReplayOf, RefusesReplayOf, ReplaysFront};
@@ -10,7 +10,8 @@ ghost use Rattle.cops_replay.specs.ReplayText.{IsReplayOf, RefusesReplayOf, Repl
 use crate::refusals::ReplayRefusal;
 use crate::replay_machine::{ReplayScript, new_replay_script};
 use crate::replayings::LONGEST_RECORD;
-use cops_types::{RunFault, Sink, Source, run_lines};
+use cops_script::{RunFault, run_lines};
+use cops_types::{Sink, Source};
 use std::alloc::Global;
 use std::io::{Read, Write};
 use std::mem;

@@ -9,11 +9,6 @@ mod HeadExamples
 pub mod HeadLemmas
 pub mod HeadLengths
 pub mod HeadReading
-pub mod HostLineLemmas
-pub mod KnownLemmas
-pub mod LineEndLemmas
-pub mod LineLemmas
-pub mod LineRunLemmas
 pub mod NumberLemmas
 pub mod Padded
 pub mod PairLists
@@ -32,3 +27,4 @@ pub mod Nearness
 pub mod PairSets
 pub mod Successive
 pub mod Zipped
+pub mod CountLemmas

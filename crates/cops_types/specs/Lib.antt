@@ -10,15 +10,11 @@ pub mod HeadProgress
 pub mod HeadReader
 pub mod HeadWords
 pub mod Holders
-pub mod HostLines
 pub mod KeptEntry
 pub mod Key
 pub mod KeyForms
 pub mod KeyHashes
 pub mod Layout
-pub mod LineAnswers
-pub mod LineRules
-pub mod LineRuns
 pub mod Lines
 pub mod OldHead
 pub mod OnLiterals
@@ -31,7 +27,6 @@ pub mod PairForms
 pub mod Pairs
 pub mod Records
 pub mod Refusal
-pub mod RunFaults
 pub mod Same
 pub mod Search
 pub mod Seeds

@@ -114,7 +114,7 @@ fn last_quota(words: &mut Words) -> Option<Quota>
 }
 
 /// The tenant that these words give, and no more, with a first clock up to this one.
-pub(crate) fn last_tenant(words: &mut Words, last_clock: u64) -> Option<Tenant>
+pub fn last_tenant(words: &mut Words, last_clock: u64) -> Option<Tenant>
     ensures some { IfSome result (AreTenantWords last_clock words.old) }
     ensures none { IfNone result ((tenant : Tenant) → AreTenantWords last_clock words.old tenant → ⊥) }
 {

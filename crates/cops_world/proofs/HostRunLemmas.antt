@@ -12,26 +12,26 @@ use Rattle.cops_model.specs.declared.acts.Act.{Act}
 use Rattle.cops_model.specs.declared.replies.HostReply.TheVariants.{Admitted, Closed, Denied}
 use Rattle.cops_model.specs.declared.replies.Reply.{Reply}
 use Rattle.cops_model.specs.Cluster.{SoloCluster, cluster_step}
-use Rattle.cops_model.specs.Lives.{Lives, first_lives, lives_after}
-use Rattle.cops_model.specs.Said.{HostDeed, Admits, Closes, Refuses, Said, OfHost, Acts, tenants_after}
+use Rattle.cops_script.specs.Lives.{Lives, first_lives, lives_after}
+use Rattle.cops_script.specs.Said.{HostDeed, Admits, Closes, Refuses, Said, OfHost, Acts, tenants_after}
 use Rattle.cops_model.specs.Setups.{Setup}
 use Rattle.cops_world.specs.declared.host_runs.Doing.{Doing}
 use Rattle.cops_world.specs.declared.host_runs.Doing.TheVariants.{Own, Admit, Close}
 use Rattle.cops_world.specs.declared.host_runs.HostEvent.{HostEvent}
 use Rattle.cops_world.specs.declared.host_runs.LifeReply.{LifeReply}
 use Rattle.cops_world.specs.declared.host_runs.LifeReply.TheVariants as reply
-use Rattle.cops_world.specs.Acting.{IsNew}
-use Rattle.cops_world.specs.Answers.{Answer, ToHost, ToTenant}
-use Rattle.cops_world.specs.Doing.{IsDone, IsHosted}
+use Rattle.cops_script.specs.Acting.{IsNew}
+use Rattle.cops_script.specs.Answers.{Answer, ToHost, ToTenant}
+use Rattle.cops_script.specs.Doing.{IsDone, IsHosted}
 use Rattle.cops_world.specs.HostRuns.{IsWithinLimits, TellsLives, acts_at, admits_at, admits_unless, answer_at, closes_at, reply_of, said_after_head, said_heard, said_of}
-use Rattle.cops_world.specs.ScriptRuns.{AreSpared, heard}
-use Rattle.cops_world.specs.Lacks.{Lacks}
+use Rattle.cops_script.specs.ScriptRuns.{AreSpared, heard}
+use Rattle.cops_script.specs.Lacks.{Lacks}
 use Rattle.cops_world.specs.Worlds.{Admits as IsAdmitted, HasOpenCluster, KeptWorld, Leaves, Moves, open_setup, world_of}
-use Rattle.cops_world.proofs.LifeAnswers.{answered_said, told_said}
-use Rattle.cops_world.proofs.LifeLines.{done_setup, heard_placed}
-use Rattle.cops_world.proofs.LifeRuns.{AreGiven, answer_of, given_nothing, given_one}
-use Rattle.cops_world.proofs.Numbered.{ArePlaced, IsPlaced}
-use Rattle.cops_world.proofs.OpenSets.{may_be_given}
+use Rattle.cops_script.proofs.LifeAnswers.{answered_said, told_said}
+use Rattle.cops_script.proofs.LifeLines.{done_setup, heard_placed}
+use Rattle.cops_script.proofs.LifeRuns.{AreGiven, answer_of, given_nothing, given_one}
+use Rattle.cops_script.proofs.Numbered.{ArePlaced, IsPlaced}
+use Rattle.cops_script.proofs.OpenSets.{may_be_given}
 use Rattle.cops_world.proofs.WorldLives.{has_acted}
 
 -- ---- who says it is open

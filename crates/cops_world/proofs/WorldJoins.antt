@@ -1,17 +1,13 @@
 -- A new actor in the world, and a refusal.
-use Rattle.std.proofs.Common.{◌≡◌, ◌≢◌, ℕ, ◌+◌, zero, suc, true, false, cond, not, List, [], ◌∷◌, length, map, refl, sym, subst, ap, ◌∙◌, true≢false}
-use Rattle.std.specs.Prelude.{Option, Some, None, is_some, nat_le, slice_get}
-use Rattle.std.specs.Option.{option_map}
-use Rattle.cops_types.specs.declared.configs.Config.{Config}
-use Rattle.cops_types.specs.declared.configs.Tenant.{Tenant}
+use Rattle.std.proofs.Common.{◌≡◌, ◌≢◌, ℕ, ◌+◌, true, false, cond, not, List, [], ◌∷◌, length, refl, sym, subst, ap, ◌∙◌, true≢false}
+use Rattle.std.specs.Prelude.{Option, Some, None, is_some, nat_le}
 use Rattle.cops_types.specs.declared.faults.Fault.{Fault}
 use Rattle.cops_types.specs.declared.faults.Fault.TheVariants.{NoSuchPlace, NameTaken, ActorsFull, OutOfMemory}
 use Rattle.cops_types.specs.Search.{first_refusal}
-use Rattle.cops_types.specs.TenantConfig.{TenantConfig, tenant_config}
+use Rattle.cops_types.specs.TenantConfig.{TenantConfig}
 use Rattle.cops_model.specs.declared.replies.Reply.{Reply}
 use Rattle.cops_model.specs.declared.replies.Reply.TheVariants.{Refused}
 use Rattle.cops_model.specs.Cluster.{ActEffect, Actor, SoloCluster, reply_with, unless_refused, with_new_actor}
-use Rattle.cops_model.specs.Events.{config_at}
 use Rattle.cops_model.specs.Setups.{config_in}
 use Rattle.cops_world.specs.declared.actors.Actor.{Actor as Kept}
 use Rattle.cops_world.specs.declared.actors.ActorId.{ActorId}
@@ -20,7 +16,6 @@ use Rattle.cops_world.specs.ActorTables.{same_actor}
 use Rattle.cops_world.specs.Worlds.{ClusterStandsAt, Moves, World, join_step}
 use Rattle.cops_world.proofs.ActorMoves.{absent_too, found_too, joins, count-joined}
 use Rattle.cops_world.proofs.ActorTableLemmas.{same_actor-refl, other_slot, other_name}
-use Rattle.cops_world.proofs.AnswersTo.{config_at-found}
 use Rattle.cops_world.proofs.WorldMoves.{others_stay}
 
 abbrev id_of : ℕ → List ℕ → ActorId
@@ -54,14 +49,6 @@ same_moves one other old slot reply new same h = record {
 }
 
 -- ---- a new actor
-
-pub quota_at : (config : Config) (slot : ℕ) (tenant : Tenant) → slice_get config.tenants slot ≡ Some tenant → config_at config slot ≡ tenant_config config tenant
-quota_at config slot tenant at = config_at-found config slot (tenant_config config tenant) (mapped config.tenants slot at)
-  where
-    mapped : (list : List Tenant) (k : ℕ) → slice_get list k ≡ Some tenant → slice_get (map (tenant_config config) list) k ≡ Some (tenant_config config tenant)
-    mapped [] k e = cc
-    mapped (t ∷ list) zero e = ap (option_map (tenant_config config)) e
-    mapped (t ∷ list) (suc k) e = mapped list k e
 
 module _ (old : World) (slot : ℕ) (name : List ℕ) (solo : Actor) (reply : Reply) where
   taken_refuses : (kept : Kept) → old.actors (id_of slot name) ≡ Some kept → (cluster : SoloCluster) → ClusterStandsAt old slot cluster → join_step name solo reply (config_in old.setup slot) cluster ≡ reply_with (Refused NameTaken) cluster

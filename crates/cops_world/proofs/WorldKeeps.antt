@@ -1,17 +1,14 @@
 -- What a world keeps whatever its tenants do: its actors run at its nodes, and its tenants have its sizes.
 use Rattle.std.proofs.Common.{◌≡◌, ℕ, zero, suc, ◌+◌, ◌-◌, ◌*◌, ◌<◌, ◌≤◌, Bool, true, false, true≢false, ◌&&◌, cond, List, [], ◌∷◌, ◌++◌, length, map, ◌⊎◌, inl, inr, refl, sym, subst, ap, ◌∙◌, arith}
-use Rattle.std.specs.Prelude.{Option, Some, None, IsFalse, IsTrue, is_some, nat_le, replicate, slice_get, slice_index_or}
+use Rattle.std.specs.Prelude.{Option, Some, None, IsFalse, IsTrue, is_some, replicate, slice_get, slice_index_or}
 use Rattle.std.specs.Option.{option_map}
 use Rattle.std.specs.List.{AllByRecursion, list_all, range_with_len}
 use Rattle.std.specs.Map.{lookup}
-use Rattle.std.proofs.lemmas.Bool.{leb-true}
 use Rattle.std.proofs.lemmas.List.{length-replicate}
 use Rattle.cops_types.specs.Key.{key_eq}
-use Rattle.cops_types.specs.HeadLines.{are_sizes, greatest_quota, is_between, is_name, is_quota, is_tenant, most_shards, most_tenants}
+use Rattle.cops_types.specs.HeadLines.{are_sizes, is_tenant, most_tenants}
 use Rattle.cops_types.specs.OpenSlots.{begun_with, open_at}
-use Rattle.cops_types.specs.Version.{last_clock}
-use Rattle.cops_types.specs.Words.{is_u64}
-use Rattle.cops_world.specs.GoodHeads.{is_good}
+use Rattle.cops_script.specs.GoodHeads.{is_good}
 use Rattle.cops_types.proofs.WordLemmas.{same_value}
 use Rattle.cops_types.specs.declared.configs.Config.{Config}
 use Rattle.cops_types.specs.declared.configs.Tenant.{Tenant}
@@ -20,7 +17,7 @@ use Rattle.cops_node.specs.Clusters.{Cluster, HasTenant, IsCall, id_of, new_node
 use Rattle.cops_model.specs.declared.calls.NodeCall.{NodeCall}
 use Rattle.cops_model.specs.declared.calls.NodeId.{NodeId}
 use Rattle.cops_model.specs.declared.calls.NodeReply.{NodeReply}
-use Rattle.cops_node.specs.Parts.{Site, are_clocks, home_of, place_under, site_in, terms_of}
+use Rattle.cops_node.specs.Parts.{Site, home_of, place_under, site_in, terms_of}
 use Rattle.cops_model.specs.Place.{place_of}
 use Rattle.cops_node.specs.declared.Shape.{Shape}
 use Rattle.cops_model.specs.SoloNode.{new_node}
@@ -32,10 +29,11 @@ use Rattle.cops_world.specs.declared.actors.ActorId.{ActorId}
 use Rattle.cops_world.specs.Actors.{AreSame}
 use Rattle.cops_world.specs.ActorsStand.{ActorStandsFor, RunsAt}
 use Rattle.cops_world.specs.ActorTables.{Places, PutsBack, Table, actor_at, count_at, same_actor, table_of}
-use Rattle.cops_world.specs.Worlds.{AreSitesIn, HasOpenCluster, HasSizes, IsSiteIn, IsKeptWorld, IsWorld, KeptWorld, world_of}
+use Rattle.cops_world.specs.Worlds.{AreSitesIn, HasOpenCluster, IsSiteIn, IsKeptWorld, IsWorld, KeptWorld, world_of}
+use Rattle.cops_script.specs.Sizes.{HasSizes}
 use Rattle.cops_world.proofs.ActorTableLemmas.{same_actor-is, same_actor-refl}
-use Rattle.cops_world.proofs.BegunSetups.{config_begun, open_begun, open_within}
-use Rattle.cops_world.proofs.WorldJoins.{quota_at}
+use Rattle.cops_script.proofs.BegunSetups.{config_begun, open_begun, open_within}
+use Rattle.cops_script.proofs.TenantConfigs.{quota_at, tenant_at, tenant_within}
 use Rattle.cops_world.proofs.WorldSteps.{CountsAfter, table_after}
 
 and_left : (a b : Bool) → (a && b) ≡ true → a ≡ true
@@ -48,24 +46,7 @@ and_right false b h = absurd (true≢false (sym h))
 
 -- ---- a tenant's configuration
 
-pub tenant_at : (tenants : List Tenant) (slot : ℕ) → slot < length tenants → (tenant : Tenant) × (slice_get tenants slot ≡ Some tenant)
-tenant_at [] slot below = absurd (omega arith)
-tenant_at (t ∷ tenants) zero below = (t, refl)
-tenant_at (t ∷ tenants) (suc slot) below = tenant_at tenants slot (omega arith)
-
-pub sizes_at : (setup : Config) (slot : ℕ) → slot < length setup.tenants → HasSizes (config_at setup slot) setup
-sizes_at setup slot below =
-    let is = tenant_at setup.tenants slot below in
-    subst (λ (c : TenantConfig). HasSizes c setup) (sym (quota_at setup slot is.0 is.1)) (record { data_centres = refl; shards = refl; restarts = refl })
-
 -- ---- the tenants who are open
-
-pub tenant_in : (setup : Setup) (slot : ℕ) → IsTrue (is_open_at setup slot) → (tenant : Tenant) × (open_at slot setup.tenants ≡ Some tenant)
-tenant_in setup slot there = by (open_at slot setup.tenants) there
-  where
-    by : (o : Option Tenant) → IsTrue (is_some o) → (tenant : Tenant) × (o ≡ Some tenant)
-    by None h = absurd (true≢false (sym h))
-    by (Some tenant) h = (tenant, refl)
 
 -- an open tenant has the sizes of the head
 pub sizes_in : (setup : Setup) (slot : ℕ) → IsTrue (is_open_at setup slot) → HasSizes (config_in setup slot) setup.head
@@ -131,39 +112,6 @@ runs_after_act shape old new id before found absent = by (old id) refl
         runs_after shape old new id (Some f.0) f.1.0 before (λ actor same. subst (RunsAt shape id.slot) (same_value f.0 actor same) (f.1.1 shape (before id kept e)))
 
 -- ---- limits
-
-pub record WithinLimits (config : TenantConfig) : Type 0 where
-  pub deps : config.quota.deps ≤ 1024
-  pub restarts : config.restarts ≤ 15
-
-pub tenant_within : (tenants : List Tenant) (slot : ℕ) (tenant : Tenant) → list_all is_tenant tenants ≡ true → slice_get tenants slot ≡ Some tenant → is_tenant tenant ≡ true
-tenant_within [] slot tenant all at = cc
-tenant_within (t ∷ tenants) zero tenant all at = ap is_tenant (sym (same_value t tenant at)) ∙ and_left (is_tenant t) (list_all is_tenant tenants) all
-tenant_within (t ∷ tenants) (suc slot) tenant all at = tenant_within tenants slot tenant (and_right (is_tenant t) (list_all is_tenant tenants) all) at
-
-pub limits_of : (head : Config) (tenant : Tenant) → IsTrue (is_good head) → IsTrue (is_tenant tenant) → WithinLimits (tenant_config head tenant)
-limits_of head tenant good own =
-    let quota = tenant.quota in
-    let v = nat_le quota.versions greatest_quota in
-    let w = nat_le quota.bytes greatest_quota in
-    let x = nat_le quota.outbox greatest_quota in
-    let y = nat_le quota.contexts greatest_quota in
-    let z = nat_le quota.deps 1024 in
-    let u = nat_le quota.actors greatest_quota in
-    let sizes = is_between 1 8 head.data_centres && is_between 1 most_shards head.shards && is_u64 head.trans_time in
-    let quotas = and_right (is_name tenant.name && nat_le tenant.first_clock last_clock) (is_quota quota) own in
-    let most = and_left (v && w && x && y && z && u) (nat_le quota.audit greatest_quota) quotas in
-    let less = and_left (v && w && x && y && z) u most in
-    record {
-      deps = leb-true quota.deps 1024 (and_right (v && w && x && y) z less);
-      restarts = leb-true head.restarts 15 (and_right sizes (nat_le head.restarts 15) (and_left (are_sizes head) (list_all is_tenant head.tenants) good));
-    }
-
-pub limits_at : (setup : Config) (slot : ℕ) → IsTrue (is_good setup) → slot < length setup.tenants → WithinLimits (config_at setup slot)
-limits_at setup slot good within =
-    let at = tenant_at setup.tenants slot within in
-    subst WithinLimits (sym (quota_at setup slot at.0 at.1))
-    (limits_of setup at.0 good (tenant_within setup.tenants slot at.0 (and_right (are_sizes setup) (list_all is_tenant setup.tenants) good) at.1))
 
 -- ---- the table after a step
 
@@ -243,20 +191,6 @@ kept_called old kept nodes shape same =
     }
 
 -- ---- a new world
-
-pub clocks_of_tenants : (tenants : List Tenant) → list_all is_tenant tenants ≡ true → list_all (λ (tenant : Tenant). nat_le tenant.first_clock last_clock) tenants ≡ true
-clocks_of_tenants [] h = refl
-clocks_of_tenants (t ∷ tenants) h =
-    let own = and_left (is_tenant t) (list_all is_tenant tenants) h in
-    let front = and_left (is_name t.name && nat_le t.first_clock last_clock) (is_quota t.quota) own in
-    let rest = clocks_of_tenants tenants (and_right (is_tenant t) (list_all is_tenant tenants) h) in
-    ap (λ b. b && list_all (λ (tenant : Tenant). nat_le tenant.first_clock last_clock) tenants) (and_right (is_name t.name) (nat_le t.first_clock last_clock) front) ∙ rest
-
-pub sizes_of_good : (config : Config) → IsTrue (is_good config) → IsTrue (are_sizes config)
-sizes_of_good config good = and_left (are_sizes config) (list_all is_tenant config.tenants) good
-
-pub clocks_of_good : (config : Config) → IsTrue (is_good config) → IsTrue (are_clocks config)
-clocks_of_good config good = clocks_of_tenants config.tenants (and_right (are_sizes config) (list_all is_tenant config.tenants) good)
 
 -- of empty tables each is empty
 pub no_table : (slots slot : ℕ) → table_of slot (replicate slots []) ≡ []

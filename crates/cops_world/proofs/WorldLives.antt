@@ -28,14 +28,14 @@ use Rattle.cops_model.specs.Cluster.{ActEffect, SoloCluster, cluster_step, new_c
 use Rattle.cops_model.specs.Setups.{Setup, config_in, config_of, is_open_at, next_slot}
 use Rattle.cops_world.specs.declared.actors.Actor.{Actor as Kept}
 use Rattle.cops_world.specs.declared.actors.ActorId.{ActorId}
-use Rattle.cops_world.specs.Acting.{HasActed, HasClosed, IsAdmission}
+use Rattle.cops_script.specs.Acting.{HasActed, HasClosed, IsAdmission}
 use Rattle.cops_world.specs.Actors.{ActorsStandFor, AreSame}
 use Rattle.cops_world.specs.ActorTables.{Table, table_of}
 use Rattle.cops_world.specs.ActorsStand.{ActorStandsFor}
-use Rattle.cops_world.specs.Lacks.{Lacks}
+use Rattle.cops_script.specs.Lacks.{Lacks}
 use Rattle.cops_world.specs.Worlds.{Admits, AreSitesIn, ClusterStandsAt, Closes, HasOpenCluster, IsKeptWorld, IsSiteIn, IsWorld, KeptWorld, Leaves, Moves, StaysOpen, World, open_setup, world_of}
 use Rattle.cops_world.proofs.ActorTableLemmas.{actor_elsewhere, count_elsewhere, nobody, table_here}
-use Rattle.cops_world.proofs.OpenSets.{MayBeGiven, may_be_given, open_set_other, open_set_same}
+use Rattle.cops_script.proofs.OpenSets.{MayBeGiven, may_be_given, open_set_other, open_set_same}
 use Rattle.cops_world.proofs.WorldJoins.{refused_moves}
 use Rattle.cops_world.proofs.WorldKeeps.{AllHosted, below_in, below_tables}
 use Rattle.cops_world.proofs.WorldMoves.{kept_alike}

@@ -7,16 +7,16 @@ use Rattle.cops_types.specs.declared.faults.Fault.TheVariants.{UnknownTenant}
 use Rattle.cops_types.specs.HeadLines.{is_tenant}
 use Rattle.cops_types.specs.OpenSlots.{admission_refusal, begun_with, open_at}
 use Rattle.cops_model.specs.declared.acts.Act.{Act}
-use Rattle.cops_model.specs.Lives.{of_lives, with_all_lives}
-use Rattle.cops_model.specs.Said.{HostDeed, Admits, Closes, Refuses, Said, OfHost, Acts, tenants_after}
+use Rattle.cops_script.specs.Lives.{of_lives, with_all_lives}
+use Rattle.cops_script.specs.Said.{HostDeed, Admits, Closes, Refuses, Said, OfHost, Acts, tenants_after}
 use Rattle.cops_world.specs.declared.host_runs.Doing.{Doing}
 use Rattle.cops_world.specs.declared.host_runs.Doing.TheVariants.{Own, Admit, Close}
 use Rattle.cops_world.specs.declared.host_runs.HostEvent.{HostEvent}
 use Rattle.cops_world.specs.declared.host_runs.LifeReply.{LifeReply}
 use Rattle.cops_world.specs.declared.host_runs.LifeReply.TheVariants as reply
-use Rattle.cops_world.specs.Answers.{Answer, ToHost, ToTenant}
-use Rattle.cops_world.specs.Script.{answers_of}
-use Rattle.cops_world.specs.ScriptRuns.{AreAnswered, AreSpared, heard}
+use Rattle.cops_script.specs.Answers.{Answer, ToHost, ToTenant}
+use Rattle.cops_script.specs.Script.{answers_of}
+use Rattle.cops_script.specs.ScriptRuns.{AreAnswered, AreSpared, heard}
 
 -- who is admitted is within the limits that a head sets
 abbrev pub IsWithin : Doing → Type 0

@@ -2,7 +2,6 @@
 use Rattle.std.specs.Prelude.{◌≡◌, ◌≢◌, ℕ, ◌*◌, ◌≤◌, true, IsFalse, IsTrue, List, [], length, map, slice_index_or, slice_set, Option, Some, None}
 use Rattle.std.specs.List.{AllByRecursion}
 use Rattle.std.specs.Option.{option_map}
-use Rattle.cops_types.specs.declared.configs.Config.{Config}
 use Rattle.cops_types.specs.declared.configs.Tenant.{Tenant}
 use Rattle.cops_types.specs.HeadLines.{is_tenant, most_tenants}
 use Rattle.cops_types.specs.OpenSlots.{open_at}
@@ -19,7 +18,7 @@ use Rattle.cops_world.specs.declared.actors.ActorId.{ActorId}
 use Rattle.cops_world.specs.Actors.{ActorsStandFor}
 use Rattle.cops_world.specs.ActorTables.{Table, actor_at, count_at}
 use Rattle.cops_world.specs.ActorsStand.{ActorStandsFor, RunsAt}
-use Rattle.cops_world.specs.GoodHeads.{is_good}
+use Rattle.cops_script.specs.GoodHeads.{is_good}
 
 -- the configuration with the tenants that are open, the nodes, the actors by slot and name, and how many actors each slot has
 pub record World : Type 0 where
@@ -77,12 +76,6 @@ open_setup kept = kept.setup
 -- the tenant who is open at the slot has this cluster
 abbrev pub HasOpenCluster : KeptWorld → ℕ → SoloCluster → Type 0
 HasOpenCluster kept slot cluster = ClusterStandsAt (world_of kept) slot cluster
-
--- a tenant's configuration has the sizes of the whole one
-pub record HasSizes (config : TenantConfig) (setup : Config) : Type 0 where
-  pub data_centres : config.data_centres ≡ setup.data_centres
-  pub shards : config.shards ≡ setup.shards
-  pub restarts : config.restarts ≡ setup.restarts
 
 -- the tenant's cluster took this turn, unless memory was refused, and no other tenant's changed
 pub record Moves (turn_of : TenantConfig → SoloCluster → ActEffect) (old : World) (slot : ℕ) (reply : Reply) (new : World) : Type 0 where

@@ -5,7 +5,7 @@ ghost use Rattle.cops_types.specs.HeadLines.{are_sizes, is_between, is_quota, is
 ghost use Rattle.cops_types.specs.Key.{IsName};
 ghost use Rattle.cops_types.specs.Words.{is_u64};
 ghost use Rattle.cops_node.specs.Parts.{are_clocks};
-ghost use Rattle.cops_world.specs.GoodHeads.{is_good};
+ghost use Rattle.cops_script.specs.GoodHeads.{is_good};
 
 use cops_types::{Config, Name, Quota, Tenant, Version};
 

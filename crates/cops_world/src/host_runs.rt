@@ -3,9 +3,9 @@ ghost use Rattle.std.specs.Prelude.{◌≡◌, IfOk, IsTrue, length};
 ghost use Rattle.std.specs.List.{AllByRecursion};
 ghost use Rattle.cops_types.specs.HeadLines.{is_tenant};
 ghost use Rattle.cops_types.specs.OpenSlots.{open_at};
-ghost use Rattle.cops_world.specs.Answers.{ToHost};
-ghost use Rattle.cops_world.specs.Doing.{IsDone, IsHosted};
-ghost use Rattle.cops_world.specs.GoodHeads.{is_good};
+ghost use Rattle.cops_script.specs.Answers.{ToHost};
+ghost use Rattle.cops_script.specs.Doing.{IsDone, IsHosted};
+ghost use Rattle.cops_script.specs.GoodHeads.{is_good};
 ghost use Rattle.cops_world.specs.HostRuns.{IsWithinLimits, TellsLives, acts_at, admits_at, answer_at, closes_at, said_of};
 ghost use Rattle.cops_world.specs.Worlds.{HasOpenCluster, open_setup};
 

@@ -1,14 +1,13 @@
 //! Runs of events and of scripts, over readers and writers that cut what they are given or fail.
 ghost use Rattle.std.specs.Prelude.{◌≡◌, ◌<◌, All, IfOk, IsTrue, length};
 ghost use Rattle.cops_types.specs.declared.configs.Tenant.{Tenant};
-ghost use Rattle.cops_world.specs.GoodHeads.{is_good};
+ghost use Rattle.cops_script.specs.GoodHeads.{is_good};
 
-use crate::script_runs::run_script_in;
-use crate::scripts::BadConfig;
 use crate::test_streams::{Endless, Pieces, Trickle};
 use crate::test_worlds::{config_of, event_of, row, says};
 use crate::{Event, Reply, World, run, run_script, solo};
-use cops_types::{Config, RunFault, Sink, Source, Tenants};
+use cops_script::{BadConfig, RunFault, run_script_in};
+use cops_types::{Config, Sink, Source, Tenants};
 use std::alloc::{AllocError, Global};
 use std::process::Abort;
 

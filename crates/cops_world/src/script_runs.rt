@@ -1,71 +1,19 @@
-//! A script as a whole, over any reader and any writer.
+//! A script as a whole, answered in a new world.
 ghost use Rattle.std.specs.Prelude.{◌≡◌, ◌⊎◌, IfErr, IfSome, IsErrOf, OnErr, OnOk};
 ghost use Rattle.std.specs.Io.KnownBytes.{IsAtEnd, Keeps};
 ghost use Rattle.cops_types.specs.Counts.{HasRisen, HasRisenBy};
-ghost use Rattle.cops_types.specs.Head.{AtStart, BadAt, head_of};
-ghost use Rattle.cops_types.specs.LineRuns.{IfRunRefused};
+ghost use Rattle.cops_types.specs.Head.{BadAt, head_of};
 ghost use Rattle.cops_types.specs.Lines.{lines_of};
 ghost use Rattle.cops_types.specs.Sink.{sink_failures, sink_writer};
 ghost use Rattle.cops_types.specs.Source.{source_failures, source_reader, source_reads};
-ghost use Rattle.cops_world.specs.HeadRules.{IsHeadAt};
-ghost use Rattle.cops_world.specs.ScriptRuns.{WritesFront, WritesScript};
+ghost use Rattle.cops_script.specs.LineRuns.{IfRunRefused};
+ghost use Rattle.cops_script.specs.ScriptRuns.{WritesFront, WritesScript};
 
-use crate::scripts::{BadConfig, HeadSoFar, Script};
-use crate::{Tenancy, World};
-use cops_types::{ConfigReader, RunFault, Sink, Source, run_lines};
+use crate::World;
+use cops_script::{BadConfig, RunFault, TURNS, run_script_in};
+use cops_types::{Sink, Source};
 use std::alloc::Global;
 use std::io::{Read, Write};
-use std::mem;
-
-/// How many turns a reader has.
-pub(crate) const TURNS: u64 = 4_294_967_296;
-
-/// No more of a line is read, but for one byte.
-pub(crate) const LONGEST_LINE: usize = 8192;
-
-/// A script that has come to no line.
-fn new_script<W: Tenancy>() -> Script<W>
-    ensures { IsHeadAt AtStart 0 result }
-{
-    Script::Head(HeadSoFar {
-        reader: ConfigReader::new(),
-        lines: 0,
-    })
-}
-
-/// Answers a script in a new world, in so many turns.
-pub(crate) fn run_script_in<W: Tenancy + Drop, R: Read, O: Write>(
-    alloc: Global,
-    turns: u64,
-    source: &mut Source<R>,
-    sink: &mut Sink<O>,
-) -> Result<(), RunFault<BadConfig>>
-    // All is read, and each line after the head is answered, or a front of the answers is written.
-    ensures end { OnOk result (IsAtEnd (R.remaining (source_reader source.new))) }
-    ensures ok { OnOk result (IfSome (R.remaining (source_reader source.old)) (λ bytes.
-        WritesScript bytes (O.contents (sink_writer sink.old)) (O.contents (sink_writer sink.new)))) }
-    ensures err { OnErr result (IfSome (R.remaining (source_reader source.old)) (λ bytes.
-        WritesFront bytes (O.contents (sink_writer sink.old)) (O.contents (sink_writer sink.new)))) }
-
-    // A head is refused where it is bad, and nothing is written then.
-    ensures bad_head { IfErr result (λ fault. IfRunRefused fault (λ bad.
-        IfSome (R.remaining (source_reader source.old)) (λ bytes. head_of (lines_of bytes) ≡ BadAt bad.line))) }
-    ensures unwritten { IfErr result (λ fault. IfRunRefused fault (λ bad.
-        Keeps (O.contents (sink_writer sink.old)) (O.contents (sink_writer sink.new)))) }
-
-    // The reader or the writer failed in this call, or the bound on turns was met.
-    ensures read_fault { IsErrOf result RunFault.ReadFault →
-        HasRisen (source_failures source.old) (source_failures source.new)
-        ⊎ HasRisenBy (source_reads source.old) (source_reads source.new) turns }
-    ensures write_fault { IsErrOf result RunFault.WriteFault → HasRisen (sink_failures sink.old) (sink_failures sink.new) }
-{
-    let mut script: Script<W> = new_script();
-    let ended = run_lines(&mut script, alloc, turns, LONGEST_LINE, source, sink);
-    // The process ends soon, and gives back its memory at once. To give back each record, queue
-    // entry and row of the audit by itself took up to a quarter of the time of a run.
-    mem::forget(script);
-    ended
-}
 
 /// Answers a script: reads its head, and writes one line for each line after it.
 ///

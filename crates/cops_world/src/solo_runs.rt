@@ -1,20 +1,17 @@
-//! A script of which one tenant's lines are answered, over any reader and any writer.
+//! A script of which one tenant's lines are answered, in a new world of his own.
 ghost use Rattle.std.specs.Prelude.{◌≡◌, ◌⊎◌, IfErr, IfSome, IsErrOf, OnErr, OnOk};
 ghost use Rattle.std.specs.Io.KnownBytes.{IsAtEnd, Keeps};
 ghost use Rattle.cops_types.specs.Counts.{HasRisen, HasRisenBy};
-ghost use Rattle.cops_types.specs.LineRuns.{IfRunRefused};
 ghost use Rattle.cops_types.specs.Sink.{sink_failures, sink_writer};
 ghost use Rattle.cops_types.specs.Source.{source_failures, source_reader, source_reads};
-ghost use Rattle.cops_world.specs.SoloRuns.{IsRefusedFor, WritesSolo, WritesSoloFront};
+ghost use Rattle.cops_script.specs.LineRuns.{IfRunRefused};
+ghost use Rattle.cops_script.specs.SoloRuns.{IsRefusedFor, WritesSolo, WritesSoloFront};
 
 use crate::World;
-use crate::script_runs::{LONGEST_LINE, TURNS};
-use crate::solo_machine::{SoloRefusal, new_solo_script};
-use crate::solo_scripts::SoloScript;
-use cops_types::{RunFault, Sink, Source, run_lines};
+use cops_script::{RunFault, SoloRefusal, solo_script_in};
+use cops_types::{Sink, Source};
 use std::alloc::Global;
 use std::io::{Read, Write};
-use std::mem;
 
 /// Answers the lines of one name's tenants of a script, each in a cluster that he has to himself: reads
 /// all of it, and writes one line for each line that a tenant of the name says while he is open.
@@ -47,12 +44,5 @@ pub fn solo_script<R: Read, O: Write>(
         ⊎ HasRisenBy (source_reads source.old) (source_reads source.new) 4294967296 }
     ensures write_fault { IsErrOf result RunFault.WriteFault → HasRisen (sink_failures sink.old) (sink_failures sink.new) }
 {
-    let Ok(solo) = new_solo_script(alloc, tenant) else {
-        return Err(RunFault::OutOfMemory);
-    };
-    let mut solo: SoloScript<World> = solo;
-    let ended = run_lines(&mut solo, alloc, TURNS, LONGEST_LINE, source, sink);
-    // As in `run_script`: the process gives back the memory of the world at its end.
-    mem::forget(solo);
-    ended
+    solo_script_in::<World, R, O>(alloc, source, sink, tenant)
 }

@@ -1,7 +1,8 @@
 //! Runs of a script for one name: of a tenant with two lives, one who is admitted by a line to the slot
 //! of another, one who says nothing, and one who was never open.
-use crate::{SoloRefusal, solo_script};
-use cops_types::{RunFault, Sink, Source};
+use crate::solo_script;
+use cops_script::{RunFault, SoloRefusal};
+use cops_types::{Sink, Source};
 use std::alloc::Global;
 use std::process::Abort;
 

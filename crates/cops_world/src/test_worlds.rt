@@ -1,11 +1,9 @@
 //! Worlds, events and replies by their texts. Each call is made once more where memory was refused.
 ghost use Rattle.std.specs.Prelude.{◌<◌, length, IsTrue, IfSome};
-ghost use Rattle.cops_world.specs.GoodHeads.{is_good};
+ghost use Rattle.cops_script.specs.GoodHeads.{is_good};
 
-use crate::lines::parse_act;
-use crate::scripts::{HeadSoFar, read_head};
-use crate::texts::push_reply;
 use crate::{Act, Event, Reply, World};
+use cops_script::{HeadSoFar, parse_act, push_reply, read_head};
 use cops_types::words::split_word;
 use cops_types::{Config, ConfigReader, Fault, Tenants};
 use std::alloc::{AllocError, Global};

@@ -4,11 +4,12 @@ ghost use Rattle.cops_model.specs.Events.{config_at, own, replies, solo_replies,
 ghost use Rattle.cops_model.specs.Laws.{cluster_of};
 ghost use Rattle.cops_model.specs.Setups.{new_setup};
 ghost use Rattle.cops_model.specs.MainTheorem.{MainTheorem, with_tenant_alone};
-ghost use Rattle.cops_world.specs.GoodHeads.{is_good};
+ghost use Rattle.cops_script.specs.GoodHeads.{is_good};
 ghost use Rattle.cops_world.specs.Worlds.{HasOpenCluster, open_setup};
 
-use crate::{Event, Reply, World, run_all};
-use cops_types::{Config, Tenant, Tenants};
+use crate::{Event, Reply, World};
+use cops_script::{run_all, with_tenant_alone};
+use cops_types::Config;
 use std::alloc::{AllocError, Global};
 
 /// A new world of a configuration after events in a row, and the replies to them. What its audits
@@ -40,25 +41,6 @@ pub fn run(alloc: Global, config: Config, events: &[Event]) -> Result<Vec<Reply>
 {
     let (_world, told) = run_world(alloc, config, events)?;
     Ok(told)
-}
-
-/// A configuration with this tenant alone.
-pub(crate) fn with_tenant_alone(
-    alloc: Global,
-    config: &Config,
-    tenant: &Tenant,
-) -> Result<Config, AllocError>
-    ensures { IfOk result (λ alone. alone ≡ with_tenant_alone config.now tenant.now) }
-{
-    let mut tenants = Tenants::new(alloc);
-    tenants.push(*tenant)?;
-    Ok(Config {
-        data_centres: config.data_centres,
-        shards: config.shards,
-        trans_time: config.trans_time,
-        restarts: config.restarts,
-        tenants,
-    })
 }
 
 /// The replies to one tenant's events among these, in a cluster that he has to himself.

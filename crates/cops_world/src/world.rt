@@ -17,20 +17,22 @@ ghost use Rattle.cops_model.specs.Cluster.{Actor as Solo, SoloCluster, actor_ste
 ghost use Rattle.cops_model.specs.Setups.{config_in, is_open_at, next_slot};
 ghost use Rattle.cops_model.specs.declared.acts.Act.TheVariants as acts;
 ghost use Rattle.cops_model.specs.declared.replies.Reply.TheVariants.{Refused};
-ghost use Rattle.cops_world.specs.Acting.{HasActed, IsNew};
-ghost use Rattle.cops_world.specs.GoodHeads.{is_good};
+ghost use Rattle.cops_script.specs.Acting.{HasActed, IsNew};
+ghost use Rattle.cops_script.specs.GoodHeads.{is_good};
 ghost use Rattle.cops_world.specs.ActorsStand.{ActorStandsFor, RunsAt};
 ghost use Rattle.cops_world.specs.Deeds.{deed_step};
-ghost use Rattle.cops_world.specs.Lacks.{Lacks, Stays, StepStops, StepsStop};
+ghost use Rattle.cops_script.specs.Lacks.{Lacks, Stays, StepStops, StepsStop};
 ghost use Rattle.cops_world.specs.Trails.{audited_at};
-ghost use Rattle.cops_world.specs.Worlds.{Admits, AreSitesIn, ClusterStandsAt, Closes, HasOpenCluster, HasSizes, Leaves, Moves, StaysOpen, open_setup, join_step, world_of};
+ghost use Rattle.cops_world.specs.Worlds.{Admits, AreSitesIn, ClusterStandsAt, Closes, HasOpenCluster, Leaves, Moves, StaysOpen, open_setup, join_step, world_of};
+ghost use Rattle.cops_script.specs.Sizes.{HasSizes};
 
 use crate::actor_table::{ActorTable, act_at, empty_tables, place_of, put_new, step_at, take_out};
 use crate::actors::{Actor, ActorId, Deed, Keys, Stepped};
 use crate::guesses::Guesses;
-use crate::{Act, ByteSlice, ByteSlices, Event, Reply, Tenancy};
+use crate::{Act, ByteSlice, ByteSlices, Event, Reply};
 use cops_node::{AuditRow, Cluster0, Node, NodeCall, NodeId, NodeReply, Nodes};
 use cops_repl::Carrier;
+use cops_script::Tenancy;
 use cops_session::Session;
 use cops_types::{Config, Fault, Key, Name, OpenTenants, Seeds, Tenant, Value};
 use std::alloc::{AllocError, Global};

@@ -1,4 +1,4 @@
-use cops_types::host_lines::{read_admission, read_closing};
+use cops_script::host_lines::{read_admission, read_closing};
 use std::process::Abort;
 
 const ADMISSIONS: &str = "+ a 00000000-0000-0000-0000-000000000001 281474976710655 0 0 0 0 0 0 0

@@ -2,8 +2,9 @@ ghost use Rattle.std.specs.Prelude.{⊤};
 ghost use Rattle.cops_types.specs.Words.{StartsWith};
 
 use crate::slate::Slate;
+use cops_script::{LineMachine, RunFault, Stop, run_lines};
 use cops_types::texts::push_number;
-use cops_types::{LineMachine, RunFault, Sink, Source, Stop, run_lines};
+use cops_types::{Sink, Source};
 use std::alloc::{AllocError, Global};
 use std::io;
 use std::io::{ErrorKind, Read, Write};

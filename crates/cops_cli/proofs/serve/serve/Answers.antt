@@ -6,7 +6,7 @@ use Rattle.cops_types.specs.Sink.{sink_writer}
 use Rattle.cops_types.specs.Source.{source_reader}
 use Rattle.cops_types.proofs.WordLemmas.{both}
 use Rattle.cops_replay.specs.AuditText.{AreNodesOf}
-use Rattle.cops_world.proofs.WorldKeeps.{clocks_of_good}
+use Rattle.cops_script.proofs.TenantConfigs.{clocks_of_good}
 use Rattle.cops_cli.proofs.ServingFacts.{ends_early, ends_in_audit, left_nodes, of_audit, serves_all}
 use Rattle.cops_cli.specs.declared.faults.CliFault.TheVariants.{WriteFault}
 use Rattle.cops_cli.proofs.serve.serve.Goals as goal

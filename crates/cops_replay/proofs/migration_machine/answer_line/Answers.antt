@@ -1,5 +1,5 @@
 use Rattle.std.proofs.Common.{sym, subst}
-use Rattle.cops_types.specs.LineAnswers.{Answers}
+use Rattle.cops_script.specs.LineAnswers.{Answers}
 use Rattle.cops_replay.specs.declared.migration_machine.OldPart.{OldPart}
 use Rattle.cops_replay.specs.declared.migration_machine.OldPart.TheVariants.{Head, Records}
 use Rattle.cops_replay.specs.MigrationRules.{part_answers}

@@ -1,4 +1,4 @@
-use Rattle.cops_world.proofs.WorldKeeps.{clocks_of_good}
+use Rattle.cops_script.proofs.TenantConfigs.{clocks_of_good}
 use Rattle.cops_replay.proofs.ReplayLemmas.{clocks_alone}
 use Rattle.cops_replay.proofs.replay_machine.read_head_line.Goals as goal
 

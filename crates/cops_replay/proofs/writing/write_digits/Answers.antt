@@ -1,6 +1,6 @@
 use Rattle.std.proofs.Common.{◌∙◌, arith}
 use Rattle.hex.specs.Hex.{IsBytes}
-use Rattle.cops_types.proofs.LineRunLemmas.{on_ok_at}
+use Rattle.cops_script.proofs.LineRunLemmas.{on_ok_at}
 use Rattle.cops_replay.proofs.Digits.{digits_of_bytes, not_refused}
 use Rattle.cops_replay.proofs.writing.write_digits.Goals as goal
 

@@ -1,5 +1,5 @@
 use Rattle.std.proofs.Common.{◌∙◌, sym}
-use Rattle.cops_world.proofs.WorldKeeps.{clocks_of_good, sizes_of_good}
+use Rattle.cops_script.proofs.TenantConfigs.{clocks_of_good, sizes_of_good}
 use Rattle.cops_world.proofs.good_configs.is_good.Goals as goal
 
 pub returns-clause-sizes : goal.returns-clause-sizes

@@ -1,12 +1,12 @@
 use Rattle.std.proofs.Common.{◌≡◌, ℕ, zero, suc, ◌+◌, ◌≤◌, List, [], ◌∷◌, ◌++◌, length, take, refl, sym, subst, ap, ◌∙◌, arith}
 use Rattle.std.proofs.lemmas.Bool.Decides.{nat_tests}
 use Rattle.std.proofs.lemmas.List.{take_more}
-use Rattle.cops_model.specs.Lives.{first_lives}
+use Rattle.cops_script.specs.Lives.{first_lives}
 use Rattle.cops_world.specs.declared.host_runs.HostEvent.{HostEvent}
 use Rattle.cops_world.specs.declared.host_runs.LifeReply.{LifeReply}
 use Rattle.cops_world.specs.Worlds.{HasOpenCluster, open_setup}
 use Rattle.cops_world.proofs.HostRunLemmas.{IsSoFar, so_far_more, so_far_nothing, tells_lives}
-use Rattle.cops_world.proofs.MainLemmas.{some_shard}
+use Rattle.cops_script.proofs.MainLemmas.{some_shard}
 use Rattle.cops_world.proofs.host_runs.run_lives.Goals as goal
 
 take_whole : {A : Type 0} (n : ℕ) (xs : List A) → length xs ≤ n → take n xs ≡ xs

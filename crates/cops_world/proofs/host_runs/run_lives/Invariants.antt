@@ -1,5 +1,5 @@
 use Rattle.std.proofs.Common.{take}
-use Rattle.cops_model.specs.Lives.{first_lives}
+use Rattle.cops_script.specs.Lives.{first_lives}
 use Rattle.cops_world.specs.Worlds.{HasOpenCluster, open_setup}
 use Rattle.cops_world.proofs.HostRunLemmas.{IsSoFar}
 use Rattle.cops_world.proofs.host_runs.run_lives.Given as goal

@@ -4,9 +4,9 @@ use Rattle.cops_model.specs.Cluster.{new_cluster}
 use Rattle.cops_model.specs.Events.{before_lack, cluster_after, config_at, own, replies, replies_from, IsFrontOf}
 use Rattle.cops_model.specs.Setups.{Setup, config_in, is_open_at}
 use Rattle.cops_world.specs.Worlds.{HasOpenCluster}
-use Rattle.cops_world.proofs.BegunSetups.{config_begun}
-use Rattle.cops_world.proofs.MainLemmas.{holds_for, some_shard}
-use Rattle.cops_world.proofs.RunLaws.{all_open}
+use Rattle.cops_script.proofs.BegunSetups.{config_begun}
+use Rattle.cops_script.proofs.MainLemmas.{holds_for, some_shard}
+use Rattle.cops_script.proofs.RunLaws.{all_open}
 use Rattle.cops_world.proofs.whole_runs.run_world.Goals as goal
 
 pub run_all-requires : goal.run_all-requires

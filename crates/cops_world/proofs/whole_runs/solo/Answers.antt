@@ -9,11 +9,11 @@ use Rattle.cops_model.specs.declared.replies.Reply.{Reply}
 use Rattle.cops_model.specs.Cluster.{SoloCluster, cluster_step, new_cluster}
 use Rattle.cops_model.specs.Events.{own, config_at, solo_replies, before_lack, IsFrontOf, IsSpared, ToldAlone}
 use Rattle.cops_model.specs.Setups.{Setup, config_in}
-use Rattle.cops_world.specs.GoodHeads.{is_good}
+use Rattle.cops_script.specs.GoodHeads.{is_good}
 use Rattle.cops_world.specs.Worlds.{HasOpenCluster, KeptWorld}
-use Rattle.cops_world.proofs.BegunSetups.{config_begun}
-use Rattle.cops_world.proofs.MainLemmas.{alone_config, alone_good}
-use Rattle.cops_world.proofs.RunLaws.{taken_whole, own_stays, own_too, solo_front, solo_step}
+use Rattle.cops_script.proofs.BegunSetups.{config_begun}
+use Rattle.cops_script.proofs.MainLemmas.{alone_config, alone_good}
+use Rattle.cops_script.proofs.RunLaws.{taken_whole, own_stays, own_too, solo_front, solo_step}
 use Rattle.cops_world.proofs.WorldLives.{has_acted}
 use Rattle.cops_world.proofs.whole_runs.solo.Goals as goal
 use Rattle.cops_world.proofs.whole_runs.solo.Goals.{then-event-slot+in_ok-push, else-event-slot}

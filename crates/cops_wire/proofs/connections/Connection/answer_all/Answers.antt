@@ -1,6 +1,6 @@
 use Rattle.std.proofs.Common.{◌<◌, length, take, refl, sym, ap, subst, ◌∙◌, arith}
 use Rattle.std.proofs.lemmas.List.{nil_from_length}
-use Rattle.cops_types.proofs.LineEndLemmas.{HasRisenBy-start, HasRisenBy-next}
+use Rattle.cops_types.proofs.CountLemmas.{HasRisenBy-start, HasRisenBy-next}
 use Rattle.cops_types.specs.Sink.{sink_writer}
 use Rattle.cops_types.specs.Source.{source_reader}
 use Rattle.cops_wire.specs.Greeting.{CameBytes}

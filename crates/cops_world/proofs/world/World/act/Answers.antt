@@ -2,7 +2,7 @@ use Rattle.std.proofs.Common.{ap, subst, ◌∙◌}
 use Rattle.cops_node.specs.Clusters.{shape_of}
 use Rattle.cops_world.specs.ActorTables.{actor_at, count_at}
 use Rattle.cops_world.specs.Deeds.{deed_step}
-use Rattle.cops_world.specs.Lacks.{Stays}
+use Rattle.cops_script.specs.Lacks.{Stays}
 use Rattle.cops_world.specs.Worlds.{KeptWorld, Leaves, Moves, world_of}
 use Rattle.cops_world.proofs.WorldKeeps.{hosted_after_act, runs_after_act}
 use Rattle.cops_world.proofs.WorldLacks.{deed_leaves}

@@ -7,7 +7,7 @@ use Rattle.cops_model.specs.declared.replies.Reply.TheVariants.{Started, Refused
 use Rattle.cops_model.specs.Cluster.{OfCarrier, has_stream}
 use Rattle.cops_model.specs.Setups.{Setup, config_in, is_open_at}
 use Rattle.cops_world.specs.ActorsStand.{RunsAt}
-use Rattle.cops_world.specs.Lacks.{Stays}
+use Rattle.cops_script.specs.Lacks.{Stays}
 use Rattle.cops_world.specs.Worlds.{KeptWorld, world_of}
 use Rattle.cops_world.proofs.WorldCalls.{joins_there, no_place_moves, stream_runs}
 use Rattle.cops_world.proofs.WorldKeeps.{sizes_in}

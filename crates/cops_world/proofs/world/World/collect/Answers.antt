@@ -5,7 +5,7 @@ use Rattle.cops_model.specs.declared.acts.Act.TheVariants as acts
 use Rattle.cops_model.specs.declared.replies.Reply.TheVariants.{Refused}
 use Rattle.cops_model.specs.Cluster.{cluster_step, has_node}
 use Rattle.cops_model.specs.Setups.{config_in}
-use Rattle.cops_world.specs.Lacks.{Stays}
+use Rattle.cops_script.specs.Lacks.{Stays}
 use Rattle.cops_world.specs.Worlds.{KeptWorld, Leaves, Moves, world_of}
 use Rattle.cops_world.proofs.WorldKeeps.{kept_called, sizes_in}
 use Rattle.cops_world.proofs.WorldCalls.{node_fits, no_node_moves, node_collects}

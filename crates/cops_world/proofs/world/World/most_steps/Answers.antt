@@ -3,7 +3,7 @@ use Rattle.std.specs.Prelude.{Some}
 use Rattle.cops_model.specs.Cluster.{most_steps}
 use Rattle.cops_model.specs.Setups.{config_of}
 use Rattle.cops_world.specs.Worlds.{KeptWorld}
-use Rattle.cops_world.proofs.WorldKeeps.{limits_of}
+use Rattle.cops_script.proofs.TenantConfigs.{limits_of}
 use Rattle.cops_world.proofs.world.World.most_steps.Goals as goal
 
 pub overflow_add-result-3 : goal.overflow_add-result-3

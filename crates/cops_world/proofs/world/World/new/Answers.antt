@@ -1,7 +1,8 @@
 use Rattle.std.proofs.Common.{◌≡◌, refl, ap, ◌∙◌}
 use Rattle.std.specs.Prelude.{[], length, replicate}
 use Rattle.cops_model.specs.Setups.{Setup, new_setup}
-use Rattle.cops_world.proofs.WorldKeeps.{clocks_of_good, kept_at_first, new_stands}
+use Rattle.cops_script.proofs.TenantConfigs.{clocks_of_good}
+use Rattle.cops_world.proofs.WorldKeeps.{kept_at_first, new_stands}
 use Rattle.cops_world.proofs.world.World.new.Goals as goal
 
 pub new-requires-clause-clocks : goal.new-requires-clause-clocks

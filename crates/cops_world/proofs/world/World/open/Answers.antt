@@ -8,7 +8,7 @@ use Rattle.cops_model.specs.declared.replies.Reply.TheVariants.{Opened, Refused}
 use Rattle.cops_model.specs.Cluster.{OfSession}
 use Rattle.cops_model.specs.Setups.{config_in, config_of}
 use Rattle.cops_world.specs.ActorsStand.{ActorStandsFor}
-use Rattle.cops_world.specs.Lacks.{Stays}
+use Rattle.cops_script.specs.Lacks.{Stays}
 use Rattle.cops_world.specs.Worlds.{KeptWorld, world_of}
 use Rattle.cops_world.proofs.WorldCalls.{joins_there, no_place_moves}
 use Rattle.cops_world.proofs.WorldKeeps.{sizes_in}

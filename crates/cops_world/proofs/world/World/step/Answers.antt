@@ -9,7 +9,7 @@ use Rattle.cops_model.specs.Setups.{is_open_at}
 use Rattle.cops_world.specs.declared.actors.ActorId.{ActorId}
 use Rattle.cops_world.specs.ActorsStand.{RunsAt}
 use Rattle.cops_world.specs.ActorTables.{actor_at}
-use Rattle.cops_world.specs.Lacks.{StepStops}
+use Rattle.cops_script.specs.Lacks.{StepStops}
 use Rattle.cops_world.specs.Worlds.{KeptWorld, Leaves, Moves, world_of}
 use Rattle.cops_world.proofs.WorldCalls.{none_there, steps_world}
 use Rattle.cops_world.proofs.WorldKeeps.{back_table, counts_back, counts_left, kept_called, kept_placed, left_table, sites_stay}

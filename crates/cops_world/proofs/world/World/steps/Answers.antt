@@ -1,7 +1,7 @@
 use Rattle.std.proofs.Common.{◌≡◌, ◌-◌, suc, sym, subst, ◌∙◌, arith}
 use Rattle.cops_model.specs.declared.replies.Reply.{Reply}
 use Rattle.cops_model.specs.Cluster.{actor_steps}
-use Rattle.cops_world.specs.Lacks.{StepsStop}
+use Rattle.cops_script.specs.Lacks.{StepsStop}
 use Rattle.cops_world.specs.Worlds.{Leaves, Moves, world_of}
 use Rattle.cops_world.proofs.WorldLacks.{steps_end_leaves, steps_on_leaves}
 use Rattle.cops_world.proofs.WorldSteps.{steps_end, steps_on}

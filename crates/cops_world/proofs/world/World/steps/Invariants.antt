@@ -1,7 +1,7 @@
 use Rattle.std.proofs.Common.{◌≡◌}
 use Rattle.cops_model.specs.declared.replies.Reply.{Reply}
 use Rattle.cops_model.specs.Cluster.{actor_steps}
-use Rattle.cops_world.specs.Lacks.{StepsStop}
+use Rattle.cops_script.specs.Lacks.{StepsStop}
 use Rattle.cops_world.specs.Worlds.{World, Leaves, Moves, world_of}
 use Rattle.cops_world.proofs.world.World.steps.Given as goal
 

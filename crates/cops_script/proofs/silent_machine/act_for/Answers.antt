@@ -1,0 +1,11 @@
+use Rattle.std.proofs.Common.{◌∙◌, sym}
+use Rattle.cops_script.proofs.SilentMachine.{done_act, done_unformed}
+use Rattle.cops_script.proofs.silent_machine.act_for.Goals as goal
+
+pub returns-in_default : goal.returns-in_default
+returns-in_default g c = λ fine. done_unformed g.W.Tenancy.setup g.W.Tenancy.StandsFor c.args.world.now c.args.slot c.args.line.now (sym c.parse_act.ensures ∙ c.in_default.is)
+
+pub returns : goal.returns
+returns g c = λ fine.
+    done_act g.W.Tenancy.setup g.W.Tenancy.StandsFor c.args.world.now c.apply-reply.new.self c.args.slot c.args.line.now c.in-Some.act c.apply-reply.result c.is_out_of_memory.result
+    (sym c.parse_act.ensures ∙ c.in-Some.is) c.apply-reply.ensures c.is_out_of_memory.ensures fine

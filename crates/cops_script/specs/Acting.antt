@@ -1,0 +1,57 @@
+-- What a world of many tenants does, however it is kept.
+use Rattle.std.specs.Prelude.{◌≡◌, ◌≢◌, ◌⊎◌, ℕ, ◌<◌, IsFalse, IsTrue, length, Some, None, Result, Ok, Err}
+use Rattle.cops_types.specs.declared.configs.Config.{Config}
+use Rattle.cops_types.specs.declared.configs.Tenant.{Tenant}
+use Rattle.cops_types.specs.declared.faults.Fault.{Fault}
+use Rattle.cops_types.specs.declared.faults.Fault.TheVariants.{OutOfMemory}
+use Rattle.cops_types.specs.OpenSlots.{admission_refusal}
+use Rattle.cops_types.specs.TenantConfig.{tenant_config}
+use Rattle.cops_model.specs.declared.acts.Event.{Event}
+use Rattle.cops_model.specs.declared.replies.Reply.{Reply}
+use Rattle.cops_model.specs.Cluster.{SoloCluster, cluster_step, new_cluster}
+use Rattle.cops_model.specs.Events.{config_at, is_out_of_memory}
+use Rattle.cops_model.specs.Setups.{Setup, config_in, new_setup, next_slot, with_slot}
+use Rattle.cops_script.specs.Lacks.{Lacks}
+
+module _ {W : Type 0} (setup : W → Setup) (StandsFor : W → ℕ → SoloCluster → Type 0) where
+  -- a new world of the configuration
+  pub record IsNew (config : Config) (world : W) : Type 0 where
+    pub setup_is : setup world ≡ new_setup config
+    pub empty : (slot : ℕ) → slot < length config.tenants → StandsFor world slot (new_cluster (config_at config slot))
+
+  -- the tenants of other slots have the clusters that they had
+  abbrev pub OthersStay : ℕ → W → W → Type 0
+  OthersStay slot old new = (other : ℕ) → slot ≢ other → (cluster : SoloCluster) → StandsFor old other cluster → StandsFor new other cluster
+
+  -- an event acted on its own tenant's cluster, or memory was refused and it left that cluster as such an act may; and it acted on no other
+  pub record HasActed (old : W) (event : Event) (reply : Reply) (new : W) : Type 0 where
+    pub same : setup new ≡ setup old
+    pub own : IsFalse (is_out_of_memory reply) → (cluster : SoloCluster) → StandsFor old event.slot cluster →
+        let turn = cluster_step (config_in (setup old) event.slot) event.act cluster in (reply ≡ turn.reply) × StandsFor new event.slot turn.after
+    pub lack : IsTrue (is_out_of_memory reply) → (cluster : SoloCluster) → StandsFor old event.slot cluster →
+        (after : SoloCluster) × Lacks (config_in (setup old) event.slot) event.act cluster after × StandsFor new event.slot after
+    pub others : OthersStay event.slot old new
+
+  -- the same tenants are open, and each has the cluster that he had
+  pub record HasStayed (old new : W) : Type 0 where
+    pub same : setup new ≡ setup old
+    pub clusters : (slot : ℕ) (cluster : SoloCluster) → StandsFor old slot cluster → StandsFor new slot cluster
+
+  -- the slot is this tenant's, who has a new cluster
+  pub record HasAdmitted (slot : ℕ) (tenant : Tenant) (old new : W) : Type 0 where
+    pub setup_is : setup new ≡ with_slot slot (Some tenant) (setup old)
+    pub begins : StandsFor new slot (new_cluster (tenant_config (setup old).head tenant))
+    pub others : OthersStay slot old new
+
+  -- the slot is nobody's
+  pub record HasClosed (slot : ℕ) (old new : W) : Type 0 where
+    pub setup_is : setup new ≡ with_slot slot None (setup old)
+    pub others : OthersStay slot old new
+
+  -- the tenant may be admitted and has the least free slot, or he may not, or memory was refused
+  abbrev pub IsAdmission : W → Tenant → Result ℕ Fault → W → Type 0
+  IsAdmission old tenant (Ok slot) new =
+      (slot ≡ next_slot (setup old).tenants) × (admission_refusal (setup old).tenants slot tenant ≡ None) × HasAdmitted slot tenant old new
+  IsAdmission old tenant (Err fault) new =
+      let refusal = admission_refusal (setup old).tenants (next_slot (setup old).tenants) tenant in
+      ((refusal ≡ Some fault) ⊎ ((refusal ≡ None) × (fault ≡ OutOfMemory))) × HasStayed old new

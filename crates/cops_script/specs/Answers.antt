@@ -1,0 +1,66 @@
+-- What is answered to lines: to the host, or to a tenant.
+use Rattle.std.specs.Prelude.{ℕ, Bool, false, List, [], ◌∷◌, ◌++◌, codes, map, slice_index_or, Option, Some, None}
+use Rattle.std.specs.Option.{option_map_or}
+use Rattle.cops_types.specs.declared.configs.Tenant.{Tenant}
+use Rattle.cops_types.specs.FaultText.{fault_text}
+use Rattle.cops_types.specs.OpenSlots.{open_at}
+use Rattle.cops_types.specs.Words.{newline}
+use Rattle.cops_model.specs.declared.replies.HostReply.{HostReply}
+use Rattle.cops_model.specs.declared.replies.HostReply.TheVariants.{Admitted, Closed, Denied}
+use Rattle.cops_model.specs.declared.replies.Reply.{Reply}
+use Rattle.cops_model.specs.declared.replies.Reply.TheVariants.{Refused}
+use Rattle.cops_model.specs.Events.{is_out_of_memory}
+use Rattle.cops_script.specs.Said.{HostDeed, Admits, Closes, Refuses}
+use Rattle.cops_script.specs.ReplyText.{text_of_reply}
+
+-- to a tenant by the number of his life, or of his slot
+pub data Answer : Type 0 where
+  ToHost : HostReply → Answer
+  ToTenant : ℕ → Reply → Answer
+
+abbrev pub reply_to_host : HostDeed → HostReply
+reply_to_host (Admits slot tenant) = Admitted tenant.name
+reply_to_host (Closes slot name) = Closed name
+reply_to_host (Refuses fault) = Denied fault
+
+-- the tenant whom it is to
+abbrev pub addressee : Answer → Option ℕ
+addressee (ToHost reply) = None
+addressee (ToTenant number reply) = Some number
+
+-- it says that memory was refused
+abbrev pub is_lack : Answer → Bool
+is_lack (ToHost (Denied fault)) = is_out_of_memory (Refused fault)
+is_lack (ToHost reply) = false
+is_lack (ToTenant number reply) = is_out_of_memory reply
+
+-- ---- as text
+
+abbrev pub host_text : HostReply → List ℕ
+host_text (Admitted name) = codes "admitted" ++ 32 ∷ name
+host_text (Closed name) = codes "closed" ++ 32 ∷ name
+host_text (Denied fault) = fault_text fault
+
+-- a hyphen, a space, the reply
+abbrev pub host_line : HostReply → List ℕ
+host_line reply = codes "-" ++ 32 ∷ host_text reply ++ newline ∷ []
+
+-- the tenant's name, a space, the reply
+abbrev pub reply_line : List ℕ → Reply → List ℕ
+reply_line name reply = name ++ 32 ∷ text_of_reply reply ++ newline ∷ []
+
+abbrev pub name_at : List Tenant → ℕ → List ℕ
+name_at tenants number = slice_index_or (map (λ (tenant : Tenant). tenant.name) tenants) number []
+
+-- where the tenants are those of all lives
+abbrev pub answer_line : List Tenant → Answer → List ℕ
+answer_line tenants (ToHost reply) = host_line reply
+answer_line tenants (ToTenant number reply) = reply_line (name_at tenants number) reply
+
+-- where it is to the tenant who is open at a slot
+abbrev pub open_name : List (Option Tenant) → ℕ → List ℕ
+open_name tenants slot = option_map_or (λ (tenant : Tenant). tenant.name) (open_at slot tenants) []
+
+abbrev pub slot_line : List (Option Tenant) → Answer → List ℕ
+slot_line tenants (ToHost reply) = host_line reply
+slot_line tenants (ToTenant slot reply) = reply_line (open_name tenants slot) reply

@@ -1,0 +1,126 @@
+//! The machine that does what the lines of a script say, and writes nothing.
+ghost use Rattle.std.specs.Prelude.{◌≡◌, IsTrue};
+ghost use Rattle.cops_types.specs.OpenSlots.{open_slot_of_name};
+ghost use Rattle.cops_types.specs.Words.{first_word};
+ghost use Rattle.cops_script.specs.ActLines.{act_in};
+ghost use Rattle.cops_model.specs.Events.{is_out_of_memory};
+ghost use Rattle.cops_script.specs.Said.{said_found, said_by, said_in};
+ghost use Rattle.cops_model.specs.Setups.{is_open_at};
+ghost use Rattle.cops_script.specs.Answers.{ToHost, is_lack};
+ghost use Rattle.cops_script.specs.SilentRules.{IsDoneWhole};
+
+use crate::host_machine::{admit, close};
+use crate::lines::parse_act;
+use crate::scripts::{BadConfig, Script, read_head};
+use crate::{LineMachine, Stop, Tenancy};
+use cops_model::{Event, HostReply, Reply};
+use cops_types::Fault;
+use cops_types::words::split_word;
+use std::alloc::Global;
+
+/// A script whose replies are not written.
+#[derive(Drop)]
+pub struct SilentScript<W> {
+    pub script: Script<W>,
+}
+
+/// Whether a reply says that memory was refused.
+fn is_out_of_memory(reply: &Reply) -> bool
+    ensures { result ≡ is_out_of_memory reply.now }
+{
+    match reply {
+        Reply::Refused(fault) => *fault == Fault::OutOfMemory,
+        _ => false,
+    }
+}
+
+/// Whether a reply to the host says so.
+fn is_lack(reply: &HostReply) -> bool
+    ensures { result ≡ is_lack (ToHost reply.now) }
+{
+    match reply {
+        HostReply::Denied(fault) => *fault == Fault::OutOfMemory,
+        _ => false,
+    }
+}
+
+/// Has the tenant who is open at the slot do what the line says. Whether memory was there for it.
+fn act_for<W: Tenancy>(world: &mut W, slot: u64, line: &[u8]) -> bool
+    requires { IsTrue (is_open_at (W.setup world.old) slot) }
+    ensures { IsTrue result → IsDoneWhole W.setup W.StandsFor world.old (said_by slot (act_in (first_word line.now) line.now)) world.new }
+{
+    let Some(act) = parse_act(line) else {
+        return true;
+    };
+    let reply = world.apply(&Event { slot, act });
+    !is_out_of_memory(&reply)
+}
+
+/// Has the tenant whom a line names do what it says. Whether memory was there for it.
+fn act_tenant<W: Tenancy>(world: &mut W, word: &[u8], line: &[u8]) -> bool
+    requires { word.now ≡ first_word line.now }
+    ensures { IsTrue result → IsDoneWhole W.setup W.StandsFor world.old (said_found line.now (open_slot_of_name (W.setup world.old).tenants (first_word line.now))) world.new }
+{
+    let Some(slot) = world.tenants().slot_of_name(word) else {
+        return true;
+    };
+    act_for(world, slot, line)
+}
+
+/// Does what a line after the head says. Whether memory was there for it.
+fn act<W: Tenancy>(world: &mut W, line: &[u8]) -> bool
+    ensures { IsTrue result → IsDoneWhole W.setup W.StandsFor world.old (said_in (W.setup world.old).tenants line.now) world.new }
+{
+    let (word, _rest) = split_word(line);
+    if word == b"+".as_slice() {
+        let reply = admit(world, line);
+        return !is_lack(&reply);
+    }
+    if word == b"-".as_slice() {
+        let reply = close(world, line);
+        return !is_lack(&reply);
+    }
+    act_tenant(world, word, line)
+}
+
+impl<W: Tenancy + Drop> LineMachine for SilentScript<W> {
+    ghost use Rattle.cops_script.specs.SilentRules.{silent_rules};
+
+    type Refusal = BadConfig;
+
+    ghost rules = { silent_rules W.setup W.StandsFor };
+
+    fn line(
+        &mut self,
+        alloc: Global,
+        line: &[u8],
+        _out: &mut Vec<u8>,
+    ) -> Result<(), Stop<BadConfig>> {
+        match &mut self.script {
+            Script::Head(head) => {
+                let Some(config) = read_head(alloc, head, line)? else {
+                    return Ok(());
+                };
+                let Ok(world) = W::begin(alloc, config) else {
+                    return Err(Stop::OutOfMemory);
+                };
+                self.script = Script::Running(world);
+            }
+            Script::Running(world) => {
+                if !act(world, line) {
+                    return Err(Stop::OutOfMemory);
+                }
+            }
+        }
+        Ok(())
+    }
+
+    fn end(&mut self, _alloc: Global, _out: &mut Vec<u8>) -> Result<(), Stop<BadConfig>> {
+        match &self.script {
+            Script::Head(head) => Err(Stop::Refused(BadConfig {
+                line: head.lines.saturating_add(1),
+            })),
+            Script::Running(_) => Ok(()),
+        }
+    }
+}

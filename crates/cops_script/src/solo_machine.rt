@@ -1,0 +1,276 @@
+//! The machine that answers the lines of one name's tenants, each of whom has a world to himself.
+ghost use Rattle.std.specs.Prelude.{◌≡◌, [], None, Some, IfErr, IfNone, IfOk, IfSome, IsTrue, OnOk};
+ghost use Rattle.cops_types.specs.declared.configs.Config.{Config as Setup};
+ghost use Rattle.cops_script.specs.declared.line_runs.machine.Stop.TheVariants.{OutOfMemory};
+ghost use Rattle.cops_types.specs.Head.{AtStart, Begun};
+ghost use Rattle.cops_types.specs.HeadReader.{front_with};
+ghost use Rattle.cops_types.specs.HeadLines.{is_tenant};
+ghost use Rattle.cops_script.specs.HostLines.{admitted_in, closed_in};
+ghost use Rattle.cops_script.specs.LineAnswers.{Answers, IfRefused};
+ghost use Rattle.cops_types.specs.OpenSlots.{open_slot_of_name};
+ghost use Rattle.cops_types.specs.Words.{first_word};
+ghost use Rattle.cops_model.specs.MainTheorem.{with_tenant_alone};
+ghost use Rattle.cops_script.specs.Said.{OfHost, admission_of, closing_of, said_found};
+ghost use Rattle.cops_model.specs.Setups.{next_slot};
+ghost use Rattle.cops_script.specs.Acting.{IsNew};
+ghost use Rattle.cops_script.specs.GoodHeads.{is_good, HeadContinues};
+ghost use Rattle.cops_script.specs.HeadRules.{IsHeadAt};
+ghost use Rattle.cops_script.specs.SoloRules.{AnswersOwn, IsGiven, StartsAlone, Takes, is_own, solo_refuses_in};
+ghost use Rattle.cops_script.specs.declared.scripts.Script.TheVariants.{Head};
+
+use crate::host_lines::{read_admission, read_closing};
+use crate::lone_tenants::with_tenant_alone;
+use crate::script_machine::answer_tenant;
+use crate::scripts::{BadConfig, HeadSoFar, Script, read_head};
+use crate::solo_scripts::{SoloRun, SoloScript};
+use crate::{LineMachine, Stop, Tenancy};
+use cops_types::words::split_word;
+use cops_types::{Bytes, Config, ConfigReader, Fault, OpenTenants, Tenant};
+use std::alloc::{AllocError, Global};
+
+/// Why a tenant's lines are not answered.
+#[derive(Clone, Copy, Debug, PartialEq, Eq)]
+pub enum SoloRefusal {
+    BadConfig(BadConfig),
+    /// No tenant of the name was ever open.
+    UnknownTenant,
+}
+
+/// How many tenants may be open at once.
+const MOST_OPEN: u64 = 64;
+
+/// A script that has come to no line, for the tenants with this name.
+pub(crate) fn new_solo_script<W: Tenancy>(
+    alloc: Global,
+    name: &[u8],
+) -> Result<SoloScript<W>, AllocError>
+    ensures name { IfOk result (λ solo. solo.name ≡ name.now) }
+    ensures head { IfOk result (λ solo. IsHeadAt AtStart 0 solo.script) }
+{
+    let name = Bytes::new(alloc, name)?;
+    Ok(SoloScript {
+        name,
+        script: Script::Head(HeadSoFar {
+            reader: ConfigReader::new(),
+            lines: 0,
+        }),
+    })
+}
+
+/// A new world with the sizes of a head, for this tenant alone.
+fn begin_alone<W: Tenancy>(alloc: Global, head: &Config, tenant: &Tenant) -> Result<W, AllocError>
+    requires { IsTrue (is_good (with_tenant_alone head.now tenant.now)) }
+    ensures { IfOk result (IsNew W.setup W.StandsFor (with_tenant_alone head.now tenant.now)) }
+{
+    W::begin(alloc, with_tenant_alone(alloc, head, tenant)?)
+}
+
+/// The script past a head, with a new world where the head has a tenant of the name.
+fn begin_run<W: Tenancy>(alloc: Global, head: Config, name: &[u8]) -> Result<SoloRun<W>, AllocError>
+    requires { IsTrue (is_good head) }
+    ensures { IfOk result (StartsAlone W.setup W.StandsFor name.now head) }
+{
+    let tenants = OpenTenants::of(alloc, &head.tenants)?;
+    let Some(slot) = tenants.slot_of_name(name) else {
+        return Ok(SoloRun {
+            head,
+            tenants,
+            was_open: false,
+            world: None,
+        });
+    };
+    let Some(tenant) = tenants.tenant(slot) else {
+        unreachable!();
+    };
+    let world = begin_alone(alloc, &head, tenant)?;
+    Ok(SoloRun {
+        head,
+        tenants,
+        was_open: true,
+        world: Some(world),
+    })
+}
+
+/// Reads one more line of the head, and gives what runs on where the line ends it.
+fn read_head_line<W: Tenancy>(
+    alloc: Global,
+    name: &[u8],
+    head: &mut HeadSoFar,
+    line: &[u8],
+) -> Result<Option<SoloRun<W>>, Stop<SoloRefusal>>
+    ensures more { IfOk result (λ begun. IfNone begun (HeadContinues head.old.reader head.old.lines line.now head.new.reader head.new.lines)) }
+    ensures begun { IfOk result (λ begun. IfSome begun (λ run. (config : Setup) × (front_with head.old.reader line.now ≡ Some (Begun config)) × StartsAlone W.setup W.StandsFor name.now config run)) }
+    ensures err { IfErr result (λ stop. IfRefused stop (solo_refuses_in W.setup W.StandsFor (Head head.old) line.now)) }
+{
+    match read_head(alloc, head, line) {
+        Ok(None) => Ok(None),
+        Ok(Some(config)) => match begin_run(alloc, config, name) {
+            Ok(run) => Ok(Some(run)),
+            Err(_) => Err(Stop::OutOfMemory),
+        },
+        Err(Stop::Refused(bad)) => Err(Stop::Refused(SoloRefusal::BadConfig(bad))),
+        Err(Stop::OutOfMemory) => Err(Stop::OutOfMemory),
+    }
+}
+
+/// The least free slot, or the number of all slots where none is free.
+fn next_slot(tenants: &OpenTenants) -> u64
+    ensures { result ≡ next_slot tenants.now }
+{
+    match tenants.least_free() {
+        Some(slot) => slot,
+        None => MOST_OPEN,
+    }
+}
+
+/// Whether the tenant was given the least free slot. Where he may not be admitted nothing changed.
+fn give_slot(tenants: &mut OpenTenants, tenant: Tenant) -> Result<bool, Stop<SoloRefusal>>
+    ensures ok { IfOk result (λ given. IsGiven tenants.old tenant given tenants.new) }
+    ensures err { IfErr result (λ stop. stop ≡ OutOfMemory) }
+{
+    let slot = next_slot(tenants);
+    match tenants.admit_at(slot, tenant) {
+        Ok(()) => Ok(true),
+        Err(Fault::OutOfMemory) => Err(Stop::OutOfMemory),
+        Err(_) => Ok(false),
+    }
+}
+
+/// Admits a tenant of the name, in a new world of his own.
+fn admit_named<W: Tenancy + Drop>(
+    alloc: Global,
+    run: &mut SoloRun<W>,
+    tenant: Tenant,
+) -> Result<(), Stop<SoloRefusal>>
+    requires { IsTrue (is_tenant tenant) }
+    ensures ok { OnOk result (Takes W.setup W.StandsFor tenant.name run.old (OfHost (admission_of run.old.tenants (Some tenant))) [] run.new) }
+    ensures err { IfErr result (λ stop. stop ≡ OutOfMemory) }
+{
+    let world = begin_alone(alloc, &run.head, &tenant)?;
+    if give_slot(&mut run.tenants, tenant)? {
+        run.was_open = true;
+        run.world = Some(world);
+    }
+    Ok(())
+}
+
+/// Admits the tenant that a line gives, to the least free slot.
+#[inline(never)]
+fn admit<W: Tenancy + Drop>(
+    alloc: Global,
+    name: &[u8],
+    run: &mut SoloRun<W>,
+    line: &[u8],
+) -> Result<(), Stop<SoloRefusal>>
+    ensures ok { OnOk result (Takes W.setup W.StandsFor name.now run.old (OfHost (admission_of run.old.tenants (admitted_in line.now))) [] run.new) }
+    ensures err { IfErr result (λ stop. stop ≡ OutOfMemory) }
+{
+    let Some(tenant) = read_admission(line) else {
+        return Ok(());
+    };
+    if tenant.name.bytes() == name {
+        return admit_named(alloc, run, tenant);
+    }
+    give_slot(&mut run.tenants, tenant)?;
+    Ok(())
+}
+
+/// Closes the slot of the tenant whom a line names.
+#[inline(never)]
+fn close<W: Tenancy + Drop>(name: &[u8], run: &mut SoloRun<W>, line: &[u8])
+    ensures { Takes W.setup W.StandsFor name.now run.old (OfHost (closing_of run.old.tenants (closed_in line.now))) [] run.new }
+{
+    let Some(closed) = read_closing(line) else {
+        return;
+    };
+    let Some(slot) = run.tenants.slot_of_name(closed.bytes()) else {
+        return;
+    };
+    let _closed = run.tenants.close(slot);
+    if closed.bytes() == name {
+        run.world = None;
+    }
+}
+
+/// Answers a line that a tenant of the name says, at the end of the output.
+fn answer_named<W: Tenancy>(
+    run: &mut SoloRun<W>,
+    word: &[u8],
+    line: &[u8],
+    out: &mut Vec<u8>,
+) -> Result<(), AllocError>
+    requires { word.now ≡ first_word line.now }
+    ensures { OnOk result (Answers (λ text new. Takes W.setup W.StandsFor word.now run.old (said_found line.now (open_slot_of_name run.old.tenants (first_word line.now))) text new) run.new out.old.items out.new.items) }
+{
+    match &mut run.world {
+        Some(world) => answer_tenant(world, word, line, out),
+        None => Ok(()),
+    }
+}
+
+/// Takes a line after the head.
+fn answer<W: Tenancy + Drop>(
+    alloc: Global,
+    name: &[u8],
+    run: &mut SoloRun<W>,
+    line: &[u8],
+    out: &mut Vec<u8>,
+) -> Result<(), Stop<SoloRefusal>>
+    ensures ok { OnOk result (Answers (λ text new. AnswersOwn W.setup W.StandsFor (is_own name.now line.now) name.now run.old line.now text new) run.new out.old.items out.new.items) }
+    ensures err { IfErr result (λ stop. stop ≡ OutOfMemory) }
+{
+    let (word, _rest) = split_word(line);
+    if word == b"+".as_slice() {
+        return admit(alloc, name, run, line);
+    }
+    if word == b"-".as_slice() {
+        close(name, run, line);
+        return Ok(());
+    }
+    if word != name {
+        return Ok(());
+    }
+    answer_named(run, word, line, out)?;
+    Ok(())
+}
+
+impl<W: Tenancy + Drop> LineMachine for SoloScript<W> {
+    ghost use Rattle.cops_script.specs.SoloRules.{solo_rules};
+
+    type Refusal = SoloRefusal;
+
+    ghost rules = { solo_rules W.setup W.StandsFor };
+
+    fn line(
+        &mut self,
+        alloc: Global,
+        line: &[u8],
+        out: &mut Vec<u8>,
+    ) -> Result<(), Stop<SoloRefusal>> {
+        let name = self.name.as_slice();
+        match &mut self.script {
+            Script::Head(head) => {
+                let Some(run) = read_head_line(alloc, name, head, line)? else {
+                    return Ok(());
+                };
+                self.script = Script::Running(run);
+                Ok(())
+            }
+            Script::Running(run) => answer(alloc, name, run, line, out),
+        }
+    }
+
+    fn end(&mut self, _alloc: Global, _out: &mut Vec<u8>) -> Result<(), Stop<SoloRefusal>> {
+        match &self.script {
+            Script::Head(head) => Err(Stop::Refused(SoloRefusal::BadConfig(BadConfig {
+                line: head.lines.saturating_add(1),
+            }))),
+            Script::Running(run) => {
+                if !run.was_open {
+                    return Err(Stop::Refused(SoloRefusal::UnknownTenant));
+                }
+                Ok(())
+            }
+        }
+    }
+}

@@ -1,0 +1,53 @@
+//! A script of which one tenant's lines are answered, over any reader and any writer.
+ghost use Rattle.std.specs.Prelude.{◌≡◌, ◌⊎◌, IfErr, IfSome, IsErrOf, OnErr, OnOk};
+ghost use Rattle.std.specs.Io.KnownBytes.{IsAtEnd, Keeps};
+ghost use Rattle.cops_types.specs.Counts.{HasRisen, HasRisenBy};
+ghost use Rattle.cops_script.specs.LineRuns.{IfRunRefused};
+ghost use Rattle.cops_types.specs.Sink.{sink_failures, sink_writer};
+ghost use Rattle.cops_types.specs.Source.{source_failures, source_reader, source_reads};
+ghost use Rattle.cops_script.specs.SoloRuns.{IsRefusedFor, WritesSolo, WritesSoloFront};
+
+use crate::script_runs::{LONGEST_LINE, TURNS};
+use crate::solo_machine::{SoloRefusal, new_solo_script};
+use crate::solo_scripts::SoloScript;
+use crate::{RunFault, Tenancy, run_lines};
+use cops_types::{Sink, Source};
+use std::alloc::Global;
+use std::io::{Read, Write};
+use std::mem;
+
+/// Answers the lines of one name's tenants of a script, each in a new world of its own.
+pub fn solo_script_in<W: Tenancy + Drop, R: Read, O: Write>(
+    alloc: Global,
+    source: &mut Source<R>,
+    sink: &mut Sink<O>,
+    tenant: &[u8],
+) -> Result<(), RunFault<SoloRefusal>>
+    // All is read, and each line of these tenants is answered, or a front of the answers is written.
+    ensures end { OnOk result (IsAtEnd (R.remaining (source_reader source.new))) }
+    ensures ok { OnOk result (IfSome (R.remaining (source_reader source.old)) (λ bytes.
+        WritesSolo tenant.now bytes (O.contents (sink_writer sink.old)) (O.contents (sink_writer sink.new)))) }
+    ensures err { OnErr result (IfSome (R.remaining (source_reader source.old)) (λ bytes.
+        WritesSoloFront tenant.now bytes (O.contents (sink_writer sink.old)) (O.contents (sink_writer sink.new)))) }
+
+    // The head is refused where it is bad, and the name where no tenant of it was ever open; nothing is written then.
+    ensures refused { IfErr result (λ fault. IfRunRefused fault (λ refusal.
+        IfSome (R.remaining (source_reader source.old)) (λ bytes. IsRefusedFor tenant.now bytes refusal))) }
+    ensures unwritten { IfErr result (λ fault. IfRunRefused fault (λ refusal.
+        Keeps (O.contents (sink_writer sink.old)) (O.contents (sink_writer sink.new)))) }
+
+    // The reader or the writer failed in this call, or the bound on turns was met.
+    ensures read_fault { IsErrOf result RunFault.ReadFault →
+        HasRisen (source_failures source.old) (source_failures source.new)
+        ⊎ HasRisenBy (source_reads source.old) (source_reads source.new) 4294967296 }
+    ensures write_fault { IsErrOf result RunFault.WriteFault → HasRisen (sink_failures sink.old) (sink_failures sink.new) }
+{
+    let Ok(solo) = new_solo_script(alloc, tenant) else {
+        return Err(RunFault::OutOfMemory);
+    };
+    let mut solo: SoloScript<W> = solo;
+    let ended = run_lines(&mut solo, alloc, TURNS, LONGEST_LINE, source, sink);
+    // As in `run_script`: the process gives back the memory of the world at its end.
+    mem::forget(solo);
+    ended
+}

@@ -1,9 +1,0 @@
--- What a machine's stop makes of a run.
-use Rattle.cops_types.specs.declared.line_runs.machine.Stop.{Stop}
-use Rattle.cops_types.specs.declared.line_runs.machine.Stop.TheVariants as stop
-use Rattle.cops_types.specs.declared.line_runs.fault.RunFault.{RunFault}
-use Rattle.cops_types.specs.declared.line_runs.fault.RunFault.TheVariants as fault
-
-abbrev pub fault_of : {F : Type 0} → Stop F → RunFault F
-fault_of (stop.Refused refusal) = fault.Refused refusal
-fault_of stop.OutOfMemory = fault.OutOfMemory

@@ -1,5 +1,0 @@
-use Rattle.cops_world.proofs.SoloLines.{lines_alone}
-use Rattle.cops_world.proofs.laws.tenants_lines_are_those_alone.Goals as goal
-
-pub returns : goal.returns
-returns c = λ bytes name config lines head there. lines_alone bytes name config lines head there

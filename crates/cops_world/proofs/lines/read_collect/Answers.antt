@@ -1,5 +1,0 @@
-use Rattle.cops_world.proofs.ActReading.{collect_found}
-use Rattle.cops_world.proofs.lines.read_collect.Goals as goal
-
-pub returns : goal.returns
-returns c = collect_found c.args.words.now c.in_ok-dc.dc c.in_ok-dc.shard c.in_ok-dc.moment c.in_ok-dc.ensures.some

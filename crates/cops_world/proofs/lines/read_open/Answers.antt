@@ -1,7 +1,0 @@
-use Rattle.std.proofs.Common.{refl}
-use Rattle.cops_model.specs.declared.acts.Act.TheVariants.{Open}
-use Rattle.cops_world.proofs.ActReading.{named_found}
-use Rattle.cops_world.proofs.lines.read_open.Goals as goal
-
-pub returns : goal.returns
-returns c = named_found Open c.args.words.now c.in_ok-name.name c.in_ok-name.dc refl c.in_ok-name.ensures.some
