@@ -13,7 +13,7 @@ fi
 program=$room/crates/service_program
 mkdir -p "$program/src" "$program/proofs/main" "$program/proofs/one"
 # All that the service stands on.
-crates=$(grep -E '^cops_' "$here/../crates.txt" | sed -E 's/^(cops_[a-z]*).*/\1/' | grep -vE '^cops_(world|cli|replay)$')
+crates='cops_types cops_store cops_outbox cops_node cops_handles cops_context cops_gate cops_session cops_repl cops_wire cops_service'
 : >"$room/crates.txt"
 for crate in $crates; do
     mkdir -p "$room/crates/$crate"
