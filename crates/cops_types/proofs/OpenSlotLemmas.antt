@@ -136,6 +136,21 @@ module _ (text_of : Tenant → List ℕ) where
           sym (none_passes (has_text text_of text) 0 (set slots at None) none)
       by false e = found text ∙ sym (first_stays (has_text text_of text) 0 slots at (Some tenant) None there e refl)
 
+  -- the slot of a tenant with the text is the one that is found
+  pub found_there : (slots : List (Option Tenant)) (at : ℕ) (tenant : Tenant) (text : List ℕ) (n : ℕ) → slice_get slots at ≡ Some (Some tenant) → AreApart text_of slots → bytes_eq (text_of tenant) text ≡ true →
+      first_from (has_text text_of text) n slots ≡ Some (n + at)
+  found_there [] at tenant text n there apart is = absurd cc
+  found_there (None ∷ slots) zero tenant text n there apart is = absurd cc
+  found_there (Some other ∷ slots) zero tenant text n there apart is =
+      let same : other ≡ tenant = cc in
+      ap (λ t. cond t (Some n) (first_from (has_text text_of text) (n + 1) slots)) (ap (λ (o : Tenant). bytes_eq (text_of o) text) same ∙ is) ∙ ap Some (omega arith)
+  found_there (None ∷ slots) (suc at) tenant text n there apart is = found_there slots at tenant text (n + 1) there apart is ∙ ap Some (omega arith)
+  found_there (Some other ∷ slots) (suc at) tenant text n there apart is =
+      let same : text_of tenant ≡ text = bytes_from_test (text_of tenant) text is in
+      let differ = one_fails (has_text text_of (text_of other)) slots at (Some tenant) there apart.0 in
+      let fails : bytes_eq (text_of other) text ≡ false = ap (bytes_eq (text_of other)) (sym same) ∙ swapped (text_of other) (text_of tenant) ∙ differ in
+      ap (λ t. cond t (Some n) (first_from (has_text text_of text) (n + 1) slots)) fails ∙ found_there slots at tenant text (n + 1) there apart.1 is ∙ ap Some (omega arith)
+
 -- ---- names
 
 pub named_put : (slots : List (Option Tenant)) (at : ℕ) (new : Option Tenant) → AllByRecursion IsNamed slots → IsNamed new → AllByRecursion IsNamed (set slots at new)

@@ -13,6 +13,7 @@ mod heads;
 mod keys;
 mod laws;
 mod machines;
+mod name_hints;
 mod names;
 mod near;
 mod near_builder;

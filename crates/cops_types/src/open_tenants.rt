@@ -1,5 +1,5 @@
 //! The tenants that are open now.
-ghost use Rattle.std.specs.Prelude.{◌≡◌, ℕ, ◌≤◌, ◌⊎◌, [], cond, count_by, is_none, is_some, length, take, List, position, replicate, slice_set, IfErr, IfNone, IfOk, IfSome, IsOk, None, OnErr, OnOk, Some, Err};
+ghost use Rattle.std.specs.Prelude.{◌≡◌, ℕ, ◌≤◌, ◌⊎◌, [], cond, count_by, is_none, is_some, length, take, List, position, replicate, slice_set, IfErr, IfNone, IfOk, IfSome, IsOk, IsTrue, None, OnErr, OnOk, Some, Err};
 ghost use Rattle.std.specs.Option.{option_copied};
 ghost use Rattle.cops_types.specs.declared.faults.Fault.TheVariants.{OutOfMemory, UnknownTenant};
 ghost use Rattle.cops_types.specs.HeadLines.{most_tenants};
@@ -10,6 +10,7 @@ ghost use Rattle.cops_types.specs.Slots.{AreDistinct};
 
 use crate::configs::Tenant;
 use crate::faults::Fault;
+use crate::name_hints::NameHints;
 use crate::names::Name;
 use crate::tenants::Tenants;
 use indexmap::IndexMap;
@@ -28,6 +29,8 @@ pub struct OpenTenants {
     names: IndexMap<Name, usize>,
     /// The slot of each token.
     tokens: IndexMap<[u8; 16], usize>,
+    /// Where to look first for a name.
+    hints: NameHints,
 }
 
 impl Model for OpenTenants {
@@ -139,6 +142,15 @@ fn forget(
     let _same = tokens.swap_remove(tenant.token.as_bytes());
 }
 
+/// Hints at the slot of each of these tenants.
+fn hints_of(alloc: Global, tenants: &[Tenant]) -> Result<NameHints, AllocError> {
+    let mut hints = NameHints::new(alloc)?;
+    for slot in 0..tenants.len() {
+        hints.note(tenants[slot].name.bytes(), slot as u64);
+    }
+    Ok(hints)
+}
+
 impl OpenTenants {
     /// No open tenant.
     pub fn new(alloc: Global) -> Result<Self, AllocError>
@@ -148,6 +160,7 @@ impl OpenTenants {
             slots: free_slots(alloc)?,
             names: IndexMap::new(alloc),
             tokens: IndexMap::new(alloc),
+            hints: NameHints::new(alloc)?,
         })
     }
 
@@ -156,6 +169,7 @@ impl OpenTenants {
         ensures { IfOk result (λ begun. begun ≡ begun_with tenants.now) }
     {
         let tenants = tenants.as_slice();
+        let hints = hints_of(alloc, tenants)?;
         let mut names = IndexMap::new(alloc);
         let mut tokens = IndexMap::new(alloc);
         note_all(&mut names, &mut tokens, tenants)?;
@@ -163,6 +177,7 @@ impl OpenTenants {
             slots: slots_of(alloc, tenants)?,
             names,
             tokens,
+            hints,
         })
     }
 
@@ -191,10 +206,24 @@ impl OpenTenants {
         }
     }
 
+    /// Whether a slot has an open tenant with this name. Only one has.
+    fn is_at(&self, place: u64, name: &[u8]) -> bool
+        ensures { IsTrue result → open_slot_of_name self.now name.now ≡ Some place }
+    {
+        match self.slots.get(place as usize) {
+            Some(Some(tenant)) => tenant.name.bytes() == name,
+            _ => false,
+        }
+    }
+
     /// The slot of the open tenant with this name.
     pub fn slot_of_name(&self, name: &[u8]) -> Option<u64>
         ensures { result ≡ open_slot_of_name self.now name.now }
     {
+        let hint = self.hints.slot(name);
+        if self.is_at(hint, name) {
+            return Some(hint);
+        }
         let names = &self.names;
         let Ok(name) = Name::new(name) else {
             return None;
@@ -268,6 +297,7 @@ impl OpenTenants {
         }
         let place = slot as usize;
         note(&mut self.names, &mut self.tokens, &tenant, place)?;
+        self.hints.note(tenant.name.bytes(), slot);
         self.slots[place] = Some(tenant);
         Ok(())
     }
