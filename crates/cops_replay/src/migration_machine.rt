@@ -89,7 +89,7 @@ fn read_old_head(
         Ok(HeadLine::BadLine) => Err(Stop::Refused(MigrationRefusal::BadConfig(BadConfig {
             line: number,
         }))),
-        Err(_) => Err(Stop::OutOfMemory),
+        Err(error) => Err(Stop::from(error)),
     }
 }
 

@@ -40,6 +40,6 @@ pub(crate) fn read_old_head(
         }
         Ok(HeadLine::Begin(config)) => Ok(Some(config)),
         Ok(HeadLine::BadLine) => Err(Stop::Refused(BadConfig { line: number })),
-        Err(_) => Err(Stop::OutOfMemory),
+        Err(error) => Err(Stop::from(error)),
     }
 }

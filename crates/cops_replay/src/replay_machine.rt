@@ -109,7 +109,7 @@ fn begin_replay(
     }
     match Replay::begin(alloc, layout, config, slot) {
         Ok(replay) => Ok(replay),
-        Err(_) => Err(Stop::OutOfMemory),
+        Err(error) => Err(Stop::from(error)),
     }
 }
 
@@ -239,9 +239,7 @@ impl LineMachine for ReplayScript {
             ReplayStage::OldHead(head) => head.lines,
             ReplayStage::Head(head) => head.lines,
             ReplayStage::Running(replay) => {
-                if push_replayed(out, replay.found()).is_err() {
-                    return Err(Stop::OutOfMemory);
-                }
+                push_replayed(out, replay.found())?;
                 return Ok(());
             }
         };
