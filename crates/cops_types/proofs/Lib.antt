@@ -13,6 +13,7 @@ pub mod NumberLemmas
 pub mod Padded
 pub mod PairLists
 pub mod PairPlaces
+pub mod PlacedLemmas
 pub mod Rising
 pub mod BegunSlots
 pub mod OpenSlotLemmas

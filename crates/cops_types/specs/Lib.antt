@@ -25,6 +25,7 @@ pub mod PackedRows
 pub mod Padding
 pub mod PairForms
 pub mod Pairs
+pub mod Placed
 pub mod Records
 pub mod Refusal
 pub mod Same

@@ -22,6 +22,7 @@ mod open_tenants;
 mod packed;
 mod pair_lists;
 mod pairs;
+pub mod placed;
 mod quotas;
 mod records;
 mod seeds;

@@ -1,20 +1,23 @@
 //! Lists of pairs as they are kept: a list whose keys are all short takes less memory.
-ghost use Rattle.std.specs.Prelude.{◌≡◌, ◌<◌, ◌≤◌, [], length, slice_index_or, MatchResult, IfOk, IsTrue, ◌↔◌, nat_le};
+ghost use Rattle.std.specs.Prelude.{◌≡◌, ◌<◌, ◌≤◌, ◌+◌, ◌*◌, ◌++◌, [], length, take, slice_index_or, MatchResult, IfOk, IsTrue, ◌↔◌, nat_le};
 ghost use Rattle.std.specs.List.{HoldsAt, list_all};
 ghost use Rattle.std.specs.List.Sorted.{IsSearchInRange, IsPartitionPoint};
 ghost use Rattle.std.specs.declared.cmp.Ordering.TheVariants.{Less, Equal, Greater};
 ghost use Rattle.cops_types.specs.Key.{key_cmp};
 ghost use Rattle.cops_types.specs.Packed.{SHORT, has_short_key};
 ghost use Rattle.cops_types.specs.PackedRows.{pairs_of};
+ghost use Rattle.cops_types.specs.PairForms.{is_pair};
 ghost use Rattle.cops_types.specs.Pairs.{IsDeps, holds, pair_eq, pairs_eq, version_of, greatest_clock as greatest_clock_of};
 ghost use Rattle.cops_types.specs.Same.{same_pair, same_equivalence};
 ghost use Rattle.cops_types.specs.Version.{last_clock};
+ghost use Rattle.cops_types.specs.Words.{list_text, more_text, pair_text};
 ghost use Rattle.std.specs.Cmp.{partial_equiv_from_equiv};
 
 use crate::fronts::order_of_fronts;
 use crate::keys::Key;
 use crate::pair_lists::place_of;
 use crate::pairs::Pair;
+use crate::placed::{put_byte, put_front, put_pairs, put_version};
 use crate::versions::Version;
 use std::alloc::{AllocError, Global};
 use std::cmp::Ordering;
@@ -75,6 +78,19 @@ impl ShortPair {
         ensures { result ≡ self.now.version }
     {
         self.version
+    }
+
+    /// Puts the key, a colon and the version at a place.
+    #[inline(always)]
+    fn put(&self, bytes: &mut [u8], at: usize) -> usize
+        requires { at + 106 ≤ length bytes.old }
+        ensures text { take result bytes.new ≡ take at bytes.old ++ pair_text self.now }
+        ensures end { result ≤ at + 106 }
+        ensures formed { IsTrue (is_pair self.now) }
+    {
+        let colon = put_front(bytes, at, &self.bytes, usize::from(self.len));
+        let version = put_byte(bytes, colon, b':');
+        put_version(bytes, version, self.version)
     }
 
     /// How the key stands to another.
@@ -162,6 +178,37 @@ fn short_rows(alloc: Global, pairs: &[Pair]) -> Result<Rows, AllocError>
     Ok(Rows::Short(shortened(alloc, pairs)?))
 }
 
+/// Puts each pair after a comma at a place.
+fn put_more_short(bytes: &mut [u8], at: usize, pairs: &[ShortPair]) -> usize
+    requires { at + 107 * length pairs.now ≤ length bytes.old }
+    ensures text { take result bytes.new ≡ take at bytes.old ++ more_text pairs.now }
+    ensures end { result ≤ at + 107 * length pairs.now }
+    ensures formed { IsTrue (list_all is_pair pairs.now) }
+{
+    let mut end = at;
+    for pair in pairs {
+        let after = put_byte(bytes, end, b',');
+        end = pair.put(bytes, after);
+    }
+    end
+}
+
+/// Puts the pairs with commas between, or a hyphen for none, at a place.
+fn put_short(bytes: &mut [u8], at: usize, pairs: &[ShortPair]) -> usize
+    requires { at + 107 * length pairs.now + 1 ≤ length bytes.old }
+    ensures text { take result bytes.new ≡ take at bytes.old ++ list_text pairs.now }
+    ensures end { result ≤ at + 107 * length pairs.now + 1 }
+    ensures formed { IsTrue (list_all is_pair pairs.now) }
+{
+    match pairs {
+        [] => put_byte(bytes, at, b'-'),
+        [first, rest @ ..] => {
+            let end = first.put(bytes, at);
+            put_more_short(bytes, end, rest)
+        }
+    }
+}
+
 /// Where the key is among short pairs, or its place.
 fn place_among_short(pairs: &[ShortPair], key: &Key) -> Result<usize, usize>
     requires { IsDeps pairs.now }
@@ -237,6 +284,20 @@ impl PackedPairs {
             Rows::One(pair) => pair.pair(),
             Rows::Short(pairs) => pairs.as_slice()[place].pair(),
             Rows::Full(pairs) => pairs.as_slice()[place],
+        }
+    }
+
+    /// Puts the pairs with commas between, or a hyphen for none, at a place.
+    pub(crate) fn put(&self, bytes: &mut [u8], at: usize) -> usize
+        requires { at + 107 * length self.now + 1 ≤ length bytes.old }
+        ensures text { take result bytes.new ≡ take at bytes.old ++ list_text self.now }
+        ensures end { result ≤ at + 107 * length self.now + 1 }
+        ensures formed { IsTrue (list_all is_pair self.now) }
+    {
+        match &self.rows {
+            Rows::One(pair) => pair.put(bytes, at),
+            Rows::Short(pairs) => put_short(bytes, at, pairs.as_slice()),
+            Rows::Full(pairs) => put_pairs(bytes, at, pairs.as_slice()),
         }
     }
 

@@ -1,5 +1,6 @@
-ghost use Rattle.std.specs.Prelude.{◌≡◌, ◌↔◌, IfOk, IsTrue};
+ghost use Rattle.std.specs.Prelude.{◌≡◌, ◌≤◌, ◌+◌, ◌++◌, ◌↔◌, length, take, IfOk, IsTrue};
 ghost use Rattle.std.specs.Cmp.{partial_equiv_from_equiv};
+ghost use Rattle.cops_types.specs.Key.{is_key};
 
 use crate::deps::{Deps, OwnedDeps, shared_deps};
 use crate::keys::Key;
@@ -82,6 +83,17 @@ impl Entry {
         ensures { result ≡ self.now.key }
     {
         self.parts.key.key()
+    }
+
+    /// Puts the key at a place of bytes.
+    #[inline(always)]
+    pub fn put_key(&self, bytes: &mut [u8], at: usize) -> usize
+        requires { at + 64 ≤ length bytes.old }
+        ensures text { take result bytes.new ≡ take at bytes.old ++ self.now.key }
+        ensures end { result ≤ at + 64 }
+        ensures formed { IsTrue (is_key self.now.key) }
+    {
+        self.parts.key.put(bytes, at)
     }
 
     /// The version.

@@ -1,7 +1,9 @@
 //! Keys of few bytes, as entries and audits keep them.
-ghost use Rattle.std.specs.Prelude.{◌≡◌, IfSome, IfOk};
+ghost use Rattle.std.specs.Prelude.{◌≡◌, ◌≤◌, ◌+◌, ◌++◌, length, take, IfSome, IfOk, IsTrue};
+ghost use Rattle.cops_types.specs.Key.{is_key};
 
 use crate::keys::Key;
+use crate::placed::{put_front, put_key};
 use std::alloc::{AllocError, Global};
 use std::boxed::Box;
 use std::marker::Model;
@@ -45,6 +47,17 @@ impl ShortKey {
     {
         Key::of_cells(&self.bytes, usize::from(self.len))
     }
+
+    /// Puts the key at a place.
+    #[inline(always)]
+    pub fn put(&self, bytes: &mut [u8], at: usize) -> usize
+        requires { at + 64 ≤ length bytes.old }
+        ensures text { take result bytes.new ≡ take at bytes.old ++ self.now }
+        ensures end { result ≤ at + 64 }
+        ensures formed { IsTrue (is_key self.now) }
+    {
+        put_front(bytes, at, &self.bytes, usize::from(self.len))
+    }
 }
 
 /// A key where it stands, or in a block of its own.
@@ -82,6 +95,20 @@ impl KeptKey {
             None => Ok(KeptKey {
                 form: KeyForm::Long(Box::new(alloc, key)?),
             }),
+        }
+    }
+
+    /// Puts the key at a place.
+    #[inline(always)]
+    pub(crate) fn put(&self, bytes: &mut [u8], at: usize) -> usize
+        requires { at + 64 ≤ length bytes.old }
+        ensures text { take result bytes.new ≡ take at bytes.old ++ self.now }
+        ensures end { result ≤ at + 64 }
+        ensures formed { IsTrue (is_key self.now) }
+    {
+        match &self.form {
+            KeyForm::Short(key) => key.put(bytes, at),
+            KeyForm::Long(key) => put_key(bytes, at, key),
         }
     }
 

@@ -1,0 +1,59 @@
+-- Texts that are put at a place, one after another.
+use Rattle.std.proofs.Common.{◌≡◌, ℕ, ◌+◌, ◌≤◌, ◌<◌, ◌/◌, ◌%◌, ◌^◌, List, ◌++◌, length, take, sym, subst, ap, ◌∙◌, append_assoc, arith, length-take-le}
+use Rattle.std.specs.Prelude.{decimal}
+use Rattle.std.proofs.Math.Seq.{take-append-add}
+use Rattle.std.proofs.lemmas.Fmt.{decimal_digit, decimal_step}
+use Rattle.std.proofs.lemmas.List.{take-append-le}
+use Rattle.cops_types.specs.Placed.{last_four}
+
+-- the first bytes of what is copied over a list stand behind what stood before
+pub front_placed : (at count : ℕ) (bytes cells copied rest : List ℕ) → at ≤ length bytes → count ≤ length cells → copied ≡ cells → take (at + count) (take at bytes ++ (copied ++ rest)) ≡ take at bytes ++ take count cells
+front_placed at count bytes cells copied rest low within is =
+    let size : length (take at bytes) ≡ at = length-take-le at bytes low in
+    let fits : count ≤ length copied = subst (λ (l : List ℕ). count ≤ length l) (sym is) within in
+    ap (λ n. take (n + count) (take at bytes ++ (copied ++ rest))) (sym size)
+    ∙ take-append-add (take at bytes) (copied ++ rest) count
+    ∙ ap (λ l. take at bytes ++ l) (take-append-le count copied rest fits ∙ ap (take count) is)
+
+-- two texts, and three
+pub two_placed : (t0 t1 t2 a b whole : List ℕ) → t1 ≡ t0 ++ a → t2 ≡ t1 ++ b → whole ≡ a ++ b → t2 ≡ t0 ++ whole
+two_placed t0 t1 t2 a b whole e1 e2 is =
+    e2 ∙ ap (λ l. l ++ b) e1 ∙ append_assoc t0 a b ∙ ap (λ l. t0 ++ l) (sym is)
+
+pub three_placed : (t0 t1 t2 t3 a b d whole : List ℕ) → t1 ≡ t0 ++ a → t2 ≡ t1 ++ b → t3 ≡ t2 ++ d → whole ≡ a ++ (b ++ d) → t3 ≡ t0 ++ whole
+three_placed t0 t1 t2 t3 a b d whole e1 e2 e3 is =
+    two_placed t0 t1 t3 a (b ++ d) whole e1 (two_placed t1 t2 t3 b d (b ++ d) e2 e3 (λ i. b ++ d)) is
+
+-- ---- a number's last digits stand behind the others
+
+pub decimal_last : (n : ℕ) → 10 ≤ n → n < 2 ^ 64 → decimal n ≡ decimal (n / 10) ++ decimal (n % 10)
+decimal_last n low high =
+    decimal_step n low high ∙ ap (λ l. decimal (n / 10) ++ l) (sym (decimal_digit (n % 10) (omega arith)))
+
+pub decimal_last_two : (n : ℕ) → 100 ≤ n → n < 2 ^ 64 → decimal n ≡ decimal (n / 100) ++ (decimal (n / 10 % 10) ++ decimal (n % 10))
+decimal_last_two n low high =
+    let tens : n / 10 / 10 ≡ n / 100 = omega arith in
+    let first : decimal (n / 10) ≡ decimal (n / 100) ++ decimal (n / 10 % 10) =
+    decimal_last (n / 10) (omega arith) (omega arith) ∙ ap (λ m. decimal m ++ decimal (n / 10 % 10)) tens in
+    decimal_last n (omega arith) high ∙ ap (λ l. l ++ decimal (n % 10)) first ∙ append_assoc (decimal (n / 100)) (decimal (n / 10 % 10)) (decimal (n % 10))
+
+pub decimal_last_three : (n : ℕ) → 1000 ≤ n → n < 2 ^ 64 → decimal n ≡ decimal (n / 1000) ++ (decimal (n / 100 % 10) ++ (decimal (n / 10 % 10) ++ decimal (n % 10)))
+decimal_last_three n low high =
+    let hundreds : n / 100 / 10 ≡ n / 1000 = omega arith in
+    let first : decimal (n / 100) ≡ decimal (n / 1000) ++ decimal (n / 100 % 10) =
+    decimal_last (n / 100) (omega arith) (omega arith) ∙ ap (λ m. decimal m ++ decimal (n / 100 % 10)) hundreds in
+    let last = decimal (n / 10 % 10) ++ decimal (n % 10) in
+    decimal_last_two n (omega arith) high ∙ ap (λ l. l ++ last) first ∙ append_assoc (decimal (n / 1000)) (decimal (n / 100 % 10)) last
+
+pub decimal_last_four : (n : ℕ) → 10000 ≤ n → n < 2 ^ 64 → decimal n ≡ decimal (n / 10000) ++ last_four n
+decimal_last_four n low high =
+    let thousands : n / 1000 / 10 ≡ n / 10000 = omega arith in
+    let first : decimal (n / 1000) ≡ decimal (n / 10000) ++ decimal (n / 1000 % 10) =
+    decimal_last (n / 1000) (omega arith) (omega arith) ∙ ap (λ m. decimal m ++ decimal (n / 1000 % 10)) thousands in
+    let last = decimal (n / 100 % 10) ++ (decimal (n / 10 % 10) ++ decimal (n % 10)) in
+    decimal_last_three n (omega arith) high ∙ ap (λ l. l ++ last) first ∙ append_assoc (decimal (n / 10000)) (decimal (n / 1000 % 10)) last
+
+pub decimal_of_four : (n : ℕ) → 1000 ≤ n → n < 10000 → decimal n ≡ last_four n
+decimal_of_four n low high =
+    let only : n / 1000 ≡ n / 1000 % 10 = omega arith in
+    decimal_last_three n low (omega arith) ∙ ap (λ m. decimal m ++ (decimal (n / 100 % 10) ++ (decimal (n / 10 % 10) ++ decimal (n % 10)))) only
