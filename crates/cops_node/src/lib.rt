@@ -40,7 +40,7 @@ pub use limits::has_clocks;
 pub use node::Node;
 pub use nodes::Nodes;
 pub use parts::{Counters, Part};
-pub use rows::AuditRow;
+pub use rows::{AuditRow, Exchange, Packing};
 pub use trails::Trail;
 
 /// The sizes of a cluster: how many data centres there are, and how many shards in each.

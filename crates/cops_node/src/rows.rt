@@ -1,5 +1,6 @@
 //! The rows of an audit: calls and replies in little memory.
 ghost use Rattle.std.specs.Prelude.{◌≡◌, IfOk};
+ghost use Rattle.cops_node.specs.Rows.{exchange_of};
 
 use crate::{AuditEntry, NodeCall, NodeReply, Wanted};
 use cops_types::{Entry, Key, ShortKey, Version};
@@ -9,14 +10,14 @@ use std::marker::Model;
 
 /// A call and its reply.
 #[derive(Debug, Drop)]
-pub(crate) struct Exchange {
-    pub(crate) call: NodeCall,
-    pub(crate) reply: NodeReply,
+pub struct Exchange {
+    pub call: NodeCall,
+    pub reply: NodeReply,
 }
 
 /// How a call and its reply are packed. What is rare, or has a long key, stands apart.
 #[derive(Debug, Drop)]
-enum Packing {
+pub enum Packing {
     PutStored(Entry),
     LatestFound(Entry),
     ExactFound(Entry),
@@ -329,6 +330,13 @@ impl AuditRow {
         ensures { result ≡ self.now.moment }
     {
         self.moment
+    }
+
+    /// The call and the reply as they are kept, to be read in place.
+    pub fn packing(&self) -> &Packing
+        ensures { exchange_of result.now ≡ record { call = self.now.call; reply = self.now.reply } }
+    {
+        &self.exchange.packing
     }
 
     /// The moment, the call and the reply as they were. Values, lists and entries share their memory.
