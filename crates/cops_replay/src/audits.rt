@@ -20,30 +20,16 @@ ghost use Rattle.cops_replay.specs.WrittenAudits.{AreFormed};
 
 use crate::heads::{push_begin, push_cluster, push_layout, push_tenant};
 use crate::pages::{drain, drain_full};
-use crate::writing::push_told;
-use cops_node::{AuditEntry, AuditRow, Node, NodeId};
+use crate::row_lines::push_row;
+use cops_node::{AuditRow, Node, NodeId};
 use cops_types::{Config, Fault, Name, Sink, Tenant};
 use std::alloc::{AllocError, Global};
 use std::io::Write;
 
-/// Puts the line of a call in the audit of a node at the end, with its newline.
-fn push_entry(
-    out: &mut Vec<u8>,
-    name: &Name,
-    id: NodeId,
-    entry: &AuditEntry,
-) -> Result<(), AllocError>
-    ensures line { OnOk result (out.new.items ≡ out.old.items ++ ended (record_line name.now (record_of id entry.now))) }
-    ensures formed { OnOk result (IsTrue (has_form entry.now.reply) → IsTrue (is_record (record_of id entry.now))) }
-{
-    push_told(out, name, id, entry.moment, &entry.call, &entry.reply)?;
-    out.push(b'\n')?;
-    Ok(())
-}
-
 /// Puts the line of a call in the audit of a node.
 fn put_row<W: Write>(
     out: &mut Vec<u8>,
+    place: &mut Vec<u8>,
     sink: &mut Sink<W>,
     name: &Name,
     id: NodeId,
@@ -54,8 +40,7 @@ fn put_row<W: Write>(
         (page out.new.items (W.contents (sink_writer sink.new)) (sink_failures sink.new)) }
     ensures formed { OnOk result (IsTrue (has_form row.now.reply) → IsTrue (is_record (record_of id row.now))) }
 {
-    let entry = row.entry(*out.allocator())?;
-    push_entry(out, name, id, &entry)?;
+    push_row(out, place, name, id, row)?;
     drain_full(out, sink)
 }
 
@@ -76,11 +61,12 @@ fn put_node<W: Write>(
     ensures formed { OnOk result (AllByRecursion (λ (told : Record). IsTrue (is_record told)) (map (record_of id) (solo_of slot (place_of (tenant_config config.now tenant.now) id) node.now).trail)) }
 {
     let name = tenant.name;
+    let mut row_place = Vec::new(*out.allocator());
     for place in 0..node.audit_len(slot) {
         let Some(row) = node.audit(slot, place) else {
             unreachable!()
         };
-        if let Err(fault) = put_row(out, sink, &name, id, row) {
+        if let Err(fault) = put_row(out, &mut row_place, sink, &name, id, row) {
             return Err(fault);
         }
     }
@@ -215,8 +201,8 @@ fn put_head<W: Write>(
 /// place: the line of the layout, the head in its one form, and then a line for each call, by tenant,
 /// then by node, then by place in the audit.
 ///
-/// A few kilobytes of it wait at most, beside one line. At an `Err` a front of it is written. The
-/// writer is not flushed.
+/// A few kilobytes of it wait at most, beside one line and the room that a line may take. At an `Err` a
+/// front of it is written. The writer is not flushed.
 pub(crate) fn write_audit_at<W: Write>(
     alloc: Global,
     sink: &mut Sink<W>,
@@ -264,8 +250,8 @@ fn first_slots(alloc: Global, count: usize) -> Result<Vec<u64>, AllocError>
 /// Writes the audit of a configuration's nodes, which come by number: the line of the layout, the
 /// head in its one form, and then a line for each call, by tenant, then by node, then by place in the audit.
 ///
-/// A few kilobytes of it wait at most, beside one line. At an `Err` a front of it is written. The
-/// writer is not flushed.
+/// A few kilobytes of it wait at most, beside one line and the room that a line may take. At an `Err` a
+/// front of it is written. The writer is not flushed.
 pub fn write_audit<W: Write>(
     alloc: Global,
     sink: &mut Sink<W>,

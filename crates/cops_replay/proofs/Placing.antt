@@ -1,0 +1,34 @@
+-- Texts of records that are put at a place.
+use Rattle.std.proofs.Common.{◌≡◌, ℕ, ◌+◌, ◌<◌, ◌/◌, ◌%◌, List, [], ◌∷◌, ◌++◌, length, take, get_or, sym, ap, ◌∙◌, append_assoc}
+use Rattle.std.specs.Prelude.{codes, decimal}
+use Rattle.std.proofs.lemmas.Grind.{flat_map-append}
+use Rattle.std.proofs.lemmas.List.{take_more}
+use Rattle.cops_types.specs.Words.{space, spaced}
+use Rattle.cops_replay.specs.AuditText.{ended}
+use Rattle.cops_replay.specs.declared.Record.{Record}
+use Rattle.cops_replay.specs.RecordText.{byte_text, bytes_text, call_words, digit_text, node_text, record_line, reply_words}
+use Rattle.cops_replay.proofs.RecordTexts.{line_in_parts, put_in_parts}
+
+-- two digits of one more byte
+pub digits_more : (value : List ℕ) (i byte : ℕ) (t0 t1 t2 t3 : List ℕ) → i < length value → byte ≡ get_or value i byte → t1 ≡ t0 ++ bytes_text (take i value) → t2 ≡ t1 ++ digit_text (byte / 16) ∷ [] → t3 ≡ t2 ++ digit_text (byte % 16) ∷ []
+    → t3 ≡ t0 ++ bytes_text (take (i + 1) value)
+digits_more value i byte t0 t1 t2 t3 below is e1 e2 e3 =
+    let before = bytes_text (take i value) in
+    let last : take (i + 1) value ≡ take i value ++ byte ∷ [] = take_more value i byte below ∙ ap (λ b. take i value ++ b ∷ []) (sym is) in
+    let more : bytes_text (take (i + 1) value) ≡ before ++ byte_text byte = ap bytes_text last ∙ flat_map-append byte_text (take i value) (byte ∷ []) in
+    e3 ∙ ap (λ t. t ++ digit_text (byte % 16) ∷ []) (e2 ∙ ap (λ t. t ++ digit_text (byte / 16) ∷ []) e1)
+    ∙ append_assoc (t0 ++ before) (digit_text (byte / 16) ∷ []) (digit_text (byte % 16) ∷ [])
+    ∙ append_assoc t0 before (byte_text byte)
+    ∙ ap (λ t. t0 ++ t) (sym more)
+
+-- an entry, part by part
+pub entry_placed : (out o1 o2 o3 o4 o5 o6 o7 key version value deps near prev : List ℕ) → o1 ≡ out ++ key → o2 ≡ o1 ++ space ∷ [] → o3 ≡ o2 ++ version → o4 ≡ o3 ++ space ∷ [] → o5 ≡ o4 ++ (value ++ (space ∷ (deps ++ (space ∷ near)))) → o6 ≡ o5 ++ space ∷ [] → o7 ≡ o6 ++ prev
+    → o7 ≡ out ++ (key ++ (space ∷ (version ++ (space ∷ (value ++ (space ∷ (deps ++ (space ∷ (near ++ (space ∷ prev))))))))))
+entry_placed out o1 o2 o3 o4 o5 o6 o7 key version value deps near prev e1 e2 e3 e4 e5 e6 e7 =
+    rw e7 (rw e6 (rw e5 (rw e4 (rw e3 (rw e2 (rw e1 (simp append_assoc)))))))
+
+-- the line, part by part
+pub line_placed : (tenant : List ℕ) (told : Record) (o1 o2 o3 o4 o5 o6 o7 o8 o9 o10 : List ℕ) → o1 ≡ tenant → o2 ≡ o1 ++ space ∷ [] → o3 ≡ o2 ++ node_text told.node → o4 ≡ o3 ++ space ∷ [] → o5 ≡ o4 ++ decimal told.moment → o6 ≡ o5 ++ space ∷ [] → o7 ≡ o6 ++ spaced (call_words told.call) → o8 ≡ o7 ++ codes " = " → o9 ≡ o8 ++ spaced (reply_words told.reply) → o10 ≡ o9 ++ 10 ∷ []
+    → o10 ≡ ended (record_line tenant told)
+line_placed tenant told o1 o2 o3 o4 o5 o6 o7 o8 o9 o10 e1 e2 e3 e4 e5 e6 e7 e8 e9 e10 =
+    e10 ∙ ap (λ l. l ++ 10 ∷ []) (put_in_parts [] o1 o2 o3 o4 o5 o6 o7 o8 o9 tenant (node_text told.node) (decimal told.moment) (spaced (call_words told.call)) (spaced (reply_words told.reply)) e1 e2 e3 e4 e5 e6 e7 e8 e9 ∙ sym (line_in_parts tenant told))
