@@ -13,7 +13,7 @@ fi
 program=$room/crates/service_program
 mkdir -p "$program/src" "$program/proofs/main" "$program/proofs/one"
 # All that the service stands on.
-crates='cops_types cops_store cops_outbox cops_node cops_handles cops_context cops_gate cops_session cops_repl cops_wire cops_service'
+crates='cops_types cops_model cops_store cops_outbox cops_node cops_handles cops_context cops_gate cops_session cops_repl cops_wire cops_service'
 : >"$room/crates.txt"
 for crate in $crates; do
     mkdir -p "$room/crates/$crate"
