@@ -47,20 +47,9 @@ module _ {A : Type 0} where
 
 -- the slot that was taken last
 module _ {A : Type 0} where
-  abbrev slot_or : A → List (ℕ × A) → A
-  slot_or a [] = a
-  slot_or a (x ∷ xs) = x.1
-
-  pub same_slot : (a b : A) (xs ys : List (ℕ × A)) → ◌≡◌ {A = List (ℕ × A)} ((0, a) ∷ xs) ((0, b) ∷ ys) → a ≡ b
-  same_slot a b xs ys e = ap (slot_or a) e
-
   -- the one slot that is out can be exchanged
   pub slot_out : (xs : List (ℕ × A)) (a : A) → ◌≡◌ {A = List (ℕ × A)} xs ((0, a) ∷ []) → (b : A) × ◌≡◌ {A = List (ℕ × A)} xs ((0, b) ∷ rest xs)
   slot_out xs a e = let P : List (ℕ × A) → Type 0 = λ l. ◌≡◌ {A = List (ℕ × A)} xs ((0, a) ∷ l) in (a, subst P (ap rest (sym e)) e)
-
-  pub exchanged_slot : {B : Type 0} (xs : List (ℕ × A)) (a b : A) (v : B) (m : B × List (ℕ × A)) → ◌≡◌ {A = List (ℕ × A)} xs ((0, a) ∷ []) → ◌≡◌ {A = B × List (ℕ × A)} m (v, (0, b) ∷ rest xs)
-      → ◌≡◌ {A = B × List (ℕ × A)} m (v, (0, b) ∷ [])
-  exchanged_slot {B} xs a b v m e is = let P : List (ℕ × A) → Type 0 = λ l. ◌≡◌ {A = B × List (ℕ × A)} m (v, (0, b) ∷ l) in subst P (ap rest e) is
 
 true_not_false : true ≡ false → ⊥
 true_not_false e = cc
@@ -105,11 +94,6 @@ module _ {C R : Type 0} where
   has_below ticket serving t log seen Idle q h = absurd h
   has_below ticket serving t log seen (Waits u) q h = let b = q.1 in omega arith
   has_below ticket serving t log seen (Holds u) q h = let b = q.1 in omega arith
-
-module _ {M C R : Type 0} where
-  pub published_after : (me me' : Sat M C R) (v : View M C R) (h : Option M) (e : Option (Entry C R)) → ◌≡◌ {A = Sat M C R} me (v, (0, h) ∷ []) → ((g : Option M) → me.1 ≡ (0, g) ∷ [] → (me'.1 ≡ []) × (me'.0 ≡ published_view e me.0))
-      → ◌≡◌ {A = Sat M C R} me' (published_view e v, [])
-  published_after me me' v h e is told = let x = told h (ap (λ (x : Sat M C R). x.1) is) in λ k. ((x.1 ∙ ap (λ (y : Sat M C R). published_view e y.0) is) k, x.0 k)
 
 module _ {M C R P : Type 0} (turns : M → ℕ → ℕ → C → R → M → Type 0) (place : M → P) (from : Beginning M) where
   abbrev first : M
@@ -473,13 +457,6 @@ module _ {M C R P : Type 0} (turns : M → ℕ → ℕ → C → R → M → Typ
           (sym (subst (λ (y : Option (Beginning M)). IfSome y (λ m. m ≡ from)) known (r.each_seat id me.0 at).same)) (room s r id t me.0 (turn me.0.number e) at holds)),
     ),
   )
-
-  pub publishes_after : (slots id : ℕ) (me : Sat M C R) (v : V) (t n : ℕ) (h : H) (e : Option (Entry C R)) (m : M) → ◌≡◌ {A = Sat M C R} me (v, (0, h) ∷ []) → v.stage ≡ Holds t → v.numbered ≡ true → n ≡ t + 1 → h ≡ Some m
-      → Leads turns first (v.seen ++ turn v.number e ∷ []) m → place m ≡ place first
-      → Allows Rule slots id me 1 (λ _. n) (λ _. published e (step slots 1 n 0 none) me n)
-  publishes_after slots id me v t n h e m is holds numbered next machine leads same_place =
-      let P : Sat M C R → Type 0 = λ x. Allows Rule slots id x 1 (λ _. n) (λ _. published e (step slots 1 n 0 none) x n) in
-      subst P (sym is) (publishes slots id (v, (0, h) ∷ []) t n h e m holds numbered next refl machine leads same_place)
 
   only_one : (w v : V) (i : ℕ) → get_elem? (w ∷ []) i ≡ some v → (i ≡ 0) × (w ≡ v)
   only_one w v zero e = (refl, some-injective w v e)

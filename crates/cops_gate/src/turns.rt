@@ -79,50 +79,45 @@ fn wait<M: Machine, R: Wait>(
     unreachable!()
 }
 
-// Waits until the ticket is served, and takes the machine out of its slot.
-pub(crate) fn take<M: Machine, R: Wait>(
-    rt: &R,
+// Makes a turn of the machine, where it stands in the slot that the seat holds.
+fn turn_in_slot<M: Machine>(
     board: &Board<M>,
-    sleepers: &Sleepers,
     place: &mut BoardSeat<M>,
-    ticket: u64,
-) -> M
+    request: Request<M::Call>,
+) -> Result<M::Reply, Fault>
     requires board { IsSeatOf board.now.shared.table_id place.old }
-    requires waits { (place.old.me.0.stage ≡ Waits ticket) × (place.old.me.0.numbered ≡ true) × (place.old.me.1 ≡ []) }
-    requires opened { place.old.me.0.opening ≡ Some board.now.shared.key.value }
-    ensures same { (place.new.table_id ≡ place.old.table_id) × (place.new.id ≡ place.old.id) }
-    ensures slot { place.new.me.1 ≡ (0, None) ∷ [] }
-    ensures serves { Serves M.turns M.place board.now.shared.key.value.state place.old.me.0 ticket place.new.me.0 result }
+    requires holds { (machine : M) × (place.old.me.1 ≡ (0, Some machine) ∷ []) × M.fits (M.place machine) request.slot request.call }
+    ensures same { (place.new.table_id ≡ place.old.table_id) × (place.new.id ≡ place.old.id) × (place.new.me.0 ≡ place.old.me.0) }
+    ensures turned { (before : M) → place.old.me.1 ≡ (0, Some before) ∷ [] → (after : M) × (place.new.me.1 ≡ (0, Some after) ∷ []) × (M.place after ≡ M.place before)
+        × IfOk result (λ reply. M.turns before request.slot request.moment request.call reply after)
+        × IfErr result (λ fault. (fault ≡ OutOfMemory) × (after ≡ before)) × OnErr result (M.may_lack before request.slot request.call) }
 {
-    wait(rt, board, sleepers, place, ticket);
-    let Some(machine) = board.shared.exchange(place, 0, None) else {
-        unreachable!()
-    };
-    machine
+    let Request { slot, moment, call } = request;
+    match place.slot_mut(&board.shared, 0) {
+        Some(machine) => machine.turn(slot, moment, call),
+        None => unreachable!(),
+    }
 }
 
-// Puts the machine back, and serves the next ticket.
+// Gives the slot back with the machine in it, and serves the next ticket.
 fn publish<M: Machine, T: Said<M::Call, M::Reply>>(
     board: &Board<M>,
     place: &mut BoardSeat<M>,
     ticket: u64,
-    machine: M,
     note: Option<Note<M::Call, M::Reply>>,
 )
     requires board { IsSeatOf board.now.shared.table_id place.old }
     requires ticket { ticket < 2 ^ 62 }
     requires note { T.entry ≡ entry_of note }
     requires opened { place.old.me.0.opening ≡ Some board.now.shared.key.value }
-    requires slot { (place.old.me.0.stage ≡ Holds ticket) × (place.old.me.0.numbered ≡ true) × (place.old.me.1 ≡ (0, None) ∷ []) }
-    requires turn { Leads M.turns board.now.shared.key.value.state (place.old.me.0.seen ++ turn place.old.me.0.number T.entry ∷ []) machine }
-    requires place { M.place machine ≡ M.place board.now.shared.key.value.state }
+    requires stage { (place.old.me.0.stage ≡ Holds ticket) × (place.old.me.0.numbered ≡ true) }
+    requires turn { (machine : M) × (place.old.me.1 ≡ (0, Some machine) ∷ []) × Leads M.turns board.now.shared.key.value.state (place.old.me.0.seen ++ turn place.old.me.0.number T.entry ∷ []) machine
+        × (M.place machine ≡ M.place board.now.shared.key.value.state) }
     ensures same { (place.new.table_id ≡ place.old.table_id) × (place.new.id ≡ place.old.id) }
     ensures me { place.new.me ≡ (published_view T.entry place.old.me.0, []) }
     ensures room { board.now.shared.key.value.ticket + length place.new.me.0.seen ≤ 2 ^ 62 }
 {
     drop(note);
-    let left = board.shared.exchange(place, 0, Some(machine));
-    let None = left else { unreachable!() };
     board.shared.store::<Publish<T>>(place, SERVING, ticket + 1);
 }
 
@@ -146,10 +141,10 @@ pub(crate) fn serve<M: Machine, R: Wait>(
     ensures refused { IfErr result (λ f. (f ≡ OutOfMemory) × Grows M.turns board.now.shared.key.value.state place.old.me.0.number place.old.me.0.seen None place.new.me.0.seen) }
     ensures lacks { OnErr result (LeavesLacking M.turns M.may_lack board.now.shared.key.value.state place.old.me.0.number request.slot request.call place.new.me.0.seen) }
 {
-    let mut machine = take(rt, board, sleepers, place, ticket);
+    wait(rt, board, sleepers, place, ticket);
     let Request { slot, moment, call } = request;
     let asked = Snapshot::of(&call);
-    match machine.turn(slot, moment, call) {
+    match turn_in_slot(board, place, Request { slot, moment, call }) {
         Ok(reply) => {
             let note = Note {
                 slot,
@@ -157,11 +152,11 @@ pub(crate) fn serve<M: Machine, R: Wait>(
                 call: asked,
                 reply: Snapshot::of(&reply),
             };
-            publish::<M, Brand>(board, place, ticket, machine, Some(note));
+            publish::<M, Brand>(board, place, ticket, Some(note));
             Ok(reply)
         }
         Err(fault) => {
-            publish::<M, Brand>(board, place, ticket, machine, None);
+            publish::<M, Brand>(board, place, ticket, None);
             Err(fault)
         }
     }
