@@ -1,5 +1,5 @@
 //! A node for many tenants: one store and one outbox for all, and a trail of the calls of each.
-ghost use Rattle.std.specs.Prelude.{◌≡◌, ◌≢◌, ℕ, ◌<◌, ◌≤◌, length, map, slice_get, slice_index_or, false, [], List, None, Some, Ok, Err, IsTrue, IsSome, IsOk, IfOk, OnOk, OnErr};
+ghost use Rattle.std.specs.Prelude.{◌≡◌, ◌≢◌, ℕ, ◌<◌, ◌≤◌, ◌+◌, max, length, map, slice_get, slice_index_or, false, [], List, None, Some, Ok, Err, IsTrue, IsSome, IsOk, IfOk, OnOk, OnErr};
 ghost use Rattle.std.specs.List.{AllByRecursion};
 ghost use Rattle.std.specs.Option.{option_copied};
 ghost use Rattle.cops_types.specs.HeadLines.{are_sizes};
@@ -173,8 +173,10 @@ impl Node {
     pub fn admit(&mut self, slot: u64, first_clock: u64, quota: Quota) -> Result<(), Fault>
         requires { first_clock ≤ last_clock }
         ensures answer { IsAnswer (admit_refusal slot self.old) result }
+        ensures taken { IsTrue (is_taken slot self.old) → result ≡ Err Fault.NoSlot }
         ensures place { OnOk result (place_at slot self.new ≡ Some (place_for self.old.home first_clock quota)) }
         ensures empty { OnOk result (trail_of slot self.new.audit ≡ []) }
+        ensures slots { OnOk result (length self.new.terms ≡ max (length self.old.terms) (slot + 1)) }
         ensures others { (other : ℕ) → other ≢ slot → IsSlotKept other self.old self.new }
         ensures home { self.new.home ≡ self.old.home }
         ensures err { OnErr result (self.new ≡ self.old) }
@@ -201,6 +203,7 @@ impl Node {
         ensures open { IsSome (place_at slot self.old) → IsOk result }
         ensures place { place_at slot self.new ≡ None }
         ensures empty { trail_of slot self.new.audit ≡ [] }
+        ensures slots { length self.new.terms ≡ length self.old.terms }
         ensures others { (other : ℕ) → other ≢ slot → IsSlotKept other self.old self.new }
         ensures home { self.new.home ≡ self.old.home }
         ensures err { OnErr result (self.new ≡ self.old) }

@@ -82,9 +82,10 @@ impl Trail {
     pub fn push(&mut self, row: AuditRow)
         requires room { 0 < self.old.spare }
         requires countable { length self.old.calls + 1 < 2 ^ 64 }
-        ensures { self.new.calls ≡ self.old.calls ++ row ∷ [] }
+        ensures calls { self.new.calls ≡ self.old.calls ++ row ∷ [] }
+        ensures spare { self.new.spare + 1 ≡ self.old.spare }
     {
-        self.last.push(row).unwrap();
+        self.last.push_reserved(row);
         self.count += 1;
     }
 

@@ -66,7 +66,7 @@ row_is : (c : goal.After-push) → c.new-row.result ≡ record { moment = c.args
 row_is c = c.new-row.ensures ∙ ap (λ (e : Exchange). record { moment = c.args.moment; call = e.call; reply = e.reply }) c.in-Ok.ensures.kept
 
 pushed : (c : goal.After-push) → c.push.new.self.calls ≡ c.args.part.now.trail.calls ++ record { moment = c.args.moment; call = c.args.call; reply = c.in-Ok.answered.told } ∷ []
-pushed c = c.push.ensures ∙ (λ i. c.reserve.ensures.calls i ++ row_is c i ∷ [])
+pushed c = c.push.ensures.calls ∙ (λ i. c.reserve.ensures.calls i ++ row_is c i ∷ [])
 
 pub returns-clause-turn : goal.returns-clause-turn
 returns-clause-turn c =
