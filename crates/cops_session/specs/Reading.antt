@@ -1,11 +1,14 @@
 -- A get transaction that runs stands for the log of its steps.
-use Rattle.std.specs.Prelude.{◌≡◌, ℕ, Bool, false, ◌-◌, nat_lt, List, [], ◌∷◌, length, Option, Some, None}
+use Rattle.std.specs.Prelude.{◌≡◌, ℕ, Bool, false, ◌+◌, ◌-◌, ◌<◌, nat_lt, List, length, Option, Some, None}
 use Rattle.cops_types.specs.TenantConfig.{TenantConfig}
 use Rattle.cops_model.specs.declared.calls.NodeReply.{NodeReply}
 use Rattle.cops_model.specs.Log.{LogStep, first_fault, replies_of, first_moment}
+use Rattle.cops_session.specs.declared.ongoing.Ongoing.{Ongoing}
 use Rattle.cops_session.specs.declared.ongoing.Reading.{Reading}
 use Rattle.cops_session.specs.declared.ongoing.Round.{Round}
 use Rattle.cops_session.specs.declared.ongoing.Round.TheVariants.{First, Second}
+use Rattle.cops_session.specs.declared.ongoing.Work.{Work}
+use Rattle.cops_session.specs.declared.ongoing.Work.TheVariants.{Put, Get}
 use Rattle.cops_model.specs.Request.{Attempt, Fetch, Request, attempt_of, request_calls}
 use Rattle.cops_session.specs.Stands.{AreDistinctKeys, IsFirstOf, IsSecondOf}
 
@@ -30,3 +33,22 @@ pub record IsOfAttempt (config : TenantConfig) (request : Request) (keys : List 
 
 abbrev pub IsReading : TenantConfig → Request → List (List ℕ) → List LogStep → Reading → Type 0
 IsReading config request keys log reading = IsOfAttempt config request keys (attempt_of (Fetch keys) log) reading
+
+-- the next read is one of the first round, and another is wanted after it
+abbrev pub IsBeforeLast : Round → Type 0
+IsBeforeLast (First round) = length round.reads + 1 < length round.keys
+IsBeforeLast (Second round) = ⊥
+
+-- the step at the moment is such a read, in time
+pub record GetReadsOn (trans_time moment : ℕ) (reading : Reading) : Type 0 where
+  pub before_last : IsBeforeLast reading.round
+  pub in_time : is_past trans_time reading.start moment ≡ false
+
+abbrev pub WorkReadsOn : ℕ → ℕ → Work → Type 0
+WorkReadsOn trans_time moment (Put writing) = ⊥
+WorkReadsOn trans_time moment (Get reading) = GetReadsOn trans_time moment reading
+
+-- the running request is a transaction whose step at the moment is such a read
+abbrev pub ReadsOn : ℕ → ℕ → Option Ongoing → Type 0
+ReadsOn trans_time moment None = ⊥
+ReadsOn trans_time moment (Some ongoing) = WorkReadsOn trans_time moment ongoing.work

@@ -1,4 +1,4 @@
-ghost use Rattle.std.specs.Prelude.{◌≡◌, ◌⊎◌, ◌+◌, ◌<◌, ℕ, false, List, [], Some, None, nat_lt, unwrap_or, if◌then◌else◌};
+ghost use Rattle.std.specs.Prelude.{◌≡◌, ◌⊎◌, ◌+◌, ◌<◌, ℕ, false, List, [], Some, None, IsTrue, MatchResult, nat_lt, unwrap_or, if◌then◌else◌};
 ghost use Rattle.cops_types.specs.Context.{Observation};
 ghost use Rattle.cops_types.specs.TenantConfig.{TenantConfig};
 ghost use Rattle.cops_types.specs.declared.faults.Fault.TheVariants.{Overrun};
@@ -7,15 +7,15 @@ ghost use Rattle.cops_model.specs.declared.calls.NodeId.{NodeId};
 ghost use Rattle.cops_model.specs.declared.calls.NodeReply.{NodeReply};
 ghost use Rattle.cops_model.specs.Log.{LogStep};
 ghost use Rattle.cops_session.specs.Kept.{IsAmong};
-ghost use Rattle.cops_session.specs.Reading.{IsReading, RoundStandsFor, is_past};
+ghost use Rattle.cops_session.specs.Reading.{GetReadsOn, IsReading, RoundStandsFor, is_past};
 ghost use Rattle.cops_session.specs.Stands.{IsFirstOf};
 ghost use Rattle.cops_model.specs.Request.{Fetch, next};
 ghost use Rattle.cops_session.specs.SessionStands.{IsSettingOf};
 ghost use Rattle.cops_session.specs.Turns.{TurnsNext};
 ghost use Rattle.cops_session.specs.declared.ongoing.Round.TheVariants.{First, Second};
-ghost use Rattle.cops_session.specs.declared.reading.Came.TheVariants.{Restarted, Failed};
+ghost use Rattle.cops_session.specs.declared.reading.Came.TheVariants.{Working, Restarted, Failed};
 
-use crate::asking::{FirstAnswer, SecondAnswer, ask_first, ask_second};
+use crate::asking::{FirstAnswer, SecondAnswer, ask_first, ask_next, ask_second};
 use crate::ongoing::{Reading, Round};
 use crate::rounds::{AfterFirst, AfterSecond, FirstRound, SecondRound};
 use crate::settings::Setting;
@@ -156,6 +156,51 @@ fn read_second<N: Nodes>(
             moment,
             came: Came::Failed(fault),
         },
+    }
+}
+
+impl Reading {
+    /// Whether the step at this moment is a read of the first round, in time, after which another
+    /// is wanted.
+    pub(crate) fn reads_on(&self, moment: u64, trans_time: u64) -> bool
+        ensures { IsTrue result → GetReadsOn trans_time moment self.now }
+    {
+        match &self.round {
+            Round::First(round) => round.has_more() && !is_late(self.start, moment, trans_time),
+            Round::Second(_) => false,
+        }
+    }
+}
+
+/// Takes such a step: what is read joins the round where it stands.
+pub(crate) fn read_next<N: Nodes>(
+    alloc: Global,
+    nodes: &mut N,
+    setting: Setting,
+    reading: &mut Reading,
+    moment: u64,
+) -> Result<(), Fault>
+    requires among { IsAmong (N.shape nodes.old) setting }
+    requires reads_on { GetReadsOn setting.trans_time moment reading.old }
+    ensures turned { (config : TenantConfig) (obs : List Observation) (keys : List (List ℕ)) (log : List LogStep) → IsSettingOf config setting →
+        IsReading config (record { dc = setting.dc; obs = obs; action = Fetch keys }) keys log reading.old → MatchResult result
+        (λ _. TurnsNext (λ id call reply. N.Answers nodes.old id setting.slot moment call reply nodes.new) (nodes.new ≡ nodes.old)
+        config (record { dc = setting.dc; obs = obs; action = Fetch keys }) keys log moment (record { moment = moment; came = Working reading.new }) (next config (record { dc = setting.dc; obs = obs; action = Fetch keys }) log moment))
+        (λ fault. TurnsNext (λ id call reply. N.Answers nodes.old id setting.slot moment call reply nodes.new) (nodes.new ≡ nodes.old)
+        config (record { dc = setting.dc; obs = obs; action = Fetch keys }) keys log moment (record { moment = moment; came = Failed fault }) (next config (record { dc = setting.dc; obs = obs; action = Fetch keys }) log moment)) }
+    ensures once { (id : NodeId) × (call : NodeCall) × (reply : NodeReply) × N.Answers nodes.old id setting.slot moment call reply nodes.new }
+    ensures shape { N.shape nodes.new ≡ N.shape nodes.old }
+{
+    let started = Some(reading.start.unwrap_or(moment));
+    match &mut reading.round {
+        Round::First(round) => match ask_next(alloc, nodes, round, setting, moment) {
+            Ok(()) => {
+                reading.start = started;
+                Ok(())
+            }
+            Err(fault) => Err(fault),
+        },
+        Round::Second(_) => unreachable!(),
     }
 }
 

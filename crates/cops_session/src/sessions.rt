@@ -1,4 +1,4 @@
-ghost use Rattle.std.specs.Prelude.{◌≡◌, ◌⊎◌, ◌<◌, ◌+◌, ◌-◌, ◌^◌, ℕ, List, [], false, length, Some, None, IfOk, OnOk, OnErr, MatchResult, slice_get};
+ghost use Rattle.std.specs.Prelude.{◌≡◌, ◌⊎◌, ◌<◌, ◌+◌, ◌-◌, ◌^◌, ℕ, List, [], false, length, max, Some, None, IfOk, IsTrue, OnOk, OnErr, MatchResult, slice_get};
 ghost use Rattle.std.specs.Option.{option_map};
 ghost use Rattle.cops_types.specs.Refusal.{IsAnswer};
 ghost use Rattle.cops_types.specs.TenantConfig.{TenantConfig, tenant_config};
@@ -13,7 +13,7 @@ ghost use Rattle.cops_session.specs.declared.ongoing.Work.TheVariants as work;
 use crate::contexts::{prepare_put, see_put, see_reads};
 use crate::kinds::{Contexts, Running};
 use crate::ongoing::{Ongoing, PendingPut, Reading, Round, Work};
-use crate::reading::{Came, ReadStep, read_step};
+use crate::reading::{Came, ReadStep, read_next, read_step};
 use crate::repeats::has_repeats;
 use crate::rounds::FirstRound;
 use crate::settings::Setting;
@@ -53,6 +53,7 @@ impl Session {
     ghost use Rattle.cops_model.specs.Request.{Write, Fetch, next, values_or_full};
     ghost use Rattle.cops_model.specs.Session.{OpenContext, Running as SoloRunning, Session as SoloSession, context_created, context_deleted, context_extended, context_refusal, create_refusal, get_refusal, moment_at, new_session, obs_of, request_begun, request_of, seen_in, session_put_refusal, is_spent};
     ghost use Rattle.cops_session.specs.SessionStands.{SessionStandsFor, ContextsStandFor, obs_in};
+    ghost use Rattle.cops_session.specs.Reading.{ReadsOn};
     ghost use Rattle.cops_session.specs.Stepping.{DoesNext, runs};
 
     /// A session of a tenant of the configuration in a data centre, with no contexts. Its first
@@ -308,6 +309,9 @@ impl Session {
         if !self.runs(handle) {
             return Err(Fault::Idle);
         }
+        if self.reads_on(moment) {
+            return Ok(self.read_on(nodes, moment));
+        }
         match self.running.take() {
             Some(ongoing) => {
                 let Ongoing {
@@ -332,6 +336,61 @@ impl Session {
             Some(ongoing) => ongoing.number == handle.number(),
             None => false,
         }
+    }
+
+    /// Whether the step at this moment is a read of a first round, in time, after which another is
+    /// wanted.
+    fn reads_on(&self, moment: u64) -> bool
+        ensures { IsTrue result → ReadsOn self.now.setting.trans_time (max self.now.moment moment) self.now.running }
+    {
+        match &self.running {
+            Some(ongoing) => match &ongoing.work {
+                Work::Get(reading) => {
+                    reading.reads_on(self.moment.max(moment), self.setting.trans_time)
+                }
+                Work::Put(_) => false,
+            },
+            None => false,
+        }
+    }
+
+    /// Takes such a step. The transaction changes where it stands: it is large, and most steps of
+    /// transactions are these.
+    fn read_on<N: Nodes>(&mut self, nodes: &mut N, moment: u64) -> Progress
+        requires data_centres { self.old.setting.data_centres ≡ (N.shape nodes.old).data_centres }
+        requires shards { self.old.setting.shards ≡ (N.shape nodes.old).shards }
+        requires reads_on { ReadsOn self.old.setting.trans_time (max self.old.moment moment) self.old.running }
+        ensures stepped { (config : TenantConfig) (session : SoloSession) (running : SoloRunning) → SessionStandsFor config self.old session → session.running ≡ Some running →
+            DoesNext (λ id call reply. N.Answers nodes.old id self.old.setting.slot (moment_at moment session) call reply nodes.new) (nodes.new ≡ nodes.old)
+            config session running (moment_at moment session) result self.new (next config (request_of session running) running.log (moment_at moment session)) }
+        ensures once { (id : NodeId) × (at : ℕ) × (call : NodeCall) × (reply : NodeReply) × N.Answers nodes.old id self.old.setting.slot at call reply nodes.new }
+        ensures shape { N.shape nodes.new ≡ N.shape nodes.old }
+        ensures setting { self.new.setting ≡ self.old.setting }
+    {
+        let now = self.moment.max(moment);
+        self.moment = now;
+        match &mut self.running {
+            Some(ongoing) => match &mut ongoing.work {
+                Work::Get(reading) => {
+                    match read_next(self.alloc, nodes, self.setting, reading, now) {
+                        Ok(()) => Progress::Working,
+                        Err(fault) => {
+                            self.end();
+                            Progress::Done(Answer::Refused(fault))
+                        }
+                    }
+                }
+                Work::Put(_) => unreachable!(),
+            },
+            None => unreachable!(),
+        }
+    }
+
+    /// Ends the running request.
+    fn end(&mut self)
+        ensures { self.new ≡ record self.old { running = None } }
+    {
+        self.running = None;
     }
 
     /// The one step of a put, with which it ends.
@@ -366,6 +425,7 @@ impl Session {
     }
 
     /// A step of a get transaction.
+    #[inline(never)]
     fn get<N: Nodes>(
         &mut self,
         nodes: &mut N,
