@@ -49,7 +49,6 @@ use Rattle.cops_causal.proofs.NodeAnswers.{IsReady}
 use Rattle.cops_node.proofs.NodeTurns.{entries, Change, IsRefused, Answers, Joined, Taken, IsReply}
 use Rattle.cops_causal.proofs.NodeEffects.{node_of, Called, call_changes}
 use Rattle.cops_types.proofs.PairSets.{at}
-use Rattle.cops_causal.proofs.Past.{not_ended}
 use Rattle.cops_causal.proofs.Provenance.{IsNew, IsFound, IsRunning, past_in-other}
 use Rattle.cops_causal.proofs.ReadPasts.{read_pair, valued_put, answer_consistent}
 use Rattle.cops_causal.proofs.Readiness.{session_ready, read_put}
@@ -60,8 +59,9 @@ use Rattle.cops_session.proofs.ReplyRounds.{Every-final_reads}
 use Rattle.cops_causal.proofs.Sound.{IsSound}
 use Rattle.cops_causal.proofs.TracedCalls.{exact-is, get_found, home-there}
 use Rattle.cops_causal.proofs.TracedIdle.{session_of}
-use Rattle.cops_causal.proofs.TracedSteps.{ended_as, context_of}
+use Rattle.cops_causal.proofs.TracedSteps.{context_of}
 use Rattle.cops_session.proofs.WantedVersions.{IsAskedFor, IsFirst, IsSecond, asked_for}
+use Rattle.cops_causal.proofs.RequestSteps.{not_ended, ended_as}
 
 -- ---- the words
 

@@ -42,10 +42,11 @@ use Rattle.cops_causal.proofs.Closure.{home_in, IsHere}
 use Rattle.cops_causal.proofs.Moves.{Leads, Both}
 use Rattle.cops_causal.proofs.NodeEffects.{node_of, call_changes}
 use Rattle.cops_causal.proofs.NodeMoments.{IsOnward, onward-same, turn_onward, AreLongThere, turn_long_there, turn_moment, call_leaves, turned_at}
-use Rattle.cops_causal.proofs.Past.{not_ended, new_nodes}
+use Rattle.cops_causal.proofs.Past.{new_nodes}
 use Rattle.cops_causal.proofs.Sound.{IsSound}
 use Rattle.cops_causal.proofs.TracedCalls.{home-there}
 use Rattle.cops_causal.proofs.TracedIdle.{session_of}
+use Rattle.cops_causal.proofs.RequestSteps.{not_ended}
 
 -- ---- the words
 

@@ -45,7 +45,7 @@ use Rattle.cops_session.proofs.RequestReplies.{replies_in, get-answer, put-store
 use Rattle.cops_types.proofs.Zipped.{Zipped}
 use Rattle.cops_session.proofs.ReplyRounds.{Every-final_reads}
 use Rattle.cops_causal.proofs.TracedCalls.{clock-above, next-above}
-use Rattle.cops_causal.proofs.TracedSteps.{ended_as}
+use Rattle.cops_causal.proofs.RequestSteps.{ended_as}
 
 -- what was read is in the data centre
 abbrev IsValueHere : TenantConfig → SoloCluster → ℕ → Pair → Option (List ℕ) → Type 0

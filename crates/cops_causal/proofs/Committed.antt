@@ -44,13 +44,14 @@ use Rattle.cops_repl.proofs.CarrierStages.{Stage, Pulling, Delivering, InDeliver
 use Rattle.cops_causal.proofs.ClosureSessions.{get_stepped_here, put_stepped_here}
 use Rattle.cops_causal.proofs.Offers.{IsOffered}
 use Rattle.cops_node.proofs.Chains.{of_origin}
-use Rattle.cops_causal.proofs.Past.{traced_kept, traced_at_first, new_nodes, not_ended}
+use Rattle.cops_causal.proofs.Past.{traced_kept, traced_at_first, new_nodes}
 use Rattle.cops_session.proofs.RequestReplies.{put-next, get-next, get-stepped, get-late, get-begun}
 use Rattle.cops_causal.proofs.StreamMoves.{stage_now, stream_is, flowing_kept, flowing_at_first}
 use Rattle.cops_causal.proofs.Streams.{IsFlowing, Delivered}
 use Rattle.cops_causal.proofs.TracedCalls.{home-there}
 use Rattle.cops_causal.proofs.TracedIdle.{session_of, fresh_context}
 use Rattle.cops_model.specs.Request.{call_after, is_late}
+use Rattle.cops_causal.proofs.RequestSteps.{not_ended}
 
 abbrev Before : TenantConfig → SoloCluster → List Traced → Type 0
 Before config = Both (Both (IsTraced config) (IsFlowing config)) (IsClosed config)

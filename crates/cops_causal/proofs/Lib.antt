@@ -46,3 +46,5 @@ pub mod TracedIdle
 pub mod TracedPuts
 pub mod TracedSteps
 pub mod Unbroken
+pub mod RequestSteps
+pub mod ActorMoves

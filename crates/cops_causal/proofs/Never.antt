@@ -41,11 +41,11 @@ use Rattle.cops_causal.proofs.Moves.{IsKept, Both, kept_both, actor_step_keeps, 
 use Rattle.cops_causal.proofs.NodeAnswers.{node_fault_expected, reply_asked}
 use Rattle.cops_node.proofs.NodeTurns.{IsRefusal}
 use Rattle.cops_causal.proofs.NodeEffects.{node_of}
-use Rattle.cops_causal.proofs.Past.{not_ended}
 use Rattle.cops_causal.proofs.Served.{IsServed, FineTurn, called, collect_ready, session_turn, session_late_turn, fine_carrier, carrier_fine, served_kept, served_at_first}
 use Rattle.cops_causal.proofs.Sound.{IsSound, sound_kept, sound_at_first}
 use Rattle.cops_causal.proofs.TracedIdle.{session_of}
 use Rattle.cops_causal.proofs.Unbroken.{IsFineDelivery, shown_fine, ended_fine, carrier_shown_fine}
+use Rattle.cops_causal.proofs.RequestSteps.{not_ended}
 
 abbrev IsFine : Reply → Type 0
 IsFine r = is_expected r ≡ true

@@ -1,20 +1,17 @@
 -- After every list of acts, what is stored was put, and its deps are exactly those of its put.
-use Rattle.std.proofs.Common.{◌≡◌, ℕ, ◌+◌, ◌*◌, ◌<◌, Bool, true, false, List, [], ◌∷◌, map, inl, inr, refl, sym, ◌∙◌, subst, arith, replicate, length}
-use Rattle.std.specs.Prelude.{Some, None, slice_index_or}
+use Rattle.std.proofs.Common.{◌≡◌, ℕ, ◌+◌, ◌*◌, ◌<◌, true, List, [], ◌∷◌, map, inl, inr, refl, sym, subst, arith, replicate, length}
+use Rattle.std.specs.Prelude.{Some, slice_index_or}
 use Rattle.std.specs.List.{AllByRecursion}
 use Rattle.std.proofs.lemmas.Bool.Decides.{leb_tells}
 use Rattle.std.proofs.lemmas.List.{length-replicate, get_or-replicate, get_or_past}
 use Rattle.cops_types.specs.declared.records.EntryParts.{EntryParts as Entry}
-use Rattle.cops_types.specs.Context.{all_of, near_of}
 use Rattle.cops_types.specs.TenantConfig.{TenantConfig}
-use Rattle.cops_model.specs.declared.calls.NodeCall.TheVariants as node_call
-use Rattle.cops_model.specs.Log.{LogStep, Late, Replied, Directed, Next, Call, Restart, Ended}
+use Rattle.cops_model.specs.Log.{Late, Replied, Directed, Call, Restart}
 use Rattle.cops_model.specs.Place.{node_number, place_of}
 use Rattle.cops_model.specs.SoloNode.{SoloNode, new_node}
 use Rattle.cops_model.specs.Carrier.{pair_of_entry}
-use Rattle.cops_model.specs.declared.requests.Answer.{Answer}
-use Rattle.cops_model.specs.Request.{Action, Fetch, Write, answer_in, attempt_of, call_after, is_late, key_home, next, unless_late}
-use Rattle.cops_model.specs.Session.{Session, Running, obs_of, request_of}
+use Rattle.cops_model.specs.Request.{next}
+use Rattle.cops_model.specs.Session.{Session, Running, request_of}
 use Rattle.cops_model.specs.declared.acts.Act.{Act}
 use Rattle.cops_model.specs.Causal.{Traced, deps_of}
 use Rattle.cops_model.specs.Cluster.{SoloCluster, new_cluster, find_session, call_node, session_stepped}
@@ -29,25 +26,18 @@ use Rattle.cops_causal.proofs.AfterActs.{after_acts}
 use Rattle.cops_causal.proofs.Moves.{IsKept, history_after}
 use Rattle.cops_node.proofs.NodeTurns.{entries}
 use Rattle.cops_causal.proofs.NodeEffects.{node_of, call_changes}
-use Rattle.cops_causal.proofs.Provenance.{IsPutEntry, IsFound, IsTraced, IsRunning}
-use Rattle.cops_session.proofs.RequestReplies.{put-next, get-next, get-stepped, get-late}
+use Rattle.cops_causal.proofs.Provenance.{IsPutEntry, IsFound, IsSession, IsTraced}
+use Rattle.cops_session.proofs.RequestReplies.{call_of, get-stepped, get-late}
+use Rattle.cops_causal.proofs.RequestSteps.{by_call, by_late, never_ended, put_sent}
 use Rattle.cops_causal.proofs.TracedCalls.{traced-call, get_found, home-there}
 use Rattle.cops_causal.proofs.TracedCarriers.{traced-collected, traced-carrier_called}
 use Rattle.cops_causal.proofs.TracedIdle.{session_of, traced-opened, traced-carrier_begun, traced-context_created, traced-context_deleted, traced-put_begun, traced-get_begun}
 use Rattle.cops_causal.proofs.TracedPuts.{put_stepped}
 use Rattle.cops_causal.proofs.TracedSteps.{get_stepped}
 
--- a running request without an answer has not ended
-pub not_ended : (late : Bool) (n : Next Answer) (a : Answer) → answer_in n ≡ None → unless_late late n ≡ Ended a → ⊥
-not_ended true (Call call) a open_still e = cc
-not_ended false (Call call) a open_still e = cc
-not_ended true Restart a open_still e = cc
-not_ended false Restart a open_still e = cc
-not_ended late (Ended b) a open_still e = cc
-
 module _ (config : TenantConfig) (some : 0 < config.shards) (c : SoloCluster) (ts : List Traced) (inv : IsTraced config c ts) (name : List ℕ) (s : Session) (found : find_session name c ≡ Some s) where
-  abbrev run : ℕ → ℕ → Action → List LogStep → Running
-  run number context action log = record { number = number; context = context; action = action; log = log }
+  abbrev this : IsSession config ts name s
+  this = session_of config c ts inv name s found
 
   -- what is to be shown of a call of the request
   abbrev AfterCall : Running → ℕ → Directed → Type 0
@@ -56,51 +46,28 @@ module _ (config : TenantConfig) (some : 0 < config.shards) (c : SoloCluster) (t
       let turn = session_stepped config name s running (record { moment = moment; outcome = Replied call.reply }) call.after in
       IsTraced config turn.after (history_after ts c name turn.reply)
 
-  put_called : (number context : ℕ) (key value : List ℕ) (moment : ℕ) (directed : Directed) → s.running ≡ Some (run number context (Write key value) []) → IsRunning config ts s (run number context (Write key value) []) →
-      next config (request_of s (run number context (Write key value) [])) [] moment ≡ Call directed → AfterCall (run number context (Write key value) []) moment directed
-  put_called number context key value moment directed runs is e =
-      let home = key_home config s.dc key in
-      let sent : Directed = record { node = home; call = node_call.Put key value (all_of (obs_of context s)) (near_of (obs_of context s)) } in
-      let same : sent ≡ directed = (let both : Call sent ≡ Call directed = sym (put-next config s.dc (obs_of context s) key value moment) ∙ e in cc) in
-      let placed = (session_of config c ts inv name s found).placed in
-      let call = call_node config home moment sent.call c in
-      subst (AfterCall (run number context (Write key value) []) moment) same
-      (put_stepped config c call.after ts inv name s found found number context key value is.in_open moment call.reply runs (call_changes config c home moment sent.call (home-there config s.dc key some placed) inv.sized))
+  traced-called : (running : Running) (moment : ℕ) (directed : Directed) → s.running ≡ Some running → next config (request_of s running) running.log moment ≡ Call directed → AfterCall running moment directed
+  traced-called = by_call config ts name s this AfterCall
+      (λ number context key value moment runs is.
+      let sent = put_sent config s context key value in
+      let call = call_node config sent.node moment sent.call c in
+      put_stepped config c call.after ts inv name s found found number context key value is.in_open moment call.reply runs
+      (call_changes config c sent.node moment sent.call (home-there config s.dc key some this.placed) inv.sized))
+      (λ number context keys log moment q runs is at e.
+      let sent = call_of config s.dc q in
+      let n = node_number config.shards sent.node in
+      let call = call_node config sent.node moment sent.call c in
+      let called = call_changes config c sent.node moment sent.call (home-there config s.dc q.key some this.placed) inv.sized in
+      let reads : IsFound ts q call.reply = get_found ts q.key (node_of config c n) (inv.entries_are n) (place_of config sent.node) q.wanted call.reply (node_of config call.after n) called.change in
+      get_stepped config call.after ts (traced-call called ts (λ e stores. absurd stores) inv) name s found number context keys log (record { moment = moment; outcome = Replied call.reply }) runs is.in_open
+      (get-stepped (IsFound ts) keys log moment call.reply q is.replies_are at reads))
 
-  get_called : (number context : ℕ) (keys : List (List ℕ)) (log : List LogStep) (moment : ℕ) (directed : Directed) → s.running ≡ Some (run number context (Fetch keys) log) → IsRunning config ts s (run number context (Fetch keys) log) →
-      next config (request_of s (run number context (Fetch keys) log)) log moment ≡ Call directed → AfterCall (run number context (Fetch keys) log) moment directed
-  get_called number context keys log moment directed runs is e =
-      let chosen = get-next config s.dc (obs_of context s) keys log moment directed e in
-      let q = chosen.asked in
-      let home = key_home config s.dc q.key in
-      let n = node_number config.shards home in
-      let placed = (session_of config c ts inv name s found).placed in
-      let call = call_node config home moment (node_call.Get q.key q.wanted) c in
-      let called = call_changes config c home moment (node_call.Get q.key q.wanted) (home-there config s.dc q.key some placed) inv.sized in
-      let reads : IsFound ts q call.reply = get_found ts q.key (node_of config c n) (inv.entries_are n) (place_of config home) q.wanted call.reply (node_of config call.after n) called.change in
-      subst (AfterCall (run number context (Fetch keys) log) moment) (sym chosen.call)
-      (get_stepped config call.after ts (traced-call called ts (λ e stores. absurd stores) inv) name s found number context keys log (record { moment = moment; outcome = Replied call.reply }) runs is.in_open
-      (get-stepped (IsFound ts) keys log moment call.reply q is.replies_are chosen.at reads))
-
-  session_called : (number context : ℕ) (action : Action) (log : List LogStep) (moment : ℕ) (directed : Directed) → s.running ≡ Some (run number context action log) → IsRunning config ts s (run number context action log) →
-      next config (request_of s (run number context action log)) log moment ≡ Call directed → AfterCall (run number context action log) moment directed
-  session_called number context (Write key value) log moment directed runs is e =
-      subst (λ l. s.running ≡ Some (run number context (Write key value) l) → IsRunning config ts s (run number context (Write key value) l) →
-      next config (request_of s (run number context (Write key value) l)) l moment ≡ Call directed → AfterCall (run number context (Write key value) l) moment directed)
-      (sym is.replies_are) (put_called number context key value moment directed) runs is e
-  session_called number context (Fetch keys) log moment directed runs is e = get_called number context keys log moment directed runs is e
-
-  session_late : (number context : ℕ) (action : Action) (log : List LogStep) (moment : ℕ) → s.running ≡ Some (run number context action log) → IsRunning config ts s (run number context action log) →
-      next config (request_of s (run number context action log)) log moment ≡ Restart →
-      let turn = session_stepped config name s (run number context action log) (record { moment = moment; outcome = Late }) c in IsTraced config turn.after (history_after ts c name turn.reply)
-  session_late number context (Write key value) log moment runs is e =
-      let at_start = subst (λ l. next config (request_of s (run number context (Write key value) l)) l moment ≡ Restart) is.replies_are e in
-      absurd (called_late (next config (request_of s (run number context (Write key value) [])) [] moment) (put-next config s.dc (obs_of context s) key value moment) at_start)
-    where
-      called_late : (n : Next Answer) {directed : Directed} → n ≡ Call directed → n ≡ Restart → ⊥
-      called_late n is late = cc
-  session_late number context (Fetch keys) log moment runs is e =
-      get_stepped config c ts inv name s found number context keys log (record { moment = moment; outcome = Late }) runs is.in_open (get-late (IsFound ts) keys log moment)
+  traced-late : (running : Running) (moment : ℕ) → s.running ≡ Some running → next config (request_of s running) running.log moment ≡ Restart →
+      let turn = session_stepped config name s running (record { moment = moment; outcome = Late }) c in IsTraced config turn.after (history_after ts c name turn.reply)
+  traced-late = by_late config ts name s this
+      (λ running moment. let turn = session_stepped config name s running (record { moment = moment; outcome = Late }) c in IsTraced config turn.after (history_after ts c name turn.reply))
+      (λ number context keys log moment runs is.
+      get_stepped config c ts inv name s found number context keys log (record { moment = moment; outcome = Late }) runs is.in_open (get-late (IsFound ts) keys log moment))
 
 -- each move keeps that all is traced to its put
 pub traced_kept : (config : TenantConfig) → 0 < config.shards → IsKept config (IsTraced config)
@@ -112,13 +79,9 @@ traced_kept config some =
       context_deleted = λ c ts name s number found idle inv. traced-context_deleted config c ts inv name s number found idle;
       put_begun = λ c ts name s number key value found ok is inv. traced-put_begun config c ts inv name s number key value found ok;
       get_begun = λ c ts name s number keys found ok are inv. traced-get_begun config c ts inv name s number keys found ok;
-      called = λ c ts name s running moment directed found runs e inv.
-          session_called config some c ts inv name s found running.number running.context running.action running.log moment directed runs ((session_of config c ts inv name s found).running_is running runs) e;
-      late = λ c ts name s running moment found runs e inv.
-          session_late config some c ts inv name s found running.number running.context running.action running.log moment runs ((session_of config c ts inv name s found).running_is running runs) e;
-      ended = λ c ts name s running moment a found runs e inv.
-          absurd (not_ended (is_late config.trans_time running.action (attempt_of running.action running.log).steps moment) (call_after config (request_of s running) (attempt_of running.action running.log)) a
-          ((session_of config c ts inv name s found).running_is running runs).unanswered e);
+      called = λ c ts name s running moment directed found runs e inv. traced-called config some c ts inv name s found running moment directed runs e;
+      late = λ c ts name s running moment found runs e inv. traced-late config some c ts inv name s found running moment runs e;
+      ended = λ c ts name s running moment a found runs e inv. absurd (never_ended config ts name s (session_of config c ts inv name s found) running moment a runs e);
       carrier_called = λ c ts name k moment directed found e inv. traced-carrier_called config c ts inv name k found some moment directed e;
       collected = λ c ts id moment there inv. traced-collected config c ts inv id moment there;
     }

@@ -58,12 +58,12 @@ use Rattle.cops_causal.proofs.NodeAnswers.{reply_asked}
 use Rattle.cops_causal.proofs.NodeEffects.{node_of, call_changes}
 use Rattle.cops_causal.proofs.NodeMoments.{AreLongThere, IsLongThere, get_gone}
 use Rattle.cops_causal.proofs.Overruns.{IsOther, fault_other, IsFaultless, all_faultless, get_goes_on, put_other, ends_how, carrier_other}
-use Rattle.cops_causal.proofs.Past.{not_ended}
 use Rattle.cops_causal.proofs.Provenance.{IsRunning}
 use Rattle.cops_causal.proofs.Readiness.{session_ready, carrier_served, deps_here}
 use Rattle.cops_causal.proofs.Sound.{IsSound, sound_kept, sound_at_first}
 use Rattle.cops_causal.proofs.StreamMoves.{stage_now, stream_is}
 use Rattle.cops_causal.proofs.TracedIdle.{session_of}
+use Rattle.cops_causal.proofs.RequestSteps.{not_ended}
 
 -- ---- what is gone was removed
 

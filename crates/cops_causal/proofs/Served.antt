@@ -37,7 +37,7 @@ use Rattle.cops_causal.proofs.Moves.{Leads, Both}
 use Rattle.cops_causal.proofs.NodeAnswers.{TrailAfter, turn_trail, reply_expected, reply_asked, fault_fine, node_fault_expected}
 use Rattle.cops_node.proofs.NodeTurns.{Change, IsRefused, Answers, Joined, Taken}
 use Rattle.cops_causal.proofs.NodeEffects.{node_of, Called, call_changes}
-use Rattle.cops_causal.proofs.Past.{not_ended, new_nodes}
+use Rattle.cops_causal.proofs.Past.{new_nodes}
 use Rattle.cops_causal.proofs.Provenance.{IsRunning}
 use Rattle.cops_causal.proofs.Readiness.{ReadyCall, session_ready, ServedCall, carrier_served}
 use Rattle.cops_session.proofs.RequestReplies.{put-next, put-stored, put-refused, get-next, get-stepped, get-late, get-begun}
@@ -47,6 +47,7 @@ use Rattle.cops_causal.proofs.Sound.{IsSound}
 use Rattle.cops_causal.proofs.StreamMoves.{stage_now, stream_is}
 use Rattle.cops_causal.proofs.TracedIdle.{session_of}
 use Rattle.cops_causal.proofs.Unbroken.{IsFineReply, RepliesAreFine, IsFineAnswer, answer_fine, IsFineStep}
+use Rattle.cops_causal.proofs.RequestSteps.{not_ended}
 
 abbrev pub IsExpectedEntry : AuditEntry → Type 0
 IsExpectedEntry e = is_expected_of_node e.reply ≡ true

@@ -3,7 +3,6 @@ use Rattle.std.proofs.Common.{◌≡◌, ℕ, ◌+◌, ◌<◌, ◌≤◌, true,
 use Rattle.std.specs.Prelude.{Option, Some, None, max, is_some, unwrap_or}
 use Rattle.std.specs.List.{AllByRecursion}
 use Rattle.std.specs.Option.{option_map}
-use Rattle.cops_types.specs.declared.faults.Fault.{Fault}
 use Rattle.cops_types.specs.declared.pairs.Pair.{Pair}
 use Rattle.cops_types.specs.declared.records.EntryParts.{EntryParts as Entry}
 use Rattle.cops_types.specs.Context.{Observation, Put as PutPair, all_of, near_of}
@@ -21,33 +20,29 @@ use Rattle.cops_model.specs.Place.{node_number, own_number, place_of}
 use Rattle.cops_model.specs.SoloNode.{SoloNode}
 use Rattle.cops_model.specs.Step.{entry_of_put, version_of_put}
 use Rattle.cops_model.specs.Carrier.{pair_of_entry}
-use Rattle.cops_model.specs.declared.requests.Answer.{Answer}
-use Rattle.cops_model.specs.declared.requests.Answer.TheVariants as answer_is
-use Rattle.cops_model.specs.declared.requests.Progress.{Progress}
-use Rattle.cops_model.specs.declared.requests.Progress.TheVariants as session_progress
-use Rattle.cops_model.specs.Request.{Write, answer, attempt_of, key_home}
-use Rattle.cops_model.specs.Session.{Session, Running, OpenContext, is_open, obs_of, request_of, context_extended, session_after, moment_after, shown, has_restarted}
+use Rattle.cops_model.specs.Request.{Write, key_home}
+use Rattle.cops_model.specs.Session.{Session, Running, OpenContext, is_open, obs_of, context_extended, moment_after}
 use Rattle.cops_model.specs.Causal.{Traced, Wrote, past_of_put}
-use Rattle.cops_model.specs.Cluster.{SoloCluster, OfSession, find_session, with_actor, reply_of_progress, session_stepped}
+use Rattle.cops_model.specs.Cluster.{SoloCluster, OfSession, find_session, with_actor, session_stepped}
 use Rattle.cops_causal.proofs.ContextPasts.{put_deps, put_past, put_context, put_covered}
 use Rattle.cops_causal.proofs.Histories.{puts_of, puts_of-push, past_in}
 use Rattle.cops_types.proofs.Elements.{Among, Among-right, Every-weaker, Every-at, Among-map}
 use Rattle.cops_types.proofs.Nearness.{Covers}
-use Rattle.cops_causal.proofs.Moves.{history_after, with_operation}
-use Rattle.cops_node.proofs.NodeTurns.{entries, Stores, Change, IsRefused, Answers, Joined, Taken}
+use Rattle.cops_causal.proofs.Moves.{history_after}
+use Rattle.cops_node.proofs.NodeTurns.{entries, Stores}
 use Rattle.cops_causal.proofs.NodeEffects.{node_of, Called, entries_keep}
 use Rattle.cops_types.proofs.PairSets.{at}
 use Rattle.cops_causal.proofs.Provenance.{IsPutEntry-grown, IsCovered-grown, IsPutEntry, IsTraced, IsActor, IsSession, IsContext, IsNew, IsHistory-grown}
-use Rattle.cops_session.proofs.RequestReplies.{put-stored, put-refused}
 use Rattle.cops_causal.proofs.TracedCalls.{traced-call, pair_stays, actors_stay, known_still, clock-above, next-above, clock-below}
 use Rattle.cops_causal.proofs.TracedIdle.{session_of}
-use Rattle.cops_causal.proofs.TracedSteps.{grown, ended_as, context_of, contexts_extended, ends_refused, numbered_after, other_context}
+use Rattle.cops_causal.proofs.RequestSteps.{put_leaves, run, step_leads}
+use Rattle.cops_causal.proofs.TracedSteps.{grown, context_of, contexts_extended, ends_refused, numbered_after, other_context}
 
 module _ (config : TenantConfig) (c after : SoloCluster) (ts : List Traced) (inv : IsTraced config c ts) (name : List ℕ) (s : Session) (found : find_session name c ≡ Some s) (found_after : find_session name after ≡ Some s)
     (number context : ℕ) (key value : List ℕ) (opened : is_open context s ≡ true) (moment : ℕ) (reply : NodeReply)
     (runs : s.running ≡ Some (record { number = number; context = context; action = Write key value; log = [] })) where
   abbrev put : Running
-  put = record { number = number; context = context; action = Write key value; log = [] }
+  put = run number context (Write key value) []
 
   abbrev step : LogStep
   step = record { moment = moment; outcome = Replied reply }
@@ -60,21 +55,6 @@ module _ (config : TenantConfig) (c after : SoloCluster) (ts : List Traced) (inv
 
   abbrev call : NodeCall
   call = Put key value (all_of (obs_of context s)) (near_of (obs_of context s))
-
-  abbrev AfterPut : Progress → Type 0
-  AfterPut p = IsTraced config (with_actor name (OfSession (session_after s put step p)) after) (history_after ts after name (reply_of_progress p))
-
-  -- what the session shows follows from its answer
-  by_answer : (a : Answer) → answer config (request_of s put) (step ∷ []) ≡ Some a → AfterPut (session_progress.Done a) →
-      let turn = session_stepped config name s put step after in IsTraced config turn.after (history_after ts after name turn.reply)
-  by_answer a is so = subst (λ o. AfterPut (shown o (has_restarted (Write key value) [] step) (attempt_of (Write key value) (step ∷ [])).restarts)) (sym is) so
-
-  put_refused : Called config c home call reply after → ((e : Entry) → Stores (place_of config home) call node reply e → IsPutEntry ts e) → (fault : Fault) → reply ≡ Refused fault →
-      let turn = session_stepped config name s put step after in IsTraced config turn.after (history_after ts after name turn.reply)
-  put_refused called stored fault is =
-      by_answer (answer_is.Refused fault)
-      (subst (λ r. answer config (request_of s put) (record { moment = moment; outcome = Replied r } ∷ []) ≡ Some (answer_is.Refused fault)) (sym is) (put-refused config s.dc (obs_of context s) key value moment fault))
-      (ends_refused config after ts (traced-call called ts stored inv) name s found_after context (moment_after put step))
 
   -- the context of the put has the deps of its past
   deps_are_past : all_of (obs_of context s) ≡ greatest_per_key (past_in ts name context)
@@ -176,19 +156,9 @@ module _ (config : TenantConfig) (c after : SoloCluster) (ts : List Traced) (inv
         (λ p at. pair_stays called p.version.node p (inv.puts_are p at)) (actors_stay called (IsActor config ts) inv.actors_are) (λ u at. known_still called u.operation.session (inv.known u at)) (ap is_some found_after) new
         (λ p at. elim at [ inl same ↦ subst (λ q. Among q (map pair_of_entry (entries (node_of config after q.version.node)))) same pair_there | inr never ↦ absurd never ]) (new_session later)
 
-    put_stored : let turn = session_stepped config name s put step after in IsTraced config turn.after (history_after ts after name turn.reply)
-    put_stored =
-        by_answer (answer_is.Stored pair)
-        (subst (λ r. answer config (request_of s put) (record { moment = moment; outcome = Replied r } ∷ []) ≡ Some (answer_is.Stored pair)) (sym replied) (put-stored config s.dc (obs_of context s) key value moment version))
-        (subst (λ o. IsTraced config (with_actor name (OfSession (session_after s put step (session_progress.Done (answer_is.Stored pair)))) after) (with_operation ts o)) (sym (ended_as after name s put (Wrote pair) found_after runs))
-        (after_stored (moment_after put step)))
-
   -- the step of a put, whatever the node answers
   pub put_stepped : Called config c home call reply after → let turn = session_stepped config name s put step after in IsTraced config turn.after (history_after ts after name turn.reply)
-  put_stepped called = by_change called.change
-    where
-      by_change : Change (place_of config home) call node reply (node_of config after (node_number config.shards home)) → let turn = session_stepped config name s put step after in IsTraced config turn.after (history_after ts after name turn.reply)
-      by_change (IsRefused same acked is) = put_refused called (λ e stores. let both : Stored stores.0 ≡ Refused is.0 = sym stores.1 ∙ is.1 in cc) is.0 is.1
-      by_change (Answers same acked is) = absurd is
-      by_change (Joined e more acked is) = put_stored called e is.0 more is.1 is.2 is.3
-      by_change (Taken same is) = absurd is
+  put_stepped called =
+      step_leads config (IsTraced config) after ts name s found_after put step runs (put_leaves config ts name s (λ next us. IsTraced config (with_actor name (OfSession next) after) us) c after number context key value moment reply called
+      (λ fault is. ends_refused config after ts (traced-call called ts (λ e stores. let both : Stored stores.0 ≡ Refused fault = sym stores.1 ∙ is in cc) inv) name s found_after context (moment_after put step))
+      (λ e joins stores. after_stored called e stores.0 joins stores.1 stores.2 stores.3 (moment_after put step)))

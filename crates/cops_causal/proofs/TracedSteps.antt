@@ -2,7 +2,6 @@
 use Rattle.std.proofs.Common.{◌≡◌, ℕ, Bool, true, false, cond, ◌&&◌, List, [], ◌∷◌, ◌++◌, map, inl, inr, refl, sym, ◌∙◌, ap, subst, append-nil, arith}
 use Rattle.std.specs.Prelude.{Option, Some, None, nat_lt, is_some, ◌==◌}
 use Rattle.std.specs.List.{AllByRecursion}
-use Rattle.std.specs.Option.{option_and_then, option_map}
 use Rattle.std.proofs.lemmas.Bool.Decides.{nat_tests, Decides-eqb}
 use Rattle.cops_types.specs.declared.contexts.Read.{Read}
 use Rattle.cops_types.specs.declared.pairs.Pair.{Pair}
@@ -13,30 +12,27 @@ use Rattle.cops_types.specs.TenantConfig.{TenantConfig}
 use Rattle.cops_model.specs.declared.calls.NodeReply.{NodeReply}
 use Rattle.cops_model.specs.declared.calls.NodeReply.TheVariants.{Found}
 use Rattle.cops_model.specs.Log.{LogStep}
-use Rattle.cops_model.specs.declared.requests.Answer.{Answer}
-use Rattle.cops_model.specs.declared.requests.Answer.TheVariants as answer_is
-use Rattle.cops_model.specs.declared.requests.Progress.{Progress}
-use Rattle.cops_model.specs.declared.requests.Progress.TheVariants as session_progress
-use Rattle.cops_model.specs.Request.{Fetch, answer, attempt_of}
-use Rattle.cops_model.specs.Session.{Session, Running, OpenContext, is_open, find_context, obs_of, request_of, context_extended, session_after, moment_after, shown, has_restarted}
+use Rattle.cops_model.specs.Request.{Fetch}
+use Rattle.cops_model.specs.Session.{Session, Running, OpenContext, is_open, find_context, context_extended, moment_after}
 use Rattle.cops_model.specs.Transaction.{ReadRequest, gets, read_of}
 use Rattle.cops_model.specs.Carrier.{pair_of_entry}
-use Rattle.cops_model.specs.Causal.{Traced, Operation, Effect, Returned, put_by, past_after, past_of_put, operation_by}
-use Rattle.cops_model.specs.Cluster.{SoloCluster, OfSession, find_session, with_actor, reply_of_progress, session_stepped}
+use Rattle.cops_model.specs.Causal.{Traced, Operation, Effect, Returned, put_by, past_after, past_of_put}
+use Rattle.cops_model.specs.Cluster.{SoloCluster, OfSession, find_session, with_actor, session_stepped}
 use Rattle.cops_causal.proofs.ActorsKeep.{EachActor, IsKnown, each-with_actor, known-with_session}
 use Rattle.cops_types.proofs.KeyTests.{key_eq-false}
 use Rattle.cops_causal.proofs.ContextPasts.{IsRead, values_context, values_covered}
 use Rattle.cops_causal.proofs.Histories.{puts_of, puts_of-push, past_in}
 use Rattle.cops_types.proofs.Elements.{Among, Among-cases, Among-find, Every-at, Every-weaker}
 use Rattle.cops_types.proofs.Nearness.{Covers}
-use Rattle.cops_causal.proofs.Moves.{history_after, with_operation}
+use Rattle.cops_causal.proofs.Moves.{history_after}
 use Rattle.cops_node.proofs.NodeTurns.{entries}
 use Rattle.cops_causal.proofs.NodeEffects.{node_of, IsSized}
 use Rattle.cops_types.proofs.PairSets.{at}
 use Rattle.cops_causal.proofs.Provenance.{IsPutEntry-grown, IsCovered-grown, IsPutEntry, IsFound, IsTraced, IsActor, IsActor-grown, IsSession, IsContext, IsContext-grown, IsRunning, IsNew, IsHistory, IsHistory-grown}
-use Rattle.cops_session.proofs.RequestReplies.{replies_in, get-answer}
+use Rattle.cops_session.proofs.RequestReplies.{replies_in}
 use Rattle.cops_types.proofs.Zipped.{Zipped}
 use Rattle.cops_session.proofs.ReplyRounds.{Every-final_reads}
+use Rattle.cops_causal.proofs.RequestSteps.{get_leaves, run, step_leads}
 use Rattle.cops_causal.proofs.TracedIdle.{session_of, session_changed}
 
 -- ---- an operation joins the history
@@ -62,13 +58,6 @@ grown config c ts name context effect past s history sized stored puts actors kn
         | inr now ↦ elim now [ inl e ↦ subst (λ (v : Traced). IsKnown c v.operation.session) e mine | inr never ↦ absurd never ]
       ]);
     }
-
--- the operation that a running request ends as
-pub ended_as : (c : SoloCluster) (name : List ℕ) (s : Session) (running : Running) (effect : Effect) → find_session name c ≡ Some s → s.running ≡ Some running →
-    operation_by c effect name ≡ Some (record { session = name; context = running.context; effect = effect })
-ended_as c name s running effect found runs =
-    ap (λ o. option_map (λ (r : Running). record { session = name; context = r.context; effect = effect }) (option_and_then (λ (s : Session). s.running) o)) found
-    ∙ ap (option_map (λ (r : Running). record { session = name; context = r.context; effect = effect })) runs
 
 -- ---- the contexts of a session whose request ends
 
@@ -197,25 +186,12 @@ module _ (config : TenantConfig) (c : SoloCluster) (ts : List Traced) (inv : IsT
       (runs : s.running ≡ Some (record { number = number; context = context; action = Fetch keys; log = log })) (opened : is_open context s ≡ true)
       (replied : let rs = replies_in keys (log ++ step ∷ []) in Zipped (IsFound ts) (gets keys rs) rs) where
     abbrev transaction : Running
-    transaction = record { number = number; context = context; action = Fetch keys; log = log }
-
-    -- what is to be shown, by the answer
-    abbrev AfterStep : Progress → Type 0
-    AfterStep p = IsTraced config (with_actor name (OfSession (session_after s transaction step p)) c) (history_after ts c name (reply_of_progress p))
-
-    get_answered : (o : Option Answer) (restarted : Bool) (times : ℕ) → answer config (request_of s transaction) (log ++ step ∷ []) ≡ o → AfterStep (shown o restarted times)
-    get_answered None true times open_still = goes_on_with (record { number = number; context = context; action = Fetch keys; log = log ++ step ∷ [] }) _ (record { in_open = opened; unanswered = open_still; replies_are = replied })
-    get_answered None false times open_still = goes_on_with (record { number = number; context = context; action = Fetch keys; log = log ++ step ∷ [] }) _ (record { in_open = opened; unanswered = open_still; replies_are = replied })
-    get_answered (Some (answer_is.Refused fault)) restarted times ended = ends_refused context _
-    get_answered (Some (answer_is.Stored pair)) restarted times ended = absurd (get-answer config s.dc (obs_of context s) keys (log ++ step ∷ []) (answer_is.Stored pair) ended)
-    get_answered (Some (answer_is.Values reads)) restarted times ended =
-        let follows = get-answer config s.dc (obs_of context s) keys (log ++ step ∷ []) (answer_is.Values reads) ended in
-        let rs = replies_in keys (log ++ step ∷ []) in
-        let are : AllByRecursion (IsRead ts) reads = subst (AllByRecursion (IsRead ts)) (sym follows.0) (Every-final_reads (IsFound ts) (IsRead ts) read_well keys rs follows.1 replied) in
-        subst (λ o. IsTraced config (with_actor name (OfSession (session_after s transaction step (session_progress.Done (answer_is.Values reads)))) c) (with_operation ts o))
-        (sym (ended_as c name s transaction (Returned reads) found runs))
-        (ends_values transaction (moment_after transaction step) reads runs opened are)
+    transaction = run number context (Fetch keys) log
 
     pub get_stepped : let turn = session_stepped config name s transaction step c in IsTraced config turn.after (history_after ts c name turn.reply)
     get_stepped =
-        get_answered (answer config (request_of s transaction) (log ++ step ∷ [])) (has_restarted (Fetch keys) log step) (attempt_of (Fetch keys) (log ++ step ∷ [])).restarts refl
+        step_leads config (IsTraced config) c ts name s found transaction step runs (get_leaves config ts name s (λ next us. IsTraced config (with_actor name (OfSession next) c) us) number context keys log step
+        (λ open_still. goes_on_with (run number context (Fetch keys) (log ++ step ∷ [])) _ (record { in_open = opened; unanswered = open_still; replies_are = replied }))
+        (λ fault. ends_refused context _)
+        (λ reads follows. ends_values transaction (moment_after transaction step) reads runs opened
+        (subst (AllByRecursion (IsRead ts)) (sym follows.0) (Every-final_reads (IsFound ts) (IsRead ts) read_well keys (replies_in keys (log ++ step ∷ [])) follows.1 replied))))

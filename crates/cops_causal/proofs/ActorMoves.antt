@@ -1,0 +1,124 @@
+-- The moves of a cluster, from what they leave of its nodes, of the history, and of the one actor that moves: stated once for every layer.
+use Rattle.std.proofs.Common.{◌≡◌, ℕ, true, false, List, []}
+use Rattle.std.specs.Prelude.{Some, None, nat_lt}
+use Rattle.cops_types.specs.Key.{key_eq}
+use Rattle.cops_types.specs.TenantConfig.{TenantConfig}
+use Rattle.cops_types.proofs.Elements.{Every-weaker}
+use Rattle.cops_model.specs.declared.calls.NodeCall.TheVariants as node_call
+use Rattle.cops_model.specs.declared.calls.NodeId.{NodeId}
+use Rattle.cops_model.specs.Log.{LogStep, Late, Replied, Directed, Next, Call, Restart, Ended}
+use Rattle.cops_model.specs.SoloNode.{SoloNode}
+use Rattle.cops_model.specs.Request.{Write, Fetch, next}
+use Rattle.cops_model.specs.Session.{Running, Session, context_created, context_deleted, get_refusal, new_session, request_begun, request_of, session_put_refusal}
+use Rattle.cops_model.specs.declared.deliveries.Delivery.{Delivery}
+use Rattle.cops_model.specs.Carrier.{Carrier, Stream, carrier_after, new_carrier}
+use Rattle.cops_model.specs.Carrier as carrier
+use Rattle.cops_model.specs.Causal.{Traced}
+use Rattle.cops_model.specs.Cluster.{Actor, NamedActor, OfCarrier, OfSession, SoloCluster, call_node, carrier_stepped, find_actor, find_session, has_node, session_stepped, with_actor, with_new_actor}
+use Rattle.cops_causal.proofs.ActorsKeep.{EachActor, each-with_actor, each-with_new, each-without}
+use Rattle.cops_causal.proofs.Moves.{Both, IsStream, Leads, history_after}
+use Rattle.cops_causal.proofs.Provenance.{IsTraced}
+use Rattle.cops_causal.proofs.RequestSteps.{StepLeaves, never_ended, step_leads}
+use Rattle.cops_causal.proofs.TracedIdle.{session_of}
+
+-- what holds of the nodes and the history, and of each actor under its name
+pub record Stands (N : List SoloNode → List Traced → Type 0) (A : List SoloNode → List Traced → List ℕ → Actor → Type 0) (c : SoloCluster) (ts : List Traced) : Type 0 where
+  pub nodes : N c.nodes ts
+  pub actors : EachActor (A c.nodes ts) c
+
+module _ (config : TenantConfig) (N : List SoloNode → List Traced → Type 0) (A : List SoloNode → List Traced → List ℕ → Actor → Type 0) where
+  -- ---- what a layer shows of its nodes and its actors
+
+  -- what a call leaves: the nodes, and what was said of each actor
+  pub record CallLeaves (c : SoloCluster) (ts : List Traced) (moment : ℕ) (directed : Directed) : Type 0 where
+    pub nodes_are : N (call_node config directed.node moment directed.call c).after.nodes ts
+    pub stays : (name : List ℕ) (a : Actor) → A c.nodes ts name a → A (call_node config directed.node moment directed.call c).after.nodes ts name a
+
+  -- what a step leaves at these nodes, where the history was this one: the nodes, the session of the name, and the other actors
+  pub record Leaves (nodes : List SoloNode) (ts : List Traced) (name : List ℕ) (next : Session) (us : List Traced) : Type 0 where
+    pub nodes_are : N nodes ts → N nodes us
+    pub others_are : (other : List ℕ) (a : Actor) → key_eq other name ≡ false → A nodes ts other a → A nodes us other a
+    pub session_is : A nodes us name (OfSession next)
+
+  -- the moves of a session
+  pub record SessionMoves (c : SoloCluster) (ts : List Traced) (name : List ℕ) (s : Session) : Type 0 where
+    pub created : s.running ≡ None → A c.nodes ts name (OfSession (context_created s))
+    pub deleted : (number : ℕ) → s.running ≡ None → A c.nodes ts name (OfSession (context_deleted number s))
+    pub put_begun : (number : ℕ) (key value : List ℕ) → session_put_refusal config number key s ≡ None → A c.nodes ts name (OfSession (request_begun number (Write key value) s))
+    pub get_begun : (number : ℕ) (keys : List (List ℕ)) → get_refusal config number keys s ≡ None → A c.nodes ts name (OfSession (request_begun number (Fetch keys) s))
+    pub called : (running : Running) (moment : ℕ) (directed : Directed) → s.running ≡ Some running → next config (request_of s running) running.log moment ≡ Call directed → CallLeaves c ts moment directed
+    pub stepped : (running : Running) (moment : ℕ) (directed : Directed) → s.running ≡ Some running → next config (request_of s running) running.log moment ≡ Call directed →
+        let call = call_node config directed.node moment directed.call c in StepLeaves config ts name s (Leaves call.after.nodes ts name) running (record { moment = moment; outcome = Replied call.reply })
+    pub late : (running : Running) (moment : ℕ) → s.running ≡ Some running → next config (request_of s running) running.log moment ≡ Restart →
+        StepLeaves config ts name s (Leaves c.nodes ts name) running (record { moment = moment; outcome = Late })
+
+  -- the moves of a carrier, which is gone once it has ended
+  pub record CarrierMoves (c : SoloCluster) (ts : List Traced) (name : List ℕ) (k : Carrier) : Type 0 where
+    pub called : (moment : ℕ) (directed : Directed) → carrier.carrier_next config.shards k.stream k.log ≡ Call directed → CallLeaves c ts moment directed
+    pub stepped : (moment : ℕ) (directed : Directed) → carrier.carrier_next config.shards k.stream k.log ≡ Call directed →
+        let call = call_node config directed.node moment directed.call c in
+        let after = carrier_after k (record { moment = moment; outcome = Replied call.reply }) in
+        ((ending : Delivery) → carrier.carrier_next config.shards after.stream after.log ≡ Ended ending → ⊥) → A call.after.nodes ts name (OfCarrier after)
+
+  -- the moves of a cluster
+  pub record Moves (c : SoloCluster) (ts : List Traced) : Type 0 where
+    pub opened : (name : List ℕ) (dc : ℕ) → find_actor name c ≡ None → nat_lt dc config.data_centres ≡ true → A c.nodes ts name (OfSession (new_session dc 1))
+    pub carrier_begun : (name : List ℕ) (stream : Stream) → IsStream config stream → A c.nodes ts name (OfCarrier (new_carrier stream))
+    pub of_session : (name : List ℕ) (s : Session) → find_session name c ≡ Some s → SessionMoves c ts name s
+    pub of_carrier : (name : List ℕ) (k : Carrier) → find_actor name c ≡ Some (OfCarrier k) → CarrierMoves c ts name k
+    pub collected : (id : NodeId) (moment : ℕ) → has_node config id.dc id.shard ≡ true → CallLeaves c ts moment (record { node = id; call = node_call.Collect })
+
+  -- ---- what follows for the cluster
+
+  module _ (c : SoloCluster) (ts : List Traced) (stands : Stands N A c ts) where
+    changed : (name : List ℕ) (a : Actor) → A c.nodes ts name a → Stands N A (with_actor name a c) ts
+    changed name a is = record { nodes = stands.nodes; actors = each-with_actor (A c.nodes ts) (A c.nodes ts) c name a is (λ other b apart p. p) stands.actors }
+
+    joined : (name : List ℕ) (a : Actor) → A c.nodes ts name a → Stands N A (with_new_actor name a c) ts
+    joined name a is = record { nodes = stands.nodes; actors = each-with_new (A c.nodes ts) c name a is stands.actors }
+
+    stepped_to : (name : List ℕ) (next : Session) (us : List Traced) → Leaves c.nodes ts name next us → Stands N A (with_actor name (OfSession next) c) us
+    stepped_to name next us leaves =
+        record { nodes = leaves.nodes_are stands.nodes; actors = each-with_actor (A c.nodes ts) (A c.nodes us) c name (OfSession next) leaves.session_is leaves.others_are stands.actors }
+
+    carried_to : (name : List ℕ) (after : Carrier) (n : Next Delivery) → (((ending : Delivery) → n ≡ Ended ending → ⊥) → A c.nodes ts name (OfCarrier after)) →
+        Stands N A (carrier_stepped name after (carrier.progress_of n) c).after ts
+    carried_to name after (Ended ending) is = record { nodes = stands.nodes; actors = each-without (A c.nodes ts) c name stands.actors }
+    carried_to name after (Call directed) is = changed name (OfCarrier after) (is (λ ending never. cc))
+    carried_to name after Restart is = changed name (OfCarrier after) (is (λ ending never. cc))
+
+    called_stands : (moment : ℕ) (directed : Directed) → CallLeaves c ts moment directed → Stands N A (call_node config directed.node moment directed.call c).after ts
+    called_stands moment directed leaves =
+        let nodes = (call_node config directed.node moment directed.call c).after.nodes in
+        record {
+          nodes = leaves.nodes_are;
+          actors = Every-weaker (λ (a : NamedActor). A c.nodes ts a.name a.actor) (λ (a : NamedActor). A nodes ts a.name a.actor) c.actors (λ a at is. leaves.stays a.name a.actor is) stands.actors;
+        }
+
+    session_steps : (name : List ℕ) (s : Session) → find_session name c ≡ Some s → (running : Running) (step : LogStep) → s.running ≡ Some running → StepLeaves config ts name s (Leaves c.nodes ts name) running step →
+        let turn = session_stepped config name s running step c in Stands N A turn.after (history_after ts c name turn.reply)
+    session_steps name s found running step runs leaves =
+        step_leads config (Stands N A) c ts name s found running step runs (record { goes_on = λ e. stepped_to name _ _ (leaves.goes_on e); ends = λ a e. stepped_to name _ _ (leaves.ends a e) })
+
+  -- a layer whose nodes and actors move so is led to by each move
+  pub moves_lead : (B : SoloCluster → List Traced → Type 0) → ((c : SoloCluster) (ts : List Traced) → B c ts → IsTraced config c ts) → ((c : SoloCluster) (ts : List Traced) → B c ts → Stands N A c ts → Moves c ts) →
+      Leads config (Both B (Stands N A)) (Stands N A)
+  moves_lead B traced moves =
+      record {
+        opened = λ c ts name dc free exists inv. joined c ts inv.1 name (OfSession (new_session dc 1)) ((moves c ts inv.0 inv.1).opened name dc free exists);
+        carrier_begun = λ c ts name stream free is inv. joined c ts inv.1 name (OfCarrier (new_carrier stream)) ((moves c ts inv.0 inv.1).carrier_begun name stream is);
+        context_created = λ c ts name s found idle inv. changed c ts inv.1 name (OfSession (context_created s)) (((moves c ts inv.0 inv.1).of_session name s found).created idle);
+        context_deleted = λ c ts name s number found idle inv. changed c ts inv.1 name (OfSession (context_deleted number s)) (((moves c ts inv.0 inv.1).of_session name s found).deleted number idle);
+        put_begun = λ c ts name s number key value found ok is inv. changed c ts inv.1 name (OfSession (request_begun number (Write key value) s)) (((moves c ts inv.0 inv.1).of_session name s found).put_begun number key value ok);
+        get_begun = λ c ts name s number keys found ok are inv. changed c ts inv.1 name (OfSession (request_begun number (Fetch keys) s)) (((moves c ts inv.0 inv.1).of_session name s found).get_begun number keys ok);
+        called = λ c ts name s running moment directed found runs e inv.
+            let of = (moves c ts inv.0 inv.1).of_session name s found in
+            session_steps (call_node config directed.node moment directed.call c).after ts (called_stands c ts inv.1 moment directed (of.called running moment directed runs e)) name s found running _ runs
+            (of.stepped running moment directed runs e);
+        late = λ c ts name s running moment found runs e inv. session_steps c ts inv.1 name s found running _ runs (((moves c ts inv.0 inv.1).of_session name s found).late running moment runs e);
+        ended = λ c ts name s running moment a found runs e inv. absurd (never_ended config ts name s (session_of config c ts (traced c ts inv.0) name s found) running moment a runs e);
+        carrier_called = λ c ts name k moment directed found e inv.
+            let of = (moves c ts inv.0 inv.1).of_carrier name k found in
+            carried_to (call_node config directed.node moment directed.call c).after ts (called_stands c ts inv.1 moment directed (of.called moment directed e)) name _ _ (of.stepped moment directed e);
+        collected = λ c ts id moment there inv. called_stands c ts inv.1 moment (record { node = id; call = node_call.Collect }) ((moves c ts inv.0 inv.1).collected id moment there);
+      }
