@@ -1,5 +1,5 @@
 -- The moves of a cluster, from what they leave of its nodes, of the history, and of the one actor that moves: stated once for every layer.
-use Rattle.std.proofs.Common.{◌≡◌, ℕ, true, false, List, []}
+use Rattle.std.proofs.Common.{◌≡◌, ℕ, true, false, List, [], ◌∷◌, ◌++◌}
 use Rattle.std.specs.Prelude.{Some, None, nat_lt}
 use Rattle.cops_types.specs.Key.{key_eq}
 use Rattle.cops_types.specs.TenantConfig.{TenantConfig}
@@ -8,8 +8,10 @@ use Rattle.cops_model.specs.declared.calls.NodeCall.TheVariants as node_call
 use Rattle.cops_model.specs.declared.calls.NodeId.{NodeId}
 use Rattle.cops_model.specs.Log.{LogStep, Late, Replied, Directed, Next, Call, Restart, Ended}
 use Rattle.cops_model.specs.SoloNode.{SoloNode}
-use Rattle.cops_model.specs.Request.{Write, Fetch, next}
-use Rattle.cops_model.specs.Session.{Running, Session, context_created, context_deleted, get_refusal, new_session, request_begun, request_of, session_put_refusal}
+use Rattle.cops_model.specs.declared.requests.Answer.{Answer}
+use Rattle.cops_model.specs.declared.requests.Progress.TheVariants as session_progress
+use Rattle.cops_model.specs.Request.{Write, Fetch, next, answer}
+use Rattle.cops_model.specs.Session.{Running, Session, context_created, context_deleted, get_refusal, new_session, request_begun, request_of, session_put_refusal, session_after}
 use Rattle.cops_model.specs.declared.deliveries.Delivery.{Delivery}
 use Rattle.cops_model.specs.Carrier.{Carrier, Stream, carrier_after, new_carrier}
 use Rattle.cops_model.specs.Carrier as carrier
@@ -20,6 +22,10 @@ use Rattle.cops_causal.proofs.Moves.{Both, IsStream, Leads, history_after}
 use Rattle.cops_causal.proofs.Provenance.{IsTraced}
 use Rattle.cops_causal.proofs.RequestSteps.{StepLeaves, never_ended, step_leads}
 use Rattle.cops_causal.proofs.TracedIdle.{session_of}
+
+-- these nodes, without actors
+abbrev pub bare : List SoloNode → SoloCluster
+bare nodes = record { nodes = nodes; actors = [] }
 
 -- what holds of the nodes and the history, and of each actor under its name
 pub record Stands (N : List SoloNode → List Traced → Type 0) (A : List SoloNode → List Traced → List ℕ → Actor → Type 0) (c : SoloCluster) (ts : List Traced) : Type 0 where
@@ -67,6 +73,10 @@ module _ (config : TenantConfig) (N : List SoloNode → List Traced → Type 0) 
     pub of_session : (name : List ℕ) (s : Session) → find_session name c ≡ Some s → SessionMoves c ts name s
     pub of_carrier : (name : List ℕ) (k : Carrier) → find_actor name c ≡ Some (OfCarrier k) → CarrierMoves c ts name k
     pub collected : (id : NodeId) (moment : ℕ) → has_node config id.dc id.shard ≡ true → CallLeaves c ts moment (record { node = id; call = node_call.Collect })
+
+  -- a session changes, and the history does not
+  pub as_before : (nodes : List SoloNode) (ts : List Traced) (name : List ℕ) (next : Session) → A nodes ts name (OfSession next) → Leaves nodes ts name next ts
+  as_before nodes ts name next is = record { nodes_are = λ n. n; others_are = λ other a apart p. p; session_is = is }
 
   -- ---- what follows for the cluster
 
@@ -122,3 +132,14 @@ module _ (config : TenantConfig) (N : List SoloNode → List Traced → Type 0) 
             carried_to (call_node config directed.node moment directed.call c).after ts (called_stands c ts inv.1 moment directed (of.called moment directed e)) name _ _ (of.stepped moment directed e);
         collected = λ c ts id moment there inv. called_stands c ts inv.1 moment (record { node = id; call = node_call.Collect }) ((moves c ts inv.0 inv.1).collected id moment there);
       }
+
+-- a step, of a layer that does not look at the history
+pub plain_leaves : (config : TenantConfig) (N : List SoloNode → Type 0) (A : List SoloNode → List ℕ → Actor → Type 0) (nodes : List SoloNode) (ts : List Traced) (name : List ℕ) (s : Session) (running : Running) (step : LogStep) →
+    (answer config (request_of s running) (running.log ++ step ∷ []) ≡ None → A nodes name (OfSession (session_after s running step session_progress.Working))) →
+    ((a : Answer) → answer config (request_of s running) (running.log ++ step ∷ []) ≡ Some a → A nodes name (OfSession (session_after s running step (session_progress.Done a)))) →
+    StepLeaves config ts name s (Leaves config (λ nodes ts. N nodes) (λ nodes ts. A nodes) nodes ts name) running step
+plain_leaves config N A nodes ts name s running step goes_on ends =
+    record {
+      goes_on = λ e. record { nodes_are = λ n. n; others_are = λ other a apart p. p; session_is = goes_on e };
+      ends = λ a e. record { nodes_are = λ n. n; others_are = λ other a apart p. p; session_is = ends a e };
+    }

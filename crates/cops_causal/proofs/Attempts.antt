@@ -9,7 +9,7 @@ use Rattle.cops_types.specs.Records.{ever}
 use Rattle.cops_types.specs.TenantConfig.{TenantConfig}
 use Rattle.cops_types.specs.Version.{Timestamp, version_le, version_lt}
 use Rattle.cops_types.proofs.VersionOrder.{version_lt-irrefl, version_lt-le_trans}
-use Rattle.cops_types.proofs.Elements.{Among, Among-cases, Among-filter, filter-Among, Among-map, Every-at, Every-weaker, fold-push}
+use Rattle.cops_types.proofs.Elements.{Among, Among-cases, Among-filter, filter-Among, Among-map, Every-at, fold-push}
 use Rattle.cops_types.proofs.KeyTests.{key_eq-true, key_eq-refl}
 use Rattle.cops_types.proofs.Zipped.{Zipped}
 use Rattle.cops_model.specs.declared.calls.NodeCall.{NodeCall}
@@ -18,25 +18,22 @@ use Rattle.cops_model.specs.declared.calls.NodeId.{NodeId}
 use Rattle.cops_model.specs.declared.calls.NodeReply.{NodeReply}
 use Rattle.cops_model.specs.declared.calls.Wanted.{Wanted}
 use Rattle.cops_model.specs.declared.calls.Wanted.TheVariants.{Latest, Exactly}
-use Rattle.cops_model.specs.Log.{Call, Directed, Ended, Late, LogStep, Next, Replied, Restart, replies_of}
+use Rattle.cops_model.specs.Log.{Ended, Late, LogStep, Replied, replies_of}
 use Rattle.cops_model.specs.Place.{place_of}
 use Rattle.cops_model.specs.SoloNode.{SoloNode, new_node}
 use Rattle.cops_node.proofs.NodeTurns.{entries, Change, IsRefused, Answers, Joined, Taken, IsRefusal}
-use Rattle.cops_model.specs.declared.requests.Progress.{Progress}
-use Rattle.cops_model.specs.declared.requests.Progress.TheVariants as session_progress
-use Rattle.cops_model.specs.Request.{Action, Attempt, Fetch, Write, attempt_after, attempt_of, begins_again, call_after, is_late, key_home, next}
-use Rattle.cops_model.specs.Session.{Session, Running, new_session, obs_of, request_of, request_begun, context_created, context_deleted, session_after}
-use Rattle.cops_model.specs.Session as session
+use Rattle.cops_model.specs.Request.{Action, Attempt, Fetch, Write, attempt_after, attempt_of, begins_again, key_home}
+use Rattle.cops_model.specs.Session.{Session, Running}
 use Rattle.cops_model.specs.Transaction.{ReadRequest, gets, read_of}
 use Rattle.cops_session.proofs.ReplyCounts.{replies-push}
 use Rattle.cops_session.proofs.ReplyRounds.{Zipped-gets}
-use Rattle.cops_session.proofs.RequestReplies.{replies_in, get-next, get-begun, call_of}
+use Rattle.cops_session.proofs.RequestReplies.{replies_in, get-begun, call_of}
 use Rattle.cops_model.specs.declared.deliveries.Delivery.{Delivery}
-use Rattle.cops_model.specs.Carrier.{Carrier, new_carrier, carrier_after, pair_of_entry}
+use Rattle.cops_model.specs.Carrier.{pair_of_entry}
 use Rattle.cops_model.specs.Carrier as carrier
 use Rattle.cops_model.specs.Causal.{Traced}
-use Rattle.cops_model.specs.Cluster.{SoloCluster, NamedActor, Actor, OfSession, OfCarrier, new_cluster, find_session, with_actor, with_new_actor, call_node, session_stepped, carrier_stepped}
-use Rattle.cops_causal.proofs.ActorsKeep.{EachActor, actor_found, session_actor, each-with_actor, each-with_new, each-without}
+use Rattle.cops_model.specs.Cluster.{SoloCluster, Actor, OfSession, OfCarrier, new_cluster, find_session, call_node}
+use Rattle.cops_causal.proofs.ActorsKeep.{actor_found, session_actor}
 use Rattle.cops_causal.proofs.Answering.{reply_fresh}
 use Rattle.cops_causal.proofs.Closure.{home_in, IsHere}
 use Rattle.cops_causal.proofs.Moves.{Leads, Both}
@@ -46,7 +43,8 @@ use Rattle.cops_causal.proofs.Past.{new_nodes}
 use Rattle.cops_causal.proofs.Sound.{IsSound}
 use Rattle.cops_causal.proofs.TracedCalls.{home-there}
 use Rattle.cops_causal.proofs.TracedIdle.{session_of}
-use Rattle.cops_causal.proofs.RequestSteps.{not_ended}
+use Rattle.cops_causal.proofs.RequestSteps.{StepLeaves, by_call, none_runs, only_runs, run}
+use Rattle.cops_causal.proofs.ActorMoves.{CallLeaves, Leaves, Moves, SessionMoves, Stands, bare, moves_lead, plain_leaves}
 
 -- ---- the words
 
@@ -72,13 +70,15 @@ RequestReads config c dc (Write key value) log = Unit {0}
 RequestReads config c dc (Fetch keys) log = AttemptReads config c dc keys (attempt_of (Fetch keys) log)
 
 -- a carrier that ended is none
-abbrev pub IsActorTimed : TenantConfig → SoloCluster → List ℕ → Actor → Type 0
-IsActorTimed config c name (OfSession s) = (running : Running) → s.running ≡ Some running → RequestReads config c s.dc running.action running.log
-IsActorTimed config c name (OfCarrier k) = (ending : Delivery) → carrier.carrier_next config.shards k.stream k.log ≡ Ended ending → ⊥
+abbrev pub IsActorTimed : TenantConfig → List SoloNode → List Traced → List ℕ → Actor → Type 0
+IsActorTimed config nodes ts name (OfSession s) = (running : Running) → s.running ≡ Some running → RequestReads config (bare nodes) s.dc running.action running.log
+IsActorTimed config nodes ts name (OfCarrier k) = (ending : Delivery) → carrier.carrier_next config.shards k.stream k.log ≡ Ended ending → ⊥
 
-pub record IsTimed (config : TenantConfig) (c : SoloCluster) (ts : List Traced) : Type 0 where
-  pub long_there : (n : ℕ) → AreLongThere config.trans_time (node_of config c n).recs (node_of config c n).moment
-  pub actors : EachActor (IsActorTimed config c) c
+abbrev pub AreNodesTimed : TenantConfig → List SoloNode → List Traced → Type 0
+AreNodesTimed config nodes ts = (n : ℕ) → AreLongThere config.trans_time (node_of config (bare nodes) n).recs (node_of config (bare nodes) n).moment
+
+abbrev pub IsTimed : TenantConfig → SoloCluster → List Traced → Type 0
+IsTimed config = Stands (AreNodesTimed config) (IsActorTimed config)
 
 -- ---- a call at a node
 
@@ -123,17 +123,17 @@ module _ (config : TenantConfig) (c : SoloCluster) (id : NodeId) (moment : ℕ) 
   request_stays dc (Write key value) log are = tt
   request_stays dc (Fetch keys) log are = attempt_stays dc keys (attempt_of (Fetch keys) log) are
 
-  actor_stays : (name : List ℕ) (a : Actor) → IsActorTimed config c name a → IsActorTimed config after_call name a
-  actor_stays name (OfSession s) are = λ running runs. request_stays s.dc running.action running.log (are running runs)
-  actor_stays name (OfCarrier k) open_still = open_still
+  actor_stays : (ts : List Traced) (name : List ℕ) (a : Actor) → IsActorTimed config c.nodes ts name a → IsActorTimed config after_call.nodes ts name a
+  actor_stays ts name (OfSession s) are = λ running runs. request_stays s.dc running.action running.log (are running runs)
+  actor_stays ts name (OfCarrier k) open_still = open_still
 
-  pub timed_called : (ts : List Traced) → IsTimed config c ts → IsTimed config after_call ts
-  timed_called ts is =
+  call_timed : (ts : List Traced) → IsTimed config c ts → CallLeaves config (AreNodesTimed config) (IsActorTimed config) c ts moment (record { node = id; call = call })
+  call_timed ts is =
       record {
-        long_there = λ n. call_leaves config c id moment call
+        nodes_are = λ n. call_leaves config c id moment call
             (λ solo after. AreLongThere config.trans_time solo.recs solo.moment → AreLongThere config.trans_time after.recs after.moment) (λ solo are. are)
-            (λ solo are. turn_long_there (place_of config id) moment call solo are) n (is.long_there n);
-        actors = Every-weaker (λ (a : NamedActor). IsActorTimed config c a.name a.actor) (λ (a : NamedActor). IsActorTimed config after_call a.name a.actor) c.actors (λ a at. actor_stays a.name a.actor) is.actors;
+            (λ solo are. turn_long_there (place_of config id) moment call solo are) n (is.nodes n);
+        stays = actor_stays ts;
       }
 
 -- ---- what a get reads
@@ -223,114 +223,67 @@ module _ (config : TenantConfig) (c : SoloCluster) (dc : ℕ) (keys : List (List
       let step : LogStep = record { moment = moment; outcome = Late } in
       subst (AttemptReads config c dc keys) (sym (fold-push (attempt_after (Fetch keys)) (record { restarts = 0; steps = [] }) log step)) (none_read (attempt.restarts + 1))
 
--- ---- the actors
+-- ---- the moves
 
-module _ (config : TenantConfig) (c : SoloCluster) (ts : List Traced) (timed : IsTimed config c ts) (name : List ℕ) where
-  timed_session : (s : Session) (us : List Traced) → IsActorTimed config c name (OfSession s) → IsTimed config (with_actor name (OfSession s) c) us
-  timed_session s us is = record { long_there = timed.long_there; actors = each-with_actor (IsActorTimed config c) (IsActorTimed config c) c name (OfSession s) is (λ other a apart p. p) timed.actors }
+module _ (config : TenantConfig) (some : 0 < config.shards) (c : SoloCluster) (ts : List Traced) (inv : IsSound config c ts) (timed : IsTimed config c ts) where
+  module _ (name : List ℕ) (s : Session) (found : find_session name c ≡ Some s) where
+    pub reads_before : (running : Running) → s.running ≡ Some running → RequestReads config c s.dc running.action running.log
+    reads_before running runs = actor_found (IsActorTimed config c.nodes ts) c name (OfSession s) timed.actors (session_actor c name s found) running runs
 
-  timed_new : (a : Actor) → IsActorTimed config c name a → IsTimed config (with_new_actor name a c) ts
-  timed_new a is = record { long_there = timed.long_there; actors = each-with_new (IsActorTimed config c) c name a is timed.actors }
+    abbrev HasRead : List SoloNode → Running → Type 0
+    HasRead nodes r = RequestReads config (bare nodes) s.dc r.action r.log
 
-  idle_changed : (next : Session) → next.running ≡ None → IsTimed config (with_actor name (OfSession next) c) ts
-  idle_changed next idle = timed_session next ts (λ running runs. absurd (let both : None ≡ Some running = sym idle ∙ runs in cc))
+    abbrev Leaving : List SoloNode → Running → LogStep → Type 0
+    Leaving nodes = StepLeaves config ts name s (Leaves config (AreNodesTimed config) (IsActorTimed config) nodes ts name)
 
-  begun : (s : Session) (number : ℕ) (action : Action) → RequestReads config c s.dc action [] → IsTimed config (with_actor name (OfSession (request_begun number action s)) c) ts
-  begun s number action are =
-      let first : Running = record { number = s.next_request; context = number; action = action; log = [] } in
-      timed_session (request_begun number action s) ts (λ running runs.
-      let same : first ≡ running = (let both : Some first ≡ Some running = runs in cc) in subst (λ (r : Running). RequestReads config c s.dc r.action r.log) same are)
+    -- a step leaves what the request has read then
+    leaving : (nodes : List SoloNode) (running : Running) (step : LogStep) → RequestReads config (bare nodes) s.dc running.action (running.log ++ step ∷ []) → Leaving nodes running step
+    leaving nodes running step are =
+        plain_leaves config (λ nodes. AreNodesTimed config nodes []) (λ nodes. IsActorTimed config nodes []) nodes ts name s running step (λ open_still. only_runs (HasRead nodes) (record running { log = running.log ++ step ∷ [] }) are)
+        (λ a ends. none_runs (HasRead nodes) None refl)
 
-  carried : (k : Carrier) (step : LogStep) → IsTimed config (carrier_stepped name (carrier_after k step) (carrier.delivery_progress config.shards k step) c).after ts
-  carried k step = by_next (carrier.carrier_next config.shards k.stream (k.log ++ step ∷ [])) refl
-    where
-      goes_on : IsActorTimed config c name (OfCarrier (carrier_after k step)) → IsTimed config (with_actor name (OfCarrier (carrier_after k step)) c) ts
-      goes_on open_still =
-          record { long_there = timed.long_there; actors = each-with_actor (IsActorTimed config c) (IsActorTimed config c) c name (OfCarrier (carrier_after k step)) open_still (λ other a apart p. p) timed.actors }
+    reads_late : (action : Action) (log : List LogStep) (moment : ℕ) → RequestReads config c s.dc action (log ++ record { moment = moment; outcome = Late } ∷ [])
+    reads_late (Write key value) log moment = tt
+    reads_late (Fetch keys) log moment = attempt_late config c s.dc keys log moment
 
-      by_next : (n : Next Delivery) → carrier.carrier_next config.shards k.stream (k.log ++ step ∷ []) ≡ n → IsTimed config (carrier_stepped name (carrier_after k step) (carrier.progress_of n) c).after ts
-      by_next (Ended ending) is = record { long_there = timed.long_there; actors = each-without (IsActorTimed config c) c name timed.actors }
-      by_next (Call directed) is = goes_on (λ ending ends. let never : Call directed ≡ Ended ending = sym is ∙ ends in cc)
-      by_next Restart is = goes_on (λ ending ends. let never : Restart ≡ Ended ending = sym is ∙ ends in cc)
+    session_timed : SessionMoves config (AreNodesTimed config) (IsActorTimed config) c ts name s
+    session_timed =
+        let this = session_of config c ts inv.traced name s found in
+        record {
+          created = λ idle. none_runs (HasRead c.nodes) s.running idle;
+          deleted = λ number idle. none_runs (HasRead c.nodes) s.running idle;
+          put_begun = λ number key value ok. only_runs (HasRead c.nodes) (run s.next_request number (Write key value) []) tt;
+          get_begun = λ number keys ok. only_runs (HasRead c.nodes) (run s.next_request number (Fetch keys) []) (none_read config c s.dc keys [] 0);
+          called = λ running moment directed runs e. call_timed config c directed.node moment directed.call ts timed;
+          stepped = by_call config ts name s this
+              (λ running moment directed. let call = call_node config directed.node moment directed.call c in Leaving call.after.nodes running (record { moment = moment; outcome = Replied call.reply }))
+              (λ number context key value moment runs is. leaving _ (run number context (Write key value) []) _ tt)
+              (λ number context keys log moment q runs is at e.
+              let sent = call_of config s.dc q in
+              let call = call_node config sent.node moment sent.call c in
+              leaving call.after.nodes (run number context (Fetch keys) log) _
+              (attempt_pushed config call.after s.dc keys log moment call.reply q (attempt_stays config c sent.node moment sent.call s.dc keys (attempt_of (Fetch keys) log) (reads_before (run number context (Fetch keys) log) runs)) at
+              (λ start low. get_since config some c ts inv s.dc moment q.key this.placed q.wanted start low)));
+          late = λ running moment runs e. leaving c.nodes running _ (reads_late running.action running.log moment);
+        }
 
--- a session after a step
-timed_after : (config : TenantConfig) (c : SoloCluster) (name : List ℕ) (s : Session) (running : Running) (step : LogStep) (shown : Progress) → RequestReads config c s.dc running.action (running.log ++ step ∷ []) →
-    IsActorTimed config c name (OfSession (session_after s running step shown))
-timed_after config c name s running step (session_progress.Done ended) are other runs = absurd (let never : None ≡ Some other = runs in cc)
-timed_after config c name s running step session_progress.Working are other runs =
-    let more : Running = record running { log = running.log ++ step ∷ [] } in
-    let same : more ≡ other = (let both : Some more ≡ Some other = runs in cc) in subst (λ (r : Running). RequestReads config c s.dc r.action r.log) same are
-timed_after config c name s running step (session_progress.Restarted times) are other runs =
-    let more : Running = record running { log = running.log ++ step ∷ [] } in
-    let same : more ≡ other = (let both : Some more ≡ Some other = runs in cc) in subst (λ (r : Running). RequestReads config c s.dc r.action r.log) same are
-
--- ---- a step of a session
-
-module _ (config : TenantConfig) (some : 0 < config.shards) (c : SoloCluster) (ts : List Traced) (inv : IsSound config c ts) (timed : IsTimed config c ts) (name : List ℕ) (s : Session) (found : find_session name c ≡ Some s) where
-  pub reads_before : (running : Running) → s.running ≡ Some running → RequestReads config c s.dc running.action running.log
-  reads_before running runs = actor_found (IsActorTimed config c) c name (OfSession s) timed.actors (session_actor c name s found) running runs
-
-  reads_called : (number context : ℕ) (action : Action) (log : List LogStep) (moment : ℕ) (directed : Directed) →
-      let running : Running = record { number = number; context = context; action = action; log = log } in
-      let call = call_node config directed.node moment directed.call c in
-      s.running ≡ Some running → next config (request_of s running) log moment ≡ Call directed → RequestReads config call.after s.dc action (log ++ record { moment = moment; outcome = Replied call.reply } ∷ [])
-  reads_called number context (Write key value) log moment directed runs e = tt
-  reads_called number context (Fetch keys) log moment directed runs e =
-      let running : Running = record { number = number; context = context; action = Fetch keys; log = log } in
-      let chosen = get-next config s.dc (obs_of context s) keys log moment directed e in
-      let q = chosen.asked in
-      let sent = call_of config s.dc q in
-      let placed = (session_of config c ts inv.traced name s found).placed in
-      let call = call_node config sent.node moment sent.call c in
-      subst (λ (d : Directed). let turn = call_node config d.node moment d.call c in AttemptReads config turn.after s.dc keys (attempt_of (Fetch keys) (log ++ record { moment = moment; outcome = Replied turn.reply } ∷ []))) (sym chosen.call)
-      (attempt_pushed config call.after s.dc keys log moment call.reply q (attempt_stays config c sent.node moment sent.call s.dc keys (attempt_of (Fetch keys) log) (reads_before running runs)) chosen.at
-      (λ start low. get_since config some c ts inv s.dc moment q.key placed q.wanted start low))
-
-  pub stepped : (running : Running) (moment : ℕ) (directed : Directed) → s.running ≡ Some running → next config (request_of s running) running.log moment ≡ Call directed → (us : List Traced) →
-      let call = call_node config directed.node moment directed.call c in
-      IsTimed config (session_stepped config name s running (record { moment = moment; outcome = Replied call.reply }) call.after).after us
-  stepped running moment directed runs e us =
-      let call = call_node config directed.node moment directed.call c in
-      let step : LogStep = record { moment = moment; outcome = Replied call.reply } in
-      let shown = session.progress config (request_of s running) running.log step in
-      timed_session config call.after ts (timed_called config c directed.node moment directed.call ts timed) name (session_after s running step shown) us
-      (timed_after config call.after name s running step shown (reads_called running.number running.context running.action running.log moment directed runs e))
-
-  reads_late : (action : Action) (log : List LogStep) (moment : ℕ) → RequestReads config c s.dc action (log ++ record { moment = moment; outcome = Late } ∷ [])
-  reads_late (Write key value) log moment = tt
-  reads_late (Fetch keys) log moment = attempt_late config c s.dc keys log moment
-
-  pub stepped_late : (running : Running) (moment : ℕ) (us : List Traced) → IsTimed config (session_stepped config name s running (record { moment = moment; outcome = Late }) c).after us
-  stepped_late running moment us =
-      let step : LogStep = record { moment = moment; outcome = Late } in
-      let shown = session.progress config (request_of s running) running.log step in
-      timed_session config c ts timed name (session_after s running step shown) us (timed_after config c name s running step shown (reads_late running.action running.log moment))
-
--- ---- each move
+  timed_moves : Moves config (AreNodesTimed config) (IsActorTimed config) c ts
+  timed_moves =
+      record {
+        opened = λ name dc free exists. none_runs _ None refl;
+        carrier_begun = λ name stream is. λ ending ends. cc;
+        of_session = session_timed;
+        of_carrier = λ name k found. record { called = λ moment directed e. call_timed config c directed.node moment directed.call ts timed; stepped = λ moment directed e open_still. open_still };
+        collected = λ id moment there. call_timed config c id moment node_call.Collect ts timed;
+      }
 
 pub timed_kept : (config : TenantConfig) → 0 < config.shards → Leads config (Both (IsSound config) (IsTimed config)) (IsTimed config)
 timed_kept config some =
-    record {
-      opened = λ c ts name dc free exists inv. timed_new config c ts inv.1 name (OfSession (new_session dc 1)) (λ running runs. absurd (let never : None ≡ Some running = runs in cc));
-      carrier_begun = λ c ts name stream free is inv. timed_new config c ts inv.1 name (OfCarrier (new_carrier stream)) (λ ending ends. cc);
-      context_created = λ c ts name s found idle inv. idle_changed config c ts inv.1 name (context_created s) idle;
-      context_deleted = λ c ts name s number found idle inv. idle_changed config c ts inv.1 name (context_deleted number s) idle;
-      put_begun = λ c ts name s number key value found ok is inv. begun config c ts inv.1 name s number (Write key value) tt;
-      get_begun = λ c ts name s number keys found ok are inv. begun config c ts inv.1 name s number (Fetch keys) (none_read config c s.dc keys [] 0);
-      called = λ c ts name s running moment directed found runs e inv. stepped config some c ts inv.0 inv.1 name s found running moment directed runs e _;
-      late = λ c ts name s running moment found runs e inv. stepped_late config some c ts inv.0 inv.1 name s found running moment _;
-      ended = λ c ts name s running moment a found runs e inv.
-          absurd (not_ended (is_late config.trans_time running.action (attempt_of running.action running.log).steps moment) (call_after config (request_of s running) (attempt_of running.action running.log)) a
-          ((session_of config c ts inv.0.traced name s found).running_is running runs).unanswered e);
-      carrier_called = λ c ts name k moment directed found e inv.
-          let call = call_node config directed.node moment directed.call c in
-          carried config call.after ts (timed_called config c directed.node moment directed.call ts inv.1) name k (record { moment = moment; outcome = Replied call.reply });
-      collected = λ c ts id moment there inv. timed_called config c id moment node_call.Collect ts inv.1;
-    }
+    moves_lead config (AreNodesTimed config) (IsActorTimed config) (IsSound config) (λ c ts inv. inv.traced) (timed_moves config some)
 
 pub timed_at_first : (config : TenantConfig) → IsTimed config (new_cluster config) []
 timed_at_first config =
     record {
-      long_there = λ n. subst (λ (solo : SoloNode). AreLongThere config.trans_time solo.recs solo.moment) (sym (new_nodes (config.data_centres * config.shards) n (new_node config.data_centres))) tt;
+      nodes = λ n. subst (λ (solo : SoloNode). AreLongThere config.trans_time solo.recs solo.moment) (sym (new_nodes (config.data_centres * config.shards) n (new_node config.data_centres))) tt;
       actors = tt;
     }

@@ -138,7 +138,7 @@ module _ (config : TenantConfig) where
               let within : number < length c.nodes = (let w = number_within config id there in let sized = inv.traced.sized in omega arith) in
               let is : node_of config (call_node config id moment call c).after number ≡ after = get_or-set_same c.nodes number after (new_node config.data_centres) within in
               subst (λ m. HasFewInAudit config (node_of config (call_node config id moment call c).after m)) (sym here.1)
-              (subst (HasFewInAudit config) (sym is) (turn_few (node_of config c number) (limits.entries_are number) (place_of config id) moment call asked (audits.nodes number)))
+              (subst (HasFewInAudit config) (sym is) (turn_few (node_of config c number) (limits.nodes number) (place_of config id) moment call asked (audits.nodes number)))
           | inr other ↦ subst (HasFewInAudit config) (sym ((call_changes config c id moment call there inv.traced.sized).others n other.1)) (audits.nodes n)
         ]
 

@@ -1,6 +1,6 @@
 -- Lists are within the limit of the tenant's lists, and transactions have at most 32 keys: each move keeps that.
 use Rattle.std.proofs.Common.{◌≡◌, ℕ, ◌*◌, ◌≤◌, ◌<◌, Bool, true, false, cond, not, List, [], ◌∷◌, ◌++◌, length, inl, inr, refl, sym, ◌∙◌, ap, subst, arith, append-nil, append_assoc}
-use Rattle.std.specs.Prelude.{Option, Some, None, nat_lt, nat_le, ◌==◌, unwrap_or}
+use Rattle.std.specs.Prelude.{Some, None, nat_lt, nat_le, ◌==◌, unwrap_or}
 use Rattle.std.specs.Option.{option_map}
 use Rattle.std.specs.List.{AllByRecursion}
 use Rattle.std.proofs.lemmas.Bool.Decides.{nat_tests, eqb_tells}
@@ -18,30 +18,26 @@ use Rattle.cops_model.specs.declared.calls.NodeReply.{NodeReply}
 use Rattle.cops_model.specs.declared.calls.NodeReply.TheVariants as node_reply
 use Rattle.cops_model.specs.Log.{LogStep, Outcome, Late, Replied, Directed, Call}
 use Rattle.cops_model.specs.Place.{node_number, place_of}
-use Rattle.cops_model.specs.SoloNode.{new_node}
+use Rattle.cops_model.specs.SoloNode.{SoloNode, new_node}
 use Rattle.cops_node.proofs.Chains.{of_origin}
 use Rattle.cops_node.proofs.NodeTurns.{entries, Stores}
-use Rattle.cops_model.specs.declared.deliveries.Progress.{Progress as CarrierProgress}
-use Rattle.cops_model.specs.declared.deliveries.Progress.TheVariants as carrier_progress
-use Rattle.cops_model.specs.Carrier.{Carrier, Stream, new_carrier}
+use Rattle.cops_model.specs.Carrier.{Stream}
 use Rattle.cops_repl.proofs.CarrierStages.{Stage, Pulling, Delivering, InDelivery, Checking, Committing, Acking}
 use Rattle.cops_model.specs.declared.requests.Answer.{Answer}
 use Rattle.cops_model.specs.declared.requests.Answer.TheVariants as answer_is
-use Rattle.cops_model.specs.declared.requests.Progress.{Progress}
 use Rattle.cops_model.specs.declared.requests.Progress.TheVariants as session_progress
-use Rattle.cops_model.specs.Request.{Action, Fetch, Write, answer, key_home, next}
-use Rattle.cops_model.specs.Session.{OpenContext, Running, Session, context_created, context_deleted, context_extended, get_refusal, has_repeats, is_busy, is_open, new_session, obs_of, request_begun, request_of, seen_in, session_after, session_put_refusal, is_spent}
-use Rattle.cops_model.specs.Session as session
-use Rattle.cops_session.proofs.RequestReplies.{put_request, put-next, put-ends, put-late, put-refused, put-stored, get-next, get-answer}
+use Rattle.cops_model.specs.Request.{Action, Fetch, Write, answer, next}
+use Rattle.cops_model.specs.Session.{OpenContext, Running, Session, context_created, context_deleted, context_extended, get_refusal, has_repeats, is_busy, is_open, obs_of, request_begun, request_of, seen_in, session_after, session_put_refusal, is_spent}
+use Rattle.cops_session.proofs.RequestReplies.{put_request, put-ends, put-late, put-refused, put-stored, get-answer}
 use Rattle.cops_model.specs.Causal.{Traced}
-use Rattle.cops_model.specs.Cluster.{SoloCluster, Actor, OfSession, OfCarrier, new_cluster, find_session, with_actor, with_new_actor, call_node, session_stepped, carrier_stepped, has_node}
+use Rattle.cops_model.specs.Cluster.{SoloCluster, Actor, OfSession, OfCarrier, new_cluster, find_session, call_node, has_node}
 use Rattle.cops_model.specs.ListLimits.{HasFewPairs}
-use Rattle.cops_causal.proofs.ActorsKeep.{EachActor, actor_found, session_actor, each-with_actor, each-with_new, each-without}
+use Rattle.cops_causal.proofs.ActorsKeep.{actor_found, session_actor}
 use Rattle.cops_causal.proofs.Moves.{Leads, Both, head_passes, flipped}
 use Rattle.cops_causal.proofs.NodeEffects.{node_of, call_changes, entries_keep}
 use Rattle.cops_causal.proofs.Offers.{IsOffered, origin_of}
 use Rattle.cops_causal.proofs.Past.{new_nodes}
-use Rattle.cops_causal.proofs.Provenance.{IsRunning, IsContext}
+use Rattle.cops_causal.proofs.Provenance.{IsRunning, IsContext, IsSession}
 use Rattle.cops_causal.proofs.PutLengths.{put_within, some_pair}
 use Rattle.cops_causal.proofs.Readiness.{session_ready, carrier_served}
 use Rattle.cops_causal.proofs.Sound.{IsSound}
@@ -49,6 +45,8 @@ use Rattle.cops_causal.proofs.StreamMoves.{stage_now, stream_is}
 use Rattle.cops_causal.proofs.Streams.{Delivered}
 use Rattle.cops_causal.proofs.TracedIdle.{session_of}
 use Rattle.cops_causal.proofs.TracedSteps.{context_of}
+use Rattle.cops_causal.proofs.RequestSteps.{StepLeaves, by_call, none_runs, only_runs, run}
+use Rattle.cops_causal.proofs.ActorMoves.{CallLeaves, Leaves, Moves, SessionMoves, Stands, bare, moves_lead, plain_leaves}
 
 never_less : (n : ℕ) → nat_lt n 0 ≡ false
 never_less n = grind (arith, nat_tests)
@@ -87,13 +85,15 @@ module _ (config : TenantConfig) where
     pub alike : (x y : OpenContext) → Among x s.contexts → Among y s.contexts → x.number ≡ y.number → x.obs ≡ y.obs
     pub running : (r : Running) → s.running ≡ Some r → IsLimited (obs_of r.context s) r.action
 
-  abbrev pub IsActorLimited : List ℕ → Actor → Type 0
-  IsActorLimited name (OfSession s) = HasRoom s
-  IsActorLimited name (OfCarrier k) = Unit {0}
+  abbrev pub IsActorLimited : List SoloNode → List Traced → List ℕ → Actor → Type 0
+  IsActorLimited nodes ts name (OfSession s) = HasRoom s
+  IsActorLimited nodes ts name (OfCarrier k) = Unit {0}
 
-  pub record IsWithinLimits (c : SoloCluster) (ts : List Traced) : Type 0 where
-    pub entries_are : (n : ℕ) → AllByRecursion (HasFewPairs config) (entries (node_of config c n))
-    pub actors : EachActor IsActorLimited c
+  abbrev pub AreEntriesFew : List SoloNode → List Traced → Type 0
+  AreEntriesFew nodes ts = (n : ℕ) → AllByRecursion (HasFewPairs config) (entries (node_of config (bare nodes) n))
+
+  abbrev pub IsWithinLimits : SoloCluster → List Traced → Type 0
+  IsWithinLimits = Stands AreEntriesFew IsActorLimited
 
   -- ---- contexts
 
@@ -156,24 +156,21 @@ module _ (config : TenantConfig) where
 
   -- ---- sessions
 
+  -- a request goes on in what its context has seen
   still_room : (s : Session) (running : Running) (moment : ℕ) (log : List LogStep) → HasRoom s → s.running ≡ Some running → HasRoom (record s { moment = moment; running = Some (record running { log = log }) })
   still_room s running moment log room runs =
-      record {
-        contexts = room.contexts;
-        alike = room.alike;
-        running = λ r is. let more : Running = record running { log = log } in let same : more ≡ r = (let both : Some more ≡ Some r = is in cc) in subst (λ (x : Running). IsLimited (obs_of x.context s) x.action) same (room.running running runs);
-      }
+      record { contexts = room.contexts; alike = room.alike; running = only_runs (λ (x : Running). IsLimited (obs_of x.context s) x.action) (record running { log = log }) (room.running running runs) }
 
-  -- after a step: what was seen, or what the answer lets its context see
-  room_after : (s : Session) (running : Running) (step : LogStep) (shown : Progress) → HasRoom s → s.running ≡ Some running → is_open running.context s ≡ true →
-      ((a : Answer) → shown ≡ session_progress.Done a → IsRoomy (obs_of running.context s) → IsRoomy (obs_of running.context s ++ seen_in a)) → HasRoom (session_after s running step shown)
-  room_after s running step (session_progress.Done a) room runs opened seen =
+  -- it ends, and its context sees what the answer gives
+  room_ended : (s : Session) (running : Running) (step : LogStep) (a : Answer) → HasRoom s → is_open running.context s ≡ true →
+      (IsRoomy (obs_of running.context s) → IsRoomy (obs_of running.context s ++ seen_in a)) → HasRoom (session_after s running step (session_progress.Done a))
+  room_ended s running step a room opened seen =
       let here = context_of s running.context opened in
       let obs_is : obs_of running.context s ≡ here.0.obs = ap (λ o. unwrap_or (option_map (λ (c : OpenContext). c.obs) o) []) here.3 in
       record {
-        contexts = contexts_extended_at s.contexts (λ x among same. subst (λ obs. IsRoomy (obs ++ seen_in a)) (obs_is ∙ room.alike here.0 x here.1 among (here.2 ∙ sym same)) (seen a refl (seen_roomy s room running.context opened))) room.contexts;
+        contexts = contexts_extended_at s.contexts (λ x among same. subst (λ obs. IsRoomy (obs ++ seen_in a)) (obs_is ∙ room.alike here.0 x here.1 among (here.2 ∙ sym same)) (seen (seen_roomy s room running.context opened))) room.contexts;
         alike = extended_alike running.context (seen_in a) s.contexts room.alike;
-        running = λ r is. absurd (let never : None ≡ Some r = is in cc);
+        running = none_runs _ None refl;
       }
     where
       contexts_extended_at : (contexts : List OpenContext) → ((x : OpenContext) → Among x contexts → x.number ≡ running.context → IsRoomy (x.obs ++ seen_in a)) → AllByRecursion (λ (x : OpenContext). IsRoomy x.obs) contexts →
@@ -186,65 +183,40 @@ module _ (config : TenantConfig) where
         ],
         contexts_extended_at contexts (λ y among same. this y (inr among) same) each.1,
       )
-  room_after s running step session_progress.Working room runs opened seen = still_room s running _ _ room runs
-  room_after s running step (session_progress.Restarted n) room runs opened seen = still_room s running _ _ room runs
-
-  answer_shown : (o : Option Answer) (restarted : Bool) (times : ℕ) (a : Answer) → session.shown o restarted times ≡ session_progress.Done a → o ≡ Some a
-  answer_shown (Some b) restarted times a e = let same : b ≡ a = cc in ap Some same
-  answer_shown None true times a e = cc
-  answer_shown None false times a e = cc
 
   -- ---- moves
 
-  module _ (c : SoloCluster) (ts : List Traced) (limits : IsWithinLimits c ts) (name : List ℕ) where
-    limits-session : (s : Session) (us : List Traced) → HasRoom s → IsWithinLimits (with_actor name (OfSession s) c) us
-    limits-session s us is = record { entries_are = limits.entries_are; actors = each-with_actor IsActorLimited IsActorLimited c name (OfSession s) is (λ other a apart p. p) limits.actors }
-
-    limits-new : (a : Actor) → IsActorLimited name a → IsWithinLimits (with_new_actor name a c) ts
-    limits-new a is = record { entries_are = limits.entries_are; actors = each-with_new IsActorLimited c name a is limits.actors }
-
-    limits-carried : (next : Carrier) (shown : CarrierProgress) → IsWithinLimits (carrier_stepped name next shown c).after ts
-    limits-carried next carrier_progress.Working = record { entries_are = limits.entries_are; actors = each-with_actor IsActorLimited IsActorLimited c name (OfCarrier next) tt (λ other a apart p. p) limits.actors }
-    limits-carried next (carrier_progress.Done ending) = record { entries_are = limits.entries_are; actors = each-without IsActorLimited c name limits.actors }
-
   module _ (some : 0 < config.shards) (c : SoloCluster) (ts : List Traced) (inv : IsSound config c ts) (limits : IsWithinLimits c ts) where
-    -- a call whose stored entry has few near pairs
-    limits-called : (moment : ℕ) (directed : Directed) → has_node config directed.node.dc directed.node.shard ≡ true →
-        ((reply : NodeReply) (e : Entry) → Stores (place_of config directed.node) directed.call (node_of config c (node_number config.shards directed.node)) reply e → HasFewPairs config e) →
-        IsWithinLimits (call_node config directed.node moment directed.call c).after ts
-    limits-called moment directed there few =
-        let call = call_node config directed.node moment directed.call c in
-        record { entries_are = entries_keep (call_changes config c directed.node moment directed.call there inv.traced.sized) (HasFewPairs config) (few call.reply) limits.entries_are; actors = limits.actors }
+    -- what a call would store has few near pairs
+    abbrev StoresFew : Directed → Type 0
+    StoresFew directed = (reply : NodeReply) (e : Entry) → Stores (place_of config directed.node) directed.call (node_of config c (node_number config.shards directed.node)) reply e → HasFewPairs config e
+
+    call_limited : (moment : ℕ) (directed : Directed) → has_node config directed.node.dc directed.node.shard ≡ true → StoresFew directed → CallLeaves config AreEntriesFew IsActorLimited c ts moment directed
+    call_limited moment directed there few =
+        record {
+          nodes_are = entries_keep (call_changes config c directed.node moment directed.call there inv.traced.sized) (HasFewPairs config) (few (call_node config directed.node moment directed.call c).reply) limits.nodes;
+          stays = λ name a is. is;
+        }
 
     -- what is offered has few
     pub offered_few : (stream : Stream) (e : Entry) → IsOffered config c stream e → HasFewPairs config e
     offered_few stream e offered =
         let origin = origin_of config stream in
-        Every-at (HasFewPairs config) e (entries (node_of config c origin)) (limits.entries_are origin)
+        Every-at (HasFewPairs config) e (entries (node_of config c origin)) (limits.nodes origin)
         (Among-filter (λ (g : Entry). g.version.node == origin) e (entries (node_of config c origin)) (slice_get-Among (of_origin origin (entries (node_of config c origin))) offered.place e offered.at)).0
 
     module _ (name : List ℕ) (s : Session) (found : find_session name c ≡ Some s) where
-      abbrev run : ℕ → ℕ → Action → List LogStep → Running
-      run number context action log = record { number = number; context = context; action = action; log = log }
-
       pub room : HasRoom s
-      room = actor_found IsActorLimited c name (OfSession s) limits.actors (session_actor c name s found)
+      room = actor_found (IsActorLimited c.nodes ts) c name (OfSession s) limits.actors (session_actor c name s found)
 
-      abbrev running_is : (running : Running) → s.running ≡ Some running → IsRunning config ts s running
-      running_is = (session_of config c ts inv.traced name s found).running_is
+      abbrev this : IsSession config ts name s
+      this = session_of config c ts inv.traced name s found
 
       -- what a session has stored has the near pairs of its context
-      stored_few : (number context : ℕ) (action : Action) (log : List LogStep) (moment : ℕ) (directed : Directed) → IsRunning config ts s (run number context action log) →
-          next config (request_of s (run number context action log)) log moment ≡ Call directed → (reply : NodeReply) (e : Entry) → Stores (place_of config directed.node) directed.call (node_of config c (node_number config.shards directed.node)) reply e → HasFewPairs config e
-      stored_few number context (Write key value) log moment directed is e reply f =
-          let sent : Directed = record { node = key_home config s.dc key; call = node_call.Put key value (all_of (obs_of context s)) (near_of (obs_of context s)) } in
-          let at_start = subst (λ l. next config (request_of s (run number context (Write key value) l)) l moment ≡ Call directed) is.replies_are e in
-          let same : sent ≡ directed = (let both : Call sent ≡ Call directed = sym (put-next config s.dc (obs_of context s) key value moment) ∙ at_start in cc) in
-          subst (λ (d : Directed). Stores (place_of config d.node) d.call (node_of config c (node_number config.shards d.node)) reply f → HasFewPairs config f) same
-          (λ stores. subst (HasFewPairs config) (sym stores.3) (seen_roomy s room context is.in_open))
-      stored_few number context (Fetch keys) log moment directed is e reply f =
-          let chosen = get-next config s.dc (obs_of context s) keys log moment directed e in
-          subst (λ (d : Directed). Stores (place_of config d.node) d.call (node_of config c (node_number config.shards d.node)) reply f → HasFewPairs config f) (sym chosen.call) (λ stores. absurd stores)
+      stored_few : (running : Running) (moment : ℕ) (directed : Directed) → s.running ≡ Some running → next config (request_of s running) running.log moment ≡ Call directed → StoresFew directed
+      stored_few = by_call config ts name s this (λ running moment directed. StoresFew directed)
+          (λ number context key value moment runs is reply e stores. subst (HasFewPairs config) (sym stores.3) (seen_roomy s room context is.in_open))
+          (λ number context keys log moment q runs is at e reply f stores. absurd stores)
 
       -- what an answer lets the context see
       answer_roomy : (number context : ℕ) (action : Action) (log : List LogStep) (step : LogStep) → IsLimited (obs_of context s) action → IsRunning config ts s (run number context action log) →
@@ -266,22 +238,11 @@ module _ (config : TenantConfig) where
       answer_roomy number context (Fetch keys) log step limited is (answer_is.Values reads) e roomy =
           roomy_seen (observations_of reads) (obs_of context s) roomy (get-answer config s.dc (obs_of context s) keys (log ++ step ∷ []) (answer_is.Values reads) e).4
 
-      room_stepped : (running : Running) (step : LogStep) → s.running ≡ Some running → HasRoom (session_after s running step (session.progress config (request_of s running) running.log step))
-      room_stepped running step runs =
-          let is = running_is running runs in
-          let ends = answer config (request_of s running) (running.log ++ step ∷ []) in
-          room_after s running step (session.progress config (request_of s running) running.log step) room runs is.in_open (λ a shown roomy.
-          answer_roomy running.number running.context running.action running.log step (room.running running runs) is a (answer_shown ends _ _ a shown) roomy)
-
-      limits-stepped : (running : Running) (moment : ℕ) (directed : Directed) → s.running ≡ Some running → next config (request_of s running) running.log moment ≡ Call directed → (us : List Traced) →
-          let call = call_node config directed.node moment directed.call c in
-          IsWithinLimits (session_stepped config name s running (record { moment = moment; outcome = Replied call.reply }) call.after).after us
-      limits-stepped running moment directed runs e us =
-          let call = call_node config directed.node moment directed.call c in
-          let step : LogStep = record { moment = moment; outcome = Replied call.reply } in
-          let ready = session_ready config some c ts inv name s found running moment directed runs e in
-          limits-session call.after ts (limits-called moment directed ready.there (stored_few running.number running.context running.action running.log moment directed (running_is running runs) e)) name
-          (session_after s running step (session.progress config (request_of s running) running.log step)) us (room_stepped running step runs)
+      leaving : (nodes : List SoloNode) (running : Running) (step : LogStep) → s.running ≡ Some running → StepLeaves config ts name s (Leaves config AreEntriesFew IsActorLimited nodes ts name) running step
+      leaving nodes running step runs =
+          let is = this.running_is running runs in
+          plain_leaves config (λ nodes. AreEntriesFew nodes []) (λ nodes. IsActorLimited nodes []) nodes ts name s running step (λ open_still. still_room s running _ _ room runs)
+          (λ a ends. room_ended s running step a room is.in_open (answer_roomy running.number running.context running.action running.log step (room.running running runs) is a ends))
 
       room_created : s.running ≡ None → HasRoom (context_created s)
       room_created idle =
@@ -299,7 +260,7 @@ module _ (config : TenantConfig) where
                 | inr new_y ↦ obs_of_new x new_x ∙ sym (obs_of_new y new_y)
               ]
             ];
-            running = λ r is. absurd (let never : None ≡ Some r = sym idle ∙ is in cc);
+            running = none_runs _ s.running idle;
           }
         where
           number_of_new : (x : OpenContext) → Among x (record { number = s.next_context; obs = [] } ∷ []) → x.number ≡ s.next_context
@@ -317,17 +278,12 @@ module _ (config : TenantConfig) where
           record {
             contexts = Every-filter (λ (x : OpenContext). IsRoomy x.obs) test s.contexts room.contexts;
             alike = λ x y at_x at_y same. room.alike x y (Among-filter test x s.contexts at_x).0 (Among-filter test y s.contexts at_y).0 same;
-            running = λ r is. absurd (let never : None ≡ Some r = sym idle ∙ is in cc);
+            running = none_runs _ s.running idle;
           }
 
       room_begun : (number : ℕ) (action : Action) → IsLimited (obs_of number s) action → HasRoom (request_begun number action s)
       room_begun number action limited =
-          let first : Running = record { number = s.next_request; context = number; action = action; log = [] } in
-          record {
-            contexts = room.contexts;
-            alike = room.alike;
-            running = λ r is. let same : first ≡ r = (let both : Some first ≡ Some r = is in cc) in subst (λ (x : Running). IsLimited (obs_of x.context s) x.action) same limited;
-          }
+          record { contexts = room.contexts; alike = room.alike; running = only_runs (λ (x : Running). IsLimited (obs_of x.context s) x.action) (run s.next_request number action []) limited }
 
       put_limited : (number : ℕ) (key value : List ℕ) → session_put_refusal config number key s ≡ None → IsLimited (obs_of number s) (Write key value)
       put_limited number key value ok =
@@ -350,46 +306,53 @@ module _ (config : TenantConfig) where
           as_number : (n : ℕ) → nat_lt 32 n ≡ false → n ≤ 32
           as_number n e = grind (arith, nat_tests)
 
+      session_limited : SessionMoves config AreEntriesFew IsActorLimited c ts name s
+      session_limited =
+          record {
+            created = room_created;
+            deleted = room_deleted;
+            put_begun = λ number key value ok. room_begun number (Write key value) (put_limited number key value ok);
+            get_begun = λ number keys ok. room_begun number (Fetch keys) (get_limited number keys ok);
+            called = λ running moment directed runs e. call_limited moment directed (session_ready config some c ts inv name s found running moment directed runs e).there (stored_few running moment directed runs e);
+            stepped = λ running moment directed runs e. leaving _ running _ runs;
+            late = λ running moment runs e. leaving _ running _ runs;
+          }
+
     -- ---- carriers
 
     module _ (stream : Stream) where
-      by_delivery : (moment : ℕ) (e : Entry) (directed : Directed) → has_node config directed.node.dc directed.node.shard ≡ true → IsOffered config c stream e → InDelivery (Delivered config c stream) config.shards stream e directed →
-          IsWithinLimits (call_node config directed.node moment directed.call c).after ts
-      by_delivery moment e directed there offered (Checking near among same) = limits-called moment directed there (λ reply f. subst (λ (d : Directed). Stores (place_of config d.node) d.call (node_of config c (node_number config.shards d.node)) reply f → HasFewPairs config f) (sym same) (λ stores. absurd stores))
-      by_delivery moment e directed there offered (Committing near same) = limits-called moment directed there (λ reply f. subst (λ (d : Directed). Stores (place_of config d.node) d.call (node_of config c (node_number config.shards d.node)) reply f → HasFewPairs config f) (sym same) (λ stores. subst (HasFewPairs config) (sym stores.1) (offered_few stream e offered)))
-      by_delivery moment e directed there offered (Acking r brought kind same) = limits-called moment directed there (λ reply f. subst (λ (d : Directed). Stores (place_of config d.node) d.call (node_of config c (node_number config.shards d.node)) reply f → HasFewPairs config f) (sym same) (λ stores. absurd stores))
+      delivery_few : (e : Entry) (directed : Directed) → IsOffered config c stream e → InDelivery (Delivered config c stream) config.shards stream e directed → StoresFew directed
+      delivery_few e directed offered (Checking near among same) = subst StoresFew (sym same) (λ reply f stores. absurd stores)
+      delivery_few e directed offered (Committing near same) = subst StoresFew (sym same) (λ reply f stores. subst (HasFewPairs config) (sym stores.1) (offered_few stream e offered))
+      delivery_few e directed offered (Acking r brought kind same) = subst StoresFew (sym same) (λ reply f stores. absurd stores)
 
-      by_stage : (moment : ℕ) (directed : Directed) → has_node config directed.node.dc directed.node.shard ≡ true → Stage (Delivered config c stream) config.shards stream directed → IsWithinLimits (call_node config directed.node moment directed.call c).after ts
-      by_stage moment directed there (Pulling same) = limits-called moment directed there (λ reply f. subst (λ (d : Directed). Stores (place_of config d.node) d.call (node_of config c (node_number config.shards d.node)) reply f → HasFewPairs config f) (sym same) (λ stores. absurd stores))
-      by_stage moment directed there (Delivering e offered now) = by_delivery moment e directed there offered now
+      stage_few : (directed : Directed) → Stage (Delivered config c stream) config.shards stream directed → StoresFew directed
+      stage_few directed (Pulling same) = subst StoresFew (sym same) (λ reply f stores. absurd stores)
+      stage_few directed (Delivering e offered now) = delivery_few e directed offered now
+
+    limited_moves : Moves config AreEntriesFew IsActorLimited c ts
+    limited_moves =
+        record {
+          opened = λ name dc free exists. record { contexts = tt; alike = λ x y at_x. absurd at_x; running = none_runs _ None refl };
+          carrier_begun = λ name stream is. tt;
+          of_session = session_limited;
+          of_carrier = λ name k found.
+              let is = stream_is config some c ts inv.flowing inv.traced name k found in
+              record {
+                called = λ moment directed e.
+                    let stage = stage_now config some c ts inv.flowing inv.traced name k found directed e in
+                    call_limited moment directed (carrier_served config some c ts inv k.stream is moment directed stage).calls.there (stage_few k.stream directed stage);
+                stepped = λ moment directed e open_still. tt;
+              };
+          collected = λ id moment there. call_limited moment (record { node = id; call = node_call.Collect }) there (λ reply e stores. absurd stores);
+        }
 
 pub limits_kept : (config : TenantConfig) → 0 < config.shards → Leads config (Both (IsSound config) (IsWithinLimits config)) (IsWithinLimits config)
-limits_kept config some =
-    record {
-      opened = λ c ts name dc free exists inv. limits-new config c ts inv.1 name (OfSession (new_session dc 1)) (record { contexts = tt; alike = λ x y at_x. absurd at_x; running = λ r is. absurd (let never : None ≡ Some r = is in cc) });
-      carrier_begun = λ c ts name stream free is inv. limits-new config c ts inv.1 name (OfCarrier (new_carrier stream)) tt;
-      context_created = λ c ts name s found idle inv. limits-session config c ts inv.1 name (context_created s) ts (room_created config some c ts inv.0 inv.1 name s found idle);
-      context_deleted = λ c ts name s number found idle inv. limits-session config c ts inv.1 name (context_deleted number s) ts (room_deleted config some c ts inv.0 inv.1 name s found number idle);
-      put_begun = λ c ts name s number key value found ok is inv.
-          limits-session config c ts inv.1 name (request_begun number (Write key value) s) ts (room_begun config some c ts inv.0 inv.1 name s found number (Write key value) (put_limited config some c ts inv.0 inv.1 name s found number key value ok));
-      get_begun = λ c ts name s number keys found ok are inv.
-          limits-session config c ts inv.1 name (request_begun number (Fetch keys) s) ts (room_begun config some c ts inv.0 inv.1 name s found number (Fetch keys) (get_limited config some c ts inv.0 inv.1 name s found number keys ok));
-      called = λ c ts name s running moment directed found runs e inv. limits-stepped config some c ts inv.0 inv.1 name s found running moment directed runs e _;
-      late = λ c ts name s running moment found runs e inv.
-          let step : LogStep = record { moment = moment; outcome = Late } in
-          limits-session config c ts inv.1 name (session_after s running step (session.progress config (request_of s running) running.log step)) _ (room_stepped config some c ts inv.0 inv.1 name s found running step runs);
-      ended = λ c ts name s running moment a found runs e inv. record { entries_are = inv.1.entries_are; actors = inv.1.actors };
-      carrier_called = λ c ts name k moment directed found e inv.
-          let is = stream_is config some c ts inv.0.flowing inv.0.traced name k found in
-          let stage = stage_now config some c ts inv.0.flowing inv.0.traced name k found directed e in
-          let served = carrier_served config some c ts inv.0 k.stream is moment directed stage in
-          limits-carried config (call_node config directed.node moment directed.call c).after ts (by_stage config some c ts inv.0 inv.1 k.stream moment directed served.calls.there stage) name _ _;
-      collected = λ c ts id moment there inv. limits-called config some c ts inv.0 inv.1 moment (record { node = id; call = node_call.Collect }) there (λ reply e stores. absurd stores);
-    }
+limits_kept config some = moves_lead config (AreEntriesFew config) (IsActorLimited config) (IsSound config) (λ c ts inv. inv.traced) (limited_moves config some)
 
 pub limits_at_first : (config : TenantConfig) → IsWithinLimits config (new_cluster config) []
 limits_at_first config =
     record {
-      entries_are = λ n. subst (λ solo. AllByRecursion (HasFewPairs config) (entries solo)) (sym (new_nodes (config.data_centres * config.shards) n (new_node config.data_centres))) tt;
+      nodes = λ n. subst (λ solo. AllByRecursion (HasFewPairs config) (entries solo)) (sym (new_nodes (config.data_centres * config.shards) n (new_node config.data_centres))) tt;
       actors = tt;
     }

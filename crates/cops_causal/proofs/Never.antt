@@ -17,14 +17,14 @@ use Rattle.cops_model.specs.declared.calls.NodeReply.TheVariants as node_reply
 use Rattle.cops_model.specs.Log.{LogStep, Late, Replied, Next, Call, Restart, Ended, is_asked}
 use Rattle.cops_model.specs.Place.{node_number, place_of}
 use Rattle.cops_model.specs.declared.requests.Answer.{Answer}
-use Rattle.cops_model.specs.Request.{Action, Write, Fetch, answer, attempt_of, call_after, is_late}
+use Rattle.cops_model.specs.Request.{answer, attempt_of}
 use Rattle.cops_model.specs.Request as request
-use Rattle.cops_model.specs.Session.{Session, Running, new_session, obs_of, is_open, is_busy, has_repeats, has_restarted, context_created, context_deleted, request_begun, request_of, moment_at, is_spent}
+use Rattle.cops_model.specs.Session.{Session, Running, obs_of, is_open, is_busy, has_repeats, has_restarted, request_of, moment_at, is_spent}
 use Rattle.cops_model.specs.Session as session
 use Rattle.cops_model.specs.declared.deliveries.Delivery.{Delivery}
 use Rattle.cops_model.specs.declared.deliveries.Progress.{Progress as CarrierProgress}
 use Rattle.cops_model.specs.declared.deliveries.Progress.TheVariants as carrier_progress
-use Rattle.cops_model.specs.Carrier.{Carrier, Stream, new_carrier, carrier_after}
+use Rattle.cops_model.specs.Carrier.{Carrier, carrier_after}
 use Rattle.cops_model.specs.Carrier as carrier
 use Rattle.cops_model.specs.declared.acts.Act.{Act}
 use Rattle.cops_model.specs.declared.acts.Act.TheVariants.{Open, Create, Delete, Put, Get, Show, Carry, Step, Done, Collect}
@@ -45,7 +45,7 @@ use Rattle.cops_causal.proofs.Served.{IsServed, FineTurn, called, collect_ready,
 use Rattle.cops_causal.proofs.Sound.{IsSound, sound_kept, sound_at_first}
 use Rattle.cops_causal.proofs.TracedIdle.{session_of}
 use Rattle.cops_causal.proofs.Unbroken.{IsFineDelivery, shown_fine, ended_fine, carrier_shown_fine}
-use Rattle.cops_causal.proofs.RequestSteps.{not_ended}
+use Rattle.cops_causal.proofs.RequestSteps.{never_ended}
 
 abbrev IsFine : Reply → Type 0
 IsFine r = is_expected r ≡ true
@@ -110,9 +110,7 @@ module _ (config : TenantConfig) (some : 0 < config.shards) where
           turn_fine s running (record { moment = moment; outcome = Replied (call_node config directed.node moment directed.call c).reply }) (session_turn config some c ts inv.0 inv.1 name s found running moment directed runs is)
       does_fine running moment Restart runs is =
           turn_fine s running (record { moment = moment; outcome = Late }) (session_late_turn config some c ts inv.0 inv.1 name s found running moment runs is)
-      does_fine running moment (Ended a) runs is =
-          absurd (not_ended (is_late config.trans_time running.action (attempt_of running.action running.log).steps moment) (call_after config (request_of s running) (attempt_of running.action running.log)) a
-          ((session_of config c ts inv.0.traced name s found).running_is running runs).unanswered is)
+      does_fine running moment (Ended a) runs is = absurd (never_ended config ts name s (session_of config c ts inv.0.traced name s found) running moment a runs is)
 
       running_fine : (moment : ℕ) (run : Option Running) → s.running ≡ run → IsFine (running_step config name s moment c run).reply
       running_fine moment (Some running) runs = does_fine running (moment_at moment s) (request.next config (request_of s running) running.log (moment_at moment s)) runs refl
@@ -200,5 +198,5 @@ module _ (config : TenantConfig) (some : 0 < config.shards) where
   pub is_as_expected : (acts : List Act) → IsAsExpected config acts
   is_as_expected acts = (
     replies_fine acts (new_cluster config) [] whole_at_first,
-    λ dc shard in_dcs in_shards. Every-true (λ (e : AuditEntry). is_expected_of_node e.reply) (node_at config acts dc shard).trail ((after_acts whole_kept acts whole_at_first).1.trails (dc * config.shards + shard)),
+    λ dc shard in_dcs in_shards. Every-true (λ (e : AuditEntry). is_expected_of_node e.reply) (node_at config acts dc shard).trail ((after_acts whole_kept acts whole_at_first).1.nodes (dc * config.shards + shard)),
   )

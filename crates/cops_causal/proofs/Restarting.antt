@@ -164,7 +164,7 @@ module _ (config : TenantConfig) (some : 0 < config.shards) (c : SoloCluster) (t
           let here : IsHere config c s.dc (at read.key v) =
           deps_here config some c ts inv s.dc keys rs is.replies_are ((mine config some c ts inv.closed name s found).replies_here (run number context (Fetch keys) log) runs) (at read.key v) (wanted-among reads read older.1) in
           let e = map-Among carrier.pair_of_entry (at read.key v) (entries solo) here in
-          let gone = gone_long config.trans_time solo read.key v (timed.long_there (home_in config s.dc read.key)) missing e.0 e.1 (ap (λ p. p.key) e.2) (ap (λ p. p.version) e.2) in
+          let gone = gone_long config.trans_time solo read.key v (timed.nodes (home_in config s.dc read.key)) missing e.0 e.1 (ap (λ p. p.key) e.2) (ap (λ p. p.version) e.2) in
           let split = λ (R : ReadRequest → NodeReply → Type 0) (z : Zipped R (gets keys rs) rs). Zipped-left R (first_round keys) (second_round reads) rs (subst (λ b. Zipped R (cond b (first_round keys) (first_round keys ++ second_round reads)) rs) done z) in
           let since = first_since config c s.dc start keys rs
           (split (IsReadSince config c s.dc start) (reads_before config some c ts inv timed name s found (run number context (Fetch keys) log) runs start first))
@@ -365,7 +365,7 @@ module _ (config : TenantConfig) (some : 0 < config.shards) (c : SoloCluster) (t
         let other = fault_other directed.call call.reply (reply_asked (place_of config directed.node) (node_of config c n) call.reply directed.call (node_of config call.after n) called.change served.calls.ready) in
         stepped_never (carrier_after k step) (carrier.carrier_next config.shards k.stream (k.log ++ step ∷ [])) call.after (carrier_other config.shards k.stream k.log moment directed call.reply e other) ends
     carrier_never moment Restart e ends = cc
-    carrier_never moment (Ended ending) e ends = actor_found (IsActorTimed config c) c name (OfCarrier k) timed.actors found ending e
+    carrier_never moment (Ended ending) e ends = actor_found (IsActorTimed config c.nodes ts) c name (OfCarrier k) timed.actors found ending e
 
   -- ---- steps
 
