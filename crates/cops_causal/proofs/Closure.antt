@@ -19,7 +19,6 @@ use Rattle.cops_model.specs.Session.{Session, Running, OpenContext}
 use Rattle.cops_model.specs.Transaction.{ReadRequest, gets}
 use Rattle.cops_model.specs.Causal.{Traced, put_by, past_of_put}
 use Rattle.cops_model.specs.Cluster.{SoloCluster, Actor, OfSession, OfCarrier}
-use Rattle.cops_causal.proofs.ActorsKeep.{EachActor}
 use Rattle.cops_node.proofs.Chains.{IsChain, last_version, chain-above, chain-greatest, chain-left, mark-is, IsFront, front-get}
 use Rattle.cops_types.proofs.Elements.{slice_get-Among, Among, Among-filter, Among-map, map-Among}
 use Rattle.cops_causal.proofs.Convergence.{Among-place, in_held}
@@ -31,6 +30,8 @@ use Rattle.cops_causal.proofs.Provenance.{IsTraced, IsPutEntry}
 use Rattle.cops_session.proofs.RequestReplies.{replies_in}
 use Rattle.cops_types.proofs.Zipped.{Zipped}
 use Rattle.cops_causal.proofs.StreamNodes.{held, IsStreamed}
+use Rattle.cops_model.specs.SoloNode.{SoloNode}
+use Rattle.cops_causal.proofs.ActorMoves.{Stands, bare}
 
 -- the node of a data centre on which a key is placed
 abbrev pub home_in : TenantConfig → ℕ → List ℕ → ℕ
@@ -54,15 +55,18 @@ pub record IsAtHome (config : TenantConfig) (c : SoloCluster) (ts : List Traced)
   pub contexts_here : (x : OpenContext) → Among x s.contexts → (q : Pair) → Among q (past_in ts name x.number) → IsHere config c s.dc q
   pub replies_here : (running : Running) → s.running ≡ Some running → RepliesAreHere config c s.dc running.action running.log
 
-abbrev pub IsActorAtHome : TenantConfig → SoloCluster → List Traced → List ℕ → Actor → Type 0
-IsActorAtHome config c ts name (OfSession s) = IsAtHome config c ts name s
-IsActorAtHome config c ts name (OfCarrier k) = Unit {0}
+abbrev pub IsActorAtHome : TenantConfig → List SoloNode → List Traced → List ℕ → Actor → Type 0
+IsActorAtHome config nodes ts name (OfSession s) = IsAtHome config (bare nodes) ts name s
+IsActorAtHome config nodes ts name (OfCarrier k) = Unit {0}
 
--- the invariant: with each record its past is in the data centre, and with each session what it has seen
-pub record IsClosed (config : TenantConfig) (c : SoloCluster) (ts : List Traced) : Type 0 where
-  pub pasts_here : (dc shard : ℕ) → shard < config.shards → (e : Entry) → Among e (entries (node_of config c (dc * config.shards + shard))) →
-      (q : Pair) → Among q (past_of_put ts (pair_of_entry e)) → IsHere config c dc q
-  pub sessions_here : EachActor (IsActorAtHome config c ts) c
+-- with each record its past is in the data centre
+abbrev pub PastsAreHere : TenantConfig → List SoloNode → List Traced → Type 0
+PastsAreHere config nodes ts =
+    (dc shard : ℕ) → shard < config.shards → (e : Entry) → Among e (entries (node_of config (bare nodes) (dc * config.shards + shard))) → (q : Pair) → Among q (past_of_put ts (pair_of_entry e)) → IsHere config (bare nodes) dc q
+
+-- the invariant: so it is, and with each session what it has seen
+abbrev pub IsClosed : TenantConfig → SoloCluster → List Traced → Type 0
+IsClosed config = Stands (PastsAreHere config) (IsActorAtHome config)
 
 -- ---- a check that was answered by yes
 
@@ -125,5 +129,5 @@ module _ (config : TenantConfig) (c : SoloCluster) (ts : List Traced) (traced : 
             let by = past_of_put-Among ts n q before in
             let put = Among-flat_map (λ (t : Traced). put_by t.operation.effect) ts n by.0 by.1 (holds-Among (put_by by.0.operation.effect) n by.2) in
             let there = map-Among pair_of_entry n (entries (node_of config c (home_in config dc n.key))) (committed-here (home_in config dc n.key) n put (checked n cover.1)) in
-            closed.pasts_here dc (shard_of n.key config.shards) (mod-lt (sum n.key) some) there.0 there.1 q (subst (λ p. Among q (past_of_put ts p)) (sym there.2) before)
+            closed.nodes dc (shard_of n.key config.shards) (mod-lt (sum n.key) some) there.0 there.1 q (subst (λ p. Among q (past_of_put ts p)) (sym there.2) before)
       ]

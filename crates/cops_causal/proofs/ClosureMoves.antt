@@ -18,9 +18,9 @@ use Rattle.cops_model.specs.Carrier.{pair_of_entry, Stream, check}
 use Rattle.cops_model.specs.Request.{Action, Write, Fetch}
 use Rattle.cops_model.specs.Transaction.{ReadRequest, gets}
 use Rattle.cops_model.specs.Causal.{Traced, past_of_put}
-use Rattle.cops_model.specs.Cluster.{SoloCluster, NamedActor, Actor, OfSession, OfCarrier}
-use Rattle.cops_causal.proofs.Closure.{IsHere, IsFoundHere, RepliesAreHere, IsActorAtHome, IsClosed, past-here}
-use Rattle.cops_types.proofs.Elements.{Among, Among-left, Among-cases, Every-weaker, Every-at}
+use Rattle.cops_model.specs.Cluster.{SoloCluster, Actor, OfSession, OfCarrier}
+use Rattle.cops_causal.proofs.Closure.{IsHere, IsFoundHere, RepliesAreHere, IsActorAtHome, IsClosed, past-here, PastsAreHere}
+use Rattle.cops_types.proofs.Elements.{Among, Among-left, Among-cases, Every-at}
 use Rattle.cops_node.proofs.NodeTurns.{entries, Change, IsRefused, Answers, Joined, Taken, Stores}
 use Rattle.cops_causal.proofs.NodeEffects.{node_of, Called, entries_grow}
 use Rattle.cops_causal.proofs.Provenance.{IsTraced, IsPutEntry}
@@ -28,7 +28,6 @@ use Rattle.cops_session.proofs.RequestReplies.{replies_in}
 use Rattle.cops_types.proofs.Zipped.{Zipped}
 use Rattle.cops_causal.proofs.StreamNodes.{IsStreamed}
 use Rattle.cops_causal.proofs.Streams.{Delivered}
-use Rattle.cops_causal.proofs.TracedCalls.{actors_stay}
 
 -- ---- more entries take nothing away
 
@@ -52,7 +51,7 @@ module _ (config : TenantConfig) (c after : SoloCluster) (grows : (n : ℕ) → 
   replies-grown dc (Write key value) log are = tt
   replies-grown dc (Fetch keys) log are = zipped-grown dc (gets keys (replies_in keys log)) (replies_in keys log) are
 
-  pub at_home-grown : (ts : List Traced) (name : List ℕ) (a : Actor) → IsActorAtHome config c ts name a → IsActorAtHome config after ts name a
+  pub at_home-grown : (ts : List Traced) (name : List ℕ) (a : Actor) → IsActorAtHome config c.nodes ts name a → IsActorAtHome config after.nodes ts name a
   at_home-grown ts name (OfSession s) is =
       record {
         contexts_here = λ x among q at. here-grown s.dc q (is.contexts_here x among q at);
@@ -89,22 +88,16 @@ module _ {config : TenantConfig} {c after : SoloCluster} {id : NodeId} {call : N
           ]
       by_change here (Taken same is) at = before here (subst (Among e) same at)
 
-  -- a call keeps the invariant if what it stores has its past in the data centre of the node
-  pub closed_called : (ts : List Traced) → IsClosed config c ts → id.shard < config.shards →
+  -- a call keeps that pasts are here if what it stores has its past in the data centre of the node
+  pub pasts_called : (ts : List Traced) → PastsAreHere config c.nodes ts → id.shard < config.shards →
       ((e : Entry) → Stores (place_of config id) call (node_of config c (node_number config.shards id)) reply e → (q : Pair) → Among q (past_of_put ts (pair_of_entry e)) → IsHere config c id.dc q) →
-      IsClosed config after ts
-  closed_called ts closed below stored =
-      record {
-        pasts_here = λ dc shard in_shards e at q past. here-grown config c after (entries_grow called) dc q (by_case dc shard in_shards e q past (entry_cases (dc * config.shards + shard) e at));
-        sessions_here = actors_stay called (IsActorAtHome config after ts)
-            (Every-weaker (λ (a : NamedActor). IsActorAtHome config c ts a.name a.actor) (λ (a : NamedActor). IsActorAtHome config after ts a.name a.actor) c.actors
-            (λ a at is. at_home-grown config c after (entries_grow called) ts a.name a.actor is) closed.sessions_here);
-      }
+      PastsAreHere config after.nodes ts
+  pasts_called ts pasts below stored = λ dc shard in_shards e at q past. here-grown config c after (entries_grow called) dc q (by_case dc shard in_shards e q past (entry_cases (dc * config.shards + shard) e at))
     where
       by_case : (dc shard : ℕ) → shard < config.shards → (e : Entry) (q : Pair) → Among q (past_of_put ts (pair_of_entry e)) →
           Among e (entries (node_of config c (dc * config.shards + shard))) ⊎ ((dc * config.shards + shard ≡ node_number config.shards id) × Stores (place_of config id) call (node_of config c (node_number config.shards id)) reply e) →
           IsHere config c dc q
-      by_case dc shard in_shards e q past (inl old) = closed.pasts_here dc shard in_shards e old q past
+      by_case dc shard in_shards e q past (inl old) = pasts dc shard in_shards e old q past
       by_case dc shard in_shards e q past (inr now) =
           let dcs : dc ≡ id.dc = sym (div-mul-add dc config.shards shard in_shards) ∙ ap (λ n. n / config.shards) now.0 ∙ div-mul-add id.dc config.shards id.shard below in
           subst (λ d. IsHere config c d q) (sym dcs) (stored e now.1 q past)

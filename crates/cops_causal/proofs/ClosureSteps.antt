@@ -1,5 +1,5 @@
 -- The steps of sessions keep that what they have seen is in their data centre.
-use Rattle.std.proofs.Common.{◌≡◌, ℕ, ◌+◌, ◌*◌, ◌<◌, Bool, true, false, cond, ◌&&◌, List, [], ◌∷◌, ◌++◌, map, ◌⊎◌, inl, inr, refl, sym, ◌∙◌, ap, subst, append-nil}
+use Rattle.std.proofs.Common.{◌≡◌, ℕ, ◌+◌, ◌*◌, ◌<◌, Bool, true, false, cond, ◌&&◌, List, [], ◌∷◌, ◌++◌, map, ◌⊎◌, inl, inr, refl, sym, ◌∙◌, ap, subst}
 use Rattle.std.specs.Prelude.{Option, Some, None, ◌==◌}
 use Rattle.cops_types.specs.declared.pairs.Pair.{Pair}
 use Rattle.cops_types.specs.declared.records.EntryParts.{EntryParts as Entry}
@@ -18,13 +18,12 @@ use Rattle.cops_model.specs.declared.calls.Wanted.TheVariants.{Latest, Exactly}
 use Rattle.cops_model.specs.SoloNode.{SoloNode}
 use Rattle.cops_model.specs.Step.{reply_latest, reply_exact, was_committed}
 use Rattle.cops_model.specs.Carrier.{pair_of_entry}
-use Rattle.cops_model.specs.Session.{Session, Running, OpenContext, is_open, context_extended}
-use Rattle.cops_model.specs.Causal.{Traced, Operation, Effect, put_by, returned_by, leads_to, past_after, past_of_put}
-use Rattle.cops_model.specs.Cluster.{SoloCluster, Actor, OfSession, OfCarrier, find_session, with_actor}
-use Rattle.cops_causal.proofs.ActorsKeep.{actor_found, session_actor, each-with_actor}
+use Rattle.cops_model.specs.Session.{Session, OpenContext, is_open, context_extended}
+use Rattle.cops_model.specs.Causal.{Traced, Effect, put_by, returned_by, leads_to, past_of_put}
+use Rattle.cops_model.specs.Cluster.{SoloCluster, Actor, OfSession, OfCarrier, find_session}
+use Rattle.cops_causal.proofs.ActorsKeep.{actor_found, session_actor}
 use Rattle.cops_types.proofs.KeyTests.{key_eq-false}
-use Rattle.cops_causal.proofs.Closure.{IsHere, home_in, IsFoundHere, IsAtHome, IsActorAtHome, IsClosed}
-use Rattle.cops_causal.proofs.ClosureMoves.{at_home-grown}
+use Rattle.cops_causal.proofs.Closure.{IsHere, home_in, IsFoundHere, IsAtHome, IsActorAtHome, IsClosed, PastsAreHere}
 use Rattle.cops_causal.proofs.Histories.{given, past_in, in_context, past_after-push, past_of_put-push, with_pasts, past_after-within, flat_map-Among}
 use Rattle.cops_types.proofs.Elements.{Among, Among-cases, map-Among, Among-map}
 use Rattle.cops_node.proofs.NodeTurns.{entries, Change, IsRefused, Answers, Joined, Taken, IsReply}
@@ -35,6 +34,8 @@ use Rattle.cops_causal.proofs.TracedCalls.{exact-is}
 use Rattle.cops_causal.proofs.TracedSteps.{context_of}
 use Rattle.std.proofs.Math.Nat.{mod-lt}
 use Rattle.std.specs.Prelude.{sum}
+use Rattle.cops_causal.proofs.ActorMoves.{Leaves, bare}
+use Rattle.cops_causal.proofs.RequestSteps.{joining, none_runs}
 
 -- the contexts of a session after a step have the numbers of those before
 abbrev pub HasNumbersOf : Session → Session → Type 0
@@ -49,85 +50,64 @@ numbers-extended number more contexts x at =
     same true c = refl
     same false c = refl
 
-module _ (config : TenantConfig) (some : 0 < config.shards) (c : SoloCluster) (ts : List Traced) (closed : IsClosed config c ts) (name : List ℕ) (s : Session) (found : find_session name c ≡ Some s) where
-  abbrev pub mine : IsAtHome config c ts name s
-  mine = actor_found (IsActorAtHome config c ts) c name (OfSession s) closed.sessions_here (session_actor c name s found)
+-- what a session of the cluster has seen is in its data centre
+pub mine : (config : TenantConfig) (c : SoloCluster) (ts : List Traced) → IsClosed config c ts → (name : List ℕ) (s : Session) → find_session name c ≡ Some s → IsAtHome config (bare c.nodes) ts name s
+mine config c ts closed name s found = actor_found (IsActorAtHome config c.nodes ts) c name (OfSession s) closed.actors (session_actor c name s found)
 
-  abbrev same_entries : (n : ℕ) → (more : List Entry) × (entries (node_of config c n) ≡ entries (node_of config c n) ++ more)
-  same_entries n = ([], sym (append-nil (entries (node_of config c n))))
-
-  -- the session changes, and the history does not
-  pub closed-same : (next : Session) → IsAtHome config c ts name next → IsClosed config (with_actor name (OfSession next) c) ts
-  closed-same next is =
-      let after = with_actor name (OfSession next) c in
-      record {
-        pasts_here = closed.pasts_here;
-        sessions_here = each-with_actor (IsActorAtHome config c ts) (IsActorAtHome config after ts) c name (OfSession next) (at_home-grown config c after same_entries ts name (OfSession next) is)
-            (λ other a apart p. at_home-grown config c after same_entries ts other a p) closed.sessions_here;
-      }
-
+module _ (config : TenantConfig) (some : 0 < config.shards) (c : SoloCluster) (ts : List Traced) (pasts : PastsAreHere config c.nodes ts) (name : List ℕ) (s : Session) (home : IsAtHome config (bare c.nodes) ts name s) where
   -- an operation of the session joins the history
   module _ (context : ℕ) (effect : Effect) (opened : is_open context s ≡ true)
       (puts_here : (p : Pair) → Among p (put_by effect) → IsHere config c s.dc p) (reads_here : (p : Pair) → Among p (returned_by effect) → IsHere config c s.dc p)
       (puts_home : (dc shard : ℕ) → shard < config.shards → (e : Entry) → Among e (entries (node_of config c (dc * config.shards + shard))) → Among (pair_of_entry e) (put_by effect) → dc ≡ s.dc) where
-    abbrev o : Operation
-    o = record { session = name; context = context; effect = effect }
-
     abbrev t : Traced
-    t = record { operation = o; past = past_after ts o }
+    t = joining ts name context effect
 
-    past-at_home : (q : Pair) → Among q (past_after ts o) → IsHere config c s.dc q
+    past-at_home : (q : Pair) → Among q t.past → IsHere config c s.dc q
     past-at_home q at_q =
         elim (Among-cases q (past_in ts name context) (with_pasts ts (returned_by effect)) (past_after-within ts name context effect q at_q)) [
-          | inl before ↦ let x = context_of s context opened in mine.contexts_here x.0 x.1 q (subst (λ n. Among q (past_in ts name n)) (sym x.2) before)
+          | inl before ↦ let x = context_of s context opened in home.contexts_here x.0 x.1 q (subst (λ n. Among q (past_in ts name n)) (sym x.2) before)
           | inr read ↦
               let by = flat_map-Among (λ p. p ∷ past_of_put ts p) (returned_by effect) q read in
               elim by.2 [
                 | inl same ↦ subst (IsHere config c s.dc) same (reads_here by.0 by.1)
                 | inr older ↦
                     let there = map-Among pair_of_entry by.0 (entries (node_of config c (home_in config s.dc by.0.key))) (reads_here by.0 by.1) in
-                    closed.pasts_here s.dc (shard_of by.0.key config.shards) (mod-lt (sum by.0.key) some) there.0 there.1 q (subst (λ p. Among q (past_of_put ts p)) (sym there.2) older)
+                    pasts s.dc (shard_of by.0.key config.shards) (mod-lt (sum by.0.key) some) there.0 there.1 q (subst (λ p. Among q (past_of_put ts p)) (sym there.2) older)
               ]
         ]
 
-    pub closed-grown : IsNew ts t → (next : Session) → next.dc ≡ s.dc → HasNumbersOf next s → next.running ≡ None → IsClosed config (with_actor name (OfSession next) c) (ts ++ t ∷ [])
-    closed-grown new next same_dc numbers idle =
+    pub operation_home : IsNew ts t → (next : Session) → next.dc ≡ s.dc → HasNumbersOf next s → next.running ≡ None → Leaves config (PastsAreHere config) (IsActorAtHome config) c.nodes ts name next (ts ++ t ∷ [])
+    operation_home new next same_dc numbers idle =
         record {
-          pasts_here = λ dc shard in_shards e at_e q past. old_or_new dc shard in_shards e at_e q (Among-cases q (past_of_put ts (pair_of_entry e)) (cond (holds (put_by effect) (pair_of_entry e)) t.past []) (subst (Among q) (past_of_put-push ts t (pair_of_entry e)) past));
-          sessions_here = each-with_actor (IsActorAtHome config c ts) (IsActorAtHome config after (ts ++ t ∷ [])) c name (OfSession next)
-              (record { contexts_here = mine_here; replies_here = λ running runs. absurd (never running runs) })
-              (λ other a apart p. at_home-grown config c after same_entries (ts ++ t ∷ []) other a (other_here other a apart p)) closed.sessions_here;
+          nodes_are = λ old dc shard in_shards e at_e q past.
+              old_or_new dc shard in_shards e at_e q (Among-cases q (past_of_put ts (pair_of_entry e)) (cond (holds (put_by effect) (pair_of_entry e)) t.past []) (subst (Among q) (past_of_put-push ts t (pair_of_entry e)) past));
+          others_are = other_here;
+          session_is = record { contexts_here = mine_here; replies_here = none_runs _ next.running idle };
         }
       where
-        after : SoloCluster
-        after = with_actor name (OfSession next) c
-
-        never : (running : Running) → next.running ≡ Some running → ⊥
-        never running runs = let both : None ≡ Some running = sym idle ∙ runs in cc
-
         by_put : (b : Bool) (dc shard : ℕ) → shard < config.shards → (e : Entry) → Among e (entries (node_of config c (dc * config.shards + shard))) → holds (put_by effect) (pair_of_entry e) ≡ b → (q : Pair) → Among q (cond b t.past []) → IsHere config c dc q
         by_put true dc shard in_shards e at_e is q past = subst (λ d. IsHere config c d q) (sym (puts_home dc shard in_shards e at_e (holds-Among (put_by effect) (pair_of_entry e) is))) (past-at_home q past)
         by_put false dc shard in_shards e at_e is q past = absurd past
 
         old_or_new : (dc shard : ℕ) → shard < config.shards → (e : Entry) → Among e (entries (node_of config c (dc * config.shards + shard))) → (q : Pair) →
             Among q (past_of_put ts (pair_of_entry e)) ⊎ Among q (cond (holds (put_by effect) (pair_of_entry e)) t.past []) → IsHere config c dc q
-        old_or_new dc shard in_shards e at_e q (inl old) = closed.pasts_here dc shard in_shards e at_e q old
+        old_or_new dc shard in_shards e at_e q (inl old) = pasts dc shard in_shards e at_e q old
         old_or_new dc shard in_shards e at_e q (inr now) = by_put (holds (put_by effect) (pair_of_entry e)) dc shard in_shards e at_e refl q now
 
         by_lead : (b : Bool) (q : Pair) → Among q (cond b (given t) []) → IsHere config c s.dc q
         by_lead true q at_q = elim (Among-cases q (put_by effect) t.past at_q) [ inl put ↦ puts_here q put | inr past ↦ past-at_home q past ]
         by_lead false q at_q = absurd at_q
 
-        mine_here : (x : OpenContext) → Among x next.contexts → (q : Pair) → Among q (past_in (ts ++ t ∷ []) name x.number) → IsHere config after next.dc q
+        mine_here : (x : OpenContext) → Among x next.contexts → (q : Pair) → Among q (past_in (ts ++ t ∷ []) name x.number) → IsHere config c next.dc q
         mine_here x among q at_q =
             let y = numbers x among in
             subst (λ d. IsHere config c d q) (sym same_dc)
-            (elim (Among-cases q (past_in ts name x.number) (cond (leads_to o (in_context name x.number)) (given t) []) (subst (Among q) (past_after-push ts t (in_context name x.number)) at_q)) [
-              | inl old ↦ mine.contexts_here y.0 y.1 q (subst (λ n. Among q (past_in ts name n)) (sym y.2) old)
-              | inr now ↦ by_lead (leads_to o (in_context name x.number)) q now
+            (elim (Among-cases q (past_in ts name x.number) (cond (leads_to t.operation (in_context name x.number)) (given t) []) (subst (Among q) (past_after-push ts t (in_context name x.number)) at_q)) [
+              | inl old ↦ home.contexts_here y.0 y.1 q (subst (λ n. Among q (past_in ts name n)) (sym y.2) old)
+              | inr now ↦ by_lead (leads_to t.operation (in_context name x.number)) q now
             ])
 
-        other_here : (other : List ℕ) (a : Actor) → key_eq other name ≡ false → IsActorAtHome config c ts other a → IsActorAtHome config c (ts ++ t ∷ []) other a
+        other_here : (other : List ℕ) (a : Actor) → key_eq other name ≡ false → IsActorAtHome config c.nodes ts other a → IsActorAtHome config c.nodes (ts ++ t ∷ []) other a
         other_here other (OfSession r) apart p =
             record {
               contexts_here = λ x among q at_q. p.contexts_here x among q (subst (Among q) (past_in-other ts t new other x.number (ap (λ b. b && context == x.number) (key_eq-false other name apart))) at_q);

@@ -14,4 +14,4 @@ pub answering : (config : TenantConfig) → 0 < config.shards → (acts : List A
 answering config some acts = after_acts (kept_both (sound_kept config some) (answering_kept config some)) acts (sound_at_first config some, answering_at_first config)
 
 pub is_consistent : (config : TenantConfig) → 0 < config.shards → (acts : List Act) → IsConsistent config acts
-is_consistent config some acts = Every-true (λ (t : Traced). answers_consistently t t.operation.effect) (history_of config acts) (answering config some acts).1.answered
+is_consistent config some acts = Every-true (λ (t : Traced). answers_consistently t t.operation.effect) (history_of config acts) (answering config some acts).1.nodes.answered

@@ -193,7 +193,7 @@ has_least_pasts config some acts = (same, λ place t at_t pair. subst (λ os. Pa
     past_is = traced_by [] (operations config acts) tt
 
     next : EachAfter IsNext [] ts
-    next = (answering config some acts).1.ordered
+    next = (answering config some acts).1.nodes.ordered
 
     PastIs : List Operation → ℕ → Traced → Pair → Type 0
     PastIs os place t pair = IsTrue (holds t.past pair) ↔ ((before : ℕ) × PutsAt os before pair × Precedes os before place)

@@ -91,7 +91,7 @@ module _ (config : TenantConfig) (some : 0 < config.shards) (c : SoloCluster) (t
     dep_here key version deps (Some value) is there bare q at_q =
         let older = greatest-within (past_of_put ts (at key version)) q (subst (Among q) is.deps_are at_q) in
         let e = map-Among pair_of_entry (at key version) (entries (node_of config c (home_in config dc key))) there in
-        inv.closed.pasts_here dc (shard_of key config.shards) (mod-lt (sum key) some) e.0 e.1 q (subst (λ p. Among q (past_of_put ts p)) (sym e.2) older)
+        inv.closed.nodes dc (shard_of key config.shards) (mod-lt (sum key) some) e.0 e.1 q (subst (λ p. Among q (past_of_put ts p)) (sym e.2) older)
 
     pub deps_here : (q : Pair) → Among q (deps_read (reads_of keys rs)) → IsHere config c dc q
     deps_here q at_q =
@@ -134,7 +134,7 @@ module _ (config : TenantConfig) (some : 0 < config.shards) (c : SoloCluster) (t
         let q = chosen.asked in
         subst (ReadyCall config c) (sym chosen.call) (record {
           there = home-there config s.dc q.key some (session_of config c ts inv.traced name s found).placed;
-          ready = get_ready s.dc keys _ is.replies_are ((mine config some c ts inv.closed name s found).replies_here (run number context (Fetch keys) log) runs) q chosen.at;
+          ready = get_ready s.dc keys _ is.replies_are ((mine config c ts inv.closed name s found).replies_here (run number context (Fetch keys) log) runs) q chosen.at;
         })
 
     pub session_ready : (running : Running) (moment : ℕ) (directed : Directed) → s.running ≡ Some running → next config (request_of s running) running.log moment ≡ Call directed → ReadyCall config c directed

@@ -178,7 +178,7 @@ module _ (config : TenantConfig) (ts : List Traced) (name : List ℕ) (s : Sessi
       by_change (Taken same is) = absurd is
 
 -- the operation that a running request ends as
-pub ended_as : (c : SoloCluster) (name : List ℕ) (s : Session) (running : Running) (effect : Effect) → find_session name c ≡ Some s → s.running ≡ Some running →
+ended_as : (c : SoloCluster) (name : List ℕ) (s : Session) (running : Running) (effect : Effect) → find_session name c ≡ Some s → s.running ≡ Some running →
     operation_by c effect name ≡ Some (record { session = name; context = running.context; effect = effect })
 ended_as c name s running effect found runs =
     ap (λ o. option_map (λ (r : Running). record { session = name; context = r.context; effect = effect }) (option_and_then (λ (s : Session). s.running) o)) found

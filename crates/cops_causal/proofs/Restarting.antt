@@ -162,7 +162,7 @@ module _ (config : TenantConfig) (some : 0 < config.shards) (c : SoloCluster) (t
           let older = outdated-is reads read among in
           let is = running_is (run number context (Fetch keys) log) runs in
           let here : IsHere config c s.dc (at read.key v) =
-          deps_here config some c ts inv s.dc keys rs is.replies_are ((mine config some c ts inv.closed name s found).replies_here (run number context (Fetch keys) log) runs) (at read.key v) (wanted-among reads read older.1) in
+          deps_here config some c ts inv s.dc keys rs is.replies_are ((mine config c ts inv.closed name s found).replies_here (run number context (Fetch keys) log) runs) (at read.key v) (wanted-among reads read older.1) in
           let e = map-Among carrier.pair_of_entry (at read.key v) (entries solo) here in
           let gone = gone_long config.trans_time solo read.key v (timed.nodes (home_in config s.dc read.key)) missing e.0 e.1 (ap (λ p. p.key) e.2) (ap (λ p. p.version) e.2) in
           let split = λ (R : ReadRequest → NodeReply → Type 0) (z : Zipped R (gets keys rs) rs). Zipped-left R (first_round keys) (second_round reads) rs (subst (λ b. Zipped R (cond b (first_round keys) (first_round keys ++ second_round reads)) rs) done z) in

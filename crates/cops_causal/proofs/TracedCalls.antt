@@ -21,9 +21,9 @@ use Rattle.cops_model.specs.declared.calls.NodeId.{NodeId}
 use Rattle.cops_model.specs.declared.calls.NodeReply.{NodeReply}
 use Rattle.cops_model.specs.declared.calls.Wanted.{Wanted}
 use Rattle.cops_model.specs.declared.calls.Wanted.TheVariants.{Latest, Exactly}
-use Rattle.cops_model.specs.Place.{Place, node_number, place_of}
+use Rattle.cops_model.specs.Place.{Place, node_number, own_number, place_of}
 use Rattle.cops_model.specs.SoloNode.{SoloNode}
-use Rattle.cops_model.specs.Step.{was_committed, reply_latest, reply_exact}
+use Rattle.cops_model.specs.Step.{was_committed, reply_latest, reply_exact, version_of_put}
 use Rattle.cops_model.specs.Carrier.{pair_of_entry}
 use Rattle.cops_model.specs.Request.{key_home}
 use Rattle.cops_model.specs.Causal.{Traced}
@@ -36,6 +36,7 @@ use Rattle.cops_causal.proofs.NodeEffects.{node_of, Called, entries_grow, entrie
 use Rattle.cops_types.specs.Pairs.{version_of}
 use Rattle.cops_types.proofs.PairSets.{at, at as at_key, le-version_of, greatest-has}
 use Rattle.cops_causal.proofs.Provenance.{IsPut, IsPutEntry, IsFound, IsTraced, IsActor}
+use Rattle.cops_causal.proofs.Histories.{puts_of}
 
 -- ---- what a node finds is among its entries
 
@@ -142,6 +143,16 @@ next-above clock deps_clock node version e = by_test (nat_lt (max clock deps_clo
     by_test : (b : Bool) → cond b (Some (record { clock = max clock deps_clock + 1; node = node })) None ≡ Some version → (version.clock ≡ max clock deps_clock + 1) × (version.node ≡ node)
     by_test true e = let v : Timestamp = record { clock = max clock deps_clock + 1; node = node } in let same : v ≡ version = cc in (ap (λ (w : Timestamp). w.clock) (sym same), ap (λ (w : Timestamp). w.node) (sym same))
     by_test false e = cc
+
+-- so no operation put that version
+pub unput : (config : TenantConfig) (c : SoloCluster) (ts : List Traced) → IsTraced config c ts → (id : NodeId) (key : List ℕ) (deps : List Pair) (version : Timestamp) →
+    version_of_put (place_of config id) (node_of config c (node_number config.shards id)) deps ≡ Some version → Among (at_key key version) (puts_of ts) → ⊥
+unput config c ts traced id key deps version is was =
+    let solo = node_of config c (node_number config.shards id) in
+    let above = next-above (clock config.first_clock solo.recs) (greatest_clock deps) (own_number (place_of config id)) version is in
+    let there : Among (at_key key version) (map pair_of_entry (entries solo)) = subst (λ n. Among (at_key key version) (map pair_of_entry (entries (node_of config c n)))) above.1 (traced.puts_are (at_key key version) was) in
+    let below : version.clock ≤ clock config.first_clock solo.recs = clock-above config.first_clock solo (at_key key version) there in
+    let higher = above.0 in omega arith
 
 -- ---- where a session's calls go
 

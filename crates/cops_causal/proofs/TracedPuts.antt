@@ -1,5 +1,5 @@
 -- The step of a put keeps that all is traced to its put.
-use Rattle.std.proofs.Common.{◌≡◌, ℕ, ◌+◌, ◌<◌, ◌≤◌, true, List, [], ◌∷◌, ◌++◌, map, inl, inr, refl, sym, ◌∙◌, ap, subst, arith}
+use Rattle.std.proofs.Common.{◌≡◌, ℕ, ◌+◌, ◌<◌, true, List, [], ◌∷◌, ◌++◌, map, inl, inr, refl, sym, ◌∙◌, ap, subst, arith}
 use Rattle.std.specs.Prelude.{Option, Some, None, max, is_some, unwrap_or}
 use Rattle.std.specs.List.{AllByRecursion}
 use Rattle.std.specs.Option.{option_map}
@@ -33,7 +33,7 @@ use Rattle.cops_node.proofs.NodeTurns.{entries, Stores}
 use Rattle.cops_causal.proofs.NodeEffects.{node_of, Called, entries_keep}
 use Rattle.cops_types.proofs.PairSets.{at}
 use Rattle.cops_causal.proofs.Provenance.{IsPutEntry-grown, IsCovered-grown, IsPutEntry, IsTraced, IsActor, IsSession, IsContext, IsNew, IsHistory-grown}
-use Rattle.cops_causal.proofs.TracedCalls.{traced-call, pair_stays, actors_stay, known_still, clock-above, next-above, clock-below}
+use Rattle.cops_causal.proofs.TracedCalls.{traced-call, pair_stays, actors_stay, known_still, next-above, clock-below, unput}
 use Rattle.cops_causal.proofs.TracedIdle.{session_of}
 use Rattle.cops_causal.proofs.RequestSteps.{put_leaves, run, step_leads}
 use Rattle.cops_causal.proofs.TracedSteps.{grown, context_of, contexts_extended, ends_refused, numbered_after, other_context}
@@ -84,24 +84,20 @@ module _ (config : TenantConfig) (c after : SoloCluster) (ts : List Traced) (inv
     above : (version.clock ≡ max (clock config.first_clock node.recs) (greatest_clock (all_of (obs_of context s))) + 1) × (version.node ≡ node_number config.shards home)
     above = next-above (clock config.first_clock node.recs) (greatest_clock (all_of (obs_of context s))) (own_number (place_of config home)) version next
 
-    unput : Among pair (puts_of ts) → ⊥
-    unput was =
-        let there : Among pair (map pair_of_entry (entries node)) = subst (λ n. Among pair (map pair_of_entry (entries (node_of config c n)))) above.1 (inv.puts_are pair was) in
-        let below : version.clock ≤ clock config.first_clock node.recs = clock-above config.first_clock node pair there in
-        let is = above.0 in
-        omega arith
+    unput_pair : Among pair (puts_of ts) → ⊥
+    unput_pair = unput config c ts inv home key (all_of (obs_of context s)) version next
 
     new : IsNew ts this
-    new p there was = elim there [ inl same ↦ unput (subst (λ q. Among q (puts_of ts)) (sym same) was) | inr never ↦ absurd never ]
+    new p there was = elim there [ inl same ↦ unput_pair (subst (λ q. Among q (puts_of ts)) (sym same) was) | inr never ↦ absurd never ]
 
     entry_put : IsPutEntry (ts ++ this ∷ []) e
     entry_put =
         subst (IsPutEntry (ts ++ this ∷ [])) (sym e-is) (record {
           put = record {
             was = subst (Among pair) (sym (puts_of-push ts this)) (Among-right pair (puts_of ts) (pair ∷ []) (inl refl));
-            deps_are = deps_are_past ∙ sym (put_deps ts name context pair unput);
+            deps_are = deps_are_past ∙ sym (put_deps ts name context pair unput_pair);
           };
-          covered = λ q at. IsCovered-grown ts this new (near_of (obs_of context s)) q (near_covers q (subst (Among q) (put_past ts name context pair unput) at));
+          covered = λ q at. IsCovered-grown ts this new (near_of (obs_of context s)) q (near_covers q (subst (Among q) (put_past ts name context pair unput_pair) at));
         })
 
     stored_is : (f : Entry) → Stores (place_of config home) call node reply f → IsPutEntry (ts ++ this ∷ []) f
@@ -128,7 +124,7 @@ module _ (config : TenantConfig) (c after : SoloCluster) (ts : List Traced) (inv
               (λ x same of. record {
                 numbered = of.numbered;
                 all_is = here x.number x.obs same of.all_is;
-                covered = subst (λ m. Covers (past_of_put (ts ++ this ∷ [])) (near_of (x.obs ++ PutPair pair ∷ [])) (past_in (ts ++ this ∷ []) name m)) (sym same) (put_covered ts name context x.obs pair unput);
+                covered = subst (λ m. Covers (past_of_put (ts ++ this ∷ [])) (near_of (x.obs ++ PutPair pair ∷ [])) (past_in (ts ++ this ∷ []) name m)) (sym same) (put_covered ts name context x.obs pair unput_pair);
               })
               (other_context config c ts inv name s found context this new refl) is.contexts_are;
           numbered = numbered_after config c ts inv name s found context this opened refl;
