@@ -143,3 +143,39 @@ plain_leaves config N A nodes ts name s running step goes_on ends =
       goes_on = λ e. record { nodes_are = λ n. n; others_are = λ other a apart p. p; session_is = goes_on e };
       ends = λ a e. record { nodes_are = λ n. n; others_are = λ other a apart p. p; session_is = ends a e };
     }
+
+-- ---- a layer of the nodes alone
+
+-- what calls leave of the nodes
+pub record NodeMoves (config : TenantConfig) (N : List SoloNode → Type 0) (c : SoloCluster) : Type 0 where
+  pub by_session : (name : List ℕ) (s : Session) → find_session name c ≡ Some s → (running : Running) (moment : ℕ) (directed : Directed) → s.running ≡ Some running → next config (request_of s running) running.log moment ≡ Call directed →
+      N (call_node config directed.node moment directed.call c).after.nodes
+  pub by_carrier : (name : List ℕ) (k : Carrier) → find_actor name c ≡ Some (OfCarrier k) → (moment : ℕ) (directed : Directed) → carrier.carrier_next config.shards k.stream k.log ≡ Call directed →
+      N (call_node config directed.node moment directed.call c).after.nodes
+  pub collected : (id : NodeId) (moment : ℕ) → has_node config id.dc id.shard ≡ true → N (call_node config id moment node_call.Collect c).after.nodes
+
+-- each other move leaves the nodes as they were
+pub nodes_lead : (config : TenantConfig) (N : List SoloNode → Type 0) (B : SoloCluster → List Traced → Type 0) → ((c : SoloCluster) (ts : List Traced) → B c ts → N c.nodes) → ((c : SoloCluster) (ts : List Traced) → B c ts → NodeMoves config N c) →
+    Leads config B (λ c ts. N c.nodes)
+nodes_lead config N B old moves =
+    record {
+      opened = λ c ts name dc free exists inv. old c ts inv;
+      carrier_begun = λ c ts name stream free is inv. old c ts inv;
+      context_created = λ c ts name s found idle inv. old c ts inv;
+      context_deleted = λ c ts name s number found idle inv. old c ts inv;
+      put_begun = λ c ts name s number key value found ok is inv. old c ts inv;
+      get_begun = λ c ts name s number keys found ok are inv. old c ts inv;
+      called = λ c ts name s running moment directed found runs e inv. (moves c ts inv).by_session name s found running moment directed runs e;
+      late = λ c ts name s running moment found runs e inv. old c ts inv;
+      ended = λ c ts name s running moment a found runs e inv. old c ts inv;
+      carrier_called = λ c ts name k moment directed found e inv.
+          let call = call_node config directed.node moment directed.call c in
+          let after = carrier_after k (record { moment = moment; outcome = Replied call.reply }) in
+          carried name after (carrier.carrier_next config.shards after.stream after.log) call.after ((moves c ts inv).by_carrier name k found moment directed e);
+      collected = λ c ts id moment there inv. (moves c ts inv).collected id moment there;
+    }
+  where
+    carried : (name : List ℕ) (after : Carrier) (n : Next Delivery) (c : SoloCluster) → N c.nodes → N (carrier_stepped name after (carrier.progress_of n) c).after.nodes
+    carried name after (Ended ending) c is = is
+    carried name after (Call directed) c is = is
+    carried name after Restart c is = is

@@ -1,11 +1,10 @@
 -- The lists in the audits of a tenant's cluster are within the limit of the tenant's lists: each move keeps that.
-use Rattle.std.proofs.Common.{◌≡◌, ℕ, zero, suc, ◌*◌, ◌<◌, Bool, true, false, List, [], ◌∷◌, ◌++◌, length, inl, inr, refl, sym, ◌∙◌, ap, subst, arith, get_or-set_same}
+use Rattle.std.proofs.Common.{◌≡◌, ℕ, zero, suc, ◌*◌, ◌<◌, Bool, true, false, List, [], ◌∷◌, ◌++◌, length, inl, inr, refl, sym, ap, subst, arith, get_or-set_same}
 use Rattle.std.specs.Prelude.{Option, Some, None, max, nat_lt, slice_index_or}
 use Rattle.std.specs.List.{AllByRecursion}
 use Rattle.std.proofs.lemmas.Bool.Decides.{eqb_tells}
 use Rattle.cops_types.specs.declared.records.EntryParts.{EntryParts as Entry}
 use Rattle.cops_types.specs.declared.records.Record.{Record}
-use Rattle.cops_types.specs.Context.{all_of, near_of}
 use Rattle.cops_types.specs.Records.{exact, greatest_of, kept, latest}
 use Rattle.cops_types.specs.TenantConfig.{TenantConfig}
 use Rattle.cops_types.specs.Version.{Timestamp}
@@ -16,22 +15,19 @@ use Rattle.cops_model.specs.declared.calls.NodeCall.TheVariants.{Get, Put, DepCh
 use Rattle.cops_model.specs.declared.calls.NodeId.{NodeId}
 use Rattle.cops_model.specs.declared.calls.NodeReply.{NodeReply}
 use Rattle.cops_model.specs.declared.calls.Wanted.TheVariants.{Latest, Exactly}
-use Rattle.cops_model.specs.Log.{Call, Directed, LogStep}
+use Rattle.cops_model.specs.Log.{Call, Directed}
 use Rattle.cops_model.specs.Place.{Place, node_number, place_of}
 use Rattle.cops_model.specs.SoloNode.{SoloNode, new_node, queue, front}
 use Rattle.cops_model.specs.Step.{effect, node_step, reply_exact, reply_latest, reply_pull, was_committed}
 use Rattle.cops_node.proofs.AuditLaws.{trail_of_effect}
 use Rattle.cops_node.proofs.NodeTurns.{entries, Answers, Change, IsRefused, IsReply, Joined, Stores, Taken, Takes, turn_changes}
-use Rattle.cops_model.specs.declared.deliveries.Progress.{Progress as CarrierProgress}
-use Rattle.cops_model.specs.declared.deliveries.Progress.TheVariants as carrier_progress
-use Rattle.cops_model.specs.Carrier.{Carrier, Stream}
+use Rattle.cops_model.specs.Carrier.{Stream}
 use Rattle.cops_repl.proofs.CarrierStages.{Acking, Checking, Committing, Delivering, InDelivery, Pulling, Stage}
-use Rattle.cops_model.specs.Request.{Action, Fetch, Write, key_home, next}
-use Rattle.cops_model.specs.Session.{Running, Session, obs_of, request_of}
-use Rattle.cops_session.proofs.RequestReplies.{get-next, put-next}
+use Rattle.cops_model.specs.Request.{next}
+use Rattle.cops_model.specs.Session.{Running, Session, request_of}
 use Rattle.cops_model.specs.declared.acts.Act.{Act}
 use Rattle.cops_model.specs.Causal.{Traced}
-use Rattle.cops_model.specs.Cluster.{SoloCluster, call_node, carrier_stepped, find_session, has_node, new_cluster}
+use Rattle.cops_model.specs.Cluster.{SoloCluster, call_node, find_session, has_node, new_cluster}
 use Rattle.cops_model.specs.Laws.{cluster_of}
 use Rattle.cops_model.specs.ListLimits.{HasFew, HasFewInAudit, HasFewInCall, HasFewInReply, HasFewPairs}
 use Rattle.cops_causal.proofs.AfterActs.{after_acts}
@@ -40,7 +36,6 @@ use Rattle.cops_causal.proofs.Moves.{Both, Leads, kept_both}
 use Rattle.cops_causal.proofs.NodeEffects.{call_changes, node_of, number_within}
 use Rattle.cops_causal.proofs.Offers.{IsOffered}
 use Rattle.cops_causal.proofs.Past.{new_nodes}
-use Rattle.cops_causal.proofs.Provenance.{IsRunning}
 use Rattle.cops_causal.proofs.Readiness.{carrier_served, session_ready}
 use Rattle.cops_causal.proofs.Sound.{IsSound, sound_at_first, sound_kept}
 use Rattle.cops_causal.proofs.StreamMoves.{stage_now, stream_is}
@@ -48,12 +43,14 @@ use Rattle.cops_causal.proofs.Streams.{Delivered}
 use Rattle.cops_causal.proofs.TracedCalls.{exact-is}
 use Rattle.cops_causal.proofs.TracedCarriers.{queued}
 use Rattle.cops_causal.proofs.TracedIdle.{session_of}
+use Rattle.cops_causal.proofs.RequestSteps.{by_call}
+use Rattle.cops_causal.proofs.ActorMoves.{bare, nodes_lead}
 
 -- ---- the words
 
 module _ (config : TenantConfig) where
-  pub record HasFewInAudits (c : SoloCluster) (ts : List Traced) : Type 0 where
-    pub nodes : (n : ℕ) → HasFewInAudit config (node_of config c n)
+  abbrev pub HasFewInAudits : SoloCluster → List Traced → Type 0
+  HasFewInAudits c ts = (n : ℕ) → HasFewInAudit config (node_of config c n)
 
   -- ---- what a node tells
 
@@ -123,8 +120,8 @@ module _ (config : TenantConfig) where
   -- ---- moves
 
   module _ (some : 0 < config.shards) (c : SoloCluster) (ts : List Traced) (inv : IsSound config c ts) (limits : IsWithinLimits config c ts) (audits : HasFewInAudits c ts) where
-    called_few : (id : NodeId) (moment : ℕ) (call : NodeCall) → has_node config id.dc id.shard ≡ true → HasFewInCall config call → (us : List Traced) → HasFewInAudits (call_node config id moment call c).after us
-    called_few id moment call there asked us = record { nodes = each }
+    called_few : (id : NodeId) (moment : ℕ) (call : NodeCall) → has_node config id.dc id.shard ≡ true → HasFewInCall config call → HasFewInAudits (call_node config id moment call c).after ts
+    called_few id moment call there asked = each
       where
         number : ℕ
         number = node_number config.shards id
@@ -138,27 +135,15 @@ module _ (config : TenantConfig) where
               let within : number < length c.nodes = (let w = number_within config id there in let sized = inv.traced.sized in omega arith) in
               let is : node_of config (call_node config id moment call c).after number ≡ after = get_or-set_same c.nodes number after (new_node config.data_centres) within in
               subst (λ m. HasFewInAudit config (node_of config (call_node config id moment call c).after m)) (sym here.1)
-              (subst (HasFewInAudit config) (sym is) (turn_few (node_of config c number) (limits.nodes number) (place_of config id) moment call asked (audits.nodes number)))
-          | inr other ↦ subst (HasFewInAudit config) (sym ((call_changes config c id moment call there inv.traced.sized).others n other.1)) (audits.nodes n)
+              (subst (HasFewInAudit config) (sym is) (turn_few (node_of config c number) (limits.nodes number) (place_of config id) moment call asked (audits number)))
+          | inr other ↦ subst (HasFewInAudit config) (sym ((call_changes config c id moment call there inv.traced.sized).others n other.1)) (audits n)
         ]
 
     -- what a running request asks
     module _ (name : List ℕ) (s : Session) (found : find_session name c ≡ Some s) where
-      asked_few : (number context : ℕ) (action : Action) (log : List LogStep) (moment : ℕ) (directed : Directed) → IsRunning config ts s (record { number = number; context = context; action = action; log = log }) →
-          next config (request_of s (record { number = number; context = context; action = action; log = log })) log moment ≡ Call directed → HasFewInCall config directed.call
-      asked_few number context (Write key value) log moment directed is e =
-          let sent : Directed = record { node = key_home config s.dc key; call = Put key value (all_of (obs_of context s)) (near_of (obs_of context s)) } in
-          let at_start = subst (λ l. next config (request_of s (record { number = number; context = context; action = Write key value; log = l })) l moment ≡ Call directed) is.replies_are e in
-          let same : sent ≡ directed = (let both : Call sent ≡ Call directed = sym (put-next config s.dc (obs_of context s) key value moment) ∙ at_start in cc) in
-          subst (λ (d : Directed). HasFewInCall config d.call) same (seen_roomy config s (room config some c ts inv limits name s found) context is.in_open)
-      asked_few number context (Fetch keys) log moment directed is e =
-          subst (λ (d : Directed). HasFewInCall config d.call) (sym (get-next config s.dc (obs_of context s) keys log moment directed e).call) tt
-
-      stepped_few : (running : Running) (moment : ℕ) (directed : Directed) → s.running ≡ Some running → next config (request_of s running) running.log moment ≡ Call directed → (us : List Traced) →
-          HasFewInAudits (call_node config directed.node moment directed.call c).after us
-      stepped_few running moment directed runs e us =
-          let ready = session_ready config some c ts inv name s found running moment directed runs e in
-          called_few directed.node moment directed.call ready.there (asked_few running.number running.context running.action running.log moment directed ((session_of config c ts inv.traced name s found).running_is running runs) e) us
+      asked_few : (running : Running) (moment : ℕ) (directed : Directed) → s.running ≡ Some running → next config (request_of s running) running.log moment ≡ Call directed → HasFewInCall config directed.call
+      asked_few = by_call config ts name s (session_of config c ts inv.traced name s found) (λ running moment directed. HasFewInCall config directed.call)
+          (λ number context key value moment runs is. seen_roomy config s (room config some c ts inv limits name s found) context is.in_open) (λ number context keys log moment q runs is at e. tt)
 
     -- what a carrier asks
     delivery_few : (stream : Stream) (e : Entry) (directed : Directed) → IsOffered config c stream e → InDelivery (Delivered config c stream) config.shards stream e directed → HasFewInCall config directed.call
@@ -170,38 +155,24 @@ module _ (config : TenantConfig) where
     stage_few stream directed (Pulling same) = subst (λ (d : Directed). HasFewInCall config d.call) (sym same) tt
     stage_few stream directed (Delivering e offered now) = delivery_few stream e directed offered now
 
-    carried_few : (name : List ℕ) (after : Carrier) (shown : CarrierProgress) (called : SoloCluster) (us : List Traced) → HasFewInAudits called us → HasFewInAudits (carrier_stepped name after shown called).after us
-    carried_few name after carrier_progress.Working called us few = record { nodes = few.nodes }
-    carried_few name after (carrier_progress.Done ending) called us few = record { nodes = few.nodes }
-
   abbrev Limited : SoloCluster → List Traced → Type 0
   Limited = Both (IsSound config) (IsWithinLimits config)
 
   few_kept : 0 < config.shards → Leads config (Both Limited HasFewInAudits) HasFewInAudits
-  few_kept some =
-      record {
-        opened = λ c ts name dc free exists inv. record { nodes = inv.1.nodes };
-        carrier_begun = λ c ts name stream free is inv. record { nodes = inv.1.nodes };
-        context_created = λ c ts name s found idle inv. record { nodes = inv.1.nodes };
-        context_deleted = λ c ts name s number found idle inv. record { nodes = inv.1.nodes };
-        put_begun = λ c ts name s number key value found ok is inv. record { nodes = inv.1.nodes };
-        get_begun = λ c ts name s number keys found ok are inv. record { nodes = inv.1.nodes };
-        called = λ c ts name s running moment directed found runs e inv.
-            let after = stepped_few some c ts inv.0.0 inv.0.1 inv.1 name s found running moment directed runs e ts in
-            record { nodes = after.nodes };
-        late = λ c ts name s running moment found runs e inv. record { nodes = inv.1.nodes };
-        ended = λ c ts name s running moment a found runs e inv. record { nodes = inv.1.nodes };
-        carrier_called = λ c ts name k moment directed found e inv.
-            let is = stream_is config some c ts inv.0.0.flowing inv.0.0.traced name k found in
-            let stage = stage_now config some c ts inv.0.0.flowing inv.0.0.traced name k found directed e in
-            let served = carrier_served config some c ts inv.0.0 k.stream is moment directed stage in
-            carried_few some c ts inv.0.0 inv.0.1 inv.1 name _ _ (call_node config directed.node moment directed.call c).after ts
-            (called_few some c ts inv.0.0 inv.0.1 inv.1 directed.node moment directed.call served.calls.there (stage_few some c ts inv.0.0 inv.0.1 inv.1 k.stream directed stage) ts);
-        collected = λ c ts id moment there inv. called_few some c ts inv.0.0 inv.0.1 inv.1 id moment Collect there tt ts;
-      }
+  few_kept some = nodes_lead config (λ nodes. HasFewInAudits (bare nodes) []) (Both Limited HasFewInAudits) (λ c ts inv. inv.1) (λ c ts inv. record {
+    by_session = λ name s found running moment directed runs e.
+        called_few some c ts inv.0.0 inv.0.1 inv.1 directed.node moment directed.call (session_ready config some c ts inv.0.0 name s found running moment directed runs e).there
+        (asked_few some c ts inv.0.0 inv.0.1 inv.1 name s found running moment directed runs e);
+    by_carrier = λ name k found moment directed e.
+        let is = stream_is config some c ts inv.0.0.flowing inv.0.0.traced name k found in
+        let stage = stage_now config some c ts inv.0.0.flowing inv.0.0.traced name k found directed e in
+        let served = carrier_served config some c ts inv.0.0 k.stream is moment directed stage in
+        called_few some c ts inv.0.0 inv.0.1 inv.1 directed.node moment directed.call served.calls.there (stage_few some c ts inv.0.0 inv.0.1 inv.1 k.stream directed stage);
+    collected = λ id moment there. called_few some c ts inv.0.0 inv.0.1 inv.1 id moment Collect there tt;
+  })
 
   few_at_first : HasFewInAudits (new_cluster config) []
-  few_at_first = record { nodes = λ n. subst (HasFewInAudit config) (sym (new_nodes (config.data_centres * config.shards) n (new_node config.data_centres))) tt }
+  few_at_first n = subst (HasFewInAudit config) (sym (new_nodes (config.data_centres * config.shards) n (new_node config.data_centres))) tt
 
   -- ---- after every list of acts
 
@@ -212,4 +183,4 @@ module _ (config : TenantConfig) where
   pub audits_few : 0 < config.shards → (acts : List Act) → AllByRecursion (HasFewInAudit config) (cluster_of config acts).nodes
   audits_few some acts =
       let inv = after_acts (kept_both (kept_both (sound_kept config some) (limits_kept config some)) (few_kept some)) acts ((sound_at_first config some, limits_at_first config), few_at_first) in
-      each_node (cluster_of config acts).nodes inv.1.nodes
+      each_node (cluster_of config acts).nodes inv.1

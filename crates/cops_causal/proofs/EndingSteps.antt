@@ -16,11 +16,11 @@ use Rattle.cops_model.specs.Carrier as carrier
 use Rattle.cops_repl.proofs.CarrierCalls.{carrier_replies}
 use Rattle.cops_repl.proofs.CarrierCounts.{call-within, never-restarts}
 use Rattle.cops_model.specs.declared.requests.Answer.{Answer}
-use Rattle.cops_model.specs.Request.{Action, Write, Fetch, Request, Attempt, begins_again, attempt_of, answer, call_after, is_late}
+use Rattle.cops_model.specs.Request.{Action, Write, Fetch, Attempt, begins_again, attempt_of, answer}
 use Rattle.cops_model.specs.Request as request
 use Rattle.cops_model.specs.Session.{Session, Running, obs_of, has_restarted, moment_at, request_of, session_after, shown}
 use Rattle.cops_session.proofs.ReplyCounts.{gets-few, replies-push, attempt-push}
-use Rattle.cops_session.proofs.RequestReplies.{put-next, put-ends, replies_in, unspent, unanswered-within}
+use Rattle.cops_session.proofs.RequestReplies.{put-ends, replies_in, unspent, unanswered-within}
 use Rattle.cops_model.specs.declared.acts.Act.{Act}
 use Rattle.cops_model.specs.Causal.{Traced}
 use Rattle.cops_model.specs.Cluster.{ActEffect, Actor, OfCarrier, OfSession, SoloCluster, actor_step, actor_steps, call_node, carrier_does, carrier_stepped, find_actor, find_session, goes_on, most_steps, reply_of_progress, request_does, running_step, session_in, session_stepped, step_of}
@@ -33,6 +33,7 @@ use Rattle.cops_causal.proofs.Provenance.{IsRunning}
 use Rattle.cops_causal.proofs.Sound.{IsSound, sound_kept, sound_at_first}
 use Rattle.cops_causal.proofs.Streams.{OnStream, Delivered}
 use Rattle.cops_causal.proofs.TracedIdle.{session_of}
+use Rattle.cops_causal.proofs.RequestSteps.{by_late, only_runs, run}
 
 -- ---- how many steps are left
 
@@ -99,9 +100,6 @@ module _ (config : TenantConfig) (some : 0 < config.shards) (c : SoloCluster) (t
     in_sessions : find_session name c ≡ Some s
     in_sessions = ap (option_and_then session_in) found
 
-    abbrev run : ℕ → ℕ → Action → List LogStep → Running
-    run number context action log = record { number = number; context = context; action = action; log = log }
-
     -- a step after which there is no answer leaves one step fewer
     open_left : (number context : ℕ) (action : Action) (log : List LogStep) (moment : ℕ) (outcome : Outcome) → s.running ≡ Some (run number context action log) → IsRunning config ts s (run number context action log) → IsLeft config action log n →
         answer config (request_of s (run number context action log)) (log ++ record { moment = moment; outcome = outcome } ∷ []) ≡ None → IsTakenBy outcome action →
@@ -125,12 +123,8 @@ module _ (config : TenantConfig) (some : 0 < config.shards) (c : SoloCluster) (t
     kept_left : (running : Running) (step : LogStep) (o : Option Answer) (restarted : Bool) (times m : ℕ) → o ≡ None → IsLeft config running.action (running.log ++ step ∷ []) m →
         IsActorLeft config (Some (OfSession (session_after s running step (shown o restarted times)))) m
     kept_left running step (Some a) restarted times m e left = cc
-    kept_left running step None true times m e left = λ r is.
-        let more : Running = record running { log = running.log ++ step ∷ [] } in
-        let same : more ≡ r = (let both : Some more ≡ Some r = is in cc) in subst (λ (x : Running). IsLeft config x.action x.log m) same left
-    kept_left running step None false times m e left = λ r is.
-        let more : Running = record running { log = running.log ++ step ∷ [] } in
-        let same : more ≡ r = (let both : Some more ≡ Some r = is in cc) in subst (λ (x : Running). IsLeft config x.action x.log m) same left
+    kept_left running step None true times m e left = only_runs (λ (r : Running). IsLeft config r.action r.log m) (record running { log = running.log ++ step ∷ [] }) left
+    kept_left running step None false times m e left = only_runs (λ (r : Running). IsLeft config r.action r.log m) (record running { log = running.log ++ step ∷ [] }) left
 
     stepped_left : (running : Running) (moment : ℕ) (outcome : Outcome) (next : SoloCluster) → find_actor name next ≡ Some (OfSession s) → s.running ≡ Some running → IsLeft config running.action running.log n → IsTakenBy outcome running.action →
         let turn = session_stepped config name s running (record { moment = moment; outcome = outcome }) next in
@@ -145,14 +139,8 @@ module _ (config : TenantConfig) (some : 0 < config.shards) (c : SoloCluster) (t
         let after = OfSession (session_after s running step (shown ends restarted times)) in
         (fewer.0, fewer.1, subst (λ a. IsActorLeft config a fewer.0) (sym (find_actor-with_actor name after (OfSession s) next still)) (kept_left running step ends restarted times fewer.0 open_still fewer.2))
 
-    late_taken : (number context : ℕ) (action : Action) (log : List LogStep) (moment : ℕ) → IsRunning config ts s (run number context action log) → request.next config (request_of s (run number context action log)) log moment ≡ Restart → IsTakenBy Late action
-    late_taken number context (Fetch keys) log moment is e = tt
-    late_taken number context (Write key value) log moment is e =
-        let at_start = subst (λ l. request.next config (request_of s (run number context (Write key value) l)) l moment ≡ Restart) is.replies_are e in
-        absurd (called_late (request.next config (request_of s (run number context (Write key value) [])) [] moment) (put-next config s.dc (obs_of context s) key value moment) at_start)
-      where
-        called_late : (n : Next Answer) {directed : Directed} → n ≡ Call directed → n ≡ Restart → ⊥
-        called_late n is late = cc
+    late_taken : (running : Running) (moment : ℕ) → s.running ≡ Some running → request.next config (request_of s running) running.log moment ≡ Restart → IsTakenBy Late running.action
+    late_taken = by_late config ts name s (session_of config c ts inv.traced name s in_sessions) (λ running moment. IsTakenBy Late running.action) (λ number context keys log moment runs is. tt)
 
     does_left : (running : Running) (moment : ℕ) (next : Next Answer) → s.running ≡ Some running → request.next config (request_of s running) running.log moment ≡ next → IsLeft config running.action running.log n →
         goes_on (request_does config name s running moment c next).reply ≡ true → Fewer config (IsActorLeft config (find_actor name (request_does config name s running moment c next).after)) n
@@ -160,8 +148,7 @@ module _ (config : TenantConfig) (some : 0 < config.shards) (c : SoloCluster) (t
         let call = call_node config directed.node moment directed.call c in
         stepped_left running moment (Replied call.reply) call.after found runs left tt goes
     does_left running moment Restart runs is left goes =
-        stepped_left running moment Late c found runs left
-        (late_taken running.number running.context running.action running.log moment ((session_of config c ts inv.traced name s in_sessions).running_is running runs) is) goes
+        stepped_left running moment Late c found runs left (late_taken running moment runs is) goes
     does_left running moment (Ended a) runs is left goes = absurd (answer_ends a goes)
 
     running_left : (moment : ℕ) (run : Option Running) → s.running ≡ run → IsActorLeft config (Some (OfSession s)) n → goes_on (running_step config name s moment c run).reply ≡ true →

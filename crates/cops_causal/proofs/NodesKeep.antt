@@ -12,17 +12,15 @@ use Rattle.cops_model.specs.SoloNode.{SoloNode, new_node}
 use Rattle.cops_model.specs.Step.{node_step}
 use Rattle.cops_node.proofs.Greatest.{KeepsGreatest-push, KeepsGreatest-collected}
 use Rattle.cops_node.proofs.Turns.{after_turn}
-use Rattle.cops_model.specs.declared.deliveries.Progress.{Progress}
-use Rattle.cops_model.specs.declared.deliveries.Progress.TheVariants as carrier_progress
-use Rattle.cops_model.specs.Carrier.{Carrier}
 use Rattle.cops_model.specs.declared.acts.Act.{Act}
 use Rattle.cops_model.specs.Causal.{Traced}
-use Rattle.cops_model.specs.Cluster.{SoloCluster, new_cluster, call_node, carrier_stepped}
+use Rattle.cops_model.specs.Cluster.{SoloCluster, new_cluster, call_node}
 use Rattle.cops_model.specs.Laws.{cluster_of}
 use Rattle.cops_causal.proofs.AfterActs.{after_acts}
 use Rattle.cops_causal.proofs.Moves.{IsKept}
 use Rattle.cops_causal.proofs.NodeEffects.{node_of}
 use Rattle.cops_causal.proofs.Past.{new_nodes}
+use Rattle.cops_causal.proofs.ActorMoves.{bare, nodes_lead}
 
 module _ (config : TenantConfig) (P : SoloNode → Type 0) (keeps : (place : Place) (moment : ℕ) (call : NodeCall) (solo : SoloNode) → P solo → P (node_step place moment call solo).after) where
   abbrev pub EachNode : SoloCluster → List Traced → Type 0
@@ -44,25 +42,12 @@ module _ (config : TenantConfig) (P : SoloNode → Type 0) (keeps : (place : Pla
             ])
       ]
 
-  carried : (name : List ℕ) (next : Carrier) (shown : Progress) (c : SoloCluster) (ts : List Traced) → EachNode c ts → EachNode (carrier_stepped name next shown c).after ts
-  carried name next carrier_progress.Working c ts each = each
-  carried name next (carrier_progress.Done ending) c ts each = each
-
   pub each_kept : IsKept config EachNode
-  each_kept =
-      record {
-        opened = λ c ts name dc free exists each. each;
-        carrier_begun = λ c ts name stream free is each. each;
-        context_created = λ c ts name s found idle each. each;
-        context_deleted = λ c ts name s number found idle each. each;
-        put_begun = λ c ts name s number key value found ok is each. each;
-        get_begun = λ c ts name s number keys found ok are each. each;
-        called = λ c ts name s running moment directed found runs e each. called_keeps c ts directed.node moment directed.call each;
-        late = λ c ts name s running moment found runs e each. each;
-        ended = λ c ts name s running moment a found runs e each. each;
-        carrier_called = λ c ts name k moment directed found e each. carried name _ _ (call_node config directed.node moment directed.call c).after ts (called_keeps c ts directed.node moment directed.call each);
-        collected = λ c ts id moment there each. called_keeps c ts id moment Collect each;
-      }
+  each_kept = nodes_lead config (λ nodes. EachNode (bare nodes) []) EachNode (λ c ts each. each) (λ c ts each. record {
+    by_session = λ name s found running moment directed runs e. called_keeps c ts directed.node moment directed.call each;
+    by_carrier = λ name k found moment directed e. called_keeps c ts directed.node moment directed.call each;
+    collected = λ id moment there. called_keeps c ts id moment Collect each;
+  })
 
   pub each_at_first : P (new_node config.data_centres) → EachNode (new_cluster config) []
   each_at_first first n = subst P (sym (new_nodes (config.data_centres * config.shards) n (new_node config.data_centres))) first

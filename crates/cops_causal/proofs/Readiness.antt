@@ -6,20 +6,19 @@ use Rattle.std.proofs.Math.Nat.{mod-lt}
 use Rattle.cops_types.specs.declared.contexts.Read.{Read}
 use Rattle.cops_types.specs.declared.pairs.Pair.{Pair}
 use Rattle.cops_types.specs.declared.records.EntryParts.{EntryParts as Entry}
-use Rattle.cops_types.specs.Context.{all_of, near_of}
 use Rattle.cops_types.specs.Key.{shard_of}
 use Rattle.cops_types.specs.TenantConfig.{TenantConfig}
 use Rattle.cops_types.specs.Version.{Timestamp, version_le}
 use Rattle.cops_model.specs.declared.calls.NodeCall.TheVariants as node_call
 use Rattle.cops_model.specs.declared.calls.NodeReply.{NodeReply}
 use Rattle.cops_model.specs.declared.calls.NodeReply.TheVariants.{Found}
-use Rattle.cops_model.specs.Log.{LogStep, Directed, Call}
+use Rattle.cops_model.specs.Log.{Directed, Call}
 use Rattle.cops_model.specs.Place.{node_number, place_of}
 use Rattle.cops_model.specs.SoloNode.{SoloNode, queue, front}
 use Rattle.cops_model.specs.Step.{was_committed, reply_pull}
 use Rattle.cops_model.specs.Carrier.{Stream, ack_call, check, commit_call, is_foreign, pair_of_entry, pull}
-use Rattle.cops_model.specs.Request.{Action, Fetch, Write, key_home, next}
-use Rattle.cops_model.specs.Session.{Session, Running, obs_of, request_of}
+use Rattle.cops_model.specs.Request.{Fetch, next}
+use Rattle.cops_model.specs.Session.{Session, Running, request_of}
 use Rattle.cops_model.specs.Transaction.{ReadRequest, gets, read_of, reads_of, wanted_version}
 use Rattle.cops_model.specs.Causal.{Traced, past_of_put}
 use Rattle.cops_model.specs.Cluster.{SoloCluster, find_session, call_node, has_node}
@@ -37,8 +36,7 @@ use Rattle.cops_node.proofs.NodeTurns.{entries, Change, IsRefused, Answers, Join
 use Rattle.cops_causal.proofs.NodeEffects.{node_of, call_changes}
 use Rattle.cops_causal.proofs.Offers.{IsOffered, origin_of, of_origin-node, pulled-offered, never-out_of_order}
 use Rattle.cops_types.proofs.PairSets.{at, greatest-within}
-use Rattle.cops_causal.proofs.Provenance.{IsFound, IsRunning}
-use Rattle.cops_session.proofs.RequestReplies.{put-next, get-next}
+use Rattle.cops_causal.proofs.Provenance.{IsFound}
 use Rattle.cops_types.proofs.Zipped.{Zipped}
 use Rattle.cops_session.proofs.ReplyRounds.{Every-first_reads}
 use Rattle.cops_causal.proofs.Settled.{at_origin}
@@ -48,6 +46,7 @@ use Rattle.cops_causal.proofs.TracedCalls.{home-there}
 use Rattle.cops_causal.proofs.TracedIdle.{session_of}
 use Rattle.cops_causal.proofs.Unbroken.{IsOwn, IsFineStep, step_fine}
 use Rattle.cops_session.proofs.WantedVersions.{deps_read, IsAskedFor, IsFirst, IsSecond, asked_for, outdated-is, wanted-among, IsBare, reads_bare}
+use Rattle.cops_causal.proofs.RequestSteps.{by_call, run}
 
 -- a call at a node that is there and ready
 pub record ReadyCall (config : TenantConfig) (c : SoloCluster) (directed : Directed) : Type 0 where
@@ -119,27 +118,15 @@ module _ (config : TenantConfig) (some : 0 < config.shards) (c : SoloCluster) (t
   -- ---- sessions
 
   module _ (name : List ℕ) (s : Session) (found : find_session name c ≡ Some s) where
-    abbrev run : ℕ → ℕ → Action → List LogStep → Running
-    run number context action log = record { number = number; context = context; action = action; log = log }
-
-    called_ready : (number context : ℕ) (action : Action) (log : List LogStep) (moment : ℕ) (directed : Directed) → s.running ≡ Some (run number context action log) → IsRunning config ts s (run number context action log) →
-        next config (request_of s (run number context action log)) log moment ≡ Call directed → ReadyCall config c directed
-    called_ready number context (Write key value) log moment directed runs is e =
-        let sent : Directed = record { node = key_home config s.dc key; call = node_call.Put key value (all_of (obs_of context s)) (near_of (obs_of context s)) } in
-        let at_start = subst (λ l. next config (request_of s (run number context (Write key value) l)) l moment ≡ Call directed) is.replies_are e in
-        let same : sent ≡ directed = (let both : Call sent ≡ Call directed = sym (put-next config s.dc (obs_of context s) key value moment) ∙ at_start in cc) in
-        subst (ReadyCall config c) same (record { there = home-there config s.dc key some (session_of config c ts inv.traced name s found).placed; ready = tt })
-    called_ready number context (Fetch keys) log moment directed runs is e =
-        let chosen = get-next config s.dc (obs_of context s) keys log moment directed e in
-        let q = chosen.asked in
-        subst (ReadyCall config c) (sym chosen.call) (record {
-          there = home-there config s.dc q.key some (session_of config c ts inv.traced name s found).placed;
-          ready = get_ready s.dc keys _ is.replies_are ((mine config c ts inv.closed name s found).replies_here (run number context (Fetch keys) log) runs) q chosen.at;
-        })
-
     pub session_ready : (running : Running) (moment : ℕ) (directed : Directed) → s.running ≡ Some running → next config (request_of s running) running.log moment ≡ Call directed → ReadyCall config c directed
-    session_ready running moment directed runs e =
-        called_ready running.number running.context running.action running.log moment directed runs ((session_of config c ts inv.traced name s found).running_is running runs) e
+    session_ready =
+        let this = session_of config c ts inv.traced name s found in
+        by_call config ts name s this (λ running moment directed. ReadyCall config c directed)
+        (λ number context key value moment runs is. record { there = home-there config s.dc key some this.placed; ready = tt })
+        (λ number context keys log moment q runs is at e. record {
+          there = home-there config s.dc q.key some this.placed;
+          ready = get_ready s.dc keys _ is.replies_are ((mine config c ts inv.closed name s found).replies_here (run number context (Fetch keys) log) runs) q at;
+        })
 
   -- ---- carriers
 

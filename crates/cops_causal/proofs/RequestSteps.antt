@@ -46,7 +46,7 @@ abbrev pub put_sent : TenantConfig → Session → ℕ → List ℕ → List ℕ
 put_sent config s context key value = record { node = key_home config s.dc key; call = node_call.Put key value (all_of (obs_of context s)) (near_of (obs_of context s)) }
 
 -- a running request without an answer has not ended
-pub not_ended : (late : Bool) (n : Next Answer) (a : Answer) → answer_in n ≡ None → unless_late late n ≡ Ended a → ⊥
+not_ended : (late : Bool) (n : Next Answer) (a : Answer) → answer_in n ≡ None → unless_late late n ≡ Ended a → ⊥
 not_ended true (Call call) a open_still e = cc
 not_ended false (Call call) a open_still e = cc
 not_ended true Restart a open_still e = cc

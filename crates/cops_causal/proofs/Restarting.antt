@@ -10,7 +10,6 @@ use Rattle.cops_types.specs.declared.faults.Fault.{Fault}
 use Rattle.cops_types.specs.declared.faults.Fault.TheVariants.{Overrun}
 use Rattle.cops_types.specs.declared.records.EntryParts.{EntryParts as Entry}
 use Rattle.cops_types.specs.declared.records.Record.{Record}
-use Rattle.cops_types.specs.Context.{all_of, near_of}
 use Rattle.cops_types.specs.Key.{key_eq}
 use Rattle.cops_types.specs.Records.{Tracked, ever, kept, of_key, exact}
 use Rattle.cops_types.specs.TenantConfig.{TenantConfig}
@@ -29,7 +28,7 @@ use Rattle.cops_model.specs.SoloNode.{SoloNode}
 use Rattle.cops_node.proofs.NodeTurns.{entries}
 use Rattle.cops_model.specs.declared.requests.Answer.{Answer}
 use Rattle.cops_model.specs.declared.requests.Answer.TheVariants as answer_is
-use Rattle.cops_model.specs.Request.{Action, Attempt, Fetch, Write, answer, attempt_of, begins_again, call_after, call_or_answer, complete, is_late, key_home, request_calls, unless_fault, unless_late}
+use Rattle.cops_model.specs.Request.{Action, Attempt, Fetch, Write, answer, attempt_of, begins_again, call_after, call_or_answer, complete, is_late, request_calls, unless_fault, unless_late}
 use Rattle.cops_model.specs.Request as request
 use Rattle.cops_model.specs.Session.{Session, Running, obs_of, request_of, has_restarted, moment_at}
 use Rattle.cops_model.specs.Session as session
@@ -63,7 +62,7 @@ use Rattle.cops_causal.proofs.Readiness.{session_ready, carrier_served, deps_her
 use Rattle.cops_causal.proofs.Sound.{IsSound, sound_kept, sound_at_first}
 use Rattle.cops_causal.proofs.StreamMoves.{stage_now, stream_is}
 use Rattle.cops_causal.proofs.TracedIdle.{session_of}
-use Rattle.cops_causal.proofs.RequestSteps.{not_ended}
+use Rattle.cops_causal.proofs.RequestSteps.{by_call, never_ended, put_sent, run}
 
 -- ---- what is gone was removed
 
@@ -126,9 +125,6 @@ record IsDue (config : TenantConfig) (c : SoloCluster) (name : List ℕ) (moment
 
 module _ (config : TenantConfig) (some : 0 < config.shards) (c : SoloCluster) (ts : List Traced) (inv : IsSound config c ts) (timed : IsTimed config c ts) where
   module _ (name : List ℕ) (s : Session) (found : find_session name c ≡ Some s) where
-    abbrev run : ℕ → ℕ → Action → List LogStep → Running
-    run number context action log = record { number = number; context = context; action = action; log = log }
-
     abbrev running_is : (running : Running) → s.running ≡ Some running → IsRunning config ts s running
     running_is = (session_of config c ts inv.traced name s found).running_is
 
@@ -265,39 +261,21 @@ module _ (config : TenantConfig) (some : 0 < config.shards) (c : SoloCluster) (t
         by_again false stays overrun =
             absurd (get_goes_on config s.dc (obs_of context s) keys log moment directed (ReplyTo moment directed) (running_is running runs).unanswered e (other_fault running moment directed runs e) stays overrun)
 
-    put_due : (number context : ℕ) (key value : List ℕ) (moment : ℕ) (directed : Directed) → s.running ≡ Some (run number context (Write key value) []) →
-        request.next config (request_of s (run number context (Write key value) [])) [] moment ≡ Call directed → Shows (run number context (Write key value) []) moment directed
-    put_due number context key value moment directed runs e = subst (Shows running moment) same shows
-      where
-        running : Running
-        running = run number context (Write key value) []
+    put_due : (number context : ℕ) (key value : List ℕ) (moment : ℕ) → let put = run number context (Write key value) [] in s.running ≡ Some put → IsRunning config ts s put → Shows put moment (put_sent config s context key value)
+    put_due number context key value moment runs is ends =
+        let put = run number context (Write key value) [] in
+        let sent = put_sent config s context key value in
+        let step : LogStep = record { moment = moment; outcome = Replied (ReplyTo moment sent) } in
+        let ready = session_ready config some c ts inv name s found put moment sent runs (put-next config s.dc (obs_of context s) key value moment) in
+        let n = node_number config.shards sent.node in
+        let call = call_node config sent.node moment sent.call c in
+        elim (ends_how (answer config (request_of s put) (step ∷ [])) false (attempt_of (Write key value) (step ∷ [])).restarts ends) [
+          | inl never ↦ absurd (let both : false ≡ true = never in cc)
+          | inr overrun ↦ absurd (put_other config s.dc (obs_of context s) key value moment (node_of config c n) (node_of config call.after n) call.reply (call_changes config c sent.node moment sent.call ready.there inv.traced.sized).change overrun)
+        ]
 
-        sent : Directed
-        sent = record { node = key_home config s.dc key; call = node_call.Put key value (all_of (obs_of context s)) (near_of (obs_of context s)) }
-
-        first : request.next config (request_of s running) [] moment ≡ Call sent
-        first = put-next config s.dc (obs_of context s) key value moment
-
-        same : sent ≡ directed
-        same = let both : Call sent ≡ Call directed = sym first ∙ e in cc
-
-        shows : Shows running moment sent
-        shows ends =
-            let step : LogStep = record { moment = moment; outcome = Replied (ReplyTo moment sent) } in
-            let ready = session_ready config some c ts inv name s found running moment sent runs first in
-            let n = node_number config.shards sent.node in
-            let call = call_node config sent.node moment sent.call c in
-            elim (ends_how (answer config (request_of s running) (step ∷ [])) false (attempt_of (Write key value) (step ∷ [])).restarts ends) [
-              | inl never ↦ absurd (let both : false ≡ true = never in cc)
-              | inr overrun ↦ absurd (put_other config s.dc (obs_of context s) key value moment (node_of config c n) (node_of config call.after n) call.reply (call_changes config c sent.node moment sent.call ready.there inv.traced.sized).change overrun)
-            ]
-
-    called_due : (number context : ℕ) (action : Action) (log : List LogStep) (moment : ℕ) (directed : Directed) → s.running ≡ Some (run number context action log) → IsRunning config ts s (run number context action log) →
-        request.next config (request_of s (run number context action log)) log moment ≡ Call directed → Shows (run number context action log) moment directed
-    called_due number context (Write key value) log moment directed runs is e =
-        subst (λ l. s.running ≡ Some (run number context (Write key value) l) → request.next config (request_of s (run number context (Write key value) l)) l moment ≡ Call directed → Shows (run number context (Write key value) l) moment directed)
-        (sym is.replies_are) (put_due number context key value moment directed) runs e
-    called_due number context (Fetch keys) log moment directed runs is e = get_due number context keys log moment directed runs e
+    called_due : (running : Running) (moment : ℕ) (directed : Directed) → s.running ≡ Some running → request.next config (request_of s running) running.log moment ≡ Call directed → Shows running moment directed
+    called_due = by_call config ts name s (session_of config c ts inv.traced name s found) Shows put_due (λ number context keys log moment q runs is at e. get_due number context keys log moment (call_of config s.dc q) runs e)
 
     -- ---- a late step
 
@@ -329,10 +307,9 @@ module _ (config : TenantConfig) (some : 0 < config.shards) (c : SoloCluster) (t
 
     does_due : (running : Running) (moment : ℕ) (next : Next Answer) → s.running ≡ Some running → request.next config (request_of s running) running.log moment ≡ next →
         ends_attempt (request_does config name s running moment c next).reply ≡ true → IsDue config c name moment
-    does_due running moment (Call directed) runs e ends = called_due running.number running.context running.action running.log moment directed runs (running_is running runs) e ends
+    does_due running moment (Call directed) runs e ends = called_due running moment directed runs e ends
     does_due running moment Restart runs e ends = late_due running moment runs e
-    does_due running moment (Ended a) runs e ends =
-        absurd (not_ended (is_late config.trans_time running.action (attempt_of running.action running.log).steps moment) (call_after config (request_of s running) (attempt_of running.action running.log)) a (running_is running runs).unanswered e)
+    does_due running moment (Ended a) runs e ends = absurd (never_ended config ts name s (session_of config c ts inv.traced name s found) running moment a runs e)
 
     running_due : (moment : ℕ) (run : Option Running) → s.running ≡ run → ends_attempt (running_step config name s moment c run).reply ≡ true → IsDue config c name moment
     running_due moment None runs ends = cc

@@ -16,13 +16,11 @@ use Rattle.cops_model.specs.declared.calls.NodeReply.{NodeReply}
 use Rattle.cops_model.specs.Log.{Directed}
 use Rattle.cops_model.specs.Place.{node_number, own_number, place_of}
 use Rattle.cops_model.specs.SoloNode.{new_node}
-use Rattle.cops_model.specs.declared.deliveries.Progress.{Progress}
-use Rattle.cops_model.specs.declared.deliveries.Progress.TheVariants as carrier_progress
-use Rattle.cops_model.specs.Carrier.{Carrier, Stream, ack_call, check, commit_call, pull}
+use Rattle.cops_model.specs.Carrier.{Stream, ack_call, check, commit_call, pull}
 use Rattle.cops_model.specs.Request.{key_home}
 use Rattle.cops_model.specs.declared.acts.Act.{Act}
 use Rattle.cops_model.specs.Causal.{Traced}
-use Rattle.cops_model.specs.Cluster.{SoloCluster, new_cluster, has_node, call_node, carrier_stepped}
+use Rattle.cops_model.specs.Cluster.{SoloCluster, new_cluster, has_node, call_node}
 use Rattle.cops_model.specs.Laws.{cluster_of, history_of, node_at, HasEmptyQueues, IsSettled}
 use Rattle.cops_causal.proofs.AfterActs.{after_acts}
 use Rattle.cops_repl.proofs.CarrierStages.{Stage, Pulling, Delivering, InDelivery, Checking, Committing, Acking}
@@ -40,6 +38,7 @@ use Rattle.cops_causal.proofs.StreamNodes.{held, IsStreamed}
 use Rattle.cops_causal.proofs.Streams.{IsFlowing, Delivered}
 use Rattle.cops_causal.proofs.TracedCalls.{next-above, home-there}
 use Rattle.cops_causal.proofs.TracedIdle.{session_of}
+use Rattle.cops_causal.proofs.ActorMoves.{bare, nodes_lead}
 
 -- the entry was issued at an equivalent node of the cluster, and its key is placed on the shard of the node
 pub record IsEquivalent (config : TenantConfig) (n : ℕ) (e : Entry) : Type 0 where
@@ -136,29 +135,15 @@ module _ (config : TenantConfig) (some : 0 < config.shards) (c : SoloCluster) (t
     by_stage moment directed (Pulling same) = subst (WellAt moment) (sym same) (called_at moment (pull stream) is.origin_is (λ reply f stores. absurd stores))
     by_stage moment directed (Delivering e offered now) = by_delivery moment e directed offered now
 
-  carried : (name : List ℕ) (next : Carrier) (shown : Progress) (after : SoloCluster) → AreEquivalent config after ts → AreEquivalent config (carrier_stepped name next shown after).after ts
-  carried name next carrier_progress.Working after each = each
-  carried name next (carrier_progress.Done ending) after each = each
-
 pub equivalent_kept : (config : TenantConfig) → 0 < config.shards → Leads config (Before config) (AreEquivalent config)
-equivalent_kept config some =
-    record {
-      opened = λ c ts name dc free exists inv. inv.1;
-      carrier_begun = λ c ts name stream free is inv. inv.1;
-      context_created = λ c ts name s found idle inv. inv.1;
-      context_deleted = λ c ts name s number found idle inv. inv.1;
-      put_begun = λ c ts name s number key value found ok is inv. inv.1;
-      get_begun = λ c ts name s number keys found ok are inv. inv.1;
-      called = λ c ts name s running moment directed found runs e inv.
-          let is = session_of config c ts inv.0.0 name s found in
-          by_session config some c ts inv s.dc is.placed moment directed (session_call config ts s running moment directed (is.running_is running runs) e);
-      late = λ c ts name s running moment found runs e inv. inv.1;
-      ended = λ c ts name s running moment a found runs e inv. inv.1;
-      carrier_called = λ c ts name k moment directed found e inv.
-          carried config some c ts inv name _ _ (call_node config directed.node moment directed.call c).after
-          (by_stage config some c ts inv k.stream (stream_is config some c ts inv.0.1 inv.0.0 name k found) moment directed (stage_now config some c ts inv.0.1 inv.0.0 name k found directed e));
-      collected = λ c ts id moment there inv. called_at config some c ts inv moment (record { node = id; call = node_call.Collect }) there (λ reply e stores. absurd stores);
-    }
+equivalent_kept config some = nodes_lead config (λ nodes. AreEquivalent config (bare nodes) []) (Before config) (λ c ts inv. inv.1) (λ c ts inv. record {
+  by_session = λ name s found running moment directed runs e.
+      let is = session_of config c ts inv.0.0 name s found in
+      by_session config some c ts inv s.dc is.placed moment directed (session_call config ts name s is running moment directed runs e);
+  by_carrier = λ name k found moment directed e.
+      by_stage config some c ts inv k.stream (stream_is config some c ts inv.0.1 inv.0.0 name k found) moment directed (stage_now config some c ts inv.0.1 inv.0.0 name k found directed e);
+  collected = λ id moment there. called_at config some c ts inv moment (record { node = id; call = node_call.Collect }) there (λ reply e stores. absurd stores);
+})
 
 pub equivalent_at_first : (config : TenantConfig) → AreEquivalent config (new_cluster config) []
 equivalent_at_first config n = subst (λ solo. AllByRecursion (IsEquivalent config n) (entries solo)) (sym (new_nodes (config.data_centres * config.shards) n (new_node config.data_centres))) tt

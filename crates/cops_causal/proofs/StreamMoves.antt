@@ -18,9 +18,9 @@ use Rattle.cops_model.specs.SoloNode.{SoloNode, queue, front}
 use Rattle.cops_model.specs.Step.{was_committed, reply_pull}
 use Rattle.cops_model.specs.declared.deliveries.Progress.{Progress}
 use Rattle.cops_model.specs.declared.deliveries.Progress.TheVariants as carrier_progress
-use Rattle.cops_model.specs.Carrier.{Carrier, Stream, ack_call, carrier_after, check, commit_call, new_carrier, pair_of_entry, pull, stream_calls}
+use Rattle.cops_model.specs.Carrier.{Carrier, ack_call, carrier_after, check, commit_call, new_carrier, pull}
 use Rattle.cops_model.specs.Carrier as carrier
-use Rattle.cops_model.specs.Request.{Action, Fetch, Write, key_home, next}
+use Rattle.cops_model.specs.Request.{key_home, next}
 use Rattle.cops_model.specs.Session.{Session, Running, obs_of, request_of}
 use Rattle.cops_model.specs.Causal.{Traced}
 use Rattle.cops_model.specs.Cluster.{SoloCluster, Actor, OfSession, OfCarrier, find_actor, with_actor, with_new_actor, without_actor, has_node, call_node, carrier_stepped}
@@ -33,8 +33,7 @@ use Rattle.cops_causal.proofs.Moves.{IsStream, Leads, Both, kept_both}
 use Rattle.cops_node.proofs.NodeTurns.{entries, Change, IsRefused, Answers, Joined, Taken, Stores, Takes}
 use Rattle.cops_causal.proofs.NodeEffects.{node_of, Called, call_changes, entries_grow}
 use Rattle.cops_causal.proofs.Offers.{of_origin-node, IsOffered, IsArrived, origin_of, end_of, pulled-offered, committed-arrived, offered-joins, arrived-taken}
-use Rattle.cops_causal.proofs.Provenance.{IsTraced, IsActor, IsRunning}
-use Rattle.cops_session.proofs.RequestReplies.{put-next, get-next}
+use Rattle.cops_causal.proofs.Provenance.{IsTraced, IsActor, IsSession}
 use Rattle.cops_causal.proofs.StreamNodes.{held, MayJoin, streamed_called, held-here}
 use Rattle.cops_causal.proofs.TracedCalls.{home-there}
 use Rattle.cops_causal.proofs.TracedIdle.{session_of}
@@ -47,6 +46,7 @@ use Rattle.cops_causal.proofs.AfterActs.{after_acts}
 use Rattle.cops_causal.proofs.Past.{traced_kept, traced_at_first, new_nodes}
 use Rattle.cops_causal.proofs.Streams.{DeliveredBy, Delivered, OnStream, IsFlowing, committed-grown, offered-grown, arrived-grown, still_at, carriers_called, carriers_same, put-joins, on_stream-grown}
 use Rattle.std.proofs.lemmas.Bool.Decides.{leb_tells}
+use Rattle.cops_causal.proofs.RequestSteps.{by_call}
 
 -- ---- the calls of sessions
 
@@ -54,23 +54,11 @@ pub data IsSessionCall (config : TenantConfig) (dc : ℕ) (directed : Directed) 
   IsPutCall : (key value : List ℕ) (deps near : List Pair) → directed ≡ record { node = key_home config dc key; call = node_call.Put key value deps near } → IsSessionCall config dc directed
   IsGetCall : (key : List ℕ) (wanted : Wanted) → directed ≡ record { node = key_home config dc key; call = node_call.Get key wanted } → IsSessionCall config dc directed
 
-abbrev run : ℕ → ℕ → Action → List LogStep → Running
-run number context action log = record { number = number; context = context; action = action; log = log }
-
-called_by : (config : TenantConfig) (ts : List Traced) (s : Session) (number context : ℕ) (action : Action) (log : List LogStep) (moment : ℕ) (directed : Directed) → IsRunning config ts s (run number context action log) →
-    next config (request_of s (run number context action log)) log moment ≡ Call directed → IsSessionCall config s.dc directed
-called_by config ts s number context (Write key value) log moment directed is e =
-    let sent : Directed = record { node = key_home config s.dc key; call = node_call.Put key value (all_of (obs_of context s)) (near_of (obs_of context s)) } in
-    let at_start = subst (λ l. next config (request_of s (run number context (Write key value) l)) l moment ≡ Call directed) is.replies_are e in
-    let same : sent ≡ directed = (let both : Call sent ≡ Call directed = sym (put-next config s.dc (obs_of context s) key value moment) ∙ at_start in cc) in
-    IsPutCall key value (all_of (obs_of context s)) (near_of (obs_of context s)) (sym same)
-called_by config ts s number context (Fetch keys) log moment directed is e =
-    let chosen = get-next config s.dc (obs_of context s) keys log moment directed e in
-    IsGetCall chosen.asked.key chosen.asked.wanted chosen.call
-
-pub session_call : (config : TenantConfig) (ts : List Traced) (s : Session) (running : Running) (moment : ℕ) (directed : Directed) → IsRunning config ts s running →
+pub session_call : (config : TenantConfig) (ts : List Traced) (name : List ℕ) (s : Session) → IsSession config ts name s → (running : Running) (moment : ℕ) (directed : Directed) → s.running ≡ Some running →
     next config (request_of s running) running.log moment ≡ Call directed → IsSessionCall config s.dc directed
-session_call config ts s running moment directed is e = called_by config ts s running.number running.context running.action running.log moment directed is e
+session_call config ts name s is = by_call config ts name s is (λ running moment directed. IsSessionCall config s.dc directed)
+    (λ number context key value moment runs is. IsPutCall key value (all_of (obs_of context s)) (near_of (obs_of context s)) refl)
+    (λ number context keys log moment q runs is at e. IsGetCall q.key q.wanted refl)
 
 -- ---- the moves
 
@@ -273,7 +261,7 @@ flowing_kept config some =
       called = λ c ts name s running moment directed found runs e inv.
           let is = session_of config c ts inv.0 name s found in
           let call = call_node config directed.node moment directed.call c in
-          flowing-session config some call.after ts (flowing-session_called config some c ts inv.1 inv.0 s.dc is.placed moment directed (session_call config ts s running moment directed (is.running_is running runs) e)) name _ _;
+          flowing-session config some call.after ts (flowing-session_called config some c ts inv.1 inv.0 s.dc is.placed moment directed (session_call config ts name s is running moment directed runs e)) name _ _;
       late = λ c ts name s running moment found runs e inv. flowing-session config some c ts inv.1 name _ _;
       ended = λ c ts name s running moment a found runs e inv. record { streamed = inv.1.streamed; carriers = inv.1.carriers };
       carrier_called = λ c ts name k moment directed found e inv. flowing-carrier_called config some c ts inv.1 inv.0 name k found moment directed e;
