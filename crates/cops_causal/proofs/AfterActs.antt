@@ -1,6 +1,6 @@
 -- What each move keeps holds after every list of acts, of the cluster and of the history.
-use Rattle.std.proofs.Common.{◌≡◌, ℕ, Bool, true, false, not, ◌&&◌, ◌==◌, List, [], ◌∷◌, refl, sym, ◌∙◌, ap, subst}
-use Rattle.std.specs.Prelude.{Option, Some, None, max, zero, suc, nat_lt, nat_le, length}
+use Rattle.std.proofs.Common.{◌≡◌, ℕ, true, not, ◌&&◌, ◌==◌, List, [], ◌∷◌, refl, sym, ◌∙◌, ap, subst}
+use Rattle.std.specs.Prelude.{Option, Some, None, max, nat_lt, nat_le, length}
 use Rattle.std.specs.List.{list_all, cons_option}
 use Rattle.std.specs.Option.{option_map, option_and_then}
 use Rattle.cops_types.specs.declared.faults.Fault.TheVariants.{Syntax, BadKey, ValueTooLong, NoSuchPlace, Busy, TooManyContexts, IdsSpent, NoContext}
@@ -10,13 +10,12 @@ use Rattle.cops_types.specs.TenantConfig.{TenantConfig}
 use Rattle.cops_types.specs.Value.{is_value}
 use Rattle.cops_model.specs.declared.calls.NodeCall.TheVariants as node_call
 use Rattle.cops_model.specs.declared.calls.NodeId.{NodeId}
-use Rattle.cops_model.specs.Log.{LogStep, Late, Replied, Next, Call, Restart, Ended}
+use Rattle.cops_model.specs.Log.{LogStep, Late, Replied}
 use Rattle.cops_model.specs.declared.requests.Answer.{Answer}
 use Rattle.cops_model.specs.declared.requests.Answer.TheVariants as answer
 use Rattle.cops_model.specs.declared.requests.Progress.{Progress}
 use Rattle.cops_model.specs.declared.requests.Progress.TheVariants as session_progress
-use Rattle.cops_model.specs.Request as request
-use Rattle.cops_model.specs.Session.{Running, Session, context_created, context_deleted, context_refusal, create_refusal, get_refusal, is_open, moment_at, new_session, obs_of, request_begun, request_of, session_after, session_put_refusal, is_spent}
+use Rattle.cops_model.specs.Session.{Running, Session, context_refusal, create_refusal, get_refusal, is_open, moment_at, new_session, request_of, session_after, session_put_refusal, is_spent}
 use Rattle.cops_model.specs.Session as session
 use Rattle.cops_model.specs.declared.deliveries.Delivery.{Delivery}
 use Rattle.cops_model.specs.declared.deliveries.Delivery.TheVariants as delivery
@@ -29,11 +28,12 @@ use Rattle.cops_model.specs.declared.acts.Act.TheVariants.{Open, Create, Delete,
 use Rattle.cops_model.specs.declared.replies.Reply.{Reply}
 use Rattle.cops_model.specs.declared.replies.Reply.TheVariants.{Opened, Started, Working, Restarted, Stored, Values}
 use Rattle.cops_model.specs.Causal.{Traced, Operation, Effect, operation_by, operation_ended, operations_from, effect_of, traced_from}
-use Rattle.cops_model.specs.Cluster.{ActEffect, Actor, OfCarrier, OfSession, SoloCluster, actor_step, actor_steps, call_node, carrier_does, carrier_stepped, cluster_step, collect_at, find_actor, find_session, goes_on, has_node, most_steps, new_cluster, reply_of_answer, reply_of_delivery, reply_of_progress, request_does, running_step, session_in, step_of, with_actor}
+use Rattle.cops_model.specs.Cluster.{ActEffect, Actor, OfCarrier, OfSession, SoloCluster, actor_step, actor_steps, call_node, carrier_stepped, cluster_step, collect_at, find_actor, find_session, goes_on, has_node, most_steps, new_cluster, reply_of_answer, reply_of_delivery, reply_of_progress, session_in, with_actor}
 use Rattle.cops_model.specs.Events.{cluster_after}
 use Rattle.cops_model.specs.Laws.{cluster_of, history_of}
 use Rattle.cops_causal.proofs.ActorsKeep.{find_actor-with_actor}
 use Rattle.cops_causal.proofs.Moves.{IsKept, with_operation, history_after, Holds, plainly, new_actor, session_act, passes, head_passes, flipped, not_busy, stream_of, plain_collect, actor_step_keeps}
+use Rattle.cops_causal.proofs.ActorSteps.{by_step, by_steps}
 
 -- the context of the request that the session of this name runs
 abbrev pub context_run : List ℕ → SoloCluster → Option ℕ
@@ -84,41 +84,30 @@ module _ (config : TenantConfig) (c : SoloCluster) (name : List ℕ) where
       ∙ sym (ap (option_map (λ (r : Running). r.context)) runs)
       ∙ sym (ap context_of_actor found)
 
-  request_does_context : (s : Session) (running : Running) (moment : ℕ) (next : Next Answer) → find_actor name c ≡ Some (OfSession s) → s.running ≡ Some running → KeepsContext (request_does config name s running moment c next)
-  request_does_context s running moment (Call directed) found runs goes =
-      let call = call_node config directed.node moment directed.call c in
-      let step : LogStep = record { moment = moment; outcome = Replied call.reply } in
-      stepped_context s running found runs step (session.progress config (request_of s running) running.log step) call.after refl goes
-  request_does_context s running moment Restart found runs goes =
-      let step : LogStep = record { moment = moment; outcome = Late } in
-      stepped_context s running found runs step (session.progress config (request_of s running) running.log step) c refl goes
-  request_does_context s running moment (Ended ended) found runs goes = absurd (answer_ends ended goes)
-
-  running_step_context : (s : Session) (moment : ℕ) (run : Option Running) → find_actor name c ≡ Some (OfSession s) → s.running ≡ run → KeepsContext (running_step config name s moment c run)
-  running_step_context s moment (Some running) found runs goes =
-      request_does_context s running (moment_at moment s) (request.next config (request_of s running) running.log (moment_at moment s)) found runs goes
-  running_step_context s moment None found runs goes = cc
-
   carrier_stepped_context : (k after : Carrier) (shown : CarrierProgress) (next : SoloCluster) → find_actor name c ≡ Some (OfCarrier k) → find_actor name next ≡ find_actor name c → KeepsContext (carrier_stepped name after shown next)
   carrier_stepped_context k after carrier_progress.Working next found same goes =
       ap context_of_actor (find_actor-with_actor name (OfCarrier after) (OfCarrier k) next (same ∙ found)) ∙ sym (ap context_of_actor found)
   carrier_stepped_context k after (carrier_progress.Done ending) next found same goes = absurd (delivery_ends ending goes)
 
-  carrier_does_context : (k : Carrier) (moment : ℕ) (next : Next Delivery) → find_actor name c ≡ Some (OfCarrier k) → KeepsContext (carrier_does config name k moment c next)
-  carrier_does_context k moment (Call directed) found goes =
-      let call = call_node config directed.node moment directed.call c in
-      let step : LogStep = record { moment = moment; outcome = Replied call.reply } in
-      carrier_stepped_context k (carrier_after k step) (carrier.delivery_progress config.shards k step) call.after found refl goes
-  carrier_does_context k moment Restart found goes = refl
-  carrier_does_context k moment (Ended ending) found goes = absurd (delivery_ends ending goes)
-
-  step_of_context : (moment : ℕ) (found : Option Actor) → find_actor name c ≡ found → KeepsContext (step_of config name moment c found)
-  step_of_context moment (Some (OfSession s)) found goes = running_step_context s moment s.running found refl goes
-  step_of_context moment (Some (OfCarrier k)) found goes = carrier_does_context k (max k.moment moment) (carrier.carrier_next config.shards k.stream k.log) found goes
-  step_of_context moment None found goes = cc
-
   pub actor_step_context : (moment : ℕ) → KeepsContext (actor_step config name moment c)
-  actor_step_context moment goes = step_of_context moment (find_actor name c) refl goes
+  actor_step_context moment = by_step config name moment c KeepsContext (record {
+    unknown = λ goes. cc;
+    idle = λ goes. cc;
+    called = λ s running directed found runs is.
+        let call = call_node config directed.node (moment_at moment s) directed.call c in
+        let step : LogStep = record { moment = moment_at moment s; outcome = Replied call.reply } in
+        stepped_context s running found runs step (session.progress config (request_of s running) running.log step) call.after refl;
+    late = λ s running found runs is.
+        let step : LogStep = record { moment = moment_at moment s; outcome = Late } in
+        stepped_context s running found runs step (session.progress config (request_of s running) running.log step) c refl;
+    ended = λ s running a found runs is goes. absurd (answer_ends a goes);
+    carrier_called = λ k directed found is.
+        let call = call_node config directed.node (max k.moment moment) directed.call c in
+        let step : LogStep = record { moment = max k.moment moment; outcome = Replied call.reply } in
+        carrier_stepped_context k (carrier_after k step) (carrier.delivery_progress config.shards k step) call.after found refl;
+    carrier_waits = λ k found is goes. refl;
+    carrier_ended = λ k ending found is goes. absurd (delivery_ends ending goes);
+  })
 
 -- ---- acts
 
@@ -142,37 +131,17 @@ history_after-context ts c d name reply same = ap (with_operation ts) (by_effect
         ∙ sym (operation_by-context d effect name)
 
 module _ {config : TenantConfig} {P : SoloCluster → List Traced → Type 0} (kept : IsKept config P) where
-  -- where the first step goes on, the others follow
-  followed : (more : ℕ) (c : SoloCluster) (ts : List Traced) (name : List ℕ) (moment : ℕ) → P c ts →
+  -- a step that goes on leaves the history
+  step_goes_on : (c : SoloCluster) (ts : List Traced) (name : List ℕ) (moment : ℕ) → P c ts → goes_on (actor_step config name moment c).reply ≡ true → P (actor_step config name moment c).after ts
+  step_goes_on c ts name moment p goes =
       let step = actor_step config name moment c in
-      let rest = actor_steps more config name moment step.after in
-      (P step.after ts → P rest.after (history_after ts step.after name rest.reply)) →
-      P (actor_steps (suc more) config name moment c).after (history_after ts c name (actor_steps (suc more) config name moment c).reply)
-  followed more c ts name moment p later = by_goes (goes_on step.reply) refl
-    where
-      step : ActEffect
-      step = actor_step config name moment c
-
-      rest : ActEffect
-      rest = actor_steps more config name moment step.after
-
-      kept_step : P step.after (history_after ts c name step.reply)
-      kept_step = actor_step_keeps kept c ts name moment p
-
-      turn_by : Bool → ActEffect
-      turn_by b = elim b [ true ↦ rest | false ↦ step ]
-
-      by_goes : (b : Bool) → goes_on step.reply ≡ b → P (turn_by b).after (history_after ts c name (turn_by b).reply)
-      by_goes true goes =
-          let same = subst (λ e. P step.after (with_operation ts (option_and_then (λ effect. operation_by c effect name) e))) (plain_goes step.reply goes) kept_step in
-          subst (λ h. P rest.after h) (history_after-context ts step.after c name rest.reply (actor_step_context config c name moment goes)) (later same)
-      by_goes false goes = kept_step
+      subst (λ e. P step.after (with_operation ts (option_and_then (λ effect. operation_by c effect name) e))) (plain_goes step.reply goes) (actor_step_keeps kept c ts name moment p)
 
   actor_steps_keep : (more : ℕ) (c : SoloCluster) (ts : List Traced) (name : List ℕ) (moment : ℕ) → P c ts →
       P (actor_steps more config name moment c).after (history_after ts c name (actor_steps more config name moment c).reply)
-  actor_steps_keep zero c ts name moment p = actor_step_keeps kept c ts name moment p
-  actor_steps_keep (suc more) c ts name moment p =
-      followed more c ts name moment p (λ q. actor_steps_keep more (actor_step config name moment c).after ts name moment q)
+  actor_steps_keep more c ts name moment p =
+      by_steps config name moment (λ c. P c ts) (λ c turn. P turn.after (history_after ts c name turn.reply)) (λ c p. actor_step_keeps kept c ts name moment p) (λ c p goes. step_goes_on c ts name moment p goes)
+      (λ c turn p goes later. subst (P turn.after) (history_after-context ts (actor_step config name moment c).after c name turn.reply (actor_step_context config c name moment goes)) later) more c p
 
   pub cluster_step_keeps : (act : Act) (c : SoloCluster) (ts : List Traced) → P c ts → Holds kept c ts act (cluster_step config act c)
   cluster_step_keeps (Open name dc) c ts p =

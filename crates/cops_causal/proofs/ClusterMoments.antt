@@ -1,8 +1,7 @@
 -- No moment of a cluster is past all those that were handed in.
 use Rattle.std.proofs.Common.{◌≡◌, ℕ, ◌+◌, ◌*◌, ◌≤◌, Bool, true, false, cond, List, [], ◌∷◌, ◌++◌, refl, sym, ◌∙◌, ap, subst, arith}
-use Rattle.std.specs.Prelude.{Option, Some, None, zero, suc, max, length}
+use Rattle.std.specs.Prelude.{Option, Some, None, max, length}
 use Rattle.std.specs.List.{AllByRecursion, cons_option}
-use Rattle.std.specs.Option.{option_and_then}
 use Rattle.cops_types.specs.declared.faults.Fault.{Fault}
 use Rattle.cops_types.specs.TenantConfig.{TenantConfig}
 use Rattle.cops_types.proofs.Elements.{Every-append, fold-push}
@@ -10,10 +9,9 @@ use Rattle.cops_model.specs.declared.calls.NodeCall.{NodeCall}
 use Rattle.cops_model.specs.declared.calls.NodeCall.TheVariants as node_call
 use Rattle.cops_model.specs.declared.calls.NodeId.{NodeId}
 use Rattle.cops_model.specs.declared.calls.NodeReply.TheVariants.{Gone}
-use Rattle.cops_model.specs.Log.{LogStep, Outcome, Late, Replied, Directed, Next, Call, Restart, Ended}
+use Rattle.cops_model.specs.Log.{LogStep, Outcome, Late, Replied, Directed, Call}
 use Rattle.cops_model.specs.Place.{node_number, place_of}
 use Rattle.cops_model.specs.SoloNode.{SoloNode, new_node}
-use Rattle.cops_model.specs.declared.requests.Answer.{Answer}
 use Rattle.cops_model.specs.declared.requests.Progress.{Progress}
 use Rattle.cops_model.specs.declared.requests.Progress.TheVariants as session_progress
 use Rattle.cops_model.specs.Request.{Action, Write, Fetch, Attempt, begins_again, attempt_after, attempt_of}
@@ -21,14 +19,12 @@ use Rattle.cops_model.specs.Request as request
 use Rattle.cops_model.specs.Session.{Session, Running, new_session, obs_of, context_created, context_deleted, request_begun, request_of, moment_at, raised, moment_after, has_restarted, session_after}
 use Rattle.cops_model.specs.Session as session
 use Rattle.cops_session.proofs.RequestReplies.{get-next, call_of}
-use Rattle.cops_model.specs.declared.deliveries.Delivery.{Delivery}
 use Rattle.cops_model.specs.declared.deliveries.Progress.{Progress as CarrierProgress}
 use Rattle.cops_model.specs.declared.deliveries.Progress.TheVariants as carrier_progress
-use Rattle.cops_model.specs.Carrier.{Carrier, new_carrier, carrier_after}
-use Rattle.cops_model.specs.Carrier as carrier
+use Rattle.cops_model.specs.Carrier.{Carrier, new_carrier}
 use Rattle.cops_model.specs.declared.acts.Act.{Act}
 use Rattle.cops_model.specs.declared.acts.Act.TheVariants.{Open, Create, Delete, Put, Get, Show, Carry, Step, Done, Collect}
-use Rattle.cops_model.specs.Cluster.{ActEffect, Actor, OfCarrier, OfSession, SoloCluster, actor_step, actor_steps, call_node, carrier_does, carrier_stepped, cluster_step, find_actor, find_session, goes_on, most_steps, new_cluster, on_found, on_session, request_does, running_step, session_in, step_of, unless_refused, with_actor, with_new_actor}
+use Rattle.cops_model.specs.Cluster.{ActEffect, Actor, OfCarrier, OfSession, SoloCluster, actor_step, actor_steps, call_node, carrier_stepped, cluster_step, find_session, most_steps, new_cluster, on_found, on_session, unless_refused, with_actor, with_new_actor, session_stepped}
 use Rattle.cops_model.specs.Events.{cluster_after}
 use Rattle.cops_model.specs.Restarts.{moment_in, moments_in}
 use Rattle.cops_model.specs.Laws.{cluster_of}
@@ -36,6 +32,7 @@ use Rattle.cops_causal.proofs.ActorsKeep.{EachActor, actor_found, session_actor,
 use Rattle.cops_causal.proofs.NodeEffects.{node_of}
 use Rattle.cops_causal.proofs.NodeMoments.{turn_moment, get_gone, call_leaves}
 use Rattle.cops_causal.proofs.Past.{new_nodes}
+use Rattle.cops_causal.proofs.ActorSteps.{as_session, by_step, by_steps}
 
 -- ---- the words
 
@@ -156,59 +153,51 @@ module _ (config : TenantConfig) (most : ℕ) where
         let same = is_gone.now_is in
         omega (arith, same)
 
-    does_within : (running : Running) (moment : ℕ) (next : Next Answer) → s.running ≡ Some running → s.moment ≤ moment → moment ≤ most → request.next config (request_of s running) running.log moment ≡ next →
-        IsWithin config most (request_does config name s running moment c next).after
-    does_within running moment (Call directed) runs first low e =
+    -- a step that calls, and one that comes late
+    called_within : (running : Running) (moment : ℕ) (directed : Directed) → s.running ≡ Some running → s.moment ≤ moment → moment ≤ most → request.next config (request_of s running) running.log moment ≡ Call directed →
+        let call = call_node config directed.node moment directed.call c in IsWithin config most (session_stepped config name s running (record { moment = moment; outcome = Replied call.reply }) call.after).after
+    called_within running moment directed runs first low e =
         let call = call_node config directed.node moment directed.call c in
         let step : LogStep = record { moment = moment; outcome = Replied call.reply } in
         changed_within call.after name _
         (stepped_within most name s running step (session.progress config (request_of s running) running.log step) runs session_is
         (step_within running step first low (λ again now gone. gone_within running.number running.context running.action running.log moment directed low e again now gone)))
         (call_within c directed.node moment directed.call low is)
-    does_within running moment Restart runs first low e =
+
+    late_within : (running : Running) (moment : ℕ) → s.running ≡ Some running → s.moment ≤ moment → moment ≤ most → IsWithin config most (session_stepped config name s running (record { moment = moment; outcome = Late }) c).after
+    late_within running moment runs first low =
         let step : LogStep = record { moment = moment; outcome = Late } in
         changed_within c name _
         (stepped_within most name s running step (session.progress config (request_of s running) running.log step) runs session_is (step_within running step first low (λ again now gone. cc))) is
-    does_within running moment (Ended a) runs first low e = is
 
-    running_within : (moment : ℕ) (run : Option Running) → moment ≤ most → s.running ≡ run → IsWithin config most (running_step config name s moment c run).after
-    running_within moment (Some running) low runs =
-        let old = session_is.0 in
-        does_within running (moment_at moment s) (request.next config (request_of s running) running.log (moment_at moment s)) runs (omega arith) (omega arith) refl
-    running_within moment None low runs = is
+    -- of any moment that is handed in
+    moment_within : (moment : ℕ) → moment ≤ most → (s.moment ≤ moment_at moment s) × (moment_at moment s ≤ most)
+    moment_within moment low = let old = session_is.0 in (omega arith, omega arith)
 
   carried_within : (c : SoloCluster) (name : List ℕ) (next : Carrier) (shown : CarrierProgress) → next.moment ≤ most → IsWithin config most c → IsWithin config most (carrier_stepped name next shown c).after
   carried_within c name next carrier_progress.Working low is = changed_within c name (OfCarrier next) low is
   carried_within c name next (carrier_progress.Done ending) low is = record { nodes = is.nodes; actors = each-without (IsActorWithin most) c name is.actors }
 
-  carrier_within : (c : SoloCluster) (name : List ℕ) (k : Carrier) (moment : ℕ) (next : Next Delivery) → moment ≤ most → IsWithin config most c → IsWithin config most (carrier_does config name k moment c next).after
-  carrier_within c name k moment (Call directed) low is =
-      let call = call_node config directed.node moment directed.call c in
-      let step : LogStep = record { moment = moment; outcome = Replied call.reply } in
-      carried_within call.after name (carrier_after k step) (carrier.delivery_progress config.shards k step) low (call_within c directed.node moment directed.call low is)
-  carrier_within c name k moment Restart low is = is
-  carrier_within c name k moment (Ended ending) low is = is
-
-  step_of_within : (c : SoloCluster) (name : List ℕ) (moment : ℕ) (found : Option Actor) → moment ≤ most → find_actor name c ≡ found → IsWithin config most c → IsWithin config most (step_of config name moment c found).after
-  step_of_within c name moment (Some (OfSession s)) low found is = running_within c is name s (ap (option_and_then session_in) found) moment s.running low refl
-  step_of_within c name moment (Some (OfCarrier k)) low found is =
-      let old : k.moment ≤ most = actor_found (IsActorWithin most) c name (OfCarrier k) is.actors found in
-      carrier_within c name k (max k.moment moment) (carrier.carrier_next config.shards k.stream k.log) (omega arith) is
-  step_of_within c name moment None low found is = is
-
   pub actor_step_within : (c : SoloCluster) (name : List ℕ) (moment : ℕ) → moment ≤ most → IsWithin config most c → IsWithin config most (actor_step config name moment c).after
-  actor_step_within c name moment low is = step_of_within c name moment (find_actor name c) low refl is
-
-  either_within : (b : Bool) (rest step : ActEffect) → IsWithin config most rest.after → IsWithin config most step.after → IsWithin config most (let turn : ActEffect = elim b [ true ↦ rest | false ↦ step ] in turn.after)
-  either_within true rest step more here = more
-  either_within false rest step more here = here
+  actor_step_within c name moment low is = by_step config name moment c (λ turn. IsWithin config most turn.after) (record {
+    unknown = is;
+    idle = is;
+    called = λ s running directed found runs e.
+        let at = moment_within c is name s (as_session name c s found) moment low in called_within c is name s (as_session name c s found) running (moment_at moment s) directed runs at.0 at.1 e;
+    late = λ s running found runs e. let at = moment_within c is name s (as_session name c s found) moment low in late_within c is name s (as_session name c s found) running (moment_at moment s) runs at.0 at.1;
+    ended = λ s running a found runs e. is;
+    carrier_called = λ k directed found e.
+        let old : k.moment ≤ most = actor_found (IsActorWithin most) c name (OfCarrier k) is.actors found in
+        let now : max k.moment moment ≤ most = omega arith in
+        carried_within (call_node config directed.node (max k.moment moment) directed.call c).after name _ _ now (call_within c directed.node (max k.moment moment) directed.call now is);
+    carrier_waits = λ k found e. is;
+    carrier_ended = λ k ending found e. is;
+  })
 
   steps_within : (more : ℕ) (c : SoloCluster) (name : List ℕ) (moment : ℕ) → moment ≤ most → IsWithin config most c → IsWithin config most (actor_steps more config name moment c).after
-  steps_within zero c name moment low is = actor_step_within c name moment low is
-  steps_within (suc more) c name moment low is =
-      let step = actor_step config name moment c in
-      let there = actor_step_within c name moment low is in
-      either_within (goes_on step.reply) (actor_steps more config name moment step.after) step (steps_within more step.after name moment low there) there
+  steps_within more c name moment low is =
+      by_steps config name moment (IsWithin config most) (λ c turn. IsWithin config most turn.after) (λ c is. actor_step_within c name moment low is) (λ c is goes. actor_step_within c name moment low is)
+      (λ c turn is goes later. later) more c is
 
   -- ---- acts
 

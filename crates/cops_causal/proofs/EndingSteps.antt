@@ -6,8 +6,7 @@ use Rattle.cops_types.specs.TenantConfig.{TenantConfig}
 use Rattle.cops_types.proofs.Zipped.{Zipped}
 use Rattle.cops_model.specs.declared.calls.NodeReply.{NodeReply}
 use Rattle.cops_model.specs.declared.calls.NodeReply.TheVariants.{Pulled}
-use Rattle.cops_model.specs.Log.{Call, Directed, Ended, Late, LogStep, Next, Outcome, Replied, Restart, replies_of}
-use Rattle.cops_model.specs.declared.deliveries.Delivery.{Delivery}
+use Rattle.cops_model.specs.Log.{Call, Directed, Late, LogStep, Outcome, Replied, Restart, replies_of}
 use Rattle.cops_model.specs.declared.deliveries.Progress.{Progress as CarrierProgress}
 use Rattle.cops_model.specs.declared.deliveries.Progress.TheVariants as carrier_progress
 use Rattle.cops_repl.specs.Bounds.{near_in}
@@ -23,17 +22,18 @@ use Rattle.cops_session.proofs.ReplyCounts.{gets-few, replies-push, attempt-push
 use Rattle.cops_session.proofs.RequestReplies.{put-ends, replies_in, unspent, unanswered-within}
 use Rattle.cops_model.specs.declared.acts.Act.{Act}
 use Rattle.cops_model.specs.Causal.{Traced}
-use Rattle.cops_model.specs.Cluster.{ActEffect, Actor, OfCarrier, OfSession, SoloCluster, actor_step, actor_steps, call_node, carrier_does, carrier_stepped, find_actor, find_session, goes_on, most_steps, reply_of_progress, request_does, running_step, session_in, session_stepped, step_of}
+use Rattle.cops_model.specs.Cluster.{ActEffect, Actor, OfCarrier, OfSession, SoloCluster, actor_step, actor_steps, call_node, carrier_stepped, find_actor, find_session, goes_on, most_steps, reply_of_progress, session_in, session_stepped}
 use Rattle.cops_model.specs.Laws.{cluster_of, history_of, HasEndingSteps}
 use Rattle.cops_causal.proofs.ActorsKeep.{actor_found, find_actor-with_actor}
 use Rattle.cops_causal.proofs.AfterActs.{answer_ends, delivery_ends, after_acts}
 use Rattle.cops_causal.proofs.Limits.{IsWithinLimits, room, offered_few, limits_kept, limits_at_first}
-use Rattle.cops_causal.proofs.Moves.{IsKept, Both, kept_both, actor_step_keeps, step_of_keeps, history_after}
+use Rattle.cops_causal.proofs.Moves.{IsKept, Both, kept_both, actor_step_keeps, history_after}
 use Rattle.cops_causal.proofs.Provenance.{IsRunning}
 use Rattle.cops_causal.proofs.Sound.{IsSound, sound_kept, sound_at_first}
 use Rattle.cops_causal.proofs.Streams.{OnStream, Delivered}
 use Rattle.cops_causal.proofs.TracedIdle.{session_of}
 use Rattle.cops_causal.proofs.RequestSteps.{by_late, only_runs, run}
+use Rattle.cops_causal.proofs.ActorSteps.{by_step}
 
 -- ---- how many steps are left
 
@@ -142,21 +142,6 @@ module _ (config : TenantConfig) (some : 0 < config.shards) (c : SoloCluster) (t
     late_taken : (running : Running) (moment : ℕ) → s.running ≡ Some running → request.next config (request_of s running) running.log moment ≡ Restart → IsTakenBy Late running.action
     late_taken = by_late config ts name s (session_of config c ts inv.traced name s in_sessions) (λ running moment. IsTakenBy Late running.action) (λ number context keys log moment runs is. tt)
 
-    does_left : (running : Running) (moment : ℕ) (next : Next Answer) → s.running ≡ Some running → request.next config (request_of s running) running.log moment ≡ next → IsLeft config running.action running.log n →
-        goes_on (request_does config name s running moment c next).reply ≡ true → Fewer config (IsActorLeft config (find_actor name (request_does config name s running moment c next).after)) n
-    does_left running moment (Call directed) runs is left goes =
-        let call = call_node config directed.node moment directed.call c in
-        stepped_left running moment (Replied call.reply) call.after found runs left tt goes
-    does_left running moment Restart runs is left goes =
-        stepped_left running moment Late c found runs left (late_taken running moment runs is) goes
-    does_left running moment (Ended a) runs is left goes = absurd (answer_ends a goes)
-
-    running_left : (moment : ℕ) (run : Option Running) → s.running ≡ run → IsActorLeft config (Some (OfSession s)) n → goes_on (running_step config name s moment c run).reply ≡ true →
-        Fewer config (IsActorLeft config (find_actor name (running_step config name s moment c run).after)) n
-    running_left moment (Some running) runs left goes =
-        does_left running (moment_at moment s) (request.next config (request_of s running) running.log (moment_at moment s)) runs refl (left running runs) goes
-    running_left moment None runs left goes = cc
-
   -- ---- carriers
 
   -- what a carrier pulled has few near pairs
@@ -182,14 +167,14 @@ carrier_fewer config (q ∷ rs) r (suc m) left room near =
     let more : length (rs ++ r ∷ []) ≡ length rs + 1 = length-append rs (r ∷ []) in
     (m, refl, omega arith)
 
-module _ (config : TenantConfig) (c : SoloCluster) (name : List ℕ) (k : Carrier) (found : find_actor name c ≡ Some (OfCarrier k)) (n : ℕ) (left : IsCarrierLeft config (carrier_replies k.log) n) where
-  -- after a step, if what the carrier has pulled then has few near pairs
-  abbrev HasFewAfter : SoloCluster → Type 0
-  HasFewAfter after = (next : Carrier) → find_actor name after ≡ Some (OfCarrier next) → length (near_in (carrier_replies next.log)) ≤ config.quota.deps
+-- what a carrier of the name has pulled then has few near pairs
+abbrev HasFewAfter : TenantConfig → List ℕ → SoloCluster → Type 0
+HasFewAfter config name after = (next : Carrier) → find_actor name after ≡ Some (OfCarrier next) → length (near_in (carrier_replies next.log)) ≤ config.quota.deps
 
+module _ (config : TenantConfig) (c : SoloCluster) (name : List ℕ) (k : Carrier) (found : find_actor name c ≡ Some (OfCarrier k)) (n : ℕ) (left : IsCarrierLeft config (carrier_replies k.log) n) where
   carried_left : (moment : ℕ) (directed : Directed) (reply : NodeReply) (after : SoloCluster) (shown : CarrierProgress) → carrier.carrier_next config.shards k.stream k.log ≡ Call directed → find_actor name after ≡ Some (OfCarrier k) →
       let turn = carrier_stepped name (carrier_after k (record { moment = moment; outcome = Replied reply })) shown after in
-      HasFewAfter turn.after → goes_on turn.reply ≡ true → Fewer config (IsActorLeft config (find_actor name turn.after)) n
+      HasFewAfter config name turn.after → goes_on turn.reply ≡ true → Fewer config (IsActorLeft config (find_actor name turn.after)) n
   carried_left moment directed reply after carrier_progress.Working is still few goes =
       let step : LogStep = record { moment = moment; outcome = Replied reply } in
       let next = carrier_after k step in
@@ -200,15 +185,11 @@ module _ (config : TenantConfig) (c : SoloCluster) (name : List ℕ) (k : Carrie
       (fewer.0, fewer.1, subst (λ a. IsActorLeft config a fewer.0) (sym there) (subst (λ rs. IsCarrierLeft config rs fewer.0) (sym more) fewer.2))
   carried_left moment directed reply after (carrier_progress.Done ending) is still few goes = absurd (delivery_ends ending goes)
 
-  carrier_does_left : (moment : ℕ) (next : Next Delivery) → carrier.carrier_next config.shards k.stream k.log ≡ next → HasFewAfter (carrier_does config name k moment c next).after →
-      goes_on (carrier_does config name k moment c next).reply ≡ true → Fewer config (IsActorLeft config (find_actor name (carrier_does config name k moment c next).after)) n
-  carrier_does_left moment (Call directed) is few goes =
-      let call = call_node config directed.node moment directed.call c in
-      carried_left moment directed call.reply call.after (carrier.delivery_progress config.shards k (record { moment = moment; outcome = Replied call.reply })) is found few goes
-  carrier_does_left moment Restart is few goes =
+  -- a carrier calls or has ended
+  never_waits : carrier.carrier_next config.shards k.stream k.log ≡ Restart → ⊥
+  never_waits is =
       let rs = carrier_replies k.log in
-      absurd (never-restarts (first_end config.shards k.stream (stream_calls config.shards k.stream rs) rs) (slice_get (stream_calls config.shards k.stream rs) (length rs)) (finished_delivery rs) is)
-  carrier_does_left moment (Ended ending) is few goes = absurd (delivery_ends ending goes)
+      never-restarts (first_end config.shards k.stream (stream_calls config.shards k.stream rs) rs) (slice_get (stream_calls config.shards k.stream rs) (length rs)) (finished_delivery rs) is
 
 -- ---- runs
 
@@ -219,14 +200,27 @@ module _ (config : TenantConfig) (some : 0 < config.shards) where
   bounded_kept : IsKept config Bounded
   bounded_kept = kept_both (sound_kept config some) (limits_kept config some)
 
-  step_of_left : (c : SoloCluster) (ts : List Traced) (inv : Bounded c ts) (name : List ℕ) (moment n : ℕ) (found : Option Actor) → find_actor name c ≡ found → IsActorLeft config found n → goes_on (step_of config name moment c found).reply ≡ true →
-      Fewer config (IsActorLeft config (find_actor name (step_of config name moment c found).after)) n
-  step_of_left c ts inv name moment n (Some (OfSession s)) found left goes = running_left config some c ts inv.0 inv.1 name s found n moment s.running refl left goes
-  step_of_left c ts inv name moment n (Some (OfCarrier k)) found left goes =
-      let next = step_of_keeps bounded_kept c ts name moment (Some (OfCarrier k)) found inv in
-      carrier_does_left config c name k found n left (max k.moment moment) (carrier.carrier_next config.shards k.stream k.log) refl
-      (λ later there. carrier_near config some _ _ next.0 next.1 name later there) goes
-  step_of_left c ts inv name moment n None found left goes = cc
+  step_left : (c : SoloCluster) (ts : List Traced) (inv : Bounded c ts) (name : List ℕ) (moment n : ℕ) → IsActorLeft config (find_actor name c) n → goes_on (actor_step config name moment c).reply ≡ true →
+      Fewer config (IsActorLeft config (find_actor name (actor_step config name moment c).after)) n
+  step_left c ts inv name moment n left = by_step config name moment c
+      (λ turn. HasFewAfter config name turn.after → goes_on turn.reply ≡ true → Fewer config (IsActorLeft config (find_actor name turn.after)) n) (record {
+        unknown = λ few goes. cc;
+        idle = λ few goes. cc;
+        called = λ s running directed found runs is few goes.
+            let call = call_node config directed.node (moment_at moment s) directed.call c in
+            stepped_left config some c ts inv.0 inv.1 name s found n running (moment_at moment s) (Replied call.reply) call.after found runs (subst (λ a. IsActorLeft config a n) found left running runs) tt goes;
+        late = λ s running found runs is few goes.
+            stepped_left config some c ts inv.0 inv.1 name s found n running (moment_at moment s) Late c found runs (subst (λ a. IsActorLeft config a n) found left running runs)
+            (late_taken config some c ts inv.0 inv.1 name s found n running (moment_at moment s) runs is) goes;
+        ended = λ s running a found runs is few goes. absurd (answer_ends a goes);
+        carrier_called = λ k directed found is few goes.
+            let call = call_node config directed.node (max k.moment moment) directed.call c in
+            carried_left config c name k found n (subst (λ a. IsActorLeft config a n) found left) (max k.moment moment) directed call.reply call.after
+            (carrier.delivery_progress config.shards k (record { moment = max k.moment moment; outcome = Replied call.reply })) is found few goes;
+        carrier_waits = λ k found is few goes. absurd (never_waits config c name k found n (subst (λ a. IsActorLeft config a n) found left) is);
+        carrier_ended = λ k ending found is few goes. absurd (delivery_ends ending goes);
+      })
+      (let next = actor_step_keeps bounded_kept c ts name moment inv in λ later there. carrier_near config some _ _ next.0 next.1 name later there)
 
   steps_end : (more : ℕ) (c : SoloCluster) (ts : List Traced) → Bounded c ts → (name : List ℕ) (moment : ℕ) → IsActorLeft config (find_actor name c) more → goes_on (actor_steps more config name moment c).reply ≡ false
   steps_end zero c ts inv name moment left = by_goes (goes_on step.reply) refl
@@ -236,12 +230,12 @@ module _ (config : TenantConfig) (some : 0 < config.shards) where
 
       by_goes : (b : Bool) → goes_on step.reply ≡ b → b ≡ false
       by_goes false goes = refl
-      by_goes true goes = let fewer = step_of_left c ts inv name moment 0 (find_actor name c) refl left goes in let never : 0 ≡ suc fewer.0 = fewer.1 in absurd (omega arith)
+      by_goes true goes = let fewer = step_left c ts inv name moment 0 left goes in let never : 0 ≡ suc fewer.0 = fewer.1 in absurd (omega arith)
   steps_end (suc more) c ts inv name moment left =
       let step = actor_step config name moment c in
       either_ends (goes_on step.reply) refl (actor_steps more config name moment step.after)
       (λ goes.
-      let fewer = step_of_left c ts inv name moment (suc more) (find_actor name c) refl left goes in
+      let fewer = step_left c ts inv name moment (suc more) left goes in
       let same : more ≡ fewer.0 = (let e : suc more ≡ suc fewer.0 = fewer.1 in omega arith) in
       steps_end more step.after (history_after ts c name step.reply) (actor_step_keeps bounded_kept c ts name moment inv) name moment (subst (IsActorLeft config (find_actor name step.after)) (sym same) fewer.2))
     where

@@ -48,3 +48,4 @@ pub mod TracedSteps
 pub mod Unbroken
 pub mod RequestSteps
 pub mod ActorMoves
+pub mod ActorSteps

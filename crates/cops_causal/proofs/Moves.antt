@@ -1,5 +1,5 @@
 -- What holds after every list of acts, if it holds at first and each move of the cluster keeps it.
-use Rattle.std.proofs.Common.{◌≡◌, ℕ, Bool, true, false, not, ◌&&◌, ◌==◌, List, [], ◌∷◌, ◌++◌, refl, sym, ap, subst}
+use Rattle.std.proofs.Common.{◌≡◌, ℕ, Bool, true, false, not, ◌&&◌, ◌==◌, List, [], ◌∷◌, ◌++◌, refl, sym, subst}
 use Rattle.std.specs.Prelude.{Option, Some, None, max, nat_lt, nat_le, length, is_some}
 use Rattle.std.specs.List.{list_all}
 use Rattle.std.specs.Option.{option_and_then}
@@ -12,9 +12,9 @@ use Rattle.cops_model.specs.declared.calls.NodeCall.TheVariants as node_call
 use Rattle.cops_model.specs.declared.calls.NodeId.{NodeId}
 use Rattle.cops_model.specs.declared.calls.NodeReply.{NodeReply}
 use Rattle.cops_model.specs.declared.calls.NodeReply.TheVariants as node_reply
-use Rattle.cops_model.specs.Log.{LogStep, Late, Replied, Next, Call, Restart, Ended, Directed}
+use Rattle.cops_model.specs.Log.{LogStep, Late, Replied, Call, Restart, Ended, Directed}
 use Rattle.cops_model.specs.declared.requests.Answer.{Answer}
-use Rattle.cops_model.specs.Request.{Action, Write, Fetch}
+use Rattle.cops_model.specs.Request.{Write, Fetch}
 use Rattle.cops_model.specs.Request as request
 use Rattle.cops_model.specs.Session.{Running, Session, context_created, context_deleted, get_refusal, moment_at, new_session, request_begun, request_of, session_put_refusal}
 use Rattle.cops_model.specs.declared.deliveries.Delivery.{Delivery}
@@ -28,7 +28,8 @@ use Rattle.cops_model.specs.declared.acts.Act.TheVariants.{Step}
 use Rattle.cops_model.specs.declared.replies.Reply.{Reply}
 use Rattle.cops_model.specs.declared.replies.Reply.TheVariants.{Refused}
 use Rattle.cops_model.specs.Causal.{Traced, Operation, operation_by, operation_ended, effect_of, stepped_actor, past_after}
-use Rattle.cops_model.specs.Cluster.{ActEffect, Actor, OfCarrier, OfSession, SoloCluster, actor_refusal, actor_step, call_node, carrier_does, carrier_stepped, find_actor, find_session, has_node, on_found, on_session, reply_of_answer, reply_of_collect, reply_of_delivery, reply_with, request_does, running_step, session_in, session_stepped, step_of, unless_refused, with_actor, with_new_actor}
+use Rattle.cops_model.specs.Cluster.{ActEffect, Actor, OfCarrier, OfSession, SoloCluster, actor_refusal, actor_step, call_node, carrier_stepped, find_actor, find_session, has_node, on_found, on_session, reply_of_answer, reply_of_collect, reply_of_delivery, reply_with, session_stepped, unless_refused, with_actor, with_new_actor}
+use Rattle.cops_causal.proofs.ActorSteps.{as_session, by_step}
 
 -- the history with one more operation, if there is one
 abbrev pub with_operation : List Traced → Option Operation → List Traced
@@ -143,14 +144,14 @@ stream_of config stream e =
     turned true e = cc
     turned false e = refl
 
-plain_answer : (d : Delivery) → effect_of (reply_of_delivery d) ≡ None
+pub plain_answer : (d : Delivery) → effect_of (reply_of_delivery d) ≡ None
 plain_answer delivery.Nothing = refl
 plain_answer (delivery.Waits pair) = refl
 plain_answer (delivery.Carried pair fresh acked) = refl
 plain_answer (delivery.OutOfOrder mark) = refl
 plain_answer (delivery.Refused fault) = refl
 
-plain_carrier : (name : List ℕ) (after : Carrier) (shown : CarrierProgress) (c : SoloCluster) → effect_of (carrier_stepped name after shown c).reply ≡ None
+pub plain_carrier : (name : List ℕ) (after : Carrier) (shown : CarrierProgress) (c : SoloCluster) → effect_of (carrier_stepped name after shown c).reply ≡ None
 plain_carrier name after carrier_progress.Working c = refl
 plain_carrier name after (carrier_progress.Done ending) c = plain_answer ending
 
@@ -182,42 +183,23 @@ module _ {config : TenantConfig} {P : SoloCluster → List Traced → Type 0} (k
 
   -- ---- steps
 
-  request_does_keeps : (c : SoloCluster) (ts : List Traced) (name : List ℕ) (s : Session) (running : Running) (moment : ℕ) (next : Next Answer) → find_session name c ≡ Some s → s.running ≡ Some running →
-      request.next config (request_of s running) running.log moment ≡ next → P c ts →
-      P (request_does config name s running moment c next).after (history_after ts c name (request_does config name s running moment c next).reply)
-  request_does_keeps c ts name s running moment (Call directed) found runs is p = kept.called c ts name s running moment directed found runs is p
-  request_does_keeps c ts name s running moment Restart found runs is p = kept.late c ts name s running moment found runs is p
-  request_does_keeps c ts name s running moment (Ended answer) found runs is p = kept.ended c ts name s running moment answer found runs is p
-
-  running_step_keeps : (c : SoloCluster) (ts : List Traced) (name : List ℕ) (s : Session) (moment : ℕ) (run : Option Running) → find_session name c ≡ Some s → s.running ≡ run → P c ts →
-      P (running_step config name s moment c run).after (history_after ts c name (running_step config name s moment c run).reply)
-  running_step_keeps c ts name s moment (Some running) found runs p =
-      request_does_keeps c ts name s running (moment_at moment s) (request.next config (request_of s running) running.log (moment_at moment s)) found runs refl p
-  running_step_keeps c ts name s moment None found runs p = p
-
-  carrier_does_keeps : (c : SoloCluster) (ts : List Traced) (name : List ℕ) (k : Carrier) (moment : ℕ) (next : Next Delivery) → find_actor name c ≡ Some (OfCarrier k) →
-      carrier.carrier_next config.shards k.stream k.log ≡ next → P c ts →
-      P (carrier_does config name k moment c next).after (history_after ts c name (carrier_does config name k moment c next).reply)
-  carrier_does_keeps c ts name k moment (Call directed) found is p =
-      let call = call_node config directed.node moment directed.call c in
-      let step : LogStep = record { moment = moment; outcome = Replied call.reply } in
-      plainly c ts (Step name moment) (carrier_does config name k moment c (Call directed))
-      (plain_carrier name (carrier_after k step) (carrier.delivery_progress config.shards k step) call.after)
-      (kept.carrier_called c ts name k moment directed found is p)
-  carrier_does_keeps c ts name k moment Restart found is p = p
-  carrier_does_keeps c ts name k moment (Ended ending) found is p =
-      plainly c ts (Step name moment) (carrier_does config name k moment c (Ended ending)) (plain_answer ending) p
-
-  pub step_of_keeps : (c : SoloCluster) (ts : List Traced) (name : List ℕ) (moment : ℕ) (found : Option Actor) → find_actor name c ≡ found → P c ts →
-      P (step_of config name moment c found).after (history_after ts c name (step_of config name moment c found).reply)
-  step_of_keeps c ts name moment (Some (OfSession s)) found p = running_step_keeps c ts name s moment s.running (ap (option_and_then session_in) found) refl p
-  step_of_keeps c ts name moment (Some (OfCarrier k)) found p =
-      carrier_does_keeps c ts name k (max k.moment moment) (carrier.carrier_next config.shards k.stream k.log) found refl p
-  step_of_keeps c ts name moment None found p = p
-
   pub actor_step_keeps : (c : SoloCluster) (ts : List Traced) (name : List ℕ) (moment : ℕ) → P c ts →
       P (actor_step config name moment c).after (history_after ts c name (actor_step config name moment c).reply)
-  actor_step_keeps c ts name moment p = step_of_keeps c ts name moment (find_actor name c) refl p
+  actor_step_keeps c ts name moment p = by_step config name moment c (λ turn. P turn.after (history_after ts c name turn.reply)) (record {
+    unknown = p;
+    idle = p;
+    called = λ s running directed found runs is. kept.called c ts name s running (moment_at moment s) directed (as_session name c s found) runs is p;
+    late = λ s running found runs is. kept.late c ts name s running (moment_at moment s) (as_session name c s found) runs is p;
+    ended = λ s running a found runs is. kept.ended c ts name s running (moment_at moment s) a (as_session name c s found) runs is p;
+    carrier_called = λ k directed found is.
+        let call = call_node config directed.node (max k.moment moment) directed.call c in
+        let step : LogStep = record { moment = max k.moment moment; outcome = Replied call.reply } in
+        let shown = carrier.delivery_progress config.shards k step in
+        plainly c ts (Step name moment) (carrier_stepped name (carrier_after k step) shown call.after) (plain_carrier name (carrier_after k step) shown call.after)
+        (kept.carrier_called c ts name k (max k.moment moment) directed found is p);
+    carrier_waits = λ k found is. p;
+    carrier_ended = λ k ending found is. plainly c ts (Step name moment) (reply_with (reply_of_delivery ending) c) (plain_answer ending) p;
+  })
 
 -- ---- two properties, the second kept where the first holds
 

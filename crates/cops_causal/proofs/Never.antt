@@ -1,6 +1,6 @@
 -- After every list of acts, no reply and no audit has said what is never said.
-use Rattle.std.proofs.Common.{◌≡◌, ℕ, ◌+◌, ◌*◌, ◌<◌, Bool, true, false, not, ◌&&◌, ◌==◌, List, [], ◌∷◌, ◌++◌, length, refl, sym, ap, subst, ◌⊎◌, inl, inr}
-use Rattle.std.specs.Prelude.{Option, Some, None, max, zero, suc, nat_lt, nat_le, is_some}
+use Rattle.std.proofs.Common.{◌≡◌, ℕ, ◌+◌, ◌*◌, ◌<◌, Bool, true, false, not, ◌&&◌, ◌==◌, List, [], ◌∷◌, ◌++◌, length, refl, sym, subst, ◌⊎◌, inl, inr}
+use Rattle.std.specs.Prelude.{Option, Some, None, max, nat_lt, nat_le, is_some}
 use Rattle.std.specs.List.{list_all}
 use Rattle.cops_types.specs.declared.faults.Fault.{Fault}
 use Rattle.cops_types.specs.declared.faults.Fault.TheVariants.{Syntax, NameTaken, Busy, NoContext, TooManyContexts, IdsSpent, DependenciesFull, TooManyKeys, RepeatedKey, BadKey, ValueTooLong, NoSuchPlace, ActorsFull}
@@ -14,11 +14,9 @@ use Rattle.cops_model.specs.declared.calls.NodeCall.TheVariants as node_call
 use Rattle.cops_model.specs.declared.calls.NodeId.{NodeId}
 use Rattle.cops_model.specs.declared.calls.NodeReply.{NodeReply}
 use Rattle.cops_model.specs.declared.calls.NodeReply.TheVariants as node_reply
-use Rattle.cops_model.specs.Log.{LogStep, Late, Replied, Next, Call, Restart, Ended, is_asked}
+use Rattle.cops_model.specs.Log.{LogStep, Replied, Call, is_asked, Directed}
 use Rattle.cops_model.specs.Place.{node_number, place_of}
-use Rattle.cops_model.specs.declared.requests.Answer.{Answer}
 use Rattle.cops_model.specs.Request.{answer, attempt_of}
-use Rattle.cops_model.specs.Request as request
 use Rattle.cops_model.specs.Session.{Session, Running, obs_of, is_open, is_busy, has_repeats, has_restarted, request_of, moment_at, is_spent}
 use Rattle.cops_model.specs.Session as session
 use Rattle.cops_model.specs.declared.deliveries.Delivery.{Delivery}
@@ -31,10 +29,9 @@ use Rattle.cops_model.specs.declared.acts.Act.TheVariants.{Open, Create, Delete,
 use Rattle.cops_model.specs.declared.replies.Reply.{Reply}
 use Rattle.cops_model.specs.declared.replies.Reply.TheVariants as reply
 use Rattle.cops_model.specs.Causal.{Traced, operation_ended}
-use Rattle.cops_model.specs.Cluster.{ActEffect, Actor, OfCarrier, OfSession, SoloCluster, actor_step, actor_steps, call_node, carrier_does, carrier_stepped, cluster_step, collect_at, find_actor, find_session, goes_on, has_node, most_steps, new_cluster, on_found, on_session, reply_of_collect, reply_of_progress, request_does, running_step, session_in, step_of, unless_refused}
+use Rattle.cops_model.specs.Cluster.{ActEffect, OfCarrier, SoloCluster, actor_step, actor_steps, call_node, carrier_stepped, cluster_step, collect_at, find_actor, find_session, has_node, most_steps, new_cluster, on_found, on_session, reply_of_collect, reply_of_progress, unless_refused}
 use Rattle.cops_model.specs.Events.{replies_from}
 use Rattle.cops_model.specs.Laws.{is_expected_of_node, is_expected, node_at, IsAsExpected}
-use Rattle.std.specs.Option.{option_and_then}
 use Rattle.cops_causal.proofs.AfterActs.{cluster_step_keeps, after_acts}
 use Rattle.cops_types.proofs.Elements.{and_true, Every-true}
 use Rattle.cops_causal.proofs.Moves.{IsKept, Both, kept_both, actor_step_keeps, with_operation, history_after}
@@ -46,6 +43,7 @@ use Rattle.cops_causal.proofs.Sound.{IsSound, sound_kept, sound_at_first}
 use Rattle.cops_causal.proofs.TracedIdle.{session_of}
 use Rattle.cops_causal.proofs.Unbroken.{IsFineDelivery, shown_fine, ended_fine, carrier_shown_fine}
 use Rattle.cops_causal.proofs.RequestSteps.{never_ended}
+use Rattle.cops_causal.proofs.ActorSteps.{as_session, by_step, by_steps}
 
 abbrev IsFine : Reply → Type 0
 IsFine r = is_expected r ≡ true
@@ -104,52 +102,39 @@ module _ (config : TenantConfig) (some : 0 < config.shards) where
     turn_fine s running step fine =
         shown_fine (answer config (request_of s running) (running.log ++ step ∷ [])) (has_restarted running.action running.log step) (attempt_of running.action (running.log ++ step ∷ [])).restarts fine.answers
 
-    module _ (name : List ℕ) (s : Session) (found : find_session name c ≡ Some s) where
-      does_fine : (running : Running) (moment : ℕ) (next : Next Answer) → s.running ≡ Some running → request.next config (request_of s running) running.log moment ≡ next → IsFine (request_does config name s running moment c next).reply
-      does_fine running moment (Call directed) runs is =
-          turn_fine s running (record { moment = moment; outcome = Replied (call_node config directed.node moment directed.call c).reply }) (session_turn config some c ts inv.0 inv.1 name s found running moment directed runs is)
-      does_fine running moment Restart runs is =
-          turn_fine s running (record { moment = moment; outcome = Late }) (session_late_turn config some c ts inv.0 inv.1 name s found running moment runs is)
-      does_fine running moment (Ended a) runs is = absurd (never_ended config ts name s (session_of config c ts inv.0.traced name s found) running moment a runs is)
-
-      running_fine : (moment : ℕ) (run : Option Running) → s.running ≡ run → IsFine (running_step config name s moment c run).reply
-      running_fine moment (Some running) runs = does_fine running (moment_at moment s) (request.next config (request_of s running) running.log (moment_at moment s)) runs refl
-      running_fine moment None runs = refl
-
     module _ (name : List ℕ) (k : Carrier) (found : find_actor name c ≡ Some (OfCarrier k)) where
       stepped_fine : (after : Carrier) (shown : CarrierProgress) (next : SoloCluster) → ((d : Delivery) → shown ≡ carrier_progress.Done d → IsFineDelivery d) → IsFine (carrier_stepped name after shown next).reply
       stepped_fine after carrier_progress.Working next fine = refl
       stepped_fine after (carrier_progress.Done d) next fine = fine d refl
 
-      carrier_does_fine : (moment : ℕ) (next : Next Delivery) → carrier.carrier_next config.shards k.stream k.log ≡ next → IsFine (carrier_does config name k moment c next).reply
-      carrier_does_fine moment (Call directed) is =
+      carrier_called_fine : (moment : ℕ) (directed : Directed) → carrier.carrier_next config.shards k.stream k.log ≡ Call directed →
+          let call = call_node config directed.node moment directed.call c in
+          let step : LogStep = record { moment = moment; outcome = Replied call.reply } in
+          IsFine (carrier_stepped name (carrier_after k step) (carrier.delivery_progress config.shards k step) call.after).reply
+      carrier_called_fine moment directed is =
           let call = call_node config directed.node moment directed.call c in
           let step : LogStep = record { moment = moment; outcome = Replied call.reply } in
           let n = carrier.carrier_next config.shards k.stream (k.log ++ step ∷ []) in
           stepped_fine (carrier_after k step) (carrier.delivery_progress config.shards k step) call.after
           (carrier_shown_fine config.shards k.stream n (λ ending ends. ended_fine config.shards k.stream (k.log ++ step ∷ []) ending (carrier_fine config some c ts inv.0 inv.1 name k found moment directed is) ends)
           (carrier.delivery_progress config.shards k step) refl)
-      carrier_does_fine moment Restart is = refl
-      carrier_does_fine moment (Ended ending) is = ended_fine config.shards k.stream k.log ending (fine_carrier config some c ts inv.0 inv.1 name k found) is
-
-    step_of_fine : (name : List ℕ) (moment : ℕ) (found : Option Actor) → find_actor name c ≡ found → IsFine (step_of config name moment c found).reply
-    step_of_fine name moment (Some (OfSession s)) found = running_fine name s (ap (option_and_then session_in) found) moment s.running refl
-    step_of_fine name moment (Some (OfCarrier k)) found = carrier_does_fine name k found (max k.moment moment) (carrier.carrier_next config.shards k.stream k.log) refl
-    step_of_fine name moment None found = refl
 
     step_fine : (name : List ℕ) (moment : ℕ) → IsFine (actor_step config name moment c).reply
-    step_fine name moment = step_of_fine name moment (find_actor name c) refl
-
-  either_fine : (b : Bool) (rest step : ActEffect) → IsFine rest.reply → IsFine step.reply → IsFine (let turn : ActEffect = elim b [ true ↦ rest | false ↦ step ] in turn.reply)
-  either_fine true rest step more here = more
-  either_fine false rest step more here = here
+    step_fine name moment = by_step config name moment c (λ turn. IsFine turn.reply) (record {
+      unknown = refl;
+      idle = refl;
+      called = λ s running directed found runs is. turn_fine s running _ (session_turn config some c ts inv.0 inv.1 name s (as_session name c s found) running (moment_at moment s) directed runs is);
+      late = λ s running found runs is. turn_fine s running _ (session_late_turn config some c ts inv.0 inv.1 name s (as_session name c s found) running (moment_at moment s) runs is);
+      ended = λ s running a found runs is. absurd (never_ended config ts name s (session_of config c ts inv.0.traced name s (as_session name c s found)) running (moment_at moment s) a runs is);
+      carrier_called = λ k directed found is. carrier_called_fine name k found (max k.moment moment) directed is;
+      carrier_waits = λ k found is. refl;
+      carrier_ended = λ k ending found is. ended_fine config.shards k.stream k.log ending (fine_carrier config some c ts inv.0 inv.1 name k found) is;
+    })
 
   steps_fine : (more : ℕ) (c : SoloCluster) (ts : List Traced) → Whole config c ts → (name : List ℕ) (moment : ℕ) → IsFine (actor_steps more config name moment c).reply
-  steps_fine zero c ts inv name moment = step_fine c ts inv name moment
-  steps_fine (suc more) c ts inv name moment =
-      let step = actor_step config name moment c in
-      either_fine (goes_on step.reply) (actor_steps more config name moment step.after) step
-      (steps_fine more step.after (history_after ts c name step.reply) (actor_step_keeps whole_kept c ts name moment inv) name moment) (step_fine c ts inv name moment)
+  steps_fine more c ts inv name moment =
+      by_steps config name moment (λ c. (us : List Traced) × Whole config c us) (λ c turn. IsFine turn.reply) (λ c held. step_fine c held.0 held.1 name moment)
+      (λ c held goes. (history_after held.0 c name (actor_step config name moment c).reply, actor_step_keeps whole_kept c held.0 name moment held.1)) (λ c turn held goes later. later) more c (ts, inv)
 
   -- ---- acts
 

@@ -42,7 +42,7 @@ use Rattle.cops_model.specs.Carrier as carrier
 use Rattle.cops_model.specs.declared.acts.Act.{Act}
 use Rattle.cops_model.specs.declared.acts.Act.TheVariants.{Step, Done}
 use Rattle.cops_model.specs.Causal.{Traced}
-use Rattle.cops_model.specs.Cluster.{SoloCluster, Actor, OfSession, OfCarrier, find_actor, find_session, session_in, call_node, reply_of_progress, reply_of_delivery, request_does, running_step, carrier_stepped, carrier_does, step_of, actor_step, goes_on, most_steps}
+use Rattle.cops_model.specs.Cluster.{SoloCluster, OfSession, OfCarrier, find_actor, find_session, call_node, reply_of_progress, reply_of_delivery, carrier_stepped, actor_step, goes_on, most_steps}
 use Rattle.cops_model.specs.Laws.{cluster_of, history_of}
 use Rattle.cops_model.specs.Restarts.{ActorStep, RestartsOnlyLate, attempt_start, ends_attempt, ends_when_due, has_passed, moment_in, moments_in, steps_from, steps_of}
 use Rattle.cops_causal.proofs.ActorsKeep.{actor_found, session_actor}
@@ -63,6 +63,7 @@ use Rattle.cops_causal.proofs.Sound.{IsSound, sound_kept, sound_at_first}
 use Rattle.cops_causal.proofs.StreamMoves.{stage_now, stream_is}
 use Rattle.cops_causal.proofs.TracedIdle.{session_of}
 use Rattle.cops_causal.proofs.RequestSteps.{by_call, never_ended, put_sent, run}
+use Rattle.cops_causal.proofs.ActorSteps.{as_session, by_step}
 
 -- ---- what is gone was removed
 
@@ -305,16 +306,9 @@ module _ (config : TenantConfig) (some : 0 < config.shards) (c : SoloCluster) (t
         let first = first_late running.action attempt.steps moment late in
         record { start = first.0.moment; starts = starts_at running (first.0 ∷ first.1) runs first.2; past = λ most within low. let high = first.3 in omega (arith, high, low) }
 
-    does_due : (running : Running) (moment : ℕ) (next : Next Answer) → s.running ≡ Some running → request.next config (request_of s running) running.log moment ≡ next →
-        ends_attempt (request_does config name s running moment c next).reply ≡ true → IsDue config c name moment
-    does_due running moment (Call directed) runs e ends = called_due running moment directed runs e ends
-    does_due running moment Restart runs e ends = late_due running moment runs e
-    does_due running moment (Ended a) runs e ends = absurd (never_ended config ts name s (session_of config c ts inv.traced name s found) running moment a runs e)
-
-    running_due : (moment : ℕ) (run : Option Running) → s.running ≡ run → ends_attempt (running_step config name s moment c run).reply ≡ true → IsDue config c name moment
-    running_due moment None runs ends = cc
-    running_due moment (Some running) runs ends =
-        let due = does_due running (moment_at moment s) (request.next config (request_of s running) running.log (moment_at moment s)) runs refl ends in
+    -- a step uses the greatest moment so far
+    later_due : (moment : ℕ) → IsDue config c name (moment_at moment s) → IsDue config c name moment
+    later_due moment due =
         record {
           start = due.start;
           starts = due.starts;
@@ -332,8 +326,11 @@ module _ (config : TenantConfig) (some : 0 < config.shards) (c : SoloCluster) (t
     stepped_never after (Call directed) next never ends = cc
     stepped_never after Restart next never ends = cc
 
-    carrier_never : (moment : ℕ) (next : Next Delivery) → carrier.carrier_next config.shards k.stream k.log ≡ next → ends_attempt (carrier_does config name k moment c next).reply ≡ true → ⊥
-    carrier_never moment (Call directed) e ends =
+    carrier_never : (moment : ℕ) (directed : Directed) → carrier.carrier_next config.shards k.stream k.log ≡ Call directed →
+        let call = call_node config directed.node moment directed.call c in
+        let step : LogStep = record { moment = moment; outcome = Replied call.reply } in
+        ends_attempt (carrier_stepped name (carrier_after k step) (carrier.delivery_progress config.shards k step) call.after).reply ≡ true → ⊥
+    carrier_never moment directed e ends =
         let call = call_node config directed.node moment directed.call c in
         let step : LogStep = record { moment = moment; outcome = Replied call.reply } in
         let served = carrier_served config some c ts inv k.stream (stream_is config some c ts inv.flowing inv.traced name k found) moment directed (stage_now config some c ts inv.flowing inv.traced name k found directed e) in
@@ -341,18 +338,20 @@ module _ (config : TenantConfig) (some : 0 < config.shards) (c : SoloCluster) (t
         let called = call_changes config c directed.node moment directed.call served.calls.there inv.traced.sized in
         let other = fault_other directed.call call.reply (reply_asked (place_of config directed.node) (node_of config c n) call.reply directed.call (node_of config call.after n) called.change served.calls.ready) in
         stepped_never (carrier_after k step) (carrier.carrier_next config.shards k.stream (k.log ++ step ∷ [])) call.after (carrier_other config.shards k.stream k.log moment directed call.reply e other) ends
-    carrier_never moment Restart e ends = cc
-    carrier_never moment (Ended ending) e ends = actor_found (IsActorTimed config c.nodes ts) c name (OfCarrier k) timed.actors found ending e
 
   -- ---- steps
 
-  step_of_due : (name : List ℕ) (moment : ℕ) (found : Option Actor) → find_actor name c ≡ found → ends_attempt (step_of config name moment c found).reply ≡ true → IsDue config c name moment
-  step_of_due name moment (Some (OfSession s)) found ends = running_due name s (ap (option_and_then session_in) found) moment s.running refl ends
-  step_of_due name moment (Some (OfCarrier k)) found ends = absurd (carrier_never name k found (max k.moment moment) (carrier.carrier_next config.shards k.stream k.log) refl ends)
-  step_of_due name moment None found ends = cc
-
   step_due : (name : List ℕ) (moment : ℕ) → ends_attempt (actor_step config name moment c).reply ≡ true → IsDue config c name moment
-  step_due name moment ends = step_of_due name moment (find_actor name c) refl ends
+  step_due name moment = by_step config name moment c (λ turn. ends_attempt turn.reply ≡ true → IsDue config c name moment) (record {
+    unknown = λ ends. cc;
+    idle = λ ends. cc;
+    called = λ s running directed found runs e ends. later_due name s (as_session name c s found) moment (called_due name s (as_session name c s found) running (moment_at moment s) directed runs e ends);
+    late = λ s running found runs e ends. later_due name s (as_session name c s found) moment (late_due name s (as_session name c s found) running (moment_at moment s) runs e);
+    ended = λ s running a found runs e ends. absurd (never_ended config ts name s (session_of config c ts inv.traced name s (as_session name c s found)) running (moment_at moment s) a runs e);
+    carrier_called = λ k directed found e ends. absurd (carrier_never name k found (max k.moment moment) directed e ends);
+    carrier_waits = λ k found e ends. cc;
+    carrier_ended = λ k ending found e ends. absurd (actor_found (IsActorTimed config c.nodes ts) c name (OfCarrier k) timed.actors found ending e);
+  })
 
 -- ---- runs
 

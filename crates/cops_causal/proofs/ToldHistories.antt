@@ -1,6 +1,6 @@
 -- The operations that a tenant reads off his acts and the replies to them are those of his cluster.
-use Rattle.std.proofs.Common.{◌≡◌, ℕ, Bool, true, false, not, List, [], ◌∷◌, refl, sym, ◌∙◌, ap, subst}
-use Rattle.std.specs.Prelude.{Option, Some, None, max, zero, suc, nat_lt, length}
+use Rattle.std.proofs.Common.{◌≡◌, ℕ, Bool, not, List, [], ◌∷◌, refl, sym, ◌∙◌, ap, subst}
+use Rattle.std.specs.Prelude.{Option, Some, None, max, nat_lt, length}
 use Rattle.std.specs.List.{cons_option, list_all}
 use Rattle.std.specs.Option.{option_map, option_and_then}
 use Rattle.cops_types.specs.declared.faults.Fault.{Fault}
@@ -12,30 +12,27 @@ use Rattle.cops_types.specs.TenantConfig.{TenantConfig}
 use Rattle.cops_types.specs.Value.{is_value}
 use Rattle.cops_types.proofs.KeyTests.{key_eq-refl}
 use Rattle.cops_model.specs.declared.calls.NodeId.{NodeId}
-use Rattle.cops_model.specs.Log.{LogStep, Late, Replied, Next, Call, Restart, Ended}
-use Rattle.cops_model.specs.declared.requests.Answer.{Answer}
+use Rattle.cops_model.specs.Log.{LogStep}
 use Rattle.cops_model.specs.declared.requests.Progress.{Progress}
 use Rattle.cops_model.specs.declared.requests.Progress.TheVariants as session_progress
 use Rattle.cops_model.specs.Request.{Write, Fetch}
-use Rattle.cops_model.specs.Request as request
 use Rattle.cops_model.specs.Session.{Running, Session, context_created, context_deleted, context_refusal, create_refusal, get_refusal, moment_at, new_session, obs_of, request_begun, request_of, session_after, session_put_refusal}
 use Rattle.cops_model.specs.Session as session
-use Rattle.cops_model.specs.declared.deliveries.Delivery.{Delivery}
 use Rattle.cops_model.specs.declared.deliveries.Progress.{Progress as CarrierProgress}
 use Rattle.cops_model.specs.declared.deliveries.Progress.TheVariants as carrier_progress
-use Rattle.cops_model.specs.Carrier.{Carrier, Stream, new_carrier, carrier_after}
-use Rattle.cops_model.specs.Carrier as carrier
+use Rattle.cops_model.specs.Carrier.{Carrier, Stream, new_carrier}
 use Rattle.cops_model.specs.declared.acts.Act.{Act}
 use Rattle.cops_model.specs.declared.acts.Act.TheVariants.{Open, Create, Delete, Put, Get, Show, Carry, Step, Done, Collect}
 use Rattle.cops_model.specs.declared.replies.Reply.{Reply}
 use Rattle.cops_model.specs.declared.replies.Reply.TheVariants.{Opened, Created, Deleted, Started, Lists}
 use Rattle.cops_model.specs.Causal.{Operation, Effect, effect_of, operation_by, operation_ended, operations, operations_from, stepped_actor}
-use Rattle.cops_model.specs.Cluster.{ActEffect, Actor, OfCarrier, OfSession, SoloCluster, actor_refusal, actor_step, actor_steps, call_node, carrier_does, carrier_stepped, cluster_step, collect_at, find_actor, find_session, goes_on, has_node, has_stream, most_steps, new_cluster, on_found, reply_with, request_does, running_step, session_in, session_stepped, step_of, unless_refused, with_actor, with_new_actor}
+use Rattle.cops_model.specs.Cluster.{ActEffect, Actor, OfCarrier, OfSession, SoloCluster, actor_refusal, actor_step, actor_steps, call_node, carrier_stepped, cluster_step, collect_at, find_actor, find_session, has_node, has_stream, most_steps, new_cluster, on_found, reply_with, session_in, session_stepped, unless_refused, with_actor, with_new_actor}
 use Rattle.cops_model.specs.Events.{replies_from, solo_replies}
 use Rattle.cops_model.specs.Told.{Contexts, contexts_after, operation_of, operation_told, operations_told, operations_told_from, with_context}
 use Rattle.cops_causal.proofs.ActorsKeep.{EachActor, actor_found, each-with_actor, each-with_new, each-without, session_actor}
 use Rattle.cops_causal.proofs.AfterActs.{context_run, operation_by-context}
 use Rattle.cops_causal.proofs.ToldOperations.{Runs, actor_step_runs, actor_steps_run}
+use Rattle.cops_causal.proofs.ActorSteps.{by_step, by_steps}
 
 -- the context of what an actor runs
 abbrev context_in : Actor → Option ℕ
@@ -81,20 +78,6 @@ module _ (config : TenantConfig) (contexts : Contexts) (name : List ℕ) where
       replaced_knows c (OfSession (session_after s running step shown))
       (after_knows s running step shown runs (actor_found (IsKnownTo contexts) c name (OfSession s) knows found)) knows
 
-  request_knows : (c : SoloCluster) (s : Session) (running : Running) (moment : ℕ) (next : Next Answer) → find_actor name c ≡ Some (OfSession s) → s.running ≡ Some running → Knows contexts c →
-      Knows contexts (request_does config name s running moment c next).after
-  request_knows c s running moment (Call directed) found runs knows =
-      let call = call_node config directed.node moment directed.call c in
-      stepped_knows call.after s running (record { moment = moment; outcome = Replied call.reply }) found runs knows
-  request_knows c s running moment Restart found runs knows = stepped_knows c s running (record { moment = moment; outcome = Late }) found runs knows
-  request_knows c s running moment (Ended ended) found runs knows = knows
-
-  running_knows : (c : SoloCluster) (s : Session) (moment : ℕ) (run : Option Running) → find_actor name c ≡ Some (OfSession s) → s.running ≡ run → Knows contexts c →
-      Knows contexts (running_step config name s moment c run).after
-  running_knows c s moment (Some running) found runs knows =
-      request_knows c s running (moment_at moment s) (request.next config (request_of s running) running.log (moment_at moment s)) found runs knows
-  running_knows c s moment None found runs knows = knows
-
   idle_carrier : (k : Carrier) → IsKnownTo contexts name (OfCarrier k)
   idle_carrier k n e = cc
 
@@ -102,35 +85,21 @@ module _ (config : TenantConfig) (contexts : Contexts) (name : List ℕ) where
   carrier_stepped_knows after carrier_progress.Working c knows = replaced_knows c (OfCarrier after) (idle_carrier after) knows
   carrier_stepped_knows after (carrier_progress.Done ending) c knows = each-without (IsKnownTo contexts) c name knows
 
-  carrier_knows : (c : SoloCluster) (k : Carrier) (moment : ℕ) (next : Next Delivery) → Knows contexts c → Knows contexts (carrier_does config name k moment c next).after
-  carrier_knows c k moment (Call directed) knows =
-      let call = call_node config directed.node moment directed.call c in
-      let step : LogStep = record { moment = moment; outcome = Replied call.reply } in
-      carrier_stepped_knows (carrier_after k step) (carrier.delivery_progress config.shards k step) call.after knows
-  carrier_knows c k moment Restart knows = knows
-  carrier_knows c k moment (Ended ending) knows = knows
+  step_knows : (moment : ℕ) (c : SoloCluster) → Knows contexts c → Knows contexts (actor_step config name moment c).after
+  step_knows moment c knows = by_step config name moment c (λ turn. Knows contexts turn.after) (record {
+    unknown = knows;
+    idle = knows;
+    called = λ s running directed found runs is. stepped_knows (call_node config directed.node (moment_at moment s) directed.call c).after s running _ found runs knows;
+    late = λ s running found runs is. stepped_knows c s running _ found runs knows;
+    ended = λ s running a found runs is. knows;
+    carrier_called = λ k directed found is. carrier_stepped_knows _ _ (call_node config directed.node (max k.moment moment) directed.call c).after knows;
+    carrier_waits = λ k found is. knows;
+    carrier_ended = λ k ending found is. knows;
+  })
 
-  step_knows : (c : SoloCluster) (moment : ℕ) (found : Option Actor) → find_actor name c ≡ found → Knows contexts c → Knows contexts (step_of config name moment c found).after
-  step_knows c moment (Some (OfSession s)) found knows = running_knows c s moment s.running found refl knows
-  step_knows c moment (Some (OfCarrier k)) found knows = carrier_knows c k (max k.moment moment) (carrier.carrier_next config.shards k.stream k.log) knows
-  step_knows c moment None found knows = knows
-
-  steps_know : (more : ℕ) (c : SoloCluster) (moment : ℕ) → Knows contexts c → Knows contexts (actor_steps more config name moment c).after
-  steps_know zero c moment knows = step_knows c moment (find_actor name c) refl knows
-  steps_know (suc more) c moment knows = by_goes (goes_on step.reply) (steps_know more step.after moment first)
-    where
-      step : ActEffect
-      step = actor_step config name moment c
-
-      first : Knows contexts step.after
-      first = step_knows c moment (find_actor name c) refl knows
-
-      turn_by : Bool → ActEffect
-      turn_by b = elim b [ true ↦ actor_steps more config name moment step.after | false ↦ step ]
-
-      by_goes : (b : Bool) → Knows contexts (actor_steps more config name moment step.after).after → Knows contexts (turn_by b).after
-      by_goes true later = later
-      by_goes false later = first
+  steps_know : (more : ℕ) (moment : ℕ) (c : SoloCluster) → Knows contexts c → Knows contexts (actor_steps more config name moment c).after
+  steps_know more moment c knows =
+      by_steps config name moment (Knows contexts) (λ c turn. Knows contexts turn.after) (step_knows moment) (λ c knows goes. step_knows moment c knows) (λ c turn knows goes later. later) more c knows
 
 -- ---- acts
 
@@ -199,8 +168,8 @@ knows_after config contexts (Show name number) c knows =
 knows_after config contexts (Carry name dc shard to_dc) c knows =
     let stream : Stream = record { origin = record { dc = dc; shard = shard }; to_dc = to_dc } in
     joins config contexts c knows (has_stream config dc shard to_dc) name (OfCarrier (new_carrier stream)) Started (λ n e. cc)
-knows_after config contexts (Step name moment) c knows = step_knows config contexts name c moment (find_actor name c) refl knows
-knows_after config contexts (Done name moment) c knows = steps_know config contexts name (most_steps config) c moment knows
+knows_after config contexts (Step name moment) c knows = step_knows config contexts name moment c knows
+knows_after config contexts (Done name moment) c knows = steps_know config contexts name (most_steps config) moment c knows
 knows_after config contexts (Collect dc shard moment) c knows =
     let id : NodeId = record { dc = dc; shard = shard } in
     by_refusal (first_refusal ((not (has_node config dc shard), NoSuchPlace) ∷ [])) c (collect_at config id moment c) (λ turn. Knows contexts turn.after) (λ fault. knows) knows

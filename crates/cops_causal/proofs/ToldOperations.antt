@@ -1,10 +1,10 @@
 -- The operations of a run are just those that the tenant was told the end of.
-use Rattle.std.proofs.Common.{◌≡◌, ℕ, Bool, true, false, List, [], ◌∷◌, map, refl, sym, ◌∙◌, ap, subst}
-use Rattle.std.specs.Prelude.{Option, Some, None, filter_map, max, zero, suc, not, nat_lt, length}
+use Rattle.std.proofs.Common.{◌≡◌, ℕ, List, [], ◌∷◌, map, refl, sym, ◌∙◌, ap, subst}
+use Rattle.std.specs.Prelude.{Option, Some, None, filter_map, max, not, nat_lt, length}
 use Rattle.std.specs.List.{cons_option, list_all}
 use Rattle.std.specs.Option.{option_map, option_and_then}
 use Rattle.cops_types.specs.declared.faults.Fault.{Fault}
-use Rattle.cops_types.specs.declared.faults.Fault.TheVariants.{Syntax, BadKey, ValueTooLong, NoSuchPlace}
+use Rattle.cops_types.specs.declared.faults.Fault.TheVariants.{Syntax, BadKey, ValueTooLong, NoSuchPlace, UnknownName, Idle}
 use Rattle.cops_types.specs.Context.{all_of, near_of}
 use Rattle.cops_types.specs.Key.{is_key}
 use Rattle.cops_types.specs.Search.{first_refusal}
@@ -12,26 +12,21 @@ use Rattle.cops_types.specs.TenantConfig.{TenantConfig}
 use Rattle.cops_types.specs.Value.{is_value}
 use Rattle.cops_model.specs.declared.calls.NodeCall.TheVariants as node_call
 use Rattle.cops_model.specs.declared.calls.NodeId.{NodeId}
-use Rattle.cops_model.specs.Log.{LogStep, Replied, Next, Call, Restart, Ended}
 use Rattle.cops_model.specs.Request.{Write, Fetch}
 use Rattle.cops_model.specs.Session.{Running, Session, context_created, context_deleted, context_refusal, create_refusal, get_refusal, new_session, obs_of, request_begun, session_put_refusal}
-use Rattle.cops_model.specs.declared.deliveries.Delivery.{Delivery}
-use Rattle.cops_model.specs.declared.deliveries.Delivery.TheVariants as delivery
-use Rattle.cops_model.specs.declared.deliveries.Progress.{Progress as CarrierProgress}
-use Rattle.cops_model.specs.declared.deliveries.Progress.TheVariants as carrier_progress
-use Rattle.cops_model.specs.Carrier.{Carrier, Stream, new_carrier, carrier_after}
-use Rattle.cops_model.specs.Carrier as carrier
+use Rattle.cops_model.specs.Carrier.{Stream, new_carrier}
 use Rattle.cops_model.specs.declared.acts.Act.{Act}
 use Rattle.cops_model.specs.declared.acts.Act.TheVariants.{Open, Create, Delete, Put, Get, Show, Carry, Step, Done, Collect}
 use Rattle.cops_model.specs.declared.replies.Reply.{Reply}
-use Rattle.cops_model.specs.declared.replies.Reply.TheVariants.{Opened, Created, Deleted, Started, Lists}
+use Rattle.cops_model.specs.declared.replies.Reply.TheVariants.{Opened, Created, Deleted, Started, Lists, Refused, Working}
 use Rattle.cops_model.specs.Causal.{Operation, Effect, effect_of, operation_by, operation_ended, operations_from, stepped_actor}
-use Rattle.cops_model.specs.Cluster.{ActEffect, Actor, OfCarrier, OfSession, SoloCluster, actor_refusal, actor_step, actor_steps, call_node, carrier_does, carrier_stepped, cluster_step, collect_at, find_actor, find_session, goes_on, has_node, has_stream, most_steps, on_found, on_session, reply_of_delivery, reply_with, running_step, session_in, step_of, unless_refused, with_actor, with_new_actor}
+use Rattle.cops_model.specs.Cluster.{ActEffect, Actor, OfCarrier, OfSession, SoloCluster, actor_refusal, actor_step, actor_steps, call_node, cluster_step, collect_at, find_actor, find_session, has_node, has_stream, most_steps, on_found, on_session, reply_of_delivery, reply_with, session_in, unless_refused, with_actor, with_new_actor}
 use Rattle.cops_model.specs.Events.{replies_from}
 use Rattle.cops_model.specs.Laws.{HasToldOperations}
 use Rattle.cops_model.specs.Cluster.{new_cluster}
 use Rattle.cops_causal.proofs.AfterActs.{actor_step_context, context_run, operation_by-context}
-use Rattle.cops_causal.proofs.Moves.{plain_collect}
+use Rattle.cops_causal.proofs.Moves.{plain_collect, plain_answer, plain_carrier}
+use Rattle.cops_causal.proofs.ActorSteps.{by_step, by_steps}
 
 -- ---- who is told that an operation ended runs a request
 
@@ -42,57 +37,30 @@ Runs c name reply = (effect : Effect) → effect_of reply ≡ Some effect → (n
 no_end : (c : SoloCluster) (name : List ℕ) (reply : Reply) → effect_of reply ≡ None → Runs c name reply
 no_end c name reply plain effect e = absurd (let clash : None ≡ Some effect = sym plain ∙ e in let no : ⊥ = cc in no)
 
-plain_delivery : (d : Delivery) → effect_of (reply_of_delivery d) ≡ None
-plain_delivery delivery.Nothing = refl
-plain_delivery (delivery.Waits pair) = refl
-plain_delivery (delivery.Carried pair fresh acked) = refl
-plain_delivery (delivery.OutOfOrder mark) = refl
-plain_delivery (delivery.Refused fault) = refl
+-- a session whose request this is runs it, whatever is told
+runs_in : (c : SoloCluster) (name : List ℕ) (s : Session) (running : Running) (reply : Reply) → find_actor name c ≡ Some (OfSession s) → s.running ≡ Some running → Runs c name reply
+runs_in c name s running reply found runs effect e = (
+  running.context,
+  ap (λ (a : Option Actor). option_map (λ (r : Running). r.context) (option_and_then (λ (s : Session). s.running) (option_and_then session_in a))) found
+      ∙ ap (option_map (λ (r : Running). r.context)) runs,
+)
 
-module _ (config : TenantConfig) (c : SoloCluster) (name : List ℕ) where
-  plain_carrier_stepped : (after : Carrier) (shown : CarrierProgress) (next : SoloCluster) → effect_of (carrier_stepped name after shown next).reply ≡ None
-  plain_carrier_stepped after carrier_progress.Working next = refl
-  plain_carrier_stepped after (carrier_progress.Done ending) next = plain_delivery ending
-
-  plain_carrier : (k : Carrier) (moment : ℕ) (next : Next Delivery) → effect_of (carrier_does config name k moment c next).reply ≡ None
-  plain_carrier k moment (Call directed) =
-      let call = call_node config directed.node moment directed.call c in
-      let step : LogStep = record { moment = moment; outcome = Replied call.reply } in
-      plain_carrier_stepped (carrier_after k step) (carrier.delivery_progress config.shards k step) call.after
-  plain_carrier k moment Restart = refl
-  plain_carrier k moment (Ended ending) = plain_delivery ending
-
-  running_runs : (s : Session) (moment : ℕ) (run : Option Running) → find_actor name c ≡ Some (OfSession s) → s.running ≡ run → Runs c name (running_step config name s moment c run).reply
-  running_runs s moment (Some running) found runs effect e = (
-    running.context,
-    ap (λ (a : Option Actor). option_map (λ (r : Running). r.context) (option_and_then (λ (s : Session). s.running) (option_and_then session_in a))) found
-        ∙ ap (option_map (λ (r : Running). r.context)) runs,
-  )
-  running_runs s moment None found runs effect e = no_end c name (running_step config name s moment c None).reply refl effect e
-
-  step_runs : (moment : ℕ) (found : Option Actor) → find_actor name c ≡ found → Runs c name (step_of config name moment c found).reply
-  step_runs moment (Some (OfSession s)) found = running_runs s moment s.running found refl
-  step_runs moment (Some (OfCarrier k)) found = no_end c name (step_of config name moment c (Some (OfCarrier k))).reply (plain_carrier k (max k.moment moment) (carrier.carrier_next config.shards k.stream k.log))
-  step_runs moment None found = no_end c name (step_of config name moment c None).reply refl
-
-  pub actor_step_runs : (moment : ℕ) → Runs c name (actor_step config name moment c).reply
-  actor_step_runs moment = step_runs moment (find_actor name c) refl
+pub actor_step_runs : (config : TenantConfig) (c : SoloCluster) (name : List ℕ) (moment : ℕ) → Runs c name (actor_step config name moment c).reply
+actor_step_runs config c name moment = by_step config name moment c (λ turn. Runs c name turn.reply) (record {
+  unknown = no_end c name (Refused UnknownName) refl;
+  idle = no_end c name (Refused Idle) refl;
+  called = λ s running directed found runs is. runs_in c name s running _ found runs;
+  late = λ s running found runs is. runs_in c name s running _ found runs;
+  ended = λ s running a found runs is. runs_in c name s running _ found runs;
+  carrier_called = λ k directed found is. no_end c name _ (plain_carrier name _ _ (call_node config directed.node (max k.moment moment) directed.call c).after);
+  carrier_waits = λ k found is. no_end c name Working refl;
+  carrier_ended = λ k ending found is. no_end c name (reply_of_delivery ending) (plain_answer ending);
+})
 
 pub actor_steps_run : (more : ℕ) (config : TenantConfig) (c : SoloCluster) (name : List ℕ) (moment : ℕ) → Runs c name (actor_steps more config name moment c).reply
-actor_steps_run zero config c name moment = actor_step_runs config c name moment
-actor_steps_run (suc more) config c name moment = by_goes (goes_on step.reply) refl (actor_steps_run more config step.after name moment)
-  where
-    step : ActEffect
-    step = actor_step config name moment c
-
-    turn_by : Bool → ActEffect
-    turn_by b = elim b [ true ↦ actor_steps more config name moment step.after | false ↦ step ]
-
-    by_goes : (b : Bool) → goes_on step.reply ≡ b → Runs step.after name (actor_steps more config name moment step.after).reply → Runs c name (turn_by b).reply
-    by_goes true goes later effect e =
-        let found = later effect e in
-        (found.0, sym (actor_step_context config c name moment goes) ∙ found.1)
-    by_goes false goes later effect e = actor_step_runs config c name moment effect e
+actor_steps_run more config c name moment =
+    by_steps config name moment (λ c. Unit {0}) (λ c turn. Runs c name turn.reply) (λ c is. actor_step_runs config c name moment) (λ c is goes. tt)
+    (λ c turn is goes later effect e. let found = later effect e in (found.0, sym (actor_step_context config c name moment goes) ∙ found.1)) more c tt
 
 -- ---- the operation of each act
 

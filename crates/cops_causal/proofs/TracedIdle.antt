@@ -10,7 +10,7 @@ use Rattle.cops_types.specs.Key.{key_eq}
 use Rattle.cops_types.specs.Pairs.{holds, greatest_per_key}
 use Rattle.cops_types.specs.TenantConfig.{TenantConfig}
 use Rattle.cops_model.specs.Request.{Action, Write, Fetch}
-use Rattle.cops_model.specs.Session.{Running, Session, context_created, context_deleted, get_refusal, has_repeats, is_busy, is_open, new_session, obs_of, request_begun, session_put_refusal, is_spent}
+use Rattle.cops_model.specs.Session.{Session, context_created, context_deleted, get_refusal, has_repeats, is_busy, is_open, new_session, obs_of, request_begun, session_put_refusal, is_spent}
 use Rattle.cops_model.specs.Carrier.{Stream, new_carrier}
 use Rattle.cops_model.specs.Causal.{Traced, put_by, past_after}
 use Rattle.cops_model.specs.Cluster.{SoloCluster, OfSession, OfCarrier, find_actor, find_session, with_actor, with_new_actor}
@@ -21,6 +21,7 @@ use Rattle.cops_types.proofs.Elements.{Among, Every-append, Every-weaker, Every-
 use Rattle.cops_causal.proofs.Moves.{IsStream, head_passes, flipped}
 use Rattle.cops_causal.proofs.Provenance.{IsTraced, IsActor, IsSession, IsContext, IsRunning, IsFound}
 use Rattle.cops_session.proofs.RequestReplies.{put-open, get-open, get-begun}
+use Rattle.cops_causal.proofs.RequestSteps.{none_runs, only_runs, run}
 
 module _ (config : TenantConfig) (c : SoloCluster) (ts : List Traced) (inv : IsTraced config c ts) where
   pub session_of : (name : List ℕ) (s : Session) → find_session name c ≡ Some s → IsSession config ts name s
@@ -98,7 +99,7 @@ module _ (config : TenantConfig) (c : SoloCluster) (ts : List Traced) (inv : IsT
               tt,
             );
         numbered = λ t at same. more t.operation.context (is.numbered t at same);
-        running_is = λ running runs. absurd (never running runs);
+        running_is = none_runs _ s.running idle;
       })
     where
       more : (n : ℕ) → nat_lt n s.next_context ≡ true → nat_lt n (s.next_context + 1) ≡ true
@@ -107,9 +108,6 @@ module _ (config : TenantConfig) (c : SoloCluster) (ts : List Traced) (inv : IsT
       one_less : (n : ℕ) → nat_lt n (n + 1) ≡ true
       one_less n = grind (arith, nat_tests)
 
-      never : (running : Running) → s.running ≡ Some running → ⊥
-      never running runs = let both : None ≡ Some running = sym idle ∙ runs in cc
-
   pub traced-context_deleted : (name : List ℕ) (s : Session) (number : ℕ) → find_session name c ≡ Some s → s.running ≡ None → IsTraced config (with_actor name (OfSession (context_deleted number s)) c) ts
   traced-context_deleted name s number found idle =
       let is = session_of name s found in
@@ -117,23 +115,24 @@ module _ (config : TenantConfig) (c : SoloCluster) (ts : List Traced) (inv : IsT
         placed = is.placed;
         contexts_are = Every-filter (IsContext ts name s.next_context) (λ x. not (x.number == number)) s.contexts is.contexts_are;
         numbered = is.numbered;
-        running_is = λ running runs. absurd (let both : None ≡ Some running = sym idle ∙ runs in cc);
+        running_is = none_runs _ s.running idle;
       })
 
-  begun : (name : List ℕ) (s : Session) (number : ℕ) (action : Action) → IsSession config ts name s →
-      ((running : Running) → (request_begun number action s).running ≡ Some running → IsRunning config ts (request_begun number action s) running) → IsSession config ts name (request_begun number action s)
-  begun name s number action is runs = record { placed = is.placed; contexts_are = is.contexts_are; numbered = is.numbered; running_is = runs }
+  -- a request begins in an open context
+  begun : (name : List ℕ) (s : Session) (number : ℕ) (action : Action) → find_session name c ≡ Some s → IsRunning config ts (request_begun number action s) (run s.next_request number action []) →
+      IsTraced config (with_actor name (OfSession (request_begun number action s)) c) ts
+  begun name s number action found first =
+      let is = session_of name s found in
+      session_changed name (request_begun number action s)
+      (record { placed = is.placed; contexts_are = is.contexts_are; numbered = is.numbered; running_is = only_runs (IsRunning config ts (request_begun number action s)) (run s.next_request number action []) first })
 
   pub traced-put_begun : (name : List ℕ) (s : Session) (number : ℕ) (key value : List ℕ) → find_session name c ≡ Some s → session_put_refusal config number key s ≡ None →
       IsTraced config (with_actor name (OfSession (request_begun number (Write key value) s)) c) ts
   traced-put_begun name s number key value found ok =
-      let first = head_passes (is_busy s) Busy ((not (is_open number s), NoContext) ∷ (not (can_put config.quota.deps (obs_of number s) key), DependenciesFull) ∷ (is_spent s.next_request, IdsSpent) ∷ []) ok in
-      let second = head_passes (not (is_open number s)) NoContext ((not (can_put config.quota.deps (obs_of number s) key), DependenciesFull) ∷ (is_spent s.next_request, IdsSpent) ∷ []) first.1 in
-      session_changed name (request_begun number (Write key value) s) (begun name s number (Write key value) (session_of name s found) (λ running runs.
-      let mine : Running = record { number = s.next_request; context = number; action = Write key value; log = [] } in
-      let same : mine ≡ running = cc in
-      subst (IsRunning config ts (request_begun number (Write key value) s)) same
-      (record { in_open = flipped (is_open number s) second.0; unanswered = put-open config s.dc (obs_of number s) key value; replies_are = refl })))
+      let third = (not (can_put config.quota.deps (obs_of number s) key), DependenciesFull) ∷ (is_spent s.next_request, IdsSpent) ∷ [] in
+      let first = head_passes (is_busy s) Busy ((not (is_open number s), NoContext) ∷ third) ok in
+      let second = head_passes (not (is_open number s)) NoContext third first.1 in
+      begun name s number (Write key value) found (record { in_open = flipped (is_open number s) second.0; unanswered = put-open config s.dc (obs_of number s) key value; replies_are = refl })
 
   pub traced-get_begun : (name : List ℕ) (s : Session) (number : ℕ) (keys : List (List ℕ)) → find_session name c ≡ Some s → get_refusal config number keys s ≡ None →
       IsTraced config (with_actor name (OfSession (request_begun number (Fetch keys) s)) c) ts
@@ -142,8 +141,4 @@ module _ (config : TenantConfig) (c : SoloCluster) (ts : List Traced) (inv : IsT
       let first = head_passes (nat_lt (length keys) 1) Syntax ((is_busy s, Busy) ∷ (not (is_open number s), NoContext) ∷ fourth) ok in
       let second = head_passes (is_busy s) Busy ((not (is_open number s), NoContext) ∷ fourth) first.1 in
       let third = head_passes (not (is_open number s)) NoContext fourth second.1 in
-      session_changed name (request_begun number (Fetch keys) s) (begun name s number (Fetch keys) (session_of name s found) (λ running runs.
-      let mine : Running = record { number = s.next_request; context = number; action = Fetch keys; log = [] } in
-      let same : mine ≡ running = cc in
-      subst (IsRunning config ts (request_begun number (Fetch keys) s)) same
-      (record { in_open = flipped (is_open number s) third.0; unanswered = get-open config s.dc (obs_of number s) keys first.0; replies_are = get-begun (IsFound ts) keys })))
+      begun name s number (Fetch keys) found (record { in_open = flipped (is_open number s) third.0; unanswered = get-open config s.dc (obs_of number s) keys first.0; replies_are = get-begun (IsFound ts) keys })
