@@ -21,8 +21,8 @@ use Rattle.cops_model.specs.SoloNode.{SoloNode, new_node, queue, front}
 use Rattle.cops_model.specs.Step.{effect, node_step, reply_exact, reply_latest, reply_pull, was_committed}
 use Rattle.cops_node.proofs.AuditLaws.{trail_of_effect}
 use Rattle.cops_node.proofs.NodeTurns.{entries, Answers, Change, IsRefused, IsReply, Joined, Stores, Taken, Takes, turn_changes}
-use Rattle.cops_model.specs.Carrier.{Stream}
-use Rattle.cops_repl.proofs.CarrierStages.{Acking, Checking, Committing, Delivering, InDelivery, Pulling, Stage}
+use Rattle.cops_model.specs.Carrier.{Stream, ack_call, check, commit_call, pull}
+use Rattle.cops_repl.proofs.CarrierStages.{Stage}
 use Rattle.cops_model.specs.Request.{next}
 use Rattle.cops_model.specs.Session.{Running, Session, request_of}
 use Rattle.cops_model.specs.declared.acts.Act.{Act}
@@ -32,11 +32,10 @@ use Rattle.cops_model.specs.Laws.{cluster_of}
 use Rattle.cops_model.specs.ListLimits.{HasFew, HasFewInAudit, HasFewInCall, HasFewInReply, HasFewPairs}
 use Rattle.cops_causal.proofs.AfterActs.{after_acts}
 use Rattle.cops_causal.proofs.Limits.{IsWithinLimits, limits_at_first, limits_kept, offered_few, room, seen_roomy}
-use Rattle.cops_causal.proofs.Moves.{Both, Leads, kept_both}
+use Rattle.cops_causal.proofs.Moves.{Both, Leads, kept_both, IsStream}
 use Rattle.cops_causal.proofs.NodeEffects.{call_changes, node_of, number_within}
-use Rattle.cops_causal.proofs.Offers.{IsOffered}
 use Rattle.cops_causal.proofs.Past.{new_nodes}
-use Rattle.cops_causal.proofs.Readiness.{carrier_served, session_ready}
+use Rattle.cops_causal.proofs.Readiness.{session_ready}
 use Rattle.cops_causal.proofs.Sound.{IsSound, sound_at_first, sound_kept}
 use Rattle.cops_causal.proofs.StreamMoves.{stage_now, stream_is}
 use Rattle.cops_causal.proofs.Streams.{Delivered}
@@ -45,6 +44,7 @@ use Rattle.cops_causal.proofs.TracedCarriers.{queued}
 use Rattle.cops_causal.proofs.TracedIdle.{session_of}
 use Rattle.cops_causal.proofs.RequestSteps.{by_call}
 use Rattle.cops_causal.proofs.ActorMoves.{bare, nodes_lead}
+use Rattle.cops_causal.proofs.StreamCalls.{by_stage}
 
 -- ---- the words
 
@@ -146,14 +146,13 @@ module _ (config : TenantConfig) where
           (λ number context key value moment runs is. seen_roomy config s (room config some c ts inv limits name s found) context is.in_open) (λ number context keys log moment q runs is at e. tt)
 
     -- what a carrier asks
-    delivery_few : (stream : Stream) (e : Entry) (directed : Directed) → IsOffered config c stream e → InDelivery (Delivered config c stream) config.shards stream e directed → HasFewInCall config directed.call
-    delivery_few stream e directed offered (Checking near among same) = subst (λ (d : Directed). HasFewInCall config d.call) (sym same) tt
-    delivery_few stream e directed offered (Committing near same) = subst (λ (d : Directed). HasFewInCall config d.call) (sym same) (offered_few config some c ts inv limits stream e offered)
-    delivery_few stream e directed offered (Acking r brought kind same) = subst (λ (d : Directed). HasFewInCall config d.call) (sym same) tt
-
-    stage_few : (stream : Stream) (directed : Directed) → Stage (Delivered config c stream) config.shards stream directed → HasFewInCall config directed.call
-    stage_few stream directed (Pulling same) = subst (λ (d : Directed). HasFewInCall config d.call) (sym same) tt
-    stage_few stream directed (Delivering e offered now) = delivery_few stream e directed offered now
+    carrier_few : (stream : Stream) → IsStream config stream → (moment : ℕ) (directed : Directed) → Stage (Delivered config c stream) config.shards stream directed → HasFewInAudits (call_node config directed.node moment directed.call c).after ts
+    carrier_few stream is moment = by_stage config some c stream is (λ directed. HasFewInAudits (call_node config directed.node moment directed.call c).after ts)
+        (λ there. called_few (pull stream).node moment (pull stream).call there tt) (record {
+          checks = λ e near offered among there. called_few (check config.shards stream near).node moment (check config.shards stream near).call there tt;
+          commits = λ e offered checks there. called_few (commit_call stream e).node moment (commit_call stream e).call there (offered_few config some c ts inv limits stream e offered);
+          acks = λ e r offered brought kind there. called_few (ack_call stream e).node moment (ack_call stream e).call there tt;
+        })
 
   abbrev Limited : SoloCluster → List Traced → Type 0
   Limited = Both (IsSound config) (IsWithinLimits config)
@@ -164,10 +163,7 @@ module _ (config : TenantConfig) where
         called_few some c ts inv.0.0 inv.0.1 inv.1 directed.node moment directed.call (session_ready config some c ts inv.0.0 name s found running moment directed runs e).there
         (asked_few some c ts inv.0.0 inv.0.1 inv.1 name s found running moment directed runs e);
     by_carrier = λ name k found moment directed e.
-        let is = stream_is config some c ts inv.0.0.flowing inv.0.0.traced name k found in
-        let stage = stage_now config some c ts inv.0.0.flowing inv.0.0.traced name k found directed e in
-        let served = carrier_served config some c ts inv.0.0 k.stream is moment directed stage in
-        called_few some c ts inv.0.0 inv.0.1 inv.1 directed.node moment directed.call served.calls.there (stage_few some c ts inv.0.0 inv.0.1 inv.1 k.stream directed stage);
+        carrier_few some c ts inv.0.0 inv.0.1 inv.1 k.stream (stream_is config some c ts inv.0.0.flowing inv.0.0.traced name k found) moment directed (stage_now config some c ts inv.0.0.flowing inv.0.0.traced name k found directed e);
     collected = λ id moment there. called_few some c ts inv.0.0 inv.0.1 inv.1 id moment Collect there tt;
   })
 

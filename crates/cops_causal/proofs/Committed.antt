@@ -23,11 +23,11 @@ use Rattle.cops_causal.proofs.Closure.{IsHere, IsFoundHere, RepliesAreHere, IsAt
 use Rattle.cops_causal.proofs.ClosureMoves.{pasts_called, at_home-grown, found-grown, committing-closed}
 use Rattle.cops_causal.proofs.ClosureSteps.{mine, get_here}
 use Rattle.cops_causal.proofs.Histories.{past_in, puts_of, past_of_put-Among, Among-flat_map}
-use Rattle.cops_types.proofs.Elements.{Among, Every-at, Among-cases, Among-filter, and_right, and_true, all_true, slice_get-Among}
+use Rattle.cops_types.proofs.Elements.{Among, Every-at, Among-cases, Among-filter, and_right, all_true}
 use Rattle.cops_causal.proofs.Moves.{IsStream, Leads, Both, kept_both}
 use Rattle.cops_node.proofs.NodeTurns.{entries, Stores}
 use Rattle.cops_causal.proofs.NodeEffects.{node_of, call_changes, entries_grow}
-use Rattle.cops_types.proofs.PairSets.{at, Among-holds, holds-Among}
+use Rattle.cops_types.proofs.PairSets.{Among-holds, holds-Among}
 use Rattle.cops_causal.proofs.Provenance.{IsTraced, IsPutEntry, IsSession}
 use Rattle.std.specs.Prelude.{not, ◌==◌}
 use Rattle.cops_model.specs.Session.{context_created, request_begun}
@@ -36,10 +36,8 @@ use Rattle.cops_model.specs.Causal.{past_of_put}
 use Rattle.cops_model.specs.Cluster.{new_cluster, has_node}
 use Rattle.cops_model.specs.Laws.{cluster_of, history_of, entries_at, is_committed_at, HasCommittedPasts}
 use Rattle.cops_causal.proofs.AfterActs.{after_acts}
-use Rattle.cops_repl.proofs.CarrierStages.{Stage, Pulling, Delivering, InDelivery, Checking, Committing, Acking}
+use Rattle.cops_repl.proofs.CarrierStages.{Stage}
 use Rattle.cops_causal.proofs.ClosureSessions.{get_home, put_home}
-use Rattle.cops_causal.proofs.Offers.{IsOffered}
-use Rattle.cops_node.proofs.Chains.{of_origin}
 use Rattle.cops_causal.proofs.Past.{traced_kept, traced_at_first, new_nodes}
 use Rattle.cops_session.proofs.RequestReplies.{put-next, get-stepped, get-late, get-begun, call_of}
 use Rattle.cops_causal.proofs.StreamMoves.{stage_now, stream_is, flowing_kept, flowing_at_first}
@@ -48,6 +46,7 @@ use Rattle.cops_causal.proofs.TracedCalls.{home-there, unput}
 use Rattle.cops_causal.proofs.TracedIdle.{session_of, fresh_context}
 use Rattle.cops_causal.proofs.RequestSteps.{StepLeaves, by_call, by_late, none_runs, only_runs, put_sent, run}
 use Rattle.cops_causal.proofs.ActorMoves.{CallLeaves, Leaves, Moves, SessionMoves, bare, moves_lead}
+use Rattle.cops_causal.proofs.StreamCalls.{by_stage, offered_among}
 
 abbrev Before : TenantConfig → SoloCluster → List Traced → Type 0
 Before config = Both (Both (IsTraced config) (IsFlowing config)) (IsClosed config)
@@ -67,21 +66,16 @@ module _ (config : TenantConfig) (some : 0 < config.shards) (c : SoloCluster) (t
       let called = call_changes config c directed.node moment directed.call there inv.0.sized in
       record { nodes_are = pasts_called called ts closed.nodes (shard-below directed.node there) (stored call.reply); stays = at_home-grown config c call.after (entries_grow called) ts }
 
-  module _ (stream : Stream) (is : IsStream config stream) where
-    by_delivery : (moment : ℕ) (e : Entry) (directed : Directed) → IsOffered config c stream e → InDelivery (Delivered config c stream) config.shards stream e directed → ClosedAfter moment directed
-    by_delivery moment e directed offered (Checking near at same) = subst (ClosedAfter moment) (sym same) (by_stored moment (check config.shards stream near) (home-there config stream.to_dc near.key some is.to_is) (λ reply f stores. absurd stores))
-    by_delivery moment e directed offered (Committing near same) =
-        let there : has_node config stream.to_dc stream.origin.shard ≡ true = and_true (nat_lt stream.to_dc config.data_centres) (nat_lt stream.origin.shard config.shards) is.to_is (and_right (nat_lt stream.origin.dc config.data_centres) (nat_lt stream.origin.shard config.shards) is.origin_is) in
+  by_carrier : (stream : Stream) → IsStream config stream → (moment : ℕ) (directed : Directed) → Stage (Delivered config c stream) config.shards stream directed → ClosedAfter moment directed
+  by_carrier stream is moment = by_stage config some c stream is (ClosedAfter moment) (λ there. by_stored moment (pull stream) there (λ reply f stores. absurd stores)) (record {
+    checks = λ e near offered among there. by_stored moment (check config.shards stream near) there (λ reply f stores. absurd stores);
+    commits = λ e offered checks there.
         let origin = node_number config.shards stream.origin in
-        let among = (Among-filter (λ (g : Entry). g.version.node == origin) e (entries (node_of config c origin)) (slice_get-Among (of_origin origin (entries (node_of config c origin))) offered.place e offered.at)).0 in
-        let put : IsPutEntry ts e = Every-at (IsPutEntry ts) e (entries (node_of config c origin)) (inv.0.entries_are origin) among in
-        subst (ClosedAfter moment) (sym same) (by_stored moment (commit_call stream e) there (λ reply f stores q past.
-        committing-closed config c ts inv.0 inv.1.streamed closed some stream e put near q (subst (λ (g : Entry). Among q (past_of_put ts (pair_of_entry g))) stores.1 past)))
-    by_delivery moment e directed offered (Acking r brought kind same) = subst (ClosedAfter moment) (sym same) (by_stored moment (ack_call stream e) is.origin_is (λ reply f stores. absurd stores))
-
-    by_stage : (moment : ℕ) (directed : Directed) → Stage (Delivered config c stream) config.shards stream directed → ClosedAfter moment directed
-    by_stage moment directed (Pulling same) = subst (ClosedAfter moment) (sym same) (by_stored moment (pull stream) is.origin_is (λ reply f stores. absurd stores))
-    by_stage moment directed (Delivering e offered now) = by_delivery moment e directed offered now
+        let put : IsPutEntry ts e = Every-at (IsPutEntry ts) e (entries (node_of config c origin)) (inv.0.entries_are origin) (offered_among config c stream e offered) in
+        by_stored moment (commit_call stream e) there (λ reply f stores q past.
+        committing-closed config c ts inv.0 inv.1.streamed closed some stream e put checks q (subst (λ (g : Entry). Among q (past_of_put ts (pair_of_entry g))) stores.1 past));
+    acks = λ e r offered brought kind there. by_stored moment (ack_call stream e) there (λ reply f stores. absurd stores);
+  })
 
   -- ---- sessions
 
@@ -168,7 +162,7 @@ module _ (config : TenantConfig) (some : 0 < config.shards) (c : SoloCluster) (t
         carrier_begun = λ name stream is. tt;
         of_session = session_closed;
         of_carrier = λ name k found. record {
-          called = λ moment directed e. by_stage k.stream (stream_is config some c ts inv.1 inv.0 name k found) moment directed (stage_now config some c ts inv.1 inv.0 name k found directed e);
+          called = λ moment directed e. by_carrier k.stream (stream_is config some c ts inv.1 inv.0 name k found) moment directed (stage_now config some c ts inv.1 inv.0 name k found directed e);
           stepped = λ moment directed e open_still. tt;
         };
         collected = λ id moment there. by_stored moment (record { node = id; call = node_call.Collect }) there (λ reply e stores. absurd stores);

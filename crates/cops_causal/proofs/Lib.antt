@@ -49,3 +49,4 @@ pub mod Unbroken
 pub mod RequestSteps
 pub mod ActorMoves
 pub mod ActorSteps
+pub mod StreamCalls

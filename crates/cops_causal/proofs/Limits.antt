@@ -11,7 +11,7 @@ use Rattle.cops_types.specs.Context.{Observation, Put, all_of, near_of, observat
 use Rattle.cops_types.specs.Pairs.{has_key}
 use Rattle.cops_types.specs.TenantConfig.{TenantConfig}
 use Rattle.cops_types.proofs.ContextRule.{IsDeps-all_of, all_of-push, near_of-put}
-use Rattle.cops_types.proofs.Elements.{Among, Among-cases, Among-filter, Every-append, Every-at, Every-filter, and_left, and_right, or_cases, map-Among, slice_get-Among}
+use Rattle.cops_types.proofs.Elements.{Among, Among-cases, Among-filter, Every-append, Every-at, Every-filter, and_left, and_right, or_cases, map-Among}
 use Rattle.cops_types.proofs.PairSets.{at}
 use Rattle.cops_model.specs.declared.calls.NodeCall.TheVariants as node_call
 use Rattle.cops_model.specs.declared.calls.NodeReply.{NodeReply}
@@ -19,10 +19,9 @@ use Rattle.cops_model.specs.declared.calls.NodeReply.TheVariants as node_reply
 use Rattle.cops_model.specs.Log.{LogStep, Outcome, Late, Replied, Directed, Call}
 use Rattle.cops_model.specs.Place.{node_number, place_of}
 use Rattle.cops_model.specs.SoloNode.{SoloNode, new_node}
-use Rattle.cops_node.proofs.Chains.{of_origin}
 use Rattle.cops_node.proofs.NodeTurns.{entries, Stores}
-use Rattle.cops_model.specs.Carrier.{Stream}
-use Rattle.cops_repl.proofs.CarrierStages.{Stage, Pulling, Delivering, InDelivery, Checking, Committing, Acking}
+use Rattle.cops_model.specs.Carrier.{Stream, ack_call, check, commit_call, pull}
+use Rattle.cops_repl.proofs.CarrierStages.{Stage}
 use Rattle.cops_model.specs.declared.requests.Answer.{Answer}
 use Rattle.cops_model.specs.declared.requests.Answer.TheVariants as answer_is
 use Rattle.cops_model.specs.declared.requests.Progress.TheVariants as session_progress
@@ -33,13 +32,13 @@ use Rattle.cops_model.specs.Causal.{Traced}
 use Rattle.cops_model.specs.Cluster.{SoloCluster, Actor, OfSession, OfCarrier, new_cluster, find_session, call_node, has_node}
 use Rattle.cops_model.specs.ListLimits.{HasFewPairs}
 use Rattle.cops_causal.proofs.ActorsKeep.{actor_found, session_actor}
-use Rattle.cops_causal.proofs.Moves.{Leads, Both, head_passes, flipped}
+use Rattle.cops_causal.proofs.Moves.{Leads, Both, head_passes, flipped, IsStream}
 use Rattle.cops_causal.proofs.NodeEffects.{node_of, call_changes, entries_keep}
 use Rattle.cops_causal.proofs.Offers.{IsOffered, origin_of}
 use Rattle.cops_causal.proofs.Past.{new_nodes}
 use Rattle.cops_causal.proofs.Provenance.{IsRunning, IsContext, IsSession}
 use Rattle.cops_causal.proofs.PutLengths.{put_within, some_pair}
-use Rattle.cops_causal.proofs.Readiness.{session_ready, carrier_served}
+use Rattle.cops_causal.proofs.Readiness.{session_ready}
 use Rattle.cops_causal.proofs.Sound.{IsSound}
 use Rattle.cops_causal.proofs.StreamMoves.{stage_now, stream_is}
 use Rattle.cops_causal.proofs.Streams.{Delivered}
@@ -47,6 +46,7 @@ use Rattle.cops_causal.proofs.TracedIdle.{session_of}
 use Rattle.cops_causal.proofs.TracedSteps.{context_of}
 use Rattle.cops_causal.proofs.RequestSteps.{StepLeaves, by_call, none_runs, only_runs, run}
 use Rattle.cops_causal.proofs.ActorMoves.{CallLeaves, Leaves, Moves, SessionMoves, Stands, bare, moves_lead, plain_leaves}
+use Rattle.cops_causal.proofs.StreamCalls.{by_stage, offered_among}
 
 never_less : (n : ℕ) → nat_lt n 0 ≡ false
 never_less n = grind (arith, nat_tests)
@@ -202,8 +202,7 @@ module _ (config : TenantConfig) where
     pub offered_few : (stream : Stream) (e : Entry) → IsOffered config c stream e → HasFewPairs config e
     offered_few stream e offered =
         let origin = origin_of config stream in
-        Every-at (HasFewPairs config) e (entries (node_of config c origin)) (limits.nodes origin)
-        (Among-filter (λ (g : Entry). g.version.node == origin) e (entries (node_of config c origin)) (slice_get-Among (of_origin origin (entries (node_of config c origin))) offered.place e offered.at)).0
+        Every-at (HasFewPairs config) e (entries (node_of config c origin)) (limits.nodes origin) (offered_among config c stream e offered)
 
     module _ (name : List ℕ) (s : Session) (found : find_session name c ≡ Some s) where
       pub room : HasRoom s
@@ -320,15 +319,12 @@ module _ (config : TenantConfig) where
 
     -- ---- carriers
 
-    module _ (stream : Stream) where
-      delivery_few : (e : Entry) (directed : Directed) → IsOffered config c stream e → InDelivery (Delivered config c stream) config.shards stream e directed → StoresFew directed
-      delivery_few e directed offered (Checking near among same) = subst StoresFew (sym same) (λ reply f stores. absurd stores)
-      delivery_few e directed offered (Committing near same) = subst StoresFew (sym same) (λ reply f stores. subst (HasFewPairs config) (sym stores.1) (offered_few stream e offered))
-      delivery_few e directed offered (Acking r brought kind same) = subst StoresFew (sym same) (λ reply f stores. absurd stores)
-
-      stage_few : (directed : Directed) → Stage (Delivered config c stream) config.shards stream directed → StoresFew directed
-      stage_few directed (Pulling same) = subst StoresFew (sym same) (λ reply f stores. absurd stores)
-      stage_few directed (Delivering e offered now) = delivery_few e directed offered now
+    carrier_limited : (stream : Stream) → IsStream config stream → (moment : ℕ) (directed : Directed) → Stage (Delivered config c stream) config.shards stream directed → CallLeaves config AreEntriesFew IsActorLimited c ts moment directed
+    carrier_limited stream is moment = by_stage config some c stream is (CallLeaves config AreEntriesFew IsActorLimited c ts moment) (λ there. call_limited moment (pull stream) there (λ reply f stores. absurd stores)) (record {
+      checks = λ e near offered among there. call_limited moment (check config.shards stream near) there (λ reply f stores. absurd stores);
+      commits = λ e offered checks there. call_limited moment (commit_call stream e) there (λ reply f stores. subst (HasFewPairs config) (sym stores.1) (offered_few stream e offered));
+      acks = λ e r offered brought kind there. call_limited moment (ack_call stream e) there (λ reply f stores. absurd stores);
+    })
 
     limited_moves : Moves config AreEntriesFew IsActorLimited c ts
     limited_moves =
@@ -336,14 +332,10 @@ module _ (config : TenantConfig) where
           opened = λ name dc free exists. record { contexts = tt; alike = λ x y at_x. absurd at_x; running = none_runs _ None refl };
           carrier_begun = λ name stream is. tt;
           of_session = session_limited;
-          of_carrier = λ name k found.
-              let is = stream_is config some c ts inv.flowing inv.traced name k found in
-              record {
-                called = λ moment directed e.
-                    let stage = stage_now config some c ts inv.flowing inv.traced name k found directed e in
-                    call_limited moment directed (carrier_served config some c ts inv k.stream is moment directed stage).calls.there (stage_few k.stream directed stage);
-                stepped = λ moment directed e open_still. tt;
-              };
+          of_carrier = λ name k found. record {
+            called = λ moment directed e. carrier_limited k.stream (stream_is config some c ts inv.flowing inv.traced name k found) moment directed (stage_now config some c ts inv.flowing inv.traced name k found directed e);
+            stepped = λ moment directed e open_still. tt;
+          };
           collected = λ id moment there. call_limited moment (record { node = id; call = node_call.Collect }) there (λ reply e stores. absurd stores);
         }
 

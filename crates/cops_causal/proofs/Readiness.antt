@@ -1,6 +1,6 @@
 -- The nodes are ready for what sessions and carriers ask of them.
 use Rattle.std.proofs.Common.{◌≡◌, ℕ, ◌<◌, Bool, true, false, not, ◌||◌, List, length, refl, sym, ◌∙◌, ap, subst}
-use Rattle.std.specs.Prelude.{Option, Some, None, nat_lt, slice_get, sum, ◌==◌}
+use Rattle.std.specs.Prelude.{Option, Some, None, slice_get, sum, ◌==◌}
 use Rattle.std.proofs.lemmas.Bool.Decides.{Decides-eqb}
 use Rattle.std.proofs.Math.Nat.{mod-lt}
 use Rattle.cops_types.specs.declared.contexts.Read.{Read}
@@ -23,8 +23,8 @@ use Rattle.cops_model.specs.Transaction.{ReadRequest, gets, read_of, reads_of, w
 use Rattle.cops_model.specs.Causal.{Traced, past_of_put}
 use Rattle.cops_model.specs.Cluster.{SoloCluster, find_session, call_node, has_node}
 use Rattle.cops_node.proofs.Chains.{of_origin, mark-is, le-mark}
-use Rattle.cops_types.proofs.Elements.{slice_get-Among, Among, Every-at, and_right, and_true, map-Among}
-use Rattle.cops_repl.proofs.CarrierStages.{Stage, Pulling, Delivering, InDelivery, Checking, Committing, Acking}
+use Rattle.cops_types.proofs.Elements.{slice_get-Among, Among, Every-at, map-Among}
+use Rattle.cops_repl.proofs.CarrierStages.{Stage}
 use Rattle.cops_causal.proofs.Closure.{home_in, IsHere, IsFoundHere}
 use Rattle.cops_causal.proofs.ClosureSteps.{mine}
 use Rattle.cops_causal.proofs.ContextPasts.{IsRead}
@@ -47,6 +47,7 @@ use Rattle.cops_causal.proofs.TracedIdle.{session_of}
 use Rattle.cops_causal.proofs.Unbroken.{IsOwn, IsFineStep, step_fine}
 use Rattle.cops_session.proofs.WantedVersions.{deps_read, IsAskedFor, IsFirst, IsSecond, asked_for, outdated-is, wanted-among, IsBare, reads_bare}
 use Rattle.cops_causal.proofs.RequestSteps.{by_call, run}
+use Rattle.cops_causal.proofs.StreamCalls.{by_stage}
 
 -- a call at a node that is there and ready
 pub record ReadyCall (config : TenantConfig) (c : SoloCluster) (directed : Directed) : Type 0 where
@@ -169,17 +170,14 @@ module _ (config : TenantConfig) (some : 0 < config.shards) (c : SoloCluster) (t
     pulled_own reply after (Joined e more acked is') = absurd is'
     pulled_own reply after (Taken same is') = absurd is'
 
-    by_delivery : (moment : ℕ) (e : Entry) (directed : Directed) → IsOffered config c stream e → InDelivery (Delivered config c stream) config.shards stream e directed → ServedCall moment directed
-    by_delivery moment e directed offered (Checking near among same) =
-        subst (ServedCall moment) (sym same) (called_at moment (check config.shards stream near) (record { there = home-there config stream.to_dc near.key some is.to_is; ready = tt }) tt)
-    by_delivery moment e directed offered (Committing near same) =
-        let there : has_node config stream.to_dc stream.origin.shard ≡ true = and_true (nat_lt stream.to_dc config.data_centres) (nat_lt stream.origin.shard config.shards) is.to_is (and_right (nat_lt stream.origin.dc config.data_centres) (nat_lt stream.origin.shard config.shards) is.origin_is) in
-        subst (ServedCall moment) (sym same) (called_at moment (commit_call stream e) (record { there = there; ready = never-out_of_order config c inv.flowing.streamed stream is e offered }) tt)
-    by_delivery moment e directed offered (Acking r brought kind same) = subst (ServedCall moment) (sym same) (called_at moment (ack_call stream e) (record { there = is.origin_is; ready = tt }) tt)
-
     pub carrier_served : (moment : ℕ) (directed : Directed) → Stage (Delivered config c stream) config.shards stream directed → ServedCall moment directed
-    carrier_served moment directed (Pulling same) =
+    carrier_served moment = by_stage config some c stream is (ServedCall moment)
+        (λ there.
         let turn = call_node config stream.origin moment (node_call.Pull stream.to_dc) c in
-        let called = call_changes config c stream.origin moment (node_call.Pull stream.to_dc) is.origin_is inv.traced.sized in
-        subst (ServedCall moment) (sym same) (called_at moment (pull stream) (record { there = is.origin_is; ready = tt }) (pulled_own turn.reply (node_of config turn.after (origin_of config stream)) called.change))
-    carrier_served moment directed (Delivering e offered now) = by_delivery moment e directed offered now
+        let called = call_changes config c stream.origin moment (node_call.Pull stream.to_dc) there inv.traced.sized in
+        called_at moment (pull stream) (record { there = there; ready = tt }) (pulled_own turn.reply (node_of config turn.after (origin_of config stream)) called.change))
+        (record {
+          checks = λ e near offered among there. called_at moment (check config.shards stream near) (record { there = there; ready = tt }) tt;
+          commits = λ e offered checks there. called_at moment (commit_call stream e) (record { there = there; ready = never-out_of_order config c inv.flowing.streamed stream is e offered }) tt;
+          acks = λ e r offered brought kind there. called_at moment (ack_call stream e) (record { there = there; ready = tt }) tt;
+        })

@@ -1,6 +1,6 @@
 -- Where no queue holds an entry, equivalent nodes show the same latest entries.
 use Rattle.std.proofs.Common.{◌≡◌, ◌≢◌, ℕ, ◌+◌, ◌*◌, ◌<◌, ◌≤◌, ◌%◌, true, false, List, [], ◌∷◌, ◌++◌, length, drop, ◌⊎◌, inl, inr, refl, sym, ◌∙◌, ap, subst, arith, length-append, append-nil}
-use Rattle.std.specs.Prelude.{zero, suc, slice_index, nat_lt, ◌==◌}
+use Rattle.std.specs.Prelude.{zero, suc, slice_index, nat_lt, ◌==◌, Some}
 use Rattle.std.specs.List.{AllByRecursion}
 use Rattle.std.proofs.lemmas.Bool.Decides.{nat_tests, eqb_tells}
 use Rattle.std.proofs.lemmas.Nat.{mod-mul-add}
@@ -13,32 +13,37 @@ use Rattle.cops_model.specs.declared.calls.NodeCall.{NodeCall}
 use Rattle.cops_model.specs.declared.calls.NodeCall.TheVariants as node_call
 use Rattle.cops_model.specs.declared.calls.NodeId.{NodeId}
 use Rattle.cops_model.specs.declared.calls.NodeReply.{NodeReply}
-use Rattle.cops_model.specs.Log.{Directed}
+use Rattle.cops_model.specs.Log.{Directed, Call}
 use Rattle.cops_model.specs.Place.{node_number, own_number, place_of}
 use Rattle.cops_model.specs.SoloNode.{new_node}
 use Rattle.cops_model.specs.Carrier.{Stream, ack_call, check, commit_call, pull}
-use Rattle.cops_model.specs.Request.{key_home}
+use Rattle.cops_model.specs.Request.{next}
 use Rattle.cops_model.specs.declared.acts.Act.{Act}
 use Rattle.cops_model.specs.Causal.{Traced}
 use Rattle.cops_model.specs.Cluster.{SoloCluster, new_cluster, has_node, call_node}
 use Rattle.cops_model.specs.Laws.{cluster_of, history_of, node_at, HasEmptyQueues, IsSettled}
 use Rattle.cops_causal.proofs.AfterActs.{after_acts}
-use Rattle.cops_repl.proofs.CarrierStages.{Stage, Pulling, Delivering, InDelivery, Checking, Committing, Acking}
-use Rattle.cops_types.proofs.Elements.{slice_get-Among, Among, Among-left, Among-filter, Every-append, Every-at, and_left, and_right, and_true}
-use Rattle.cops_node.proofs.Chains.{IsFront, of_origin}
+use Rattle.cops_repl.proofs.CarrierStages.{Stage}
+use Rattle.cops_types.proofs.Elements.{Among, Among-left, Among-filter, Every-append, Every-at, and_left, and_right}
+use Rattle.cops_node.proofs.Chains.{IsFront}
 use Rattle.cops_causal.proofs.Convergence.{orderly, same_latest, in_entries, of_entries, in_held}
 use Rattle.cops_causal.proofs.Moves.{IsStream, Leads, Both, kept_both}
 use Rattle.cops_node.proofs.NodeTurns.{entries, Change, IsRefused, Answers, Joined, Taken, Stores}
 use Rattle.cops_causal.proofs.NodeEffects.{node_of, Called, call_changes}
 use Rattle.cops_causal.proofs.Offers.{IsOffered, origin_of, of_origin-node}
 use Rattle.cops_causal.proofs.Past.{traced_kept, traced_at_first, new_nodes}
-use Rattle.cops_causal.proofs.Provenance.{IsTraced}
-use Rattle.cops_causal.proofs.StreamMoves.{IsSessionCall, IsPutCall, IsGetCall, session_call, stage_now, stream_is, flowing_kept, flowing_at_first}
+use Rattle.cops_causal.proofs.Provenance.{IsTraced, IsSession}
+use Rattle.cops_causal.proofs.StreamMoves.{stage_now, stream_is, flowing_kept, flowing_at_first}
 use Rattle.cops_causal.proofs.StreamNodes.{held, IsStreamed}
 use Rattle.cops_causal.proofs.Streams.{IsFlowing, Delivered}
 use Rattle.cops_causal.proofs.TracedCalls.{next-above, home-there}
 use Rattle.cops_causal.proofs.TracedIdle.{session_of}
 use Rattle.cops_causal.proofs.ActorMoves.{bare, nodes_lead}
+use Rattle.cops_causal.proofs.StreamCalls.{by_stage, offered_among}
+use Rattle.cops_causal.proofs.RequestSteps.{by_call, put_sent}
+use Rattle.cops_session.proofs.RequestReplies.{call_of}
+use Rattle.cops_types.specs.Context.{all_of}
+use Rattle.cops_model.specs.Session.{Running, Session, obs_of, request_of}
 
 -- the entry was issued at an equivalent node of the cluster, and its key is placed on the shard of the node
 pub record IsEquivalent (config : TenantConfig) (n : ℕ) (e : Entry) : Type 0 where
@@ -82,26 +87,7 @@ abbrev Before : TenantConfig → SoloCluster → List Traced → Type 0
 Before config = Both (Both (IsTraced config) (IsFlowing config)) (AreEquivalent config)
 
 module _ (config : TenantConfig) (some : 0 < config.shards) (c : SoloCluster) (ts : List Traced) (inv : Before config c ts) where
-  by_session : (dc : ℕ) → nat_lt dc config.data_centres ≡ true → (moment : ℕ) (directed : Directed) → IsSessionCall config dc directed → AreEquivalent config (call_node config directed.node moment directed.call c).after ts
-  by_session dc placed moment directed (IsPutCall key value deps near is) =
-      let home = key_home config dc key in
-      let sent : Directed = record { node = home; call = node_call.Put key value deps near } in
-      let turn = call_node config home moment sent.call c in
-      let there = home-there config dc key some placed in
-      let solo = node_of config c (node_number config.shards home) in
-      subst (λ (d : Directed). AreEquivalent config (call_node config d.node moment d.call c).after ts) (sym is)
-      (equivalent_called config c turn.after home sent.call turn.reply (call_changes config c home moment sent.call there inv.0.0.sized) ts inv.1 (λ e stores.
-      at_id config home home e there placed refl
-      (ap (λ (f : Entry). f.version.node) stores.3 ∙ (next-above (clock config.first_clock solo.recs) (greatest_clock deps) (own_number (place_of config home)) stores.0 stores.2).1)
-      (ap (λ (f : Entry). shard_of f.key config.shards) stores.3)))
-  by_session dc placed moment directed (IsGetCall key wanted is) =
-      let home = key_home config dc key in
-      let sent : Directed = record { node = home; call = node_call.Get key wanted } in
-      let turn = call_node config home moment sent.call c in
-      subst (λ (d : Directed). AreEquivalent config (call_node config d.node moment d.call c).after ts) (sym is)
-      (equivalent_called config c turn.after home sent.call turn.reply (call_changes config c home moment sent.call (home-there config dc key some placed) inv.0.0.sized) ts inv.1 (λ e stores. absurd stores))
-
-  -- what the calls of a carrier leave, if what they store is equivalent
+  -- what a call leaves, if what it stores is equivalent
   called_at : (moment : ℕ) (directed : Directed) → has_node config directed.node.dc directed.node.shard ≡ true →
       ((reply : NodeReply) (e : Entry) → Stores (place_of config directed.node) directed.call (node_of config c (node_number config.shards directed.node)) reply e → IsEquivalent config (node_number config.shards directed.node) e) →
       AreEquivalent config (call_node config directed.node moment directed.call c).after ts
@@ -109,39 +95,43 @@ module _ (config : TenantConfig) (some : 0 < config.shards) (c : SoloCluster) (t
       let turn = call_node config directed.node moment directed.call c in
       equivalent_called config c turn.after directed.node directed.call turn.reply (call_changes config c directed.node moment directed.call there inv.0.0.sized) ts inv.1 (new turn.reply)
 
+  by_session : (name : List ℕ) (s : Session) → IsSession config ts name s → (running : Running) (moment : ℕ) (directed : Directed) → s.running ≡ Some running → next config (request_of s running) running.log moment ≡ Call directed →
+      AreEquivalent config (call_node config directed.node moment directed.call c).after ts
+  by_session name s this = by_call config ts name s this (λ running moment directed. AreEquivalent config (call_node config directed.node moment directed.call c).after ts)
+      (λ number context key value moment runs is.
+      let sent = put_sent config s context key value in
+      let there = home-there config s.dc key some this.placed in
+      let solo = node_of config c (node_number config.shards sent.node) in
+      called_at moment sent there (λ reply e stores.
+      at_id config sent.node sent.node e there this.placed refl
+      (ap (λ (f : Entry). f.version.node) stores.3 ∙ (next-above (clock config.first_clock solo.recs) (greatest_clock (all_of (obs_of context s))) (own_number (place_of config sent.node)) stores.0 stores.2).1)
+      (ap (λ (f : Entry). shard_of f.key config.shards) stores.3)))
+      (λ number context keys log moment q runs is at e. called_at moment (call_of config s.dc q) (home-there config s.dc q.key some this.placed) (λ reply e stores. absurd stores))
+
   module _ (stream : Stream) (is : IsStream config stream) where
     -- what is offered is placed on the shard of its origin
     pub at_origin : (e : Entry) → IsOffered config c stream e → shard_of e.key config.shards ≡ stream.origin.shard
     at_origin e offered =
         let origin = origin_of config stream in
-        let among = (Among-filter (λ (g : Entry). g.version.node == origin) e (entries (node_of config c origin)) (slice_get-Among (of_origin origin (entries (node_of config c origin))) offered.place e offered.at)).0 in
-        (Every-at (IsEquivalent config origin) e (entries (node_of config c origin)) (inv.1 origin) among).home ∙ shard_is config stream.origin is.origin_is
+        (Every-at (IsEquivalent config origin) e (entries (node_of config c origin)) (inv.1 origin) (offered_among config c stream e offered)).home ∙ shard_is config stream.origin is.origin_is
 
-    abbrev WellAt : ℕ → Directed → Type 0
-    WellAt moment directed = AreEquivalent config (call_node config directed.node moment directed.call c).after ts
-
-    by_delivery : (moment : ℕ) (e : Entry) (directed : Directed) → IsOffered config c stream e → InDelivery (Delivered config c stream) config.shards stream e directed → WellAt moment directed
-    by_delivery moment e directed offered (Checking near at same) = subst (WellAt moment) (sym same) (called_at moment (check config.shards stream near) (home-there config stream.to_dc near.key some is.to_is) (λ reply f stores. absurd stores))
-    by_delivery moment e directed offered (Committing near same) =
-        let end : NodeId = record { dc = stream.to_dc; shard = stream.origin.shard } in
-        let there : has_node config stream.to_dc stream.origin.shard ≡ true = and_true (nat_lt stream.to_dc config.data_centres) (nat_lt stream.origin.shard config.shards) is.to_is (and_right (nat_lt stream.origin.dc config.data_centres) (nat_lt stream.origin.shard config.shards) is.origin_is) in
-        subst (WellAt moment) (sym same) (called_at moment (commit_call stream e) there (λ reply f stores.
-        at_id config end stream.origin f there (and_left (nat_lt stream.origin.dc config.data_centres) (nat_lt stream.origin.shard config.shards) is.origin_is) refl
-        (ap (λ (g : Entry). g.version.node) stores.1 ∙ of_origin-node (origin_of config stream) (entries (node_of config c (origin_of config stream))) offered.place e offered.at)
-        (ap (λ (g : Entry). shard_of g.key config.shards) stores.1 ∙ at_origin e offered)))
-    by_delivery moment e directed offered (Acking r brought kind same) = subst (WellAt moment) (sym same) (called_at moment (ack_call stream e) is.origin_is (λ reply f stores. absurd stores))
-
-    by_stage : (moment : ℕ) (directed : Directed) → Stage (Delivered config c stream) config.shards stream directed → WellAt moment directed
-    by_stage moment directed (Pulling same) = subst (WellAt moment) (sym same) (called_at moment (pull stream) is.origin_is (λ reply f stores. absurd stores))
-    by_stage moment directed (Delivering e offered now) = by_delivery moment e directed offered now
+    by_carrier : (moment : ℕ) (directed : Directed) → Stage (Delivered config c stream) config.shards stream directed → AreEquivalent config (call_node config directed.node moment directed.call c).after ts
+    by_carrier moment = by_stage config some c stream is (λ directed. AreEquivalent config (call_node config directed.node moment directed.call c).after ts)
+        (λ there. called_at moment (pull stream) there (λ reply f stores. absurd stores)) (record {
+          checks = λ e near offered among there. called_at moment (check config.shards stream near) there (λ reply f stores. absurd stores);
+          commits = λ e offered checks there. called_at moment (commit_call stream e) there (λ reply f stores.
+              at_id config (record { dc = stream.to_dc; shard = stream.origin.shard }) stream.origin f there (and_left (nat_lt stream.origin.dc config.data_centres) (nat_lt stream.origin.shard config.shards) is.origin_is) refl
+              (ap (λ (g : Entry). g.version.node) stores.1 ∙ of_origin-node (origin_of config stream) (entries (node_of config c (origin_of config stream))) offered.place e offered.at)
+              (ap (λ (g : Entry). shard_of g.key config.shards) stores.1 ∙ at_origin e offered));
+          acks = λ e r offered brought kind there. called_at moment (ack_call stream e) there (λ reply f stores. absurd stores);
+        })
 
 pub equivalent_kept : (config : TenantConfig) → 0 < config.shards → Leads config (Before config) (AreEquivalent config)
 equivalent_kept config some = nodes_lead config (λ nodes. AreEquivalent config (bare nodes) []) (Before config) (λ c ts inv. inv.1) (λ c ts inv. record {
   by_session = λ name s found running moment directed runs e.
-      let is = session_of config c ts inv.0.0 name s found in
-      by_session config some c ts inv s.dc is.placed moment directed (session_call config ts name s is running moment directed runs e);
+      by_session config some c ts inv name s (session_of config c ts inv.0.0 name s found) running moment directed runs e;
   by_carrier = λ name k found moment directed e.
-      by_stage config some c ts inv k.stream (stream_is config some c ts inv.0.1 inv.0.0 name k found) moment directed (stage_now config some c ts inv.0.1 inv.0.0 name k found directed e);
+      by_carrier config some c ts inv k.stream (stream_is config some c ts inv.0.1 inv.0.0 name k found) moment directed (stage_now config some c ts inv.0.1 inv.0.0 name k found directed e);
   collected = λ id moment there. called_at config some c ts inv moment (record { node = id; call = node_call.Collect }) there (λ reply e stores. absurd stores);
 })
 

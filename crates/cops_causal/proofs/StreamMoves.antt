@@ -1,6 +1,6 @@
 -- The moves of sessions and carriers keep the streams.
 use Rattle.std.proofs.Common.{◌≡◌, ℕ, ◌+◌, ◌*◌, ◌<◌, ◌≤◌, ◌%◌, Bool, true, false, List, [], ◌∷◌, ◌++◌, length, ◌⊎◌, inl, inr, refl, sym, ◌∙◌, ap, subst, arith, length-append, replicate, append-nil}
-use Rattle.std.specs.Prelude.{Option, Some, None, slice_index, nat_lt}
+use Rattle.std.specs.Prelude.{Option, Some, None, slice_index}
 use Rattle.std.proofs.lemmas.List.{get_or-replicate, length-replicate, get_or_past}
 use Rattle.cops_types.specs.declared.pairs.Pair.{Pair}
 use Rattle.cops_types.specs.declared.records.EntryParts.{EntryParts as Entry}
@@ -20,24 +20,22 @@ use Rattle.cops_model.specs.declared.deliveries.Progress.{Progress}
 use Rattle.cops_model.specs.declared.deliveries.Progress.TheVariants as carrier_progress
 use Rattle.cops_model.specs.Carrier.{Carrier, ack_call, carrier_after, check, commit_call, new_carrier, pull}
 use Rattle.cops_model.specs.Carrier as carrier
-use Rattle.cops_model.specs.Request.{key_home, next}
+use Rattle.cops_model.specs.Request.{next}
 use Rattle.cops_model.specs.Session.{Session, Running, obs_of, request_of}
 use Rattle.cops_model.specs.Causal.{Traced}
-use Rattle.cops_model.specs.Cluster.{SoloCluster, Actor, OfSession, OfCarrier, find_actor, with_actor, with_new_actor, without_actor, has_node, call_node, carrier_stepped}
+use Rattle.cops_model.specs.Cluster.{SoloCluster, Actor, OfSession, OfCarrier, find_actor, with_actor, with_new_actor, without_actor, call_node, carrier_stepped, find_session}
 use Rattle.cops_causal.proofs.ActorsKeep.{actor_found, each-with_actor, each-with_new, each-without}
 use Rattle.cops_repl.proofs.CarrierCalls.{carrier-next}
-use Rattle.cops_repl.proofs.CarrierStages.{Stage, Pulling, Delivering, InDelivery, Checking, Committing, Acking, stage, carrier-stepped}
+use Rattle.cops_repl.proofs.CarrierStages.{Stage, stage, carrier-stepped}
 use Rattle.cops_node.proofs.Chains.{of_origin, IsChain, front-same, IsFront}
-use Rattle.cops_types.proofs.Elements.{and_true, and_right}
 use Rattle.cops_causal.proofs.Moves.{IsStream, Leads, Both, kept_both}
 use Rattle.cops_node.proofs.NodeTurns.{entries, Change, IsRefused, Answers, Joined, Taken, Stores, Takes}
 use Rattle.cops_causal.proofs.NodeEffects.{node_of, Called, call_changes, entries_grow}
 use Rattle.cops_causal.proofs.Offers.{of_origin-node, IsOffered, IsArrived, origin_of, end_of, pulled-offered, committed-arrived, offered-joins, arrived-taken}
-use Rattle.cops_causal.proofs.Provenance.{IsTraced, IsActor, IsSession}
+use Rattle.cops_causal.proofs.Provenance.{IsTraced, IsActor}
 use Rattle.cops_causal.proofs.StreamNodes.{held, MayJoin, streamed_called, held-here}
 use Rattle.cops_causal.proofs.TracedCalls.{home-there}
 use Rattle.cops_causal.proofs.TracedIdle.{session_of}
-use Rattle.cops_model.specs.declared.calls.Wanted.{Wanted}
 use Rattle.cops_model.specs.SoloNode.{new_node}
 use Rattle.cops_model.specs.declared.acts.Act.{Act}
 use Rattle.cops_model.specs.Cluster.{new_cluster}
@@ -46,19 +44,9 @@ use Rattle.cops_causal.proofs.AfterActs.{after_acts}
 use Rattle.cops_causal.proofs.Past.{traced_kept, traced_at_first, new_nodes}
 use Rattle.cops_causal.proofs.Streams.{DeliveredBy, Delivered, OnStream, IsFlowing, committed-grown, offered-grown, arrived-grown, still_at, carriers_called, carriers_same, put-joins, on_stream-grown}
 use Rattle.std.proofs.lemmas.Bool.Decides.{leb_tells}
-use Rattle.cops_causal.proofs.RequestSteps.{by_call}
-
--- ---- the calls of sessions
-
-pub data IsSessionCall (config : TenantConfig) (dc : ℕ) (directed : Directed) : Type 0 where
-  IsPutCall : (key value : List ℕ) (deps near : List Pair) → directed ≡ record { node = key_home config dc key; call = node_call.Put key value deps near } → IsSessionCall config dc directed
-  IsGetCall : (key : List ℕ) (wanted : Wanted) → directed ≡ record { node = key_home config dc key; call = node_call.Get key wanted } → IsSessionCall config dc directed
-
-pub session_call : (config : TenantConfig) (ts : List Traced) (name : List ℕ) (s : Session) → IsSession config ts name s → (running : Running) (moment : ℕ) (directed : Directed) → s.running ≡ Some running →
-    next config (request_of s running) running.log moment ≡ Call directed → IsSessionCall config s.dc directed
-session_call config ts name s is = by_call config ts name s is (λ running moment directed. IsSessionCall config s.dc directed)
-    (λ number context key value moment runs is. IsPutCall key value (all_of (obs_of context s)) (near_of (obs_of context s)) refl)
-    (λ number context keys log moment q runs is at e. IsGetCall q.key q.wanted refl)
+use Rattle.cops_causal.proofs.RequestSteps.{by_call, put_sent}
+use Rattle.cops_causal.proofs.StreamCalls.{by_stage}
+use Rattle.cops_session.proofs.RequestReplies.{call_of}
 
 -- ---- the moves
 
@@ -84,19 +72,20 @@ module _ (config : TenantConfig) (some : 0 < config.shards) (c : SoloCluster) (t
       IsFlowing config after ts
   flowing-called after id call reply called joins takes = record { streamed = streamed_called called inv.streamed joins takes; carriers = carriers_called called inv.carriers }
 
-  pub flowing-session_called : IsTraced config c ts → (dc : ℕ) → nat_lt dc config.data_centres ≡ true → (moment : ℕ) (directed : Directed) → IsSessionCall config dc directed → IsFlowing config (call_node config directed.node moment directed.call c).after ts
-  flowing-session_called traced dc placed moment directed (IsPutCall key value deps near is) =
-      let sent : Directed = record { node = key_home config dc key; call = node_call.Put key value deps near } in
+  flowing-session_called : IsTraced config c ts → (name : List ℕ) (s : Session) → find_session name c ≡ Some s → (running : Running) (moment : ℕ) (directed : Directed) → s.running ≡ Some running →
+      next config (request_of s running) running.log moment ≡ Call directed → IsFlowing config (call_node config directed.node moment directed.call c).after ts
+  flowing-session_called traced name s found =
+      let this = session_of config c ts traced name s found in
+      by_call config ts name s this (λ running moment directed. IsFlowing config (call_node config directed.node moment directed.call c).after ts)
+      (λ number context key value moment runs is.
+      let sent = put_sent config s context key value in
       let after = call_node config sent.node moment sent.call c in
-      subst (λ (d : Directed). IsFlowing config (call_node config d.node moment d.call c).after ts) (sym is)
-      (flowing-called after.after sent.node sent.call after.reply (call_changes config c sent.node moment sent.call (home-there config dc key some placed) traced.sized)
-      (λ e stores. put-joins config c inv.streamed sent.node key value deps near after.reply e stores) (λ acked takes. absurd takes))
-  flowing-session_called traced dc placed moment directed (IsGetCall key wanted is) =
-      let sent : Directed = record { node = key_home config dc key; call = node_call.Get key wanted } in
+      flowing-called after.after sent.node sent.call after.reply (call_changes config c sent.node moment sent.call (home-there config s.dc key some this.placed) traced.sized)
+      (λ e stores. put-joins config c inv.streamed sent.node key value (all_of (obs_of context s)) (near_of (obs_of context s)) after.reply e stores) (λ acked takes. absurd takes))
+      (λ number context keys log moment q runs is at e.
+      let sent = call_of config s.dc q in
       let after = call_node config sent.node moment sent.call c in
-      subst (λ (d : Directed). IsFlowing config (call_node config d.node moment d.call c).after ts) (sym is)
-      (flowing-called after.after sent.node sent.call after.reply (call_changes config c sent.node moment sent.call (home-there config dc key some placed) traced.sized)
-      (λ e stores. absurd stores) (λ acked takes. absurd takes))
+      flowing-called after.after sent.node sent.call after.reply (call_changes config c sent.node moment sent.call (home-there config s.dc q.key some this.placed) traced.sized) (λ e stores. absurd stores) (λ acked takes. absurd takes))
 
   -- ---- the calls of a carrier
 
@@ -181,41 +170,36 @@ module _ (config : TenantConfig) (some : 0 < config.shards) (c : SoloCluster) (t
     arrived_by e r is (inl same) = subst (DeliveredBy config c k.stream (node_call.Commit e)) same is
     arrived_by e r is (inr same) = subst (DeliveredBy config c k.stream (node_call.Commit e)) same is
 
-    destination-there : has_node config k.stream.to_dc k.stream.origin.shard ≡ true
-    destination-there = and_true (nat_lt k.stream.to_dc config.data_centres) (nat_lt k.stream.origin.shard config.shards) stream_is.to_is (and_right (nat_lt k.stream.origin.dc config.data_centres) (nat_lt k.stream.origin.shard config.shards) stream_is.origin_is)
-
-    pulls : (moment : ℕ) → Brings moment (pull k.stream)
-    pulls moment =
-        let turn = call_node config k.stream.origin moment (node_call.Pull k.stream.to_dc) c in
-        let called = call_changes config c k.stream.origin moment (node_call.Pull k.stream.to_dc) stream_is.origin_is traced.sized in
-        record { flows = flowing-called turn.after k.stream.origin (node_call.Pull k.stream.to_dc) turn.reply called (λ e stores. absurd stores) (λ acked takes. absurd takes); delivers = pull_delivers turn.reply turn.after called }
-
-    delivers_by : (moment : ℕ) (e : Entry) (directed : Directed) → IsOffered config c k.stream e → InDelivery (Delivered config c k.stream) config.shards k.stream e directed → Brings moment directed
-    delivers_by moment e directed offered (Checking near at is) =
-        let sent = check config.shards k.stream near in
-        let turn = call_node config sent.node moment sent.call c in
-        let called = call_changes config c sent.node moment sent.call (home-there config k.stream.to_dc near.key some stream_is.to_is) traced.sized in
-        subst (Brings moment) (sym is) (record { flows = flowing-called turn.after sent.node sent.call turn.reply called (λ f stores. absurd stores) (λ acked takes. absurd takes); delivers = check_delivers near turn.reply turn.after called })
-    delivers_by moment e directed offered (Committing near is) =
-        let sent = commit_call k.stream e in
-        let turn = call_node config sent.node moment sent.call c in
-        let called = call_changes config c sent.node moment sent.call destination-there traced.sized in
-        subst (Brings moment) (sym is) (record {
-          flows = flowing-called turn.after sent.node sent.call turn.reply called (λ f stores. subst (MayJoin config c (end_of config k.stream)) (sym stores.1) (offered-joins config c inv.streamed k.stream stream_is e offered stores.2).0) (λ acked takes. absurd takes);
-          delivers = commit_delivers e offered turn.reply turn.after called;
-        })
-    delivers_by moment e directed offered (Acking r brought kind is) =
-        let sent = ack_call k.stream e in
-        let turn = call_node config sent.node moment sent.call c in
-        let called = call_changes config c sent.node moment sent.call stream_is.origin_is traced.sized in
-        subst (Brings moment) (sym is) (record {
-          flows = flowing-called turn.after sent.node sent.call turn.reply called (λ f stores. absurd stores) (λ acked takes dc. arrived-taken config c inv.streamed k.stream stream_is e (arrived_by e r brought kind) turn.reply acked takes dc);
-          delivers = tt;
-        })
-
     brings_by : (moment : ℕ) (directed : Directed) → Stage (Delivered config c k.stream) config.shards k.stream directed → Brings moment directed
-    brings_by moment directed (Pulling is) = subst (Brings moment) (sym is) (pulls moment)
-    brings_by moment directed (Delivering e offered is) = delivers_by moment e directed offered is
+    brings_by moment = by_stage config some c k.stream stream_is (Brings moment)
+        (λ there.
+        let sent = pull k.stream in
+        let turn = call_node config sent.node moment sent.call c in
+        let called = call_changes config c sent.node moment sent.call there traced.sized in
+        record { flows = flowing-called turn.after sent.node sent.call turn.reply called (λ e stores. absurd stores) (λ acked takes. absurd takes); delivers = pull_delivers turn.reply turn.after called })
+        (record {
+          checks = λ e near offered among there.
+              let sent = check config.shards k.stream near in
+              let turn = call_node config sent.node moment sent.call c in
+              let called = call_changes config c sent.node moment sent.call there traced.sized in
+              record { flows = flowing-called turn.after sent.node sent.call turn.reply called (λ f stores. absurd stores) (λ acked takes. absurd takes); delivers = check_delivers near turn.reply turn.after called };
+          commits = λ e offered checks there.
+              let sent = commit_call k.stream e in
+              let turn = call_node config sent.node moment sent.call c in
+              let called = call_changes config c sent.node moment sent.call there traced.sized in
+              record {
+                flows = flowing-called turn.after sent.node sent.call turn.reply called (λ f stores. subst (MayJoin config c (end_of config k.stream)) (sym stores.1) (offered-joins config c inv.streamed k.stream stream_is e offered stores.2).0) (λ acked takes. absurd takes);
+                delivers = commit_delivers e offered turn.reply turn.after called;
+              };
+          acks = λ e r offered brought kind there.
+              let sent = ack_call k.stream e in
+              let turn = call_node config sent.node moment sent.call c in
+              let called = call_changes config c sent.node moment sent.call there traced.sized in
+              record {
+                flows = flowing-called turn.after sent.node sent.call turn.reply called (λ f stores. absurd stores) (λ acked takes dc. arrived-taken config c inv.streamed k.stream stream_is e (arrived_by e r brought kind) turn.reply acked takes dc);
+                delivers = tt;
+              };
+        })
 
     pub stage_now : (directed : Directed) → carrier.carrier_next config.shards k.stream k.log ≡ Call directed → Stage (Delivered config c k.stream) config.shards k.stream directed
     stage_now directed e = stage (Delivered config c k.stream) config.shards k.stream k.log directed (carrier-next config.shards k.stream k.log directed e) replies_are
@@ -259,9 +243,7 @@ flowing_kept config some =
       put_begun = λ c ts name s number key value found ok is inv. flowing-session config some c ts inv.1 name _ ts;
       get_begun = λ c ts name s number keys found ok are inv. flowing-session config some c ts inv.1 name _ ts;
       called = λ c ts name s running moment directed found runs e inv.
-          let is = session_of config c ts inv.0 name s found in
-          let call = call_node config directed.node moment directed.call c in
-          flowing-session config some call.after ts (flowing-session_called config some c ts inv.1 inv.0 s.dc is.placed moment directed (session_call config ts name s is running moment directed runs e)) name _ _;
+          flowing-session config some (call_node config directed.node moment directed.call c).after ts (flowing-session_called config some c ts inv.1 inv.0 name s found running moment directed runs e) name _ _;
       late = λ c ts name s running moment found runs e inv. flowing-session config some c ts inv.1 name _ _;
       ended = λ c ts name s running moment a found runs e inv. record { streamed = inv.1.streamed; carriers = inv.1.carriers };
       carrier_called = λ c ts name k moment directed found e inv. flowing-carrier_called config some c ts inv.1 inv.0 name k found moment directed e;
