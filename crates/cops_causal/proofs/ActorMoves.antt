@@ -16,21 +16,12 @@ use Rattle.cops_model.specs.declared.deliveries.Delivery.{Delivery}
 use Rattle.cops_model.specs.Carrier.{Carrier, Stream, carrier_after, new_carrier}
 use Rattle.cops_model.specs.Carrier as carrier
 use Rattle.cops_model.specs.Causal.{Traced}
-use Rattle.cops_model.specs.Cluster.{Actor, NamedActor, OfCarrier, OfSession, SoloCluster, call_node, carrier_stepped, find_actor, find_session, has_node, session_stepped, with_actor, with_new_actor}
-use Rattle.cops_causal.proofs.ActorsKeep.{EachActor, each-with_actor, each-with_new, each-without}
+use Rattle.cops_model.specs.Cluster.{Actor, NamedActor, OfCarrier, OfSession, SoloCluster, call_node, carrier_stepped, find_actor, find_session, has_node, session_stepped, with_actor}
+use Rattle.cops_causal.proofs.ActorsKeep.{each-with_actor, Stands, carried_to, changed, joined}
 use Rattle.cops_causal.proofs.Moves.{Both, IsStream, Leads, history_after}
 use Rattle.cops_causal.proofs.Provenance.{IsTraced}
 use Rattle.cops_causal.proofs.RequestSteps.{StepLeaves, never_ended, step_leads}
 use Rattle.cops_causal.proofs.TracedIdle.{session_of}
-
--- these nodes, without actors
-abbrev pub bare : List SoloNode → SoloCluster
-bare nodes = record { nodes = nodes; actors = [] }
-
--- what holds of the nodes and the history, and of each actor under its name
-pub record Stands (N : List SoloNode → List Traced → Type 0) (A : List SoloNode → List Traced → List ℕ → Actor → Type 0) (c : SoloCluster) (ts : List Traced) : Type 0 where
-  pub nodes : N c.nodes ts
-  pub actors : EachActor (A c.nodes ts) c
 
 module _ (config : TenantConfig) (N : List SoloNode → List Traced → Type 0) (A : List SoloNode → List Traced → List ℕ → Actor → Type 0) where
   -- ---- what a layer shows of its nodes and its actors
@@ -81,21 +72,9 @@ module _ (config : TenantConfig) (N : List SoloNode → List Traced → Type 0) 
   -- ---- what follows for the cluster
 
   module _ (c : SoloCluster) (ts : List Traced) (stands : Stands N A c ts) where
-    changed : (name : List ℕ) (a : Actor) → A c.nodes ts name a → Stands N A (with_actor name a c) ts
-    changed name a is = record { nodes = stands.nodes; actors = each-with_actor (A c.nodes ts) (A c.nodes ts) c name a is (λ other b apart p. p) stands.actors }
-
-    joined : (name : List ℕ) (a : Actor) → A c.nodes ts name a → Stands N A (with_new_actor name a c) ts
-    joined name a is = record { nodes = stands.nodes; actors = each-with_new (A c.nodes ts) c name a is stands.actors }
-
     stepped_to : (name : List ℕ) (next : Session) (us : List Traced) → Leaves c.nodes ts name next us → Stands N A (with_actor name (OfSession next) c) us
     stepped_to name next us leaves =
         record { nodes = leaves.nodes_are stands.nodes; actors = each-with_actor (A c.nodes ts) (A c.nodes us) c name (OfSession next) leaves.session_is leaves.others_are stands.actors }
-
-    carried_to : (name : List ℕ) (after : Carrier) (n : Next Delivery) → (((ending : Delivery) → n ≡ Ended ending → ⊥) → A c.nodes ts name (OfCarrier after)) →
-        Stands N A (carrier_stepped name after (carrier.progress_of n) c).after ts
-    carried_to name after (Ended ending) is = record { nodes = stands.nodes; actors = each-without (A c.nodes ts) c name stands.actors }
-    carried_to name after (Call directed) is = changed name (OfCarrier after) (is (λ ending never. cc))
-    carried_to name after Restart is = changed name (OfCarrier after) (is (λ ending never. cc))
 
     called_stands : (moment : ℕ) (directed : Directed) → CallLeaves c ts moment directed → Stands N A (call_node config directed.node moment directed.call c).after ts
     called_stands moment directed leaves =
@@ -115,12 +94,12 @@ module _ (config : TenantConfig) (N : List SoloNode → List Traced → Type 0) 
       Leads config (Both B (Stands N A)) (Stands N A)
   moves_lead B traced moves =
       record {
-        opened = λ c ts name dc free exists inv. joined c ts inv.1 name (OfSession (new_session dc 1)) ((moves c ts inv.0 inv.1).opened name dc free exists);
-        carrier_begun = λ c ts name stream free is inv. joined c ts inv.1 name (OfCarrier (new_carrier stream)) ((moves c ts inv.0 inv.1).carrier_begun name stream is);
-        context_created = λ c ts name s found idle inv. changed c ts inv.1 name (OfSession (context_created s)) (((moves c ts inv.0 inv.1).of_session name s found).created idle);
-        context_deleted = λ c ts name s number found idle inv. changed c ts inv.1 name (OfSession (context_deleted number s)) (((moves c ts inv.0 inv.1).of_session name s found).deleted number idle);
-        put_begun = λ c ts name s number key value found ok is inv. changed c ts inv.1 name (OfSession (request_begun number (Write key value) s)) (((moves c ts inv.0 inv.1).of_session name s found).put_begun number key value ok);
-        get_begun = λ c ts name s number keys found ok are inv. changed c ts inv.1 name (OfSession (request_begun number (Fetch keys) s)) (((moves c ts inv.0 inv.1).of_session name s found).get_begun number keys ok);
+        opened = λ c ts name dc free exists inv. joined N A c ts inv.1 name (OfSession (new_session dc 1)) ((moves c ts inv.0 inv.1).opened name dc free exists);
+        carrier_begun = λ c ts name stream free is inv. joined N A c ts inv.1 name (OfCarrier (new_carrier stream)) ((moves c ts inv.0 inv.1).carrier_begun name stream is);
+        context_created = λ c ts name s found idle inv. changed N A c ts inv.1 name (OfSession (context_created s)) (((moves c ts inv.0 inv.1).of_session name s found).created idle);
+        context_deleted = λ c ts name s number found idle inv. changed N A c ts inv.1 name (OfSession (context_deleted number s)) (((moves c ts inv.0 inv.1).of_session name s found).deleted number idle);
+        put_begun = λ c ts name s number key value found ok is inv. changed N A c ts inv.1 name (OfSession (request_begun number (Write key value) s)) (((moves c ts inv.0 inv.1).of_session name s found).put_begun number key value ok);
+        get_begun = λ c ts name s number keys found ok are inv. changed N A c ts inv.1 name (OfSession (request_begun number (Fetch keys) s)) (((moves c ts inv.0 inv.1).of_session name s found).get_begun number keys ok);
         called = λ c ts name s running moment directed found runs e inv.
             let of = (moves c ts inv.0 inv.1).of_session name s found in
             session_steps (call_node config directed.node moment directed.call c).after ts (called_stands c ts inv.1 moment directed (of.called running moment directed runs e)) name s found running _ runs
@@ -129,7 +108,7 @@ module _ (config : TenantConfig) (N : List SoloNode → List Traced → Type 0) 
         ended = λ c ts name s running moment a found runs e inv. absurd (never_ended config ts name s (session_of config c ts (traced c ts inv.0) name s found) running moment a runs e);
         carrier_called = λ c ts name k moment directed found e inv.
             let of = (moves c ts inv.0 inv.1).of_carrier name k found in
-            carried_to (call_node config directed.node moment directed.call c).after ts (called_stands c ts inv.1 moment directed (of.called moment directed e)) name _ _ (of.stepped moment directed e);
+            carried_to N A (call_node config directed.node moment directed.call c).after ts (called_stands c ts inv.1 moment directed (of.called moment directed e)) name _ _ (of.stepped moment directed e);
         collected = λ c ts id moment there inv. called_stands c ts inv.1 moment (record { node = id; call = node_call.Collect }) ((moves c ts inv.0 inv.1).collected id moment there);
       }
 

@@ -8,7 +8,12 @@ use Rattle.cops_model.specs.Session.{Session}
 use Rattle.cops_model.specs.Carrier.{Carrier}
 use Rattle.cops_types.proofs.Elements.{Among-find, Every-at, Every-append, Every-filter}
 use Rattle.std.specs.List.{AllByRecursion}
-use Rattle.cops_model.specs.Cluster.{SoloCluster, NamedActor, Actor, OfSession, OfCarrier, find_actor, find_session, session_in, with_actor, with_new_actor, without_actor}
+use Rattle.cops_model.specs.Carrier as carrier
+use Rattle.cops_model.specs.declared.deliveries.Delivery.{Delivery}
+use Rattle.cops_model.specs.Log.{Next, Call, Restart, Ended}
+use Rattle.cops_model.specs.SoloNode.{SoloNode}
+use Rattle.cops_model.specs.Causal.{Traced}
+use Rattle.cops_model.specs.Cluster.{SoloCluster, NamedActor, Actor, OfSession, OfCarrier, find_actor, find_session, session_in, with_actor, with_new_actor, without_actor, carrier_stepped}
 
 -- the first actor of the name
 abbrev actor_in : List ℕ → List NamedActor → Option Actor
@@ -93,15 +98,20 @@ carrier_apart c name other k C found known apart =
     (λ same. let there = known_session c other known in let both : Some (OfCarrier k) ≡ Some (OfSession there.0) = sym found ∙ ap (λ n. find_actor n c) same ∙ there.1 in cc)
     apart
 
-pub known-with_carrier : (c : SoloCluster) (name other : List ℕ) (k after : Carrier) → find_actor name c ≡ Some (OfCarrier k) → IsKnown c other → IsKnown (with_actor name (OfCarrier after) c) other
+known-with_carrier : (c : SoloCluster) (name other : List ℕ) (k after : Carrier) → find_actor name c ≡ Some (OfCarrier k) → IsKnown c other → IsKnown (with_actor name (OfCarrier after) c) other
 known-with_carrier c name other k after found known =
     carrier_apart c name other k (IsKnown (with_actor name (OfCarrier after) c) other) found known
     (λ apart. ap (λ o. is_some (option_and_then session_in o)) (actor_in-other name other (OfCarrier after) c.actors apart) ∙ known)
 
-pub known-without : (c : SoloCluster) (name other : List ℕ) (k : Carrier) → find_actor name c ≡ Some (OfCarrier k) → IsKnown c other → IsKnown (without_actor name c) other
+known-without : (c : SoloCluster) (name other : List ℕ) (k : Carrier) → find_actor name c ≡ Some (OfCarrier k) → IsKnown c other → IsKnown (without_actor name c) other
 known-without c name other k found known =
     carrier_apart c name other k (IsKnown (without_actor name c) other) found known
     (λ apart. ap (λ o. is_some (option_and_then session_in o)) (actor_in-without name other c.actors apart) ∙ known)
+
+pub known-carried : (c : SoloCluster) (name other : List ℕ) (k after : Carrier) (n : Next Delivery) → find_actor name c ≡ Some (OfCarrier k) → IsKnown c other → IsKnown (carrier_stepped name after (carrier.progress_of n) c).after other
+known-carried c name other k after (Ended ending) found known = known-without c name other k found known
+known-carried c name other k after (Call directed) found known = known-with_carrier c name other k after found known
+known-carried c name other k after Restart found known = known-with_carrier c name other k after found known
 
 pub known-with_new : (c : SoloCluster) (name other : List ℕ) (actor : Actor) → IsKnown c other → IsKnown (with_new_actor name actor c) other
 known-with_new c name other actor known =
@@ -137,3 +147,30 @@ each-with_new P c name actor new each = Every-append (λ (a : NamedActor). P a.n
 
 pub each-without : (P : List ℕ → Actor → Type 0) (c : SoloCluster) (name : List ℕ) → EachActor P c → EachActor P (without_actor name c)
 each-without P c name each = Every-filter (λ (a : NamedActor). P a.name a.actor) (λ a. not (key_eq a.name name)) c.actors each
+
+-- ---- what stands on each move of one actor
+
+-- these nodes, without actors
+abbrev pub bare : List SoloNode → SoloCluster
+bare nodes = record { nodes = nodes; actors = [] }
+
+-- what holds of the nodes and the history, and of each actor under its name
+pub record Stands (N : List SoloNode → List Traced → Type 0) (A : List SoloNode → List Traced → List ℕ → Actor → Type 0) (c : SoloCluster) (ts : List Traced) : Type 0 where
+  pub nodes : N c.nodes ts
+  pub actors : EachActor (A c.nodes ts) c
+
+module _ (N : List SoloNode → List Traced → Type 0) (A : List SoloNode → List Traced → List ℕ → Actor → Type 0) (c : SoloCluster) (ts : List Traced) (stands : Stands N A c ts) where
+  -- one actor is another
+  pub changed : (name : List ℕ) (a : Actor) → A c.nodes ts name a → Stands N A (with_actor name a c) ts
+  changed name a is = record { nodes = stands.nodes; actors = each-with_actor (A c.nodes ts) (A c.nodes ts) c name a is (λ other b apart p. p) stands.actors }
+
+  -- an actor joins
+  pub joined : (name : List ℕ) (a : Actor) → A c.nodes ts name a → Stands N A (with_new_actor name a c) ts
+  joined name a is = record { nodes = stands.nodes; actors = each-with_new (A c.nodes ts) c name a is stands.actors }
+
+  -- a carrier has one more reply, or has ended and is gone
+  pub carried_to : (name : List ℕ) (after : Carrier) (n : Next Delivery) → (((ending : Delivery) → n ≡ Ended ending → ⊥) → A c.nodes ts name (OfCarrier after)) →
+      Stands N A (carrier_stepped name after (carrier.progress_of n) c).after ts
+  carried_to name after (Ended ending) is = record { nodes = stands.nodes; actors = each-without (A c.nodes ts) c name stands.actors }
+  carried_to name after (Call directed) is = changed name (OfCarrier after) (is (λ ending never. cc))
+  carried_to name after Restart is = changed name (OfCarrier after) (is (λ ending never. cc))

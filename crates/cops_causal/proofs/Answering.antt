@@ -27,7 +27,7 @@ use Rattle.cops_model.specs.Session.{Session, Running, is_open, is_busy, has_rep
 use Rattle.cops_model.specs.Transaction.{ReadRequest, gets, read_of, final_reads}
 use Rattle.cops_model.specs.Causal.{Traced, Effect, Wrote, Returned, pair_read, returned_by, answers_consistently}
 use Rattle.cops_model.specs.Cluster.{SoloCluster, Actor, OfSession, OfCarrier, new_cluster, find_session, call_node}
-use Rattle.cops_causal.proofs.ActorsKeep.{actor_found, session_actor}
+use Rattle.cops_causal.proofs.ActorsKeep.{actor_found, session_actor, Stands}
 use Rattle.cops_types.proofs.KeyTests.{key_eq-false}
 use Rattle.cops_types.proofs.Elements.{slice_get-Among, Among, Every-append, Every-at, map-Among}
 use Rattle.cops_causal.proofs.Closure.{home_in, IsHere}
@@ -55,7 +55,7 @@ use Rattle.cops_causal.proofs.TracedIdle.{session_of}
 use Rattle.cops_causal.proofs.TracedSteps.{context_of}
 use Rattle.cops_session.proofs.WantedVersions.{IsAskedFor, IsFirst, IsSecond, asked_for}
 use Rattle.cops_causal.proofs.RequestSteps.{StepLeaves, by_call, by_late, get_leaves, joining, none_runs, only_runs, put_leaves, put_sent, run}
-use Rattle.cops_causal.proofs.ActorMoves.{CallLeaves, Leaves, Moves, Stands, as_before, moves_lead}
+use Rattle.cops_causal.proofs.ActorMoves.{CallLeaves, Leaves, Moves, as_before, moves_lead}
 
 -- ---- the words
 

@@ -33,7 +33,7 @@ use Rattle.cops_model.specs.Carrier.{pair_of_entry}
 use Rattle.cops_model.specs.Carrier as carrier
 use Rattle.cops_model.specs.Causal.{Traced}
 use Rattle.cops_model.specs.Cluster.{SoloCluster, Actor, OfSession, OfCarrier, new_cluster, find_session, call_node}
-use Rattle.cops_causal.proofs.ActorsKeep.{actor_found, session_actor}
+use Rattle.cops_causal.proofs.ActorsKeep.{actor_found, session_actor, Stands, bare}
 use Rattle.cops_causal.proofs.Answering.{reply_fresh}
 use Rattle.cops_causal.proofs.Closure.{home_in, IsHere}
 use Rattle.cops_causal.proofs.Moves.{Leads, Both}
@@ -44,7 +44,7 @@ use Rattle.cops_causal.proofs.Sound.{IsSound}
 use Rattle.cops_causal.proofs.TracedCalls.{home-there}
 use Rattle.cops_causal.proofs.TracedIdle.{session_of}
 use Rattle.cops_causal.proofs.RequestSteps.{StepLeaves, by_call, none_runs, only_runs, run}
-use Rattle.cops_causal.proofs.ActorMoves.{CallLeaves, Leaves, Moves, SessionMoves, Stands, bare, moves_lead, plain_leaves}
+use Rattle.cops_causal.proofs.ActorMoves.{CallLeaves, Leaves, Moves, SessionMoves, moves_lead, plain_leaves}
 
 -- ---- the words
 

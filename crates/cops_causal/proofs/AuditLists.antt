@@ -43,8 +43,9 @@ use Rattle.cops_causal.proofs.TracedCalls.{exact-is}
 use Rattle.cops_causal.proofs.TracedCarriers.{queued}
 use Rattle.cops_causal.proofs.TracedIdle.{session_of}
 use Rattle.cops_causal.proofs.RequestSteps.{by_call}
-use Rattle.cops_causal.proofs.ActorMoves.{bare, nodes_lead}
+use Rattle.cops_causal.proofs.ActorMoves.{nodes_lead}
 use Rattle.cops_causal.proofs.StreamCalls.{by_stage}
+use Rattle.cops_causal.proofs.ActorsKeep.{bare}
 
 -- ---- the words
 

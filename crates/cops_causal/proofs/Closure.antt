@@ -31,7 +31,7 @@ use Rattle.cops_session.proofs.RequestReplies.{replies_in}
 use Rattle.cops_types.proofs.Zipped.{Zipped}
 use Rattle.cops_causal.proofs.StreamNodes.{held, IsStreamed}
 use Rattle.cops_model.specs.SoloNode.{SoloNode}
-use Rattle.cops_causal.proofs.ActorMoves.{Stands, bare}
+use Rattle.cops_causal.proofs.ActorsKeep.{Stands, bare}
 
 -- the node of a data centre on which a key is placed
 abbrev pub home_in : TenantConfig → ℕ → List ℕ → ℕ

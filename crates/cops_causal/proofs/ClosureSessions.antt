@@ -39,7 +39,8 @@ use Rattle.cops_types.proofs.Zipped.{Zipped}
 use Rattle.cops_session.proofs.ReplyRounds.{Every-final_reads}
 use Rattle.cops_causal.proofs.TracedCalls.{unput}
 use Rattle.cops_causal.proofs.RequestSteps.{StepLeaves, get_leaves, joining, none_runs, only_runs, put_leaves, put_sent, run}
-use Rattle.cops_causal.proofs.ActorMoves.{Leaves, as_before, bare}
+use Rattle.cops_causal.proofs.ActorMoves.{Leaves, as_before}
+use Rattle.cops_causal.proofs.ActorsKeep.{bare}
 
 -- what was read is in the data centre
 abbrev IsValueHere : TenantConfig → SoloCluster → ℕ → Pair → Option (List ℕ) → Type 0

@@ -21,7 +21,7 @@ use Rattle.cops_model.specs.Carrier.{pair_of_entry}
 use Rattle.cops_model.specs.Session.{Session, OpenContext, is_open, context_extended}
 use Rattle.cops_model.specs.Causal.{Traced, Effect, put_by, returned_by, leads_to, past_of_put}
 use Rattle.cops_model.specs.Cluster.{SoloCluster, Actor, OfSession, OfCarrier, find_session}
-use Rattle.cops_causal.proofs.ActorsKeep.{actor_found, session_actor}
+use Rattle.cops_causal.proofs.ActorsKeep.{actor_found, session_actor, bare}
 use Rattle.cops_types.proofs.KeyTests.{key_eq-false}
 use Rattle.cops_causal.proofs.Closure.{IsHere, home_in, IsFoundHere, IsAtHome, IsActorAtHome, IsClosed, PastsAreHere}
 use Rattle.cops_causal.proofs.Histories.{given, past_in, in_context, past_after-push, past_of_put-push, with_pasts, past_after-within, flat_map-Among}
@@ -34,7 +34,7 @@ use Rattle.cops_causal.proofs.TracedCalls.{exact-is}
 use Rattle.cops_causal.proofs.TracedSteps.{context_of}
 use Rattle.std.proofs.Math.Nat.{mod-lt}
 use Rattle.std.specs.Prelude.{sum}
-use Rattle.cops_causal.proofs.ActorMoves.{Leaves, bare}
+use Rattle.cops_causal.proofs.ActorMoves.{Leaves}
 use Rattle.cops_causal.proofs.RequestSteps.{joining, none_runs}
 
 -- the contexts of a session after a step have the numbers of those before

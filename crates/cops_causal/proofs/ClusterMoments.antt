@@ -19,20 +19,20 @@ use Rattle.cops_model.specs.Request as request
 use Rattle.cops_model.specs.Session.{Session, Running, new_session, obs_of, context_created, context_deleted, request_begun, request_of, moment_at, raised, moment_after, has_restarted, session_after}
 use Rattle.cops_model.specs.Session as session
 use Rattle.cops_session.proofs.RequestReplies.{get-next, call_of}
-use Rattle.cops_model.specs.declared.deliveries.Progress.{Progress as CarrierProgress}
-use Rattle.cops_model.specs.declared.deliveries.Progress.TheVariants as carrier_progress
-use Rattle.cops_model.specs.Carrier.{Carrier, new_carrier}
+use Rattle.cops_model.specs.Carrier.{new_carrier}
 use Rattle.cops_model.specs.declared.acts.Act.{Act}
 use Rattle.cops_model.specs.declared.acts.Act.TheVariants.{Open, Create, Delete, Put, Get, Show, Carry, Step, Done, Collect}
-use Rattle.cops_model.specs.Cluster.{ActEffect, Actor, OfCarrier, OfSession, SoloCluster, actor_step, actor_steps, call_node, carrier_stepped, cluster_step, find_session, most_steps, new_cluster, on_found, on_session, unless_refused, with_actor, with_new_actor, session_stepped}
+use Rattle.cops_model.specs.Cluster.{ActEffect, Actor, OfCarrier, OfSession, SoloCluster, actor_step, actor_steps, call_node, cluster_step, find_session, most_steps, new_cluster, on_found, on_session, unless_refused, with_actor, session_stepped}
 use Rattle.cops_model.specs.Events.{cluster_after}
 use Rattle.cops_model.specs.Restarts.{moment_in, moments_in}
 use Rattle.cops_model.specs.Laws.{cluster_of}
-use Rattle.cops_causal.proofs.ActorsKeep.{EachActor, actor_found, session_actor, each-with_actor, each-with_new, each-without}
+use Rattle.cops_causal.proofs.ActorsKeep.{actor_found, session_actor, Stands, bare, carried_to, changed, joined}
 use Rattle.cops_causal.proofs.NodeEffects.{node_of}
 use Rattle.cops_causal.proofs.NodeMoments.{turn_moment, get_gone, call_leaves}
 use Rattle.cops_causal.proofs.Past.{new_nodes}
 use Rattle.cops_causal.proofs.ActorSteps.{as_session, by_step, by_steps}
+use Rattle.cops_causal.proofs.RequestSteps.{only_runs, run}
+use Rattle.cops_model.specs.Causal.{Traced}
 
 -- ---- the words
 
@@ -45,10 +45,15 @@ abbrev pub IsActorWithin : ℕ → List ℕ → Actor → Type 0
 IsActorWithin most name (OfSession s) = (s.moment ≤ most) × ((running : Running) → s.running ≡ Some running → IsAscending (attempt_of running.action running.log).steps s.moment)
 IsActorWithin most name (OfCarrier k) = k.moment ≤ most
 
+abbrev AreActorsWithin : ℕ → List SoloNode → List Traced → List ℕ → Actor → Type 0
+AreActorsWithin most nodes ts = IsActorWithin most
+
+abbrev AreNodesWithin : TenantConfig → ℕ → List SoloNode → List Traced → Type 0
+AreNodesWithin config most nodes ts = (n : ℕ) → (node_of config (bare nodes) n).moment ≤ most
+
 -- no moment is past this one, and attempts ascend
-pub record IsWithin (config : TenantConfig) (most : ℕ) (c : SoloCluster) : Type 0 where
-  pub nodes : (n : ℕ) → (node_of config c n).moment ≤ most
-  pub actors : EachActor (IsActorWithin most) c
+abbrev pub IsWithin : TenantConfig → ℕ → SoloCluster → Type 0
+IsWithin config most c = Stands (AreNodesWithin config most) (AreActorsWithin most) c []
 
 -- ---- a session
 
@@ -112,10 +117,7 @@ module _ (config : TenantConfig) (most : ℕ) where
       }
 
   changed_within : (c : SoloCluster) (name : List ℕ) (a : Actor) → IsActorWithin most name a → IsWithin config most c → IsWithin config most (with_actor name a c)
-  changed_within c name a new is = record { nodes = is.nodes; actors = each-with_actor (IsActorWithin most) (IsActorWithin most) c name a new (λ other b apart p. p) is.actors }
-
-  joined_within : (c : SoloCluster) (name : List ℕ) (a : Actor) → IsActorWithin most name a → IsWithin config most c → IsWithin config most (with_new_actor name a c)
-  joined_within c name a new is = record { nodes = is.nodes; actors = each-with_new (IsActorWithin most) c name a new is.actors }
+  changed_within c name a new is = changed (AreNodesWithin config most) (AreActorsWithin most) c [] is name a new
 
   module _ (c : SoloCluster) (is : IsWithin config most c) (name : List ℕ) (s : Session) (found : find_session name c ≡ Some s) where
     session_is : IsActorWithin most name (OfSession s)
@@ -174,10 +176,6 @@ module _ (config : TenantConfig) (most : ℕ) where
     moment_within : (moment : ℕ) → moment ≤ most → (s.moment ≤ moment_at moment s) × (moment_at moment s ≤ most)
     moment_within moment low = let old = session_is.0 in (omega arith, omega arith)
 
-  carried_within : (c : SoloCluster) (name : List ℕ) (next : Carrier) (shown : CarrierProgress) → next.moment ≤ most → IsWithin config most c → IsWithin config most (carrier_stepped name next shown c).after
-  carried_within c name next carrier_progress.Working low is = changed_within c name (OfCarrier next) low is
-  carried_within c name next (carrier_progress.Done ending) low is = record { nodes = is.nodes; actors = each-without (IsActorWithin most) c name is.actors }
-
   pub actor_step_within : (c : SoloCluster) (name : List ℕ) (moment : ℕ) → moment ≤ most → IsWithin config most c → IsWithin config most (actor_step config name moment c).after
   actor_step_within c name moment low is = by_step config name moment c (λ turn. IsWithin config most turn.after) (record {
     unknown = is;
@@ -189,7 +187,7 @@ module _ (config : TenantConfig) (most : ℕ) where
     carrier_called = λ k directed found e.
         let old : k.moment ≤ most = actor_found (IsActorWithin most) c name (OfCarrier k) is.actors found in
         let now : max k.moment moment ≤ most = omega arith in
-        carried_within (call_node config directed.node (max k.moment moment) directed.call c).after name _ _ now (call_within c directed.node (max k.moment moment) directed.call now is);
+        carried_to (AreNodesWithin config most) (AreActorsWithin most) (call_node config directed.node (max k.moment moment) directed.call c).after [] (call_within c directed.node (max k.moment moment) directed.call now is) name _ _ (λ open_still. now);
     carrier_waits = λ k found e. is;
     carrier_ended = λ k ending found e. is;
   })
@@ -218,22 +216,21 @@ module _ (config : TenantConfig) (most : ℕ) where
   -- a request that begins has no steps
   begun_within : (c : SoloCluster) (name : List ℕ) (s : Session) (number : ℕ) (action : Action) → find_session name c ≡ Some s → IsWithin config most c → IsWithin config most (with_actor name (OfSession (request_begun number action s)) c)
   begun_within c name s number action found is =
-      let first : Running = record { number = s.next_request; context = number; action = action; log = [] } in
       changed_within c name (OfSession (request_begun number action s))
-      ((session_is c is name s found).0, λ running runs. let same : first ≡ running = (let both : Some first ≡ Some running = runs in cc) in subst (λ (r : Running). IsAscending (attempt_of r.action r.log).steps s.moment) same tt) is
+      ((session_is c is name s found).0, only_runs (λ (r : Running). IsAscending (attempt_of r.action r.log).steps s.moment) (run s.next_request number action []) tt) is
 
   -- the act hands in no moment past this one
   abbrev HandsIn : Act → Type 0
   HandsIn act = (moment : ℕ) → moment_in act ≡ Some moment → moment ≤ most
 
   act_within : (act : Act) (c : SoloCluster) → HandsIn act → IsWithin config most c → Within (cluster_step config act c)
-  act_within (Open name dc) c low is = unless_within _ c _ is (joined_within c name (OfSession (new_session dc 1)) (omega arith, λ running runs. cc) is)
+  act_within (Open name dc) c low is = unless_within _ c _ is (joined (AreNodesWithin config most) (AreActorsWithin most) c [] is name (OfSession (new_session dc 1)) (omega arith, λ running runs. cc))
   act_within (Create name) c low is = on_within name c _ is (λ s found. unless_within _ c _ is (changed_within c name (OfSession (context_created s)) (session_is c is name s found) is))
   act_within (Delete name number) c low is = on_within name c _ is (λ s found. unless_within _ c _ is (changed_within c name (OfSession (context_deleted number s)) (session_is c is name s found) is))
   act_within (Put name number key value) c low is = unless_within _ c _ is (on_within name c _ is (λ s found. unless_within _ c _ is (begun_within c name s number (Write key value) found is)))
   act_within (Get name number keys) c low is = unless_within _ c _ is (on_within name c _ is (λ s found. unless_within _ c _ is (begun_within c name s number (Fetch keys) found is)))
   act_within (Show name number) c low is = on_within name c _ is (λ s found. unless_within _ c _ is is)
-  act_within (Carry name dc shard to_dc) c low is = unless_within _ c _ is (joined_within c name (OfCarrier (new_carrier (record { origin = record { dc = dc; shard = shard }; to_dc = to_dc }))) (omega arith) is)
+  act_within (Carry name dc shard to_dc) c low is = unless_within _ c _ is (joined (AreNodesWithin config most) (AreActorsWithin most) c [] is name (OfCarrier (new_carrier (record { origin = record { dc = dc; shard = shard }; to_dc = to_dc }))) (omega arith))
   act_within (Step name moment) c low is = actor_step_within c name moment (low moment refl) is
   act_within (Done name moment) c low is = steps_within (most_steps config) c name moment (low moment refl) is
   act_within (Collect dc shard moment) c low is = unless_within _ c _ is (call_within c (record { dc = dc; shard = shard }) moment node_call.Collect (low moment refl) is)

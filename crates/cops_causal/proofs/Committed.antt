@@ -45,8 +45,9 @@ use Rattle.cops_causal.proofs.Streams.{IsFlowing, Delivered}
 use Rattle.cops_causal.proofs.TracedCalls.{home-there, unput}
 use Rattle.cops_causal.proofs.TracedIdle.{session_of, fresh_context}
 use Rattle.cops_causal.proofs.RequestSteps.{StepLeaves, by_call, by_late, none_runs, only_runs, put_sent, run}
-use Rattle.cops_causal.proofs.ActorMoves.{CallLeaves, Leaves, Moves, SessionMoves, bare, moves_lead}
+use Rattle.cops_causal.proofs.ActorMoves.{CallLeaves, Leaves, Moves, SessionMoves, moves_lead}
 use Rattle.cops_causal.proofs.StreamCalls.{by_stage, offered_among}
+use Rattle.cops_causal.proofs.ActorsKeep.{bare}
 
 abbrev Before : TenantConfig → SoloCluster → List Traced → Type 0
 Before config = Both (Both (IsTraced config) (IsFlowing config)) (IsClosed config)

@@ -31,7 +31,7 @@ use Rattle.cops_session.proofs.RequestReplies.{put_request, put-ends, put-late, 
 use Rattle.cops_model.specs.Causal.{Traced}
 use Rattle.cops_model.specs.Cluster.{SoloCluster, Actor, OfSession, OfCarrier, new_cluster, find_session, call_node, has_node}
 use Rattle.cops_model.specs.ListLimits.{HasFewPairs}
-use Rattle.cops_causal.proofs.ActorsKeep.{actor_found, session_actor}
+use Rattle.cops_causal.proofs.ActorsKeep.{actor_found, session_actor, Stands, bare}
 use Rattle.cops_causal.proofs.Moves.{Leads, Both, head_passes, flipped, IsStream}
 use Rattle.cops_causal.proofs.NodeEffects.{node_of, call_changes, entries_keep}
 use Rattle.cops_causal.proofs.Offers.{IsOffered, origin_of}
@@ -45,7 +45,7 @@ use Rattle.cops_causal.proofs.Streams.{Delivered}
 use Rattle.cops_causal.proofs.TracedIdle.{session_of}
 use Rattle.cops_causal.proofs.TracedSteps.{context_of}
 use Rattle.cops_causal.proofs.RequestSteps.{StepLeaves, by_call, none_runs, only_runs, run}
-use Rattle.cops_causal.proofs.ActorMoves.{CallLeaves, Leaves, Moves, SessionMoves, Stands, bare, moves_lead, plain_leaves}
+use Rattle.cops_causal.proofs.ActorMoves.{CallLeaves, Leaves, Moves, SessionMoves, moves_lead, plain_leaves}
 use Rattle.cops_causal.proofs.StreamCalls.{by_stage, offered_among}
 
 never_less : (n : ℕ) → nat_lt n 0 ≡ false

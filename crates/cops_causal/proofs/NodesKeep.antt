@@ -20,7 +20,8 @@ use Rattle.cops_causal.proofs.AfterActs.{after_acts}
 use Rattle.cops_causal.proofs.Moves.{IsKept}
 use Rattle.cops_causal.proofs.NodeEffects.{node_of}
 use Rattle.cops_causal.proofs.Past.{new_nodes}
-use Rattle.cops_causal.proofs.ActorMoves.{bare, nodes_lead}
+use Rattle.cops_causal.proofs.ActorMoves.{nodes_lead}
+use Rattle.cops_causal.proofs.ActorsKeep.{bare}
 
 module _ (config : TenantConfig) (P : SoloNode → Type 0) (keeps : (place : Place) (moment : ℕ) (call : NodeCall) (solo : SoloNode) → P solo → P (node_step place moment call solo).after) where
   abbrev pub EachNode : SoloCluster → List Traced → Type 0

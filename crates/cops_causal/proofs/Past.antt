@@ -97,11 +97,15 @@ new_nodes n m solo =
 pub traced_at_first : (config : TenantConfig) → IsTraced config (new_cluster config) []
 traced_at_first config =
     record {
-      history = record { pasts_put = λ t at. absurd at; pasts_closed = λ t at. absurd at; put_once = λ t u at. absurd at; older = λ t at. absurd at };
-      sized = length-replicate (config.data_centres * config.shards) (new_node config.data_centres);
-      entries_are = λ n. subst (λ solo. AllByRecursion (IsPutEntry []) (entries solo)) (sym (new_nodes (config.data_centres * config.shards) n (new_node config.data_centres))) tt;
-      puts_are = λ p at. absurd at;
-      actors_are = tt;
+      stands = record {
+        nodes = record {
+          history = record { pasts_put = λ t at. absurd at; pasts_closed = λ t at. absurd at; put_once = λ t u at. absurd at; older = λ t at. absurd at };
+          sized = length-replicate (config.data_centres * config.shards) (new_node config.data_centres);
+          entries_are = λ n. subst (λ solo. AllByRecursion (IsPutEntry []) (entries solo)) (sym (new_nodes (config.data_centres * config.shards) n (new_node config.data_centres))) tt;
+          puts_are = λ p at. absurd at;
+        };
+        actors = tt;
+      };
       known = λ t at. absurd at;
     }
 

@@ -17,7 +17,7 @@ use Rattle.cops_model.specs.Transaction.{ReadRequest, gets}
 use Rattle.cops_model.specs.Carrier.{Carrier, pair_of_entry}
 use Rattle.cops_model.specs.Causal.{Traced, Operation, put_by, past_of_put, past_after, deps_of}
 use Rattle.cops_model.specs.Cluster.{SoloCluster, Actor, OfSession, OfCarrier}
-use Rattle.cops_causal.proofs.ActorsKeep.{EachActor, IsKnown}
+use Rattle.cops_causal.proofs.ActorsKeep.{IsKnown, Stands, bare}
 use Rattle.cops_causal.proofs.Histories.{given, puts_of, puts_of-push, past_in, in_context, past_after-push, past_of_put-push, past_after-Among, Among-past_after, past_of_put-Among, Among-past_of_put, Among-flat_map}
 use Rattle.cops_types.proofs.Elements.{Among, Among-left, Among-right, Among-cases, Every-weaker}
 use Rattle.cops_causal.proofs.Moves.{IsStream}
@@ -27,6 +27,7 @@ use Rattle.cops_causal.proofs.NodeEffects.{node_of, IsSized}
 use Rattle.cops_types.proofs.PairSets.{at, holds-Among}
 use Rattle.cops_session.proofs.RequestReplies.{replies_in}
 use Rattle.cops_types.proofs.Zipped.{Zipped}
+use Rattle.cops_model.specs.SoloNode.{SoloNode}
 
 -- the pair was put, and these are the deps of its put
 pub record IsPut (ts : List Traced) (pair : Pair) (deps : List Pair) : Type 0 where
@@ -84,13 +85,20 @@ pub record IsHistory (ts : List Traced) : Type 0 where
   pub put_once : (t u : Traced) → Among t ts → Among u ts → (q : Pair) → Among q (put_by t.operation.effect) → Among q (put_by u.operation.effect) → t ≡ u
   pub older : (t : Traced) → Among t ts → (p q : Pair) → Among p (put_by t.operation.effect) → Among q t.past → q.version.clock < p.version.clock
 
+-- what nodes hold was put, and what was put is held where it was put
+pub record HoldPuts (config : TenantConfig) (nodes : List SoloNode) (ts : List Traced) : Type 0 where
+  pub history : IsHistory ts
+  pub sized : IsSized config (bare nodes)
+  pub entries_are : (n : ℕ) → AllByRecursion (IsPutEntry ts) (entries (node_of config (bare nodes) n))
+  pub puts_are : (p : Pair) → Among p (puts_of ts) → Among p (map pair_of_entry (entries (node_of config (bare nodes) p.version.node)))
+
+abbrev pub IsActorAt : TenantConfig → List SoloNode → List Traced → List ℕ → Actor → Type 0
+IsActorAt config nodes ts = IsActor config ts
+
 -- the invariant
 pub record IsTraced (config : TenantConfig) (c : SoloCluster) (ts : List Traced) : Type 0 where
-  pub history : IsHistory ts
-  pub sized : IsSized config c
-  pub entries_are : (n : ℕ) → AllByRecursion (IsPutEntry ts) (entries (node_of config c n))
-  pub puts_are : (p : Pair) → Among p (puts_of ts) → Among p (map pair_of_entry (entries (node_of config c p.version.node)))
-  pub actors_are : EachActor (IsActor config ts) c
+  pub stands : Stands (HoldPuts config) (IsActorAt config) c ts
+  pub open stands use {nodes.{history, sized, entries_are, puts_are}, actors as actors_are}
   pub known : (t : Traced) → Among t ts → IsKnown c t.operation.session
 
 -- ---- one more operation

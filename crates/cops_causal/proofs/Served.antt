@@ -24,7 +24,7 @@ use Rattle.cops_model.specs.Carrier as carrier
 use Rattle.cops_model.specs.Causal.{Traced}
 use Rattle.cops_model.specs.Cluster.{SoloCluster, Actor, OfSession, OfCarrier, new_cluster, find_actor, find_session, call_node, has_node}
 use Rattle.cops_model.specs.Laws.{is_expected_of_node}
-use Rattle.cops_causal.proofs.ActorsKeep.{actor_found, session_actor}
+use Rattle.cops_causal.proofs.ActorsKeep.{actor_found, session_actor, Stands, bare}
 use Rattle.cops_repl.proofs.CarrierCalls.{carrier_replies, carrier-next}
 use Rattle.cops_repl.proofs.CarrierStages.{carrier-stepped}
 use Rattle.cops_types.proofs.Elements.{Every-append}
@@ -43,7 +43,7 @@ use Rattle.cops_causal.proofs.StreamMoves.{stage_now, stream_is}
 use Rattle.cops_causal.proofs.TracedIdle.{session_of}
 use Rattle.cops_causal.proofs.Unbroken.{IsFineReply, RepliesAreFine, IsFineAnswer, answer_fine, IsFineStep}
 use Rattle.cops_causal.proofs.RequestSteps.{StepLeaves, by_call, by_late, none_runs, only_runs, put_sent, run}
-use Rattle.cops_causal.proofs.ActorMoves.{CallLeaves, Leaves, Moves, SessionMoves, Stands, bare, moves_lead, plain_leaves}
+use Rattle.cops_causal.proofs.ActorMoves.{CallLeaves, Leaves, Moves, SessionMoves, moves_lead, plain_leaves}
 
 abbrev pub IsExpectedEntry : AuditEntry → Type 0
 IsExpectedEntry e = is_expected_of_node e.reply ≡ true

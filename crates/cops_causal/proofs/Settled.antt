@@ -38,12 +38,13 @@ use Rattle.cops_causal.proofs.StreamNodes.{held, IsStreamed}
 use Rattle.cops_causal.proofs.Streams.{IsFlowing, Delivered}
 use Rattle.cops_causal.proofs.TracedCalls.{next-above, home-there}
 use Rattle.cops_causal.proofs.TracedIdle.{session_of}
-use Rattle.cops_causal.proofs.ActorMoves.{bare, nodes_lead}
+use Rattle.cops_causal.proofs.ActorMoves.{nodes_lead}
 use Rattle.cops_causal.proofs.StreamCalls.{by_stage, offered_among}
 use Rattle.cops_causal.proofs.RequestSteps.{by_call, put_sent}
 use Rattle.cops_session.proofs.RequestReplies.{call_of}
 use Rattle.cops_types.specs.Context.{all_of}
 use Rattle.cops_model.specs.Session.{Running, Session, obs_of, request_of}
+use Rattle.cops_causal.proofs.ActorsKeep.{bare}
 
 -- the entry was issued at an equivalent node of the cluster, and its key is placed on the shard of the node
 pub record IsEquivalent (config : TenantConfig) (n : ℕ) (e : Entry) : Type 0 where

@@ -98,11 +98,10 @@ module _ {config : TenantConfig} {c after : SoloCluster} {id : NodeId} {call : N
   pub traced-call : (ts : List Traced) → ((e : Entry) → Stores (place_of config id) call (node_of config c (node_number config.shards id)) reply e → IsPutEntry ts e) → IsTraced config c ts → IsTraced config after ts
   traced-call ts stored inv =
       record {
-        history = inv.history;
-        sized = called.sized;
-        entries_are = entries_keep called (IsPutEntry ts) stored inv.entries_are;
-        puts_are = λ p at. pair_stays p.version.node p (inv.puts_are p at);
-        actors_are = actors_stay (IsActor config ts) inv.actors_are;
+        stands = record {
+          nodes = record { history = inv.history; sized = called.sized; entries_are = entries_keep called (IsPutEntry ts) stored inv.entries_are; puts_are = λ p at. pair_stays p.version.node p (inv.puts_are p at) };
+          actors = actors_stay (IsActor config ts) inv.actors_are;
+        };
         known = λ t at. known_still t.operation.session (inv.known t at);
       }
 

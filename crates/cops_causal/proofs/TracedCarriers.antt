@@ -14,18 +14,16 @@ use Rattle.cops_model.specs.Log.{LogStep, Replied, Directed, Call}
 use Rattle.cops_model.specs.Place.{Place, node_number, own_number, place_of}
 use Rattle.cops_model.specs.SoloNode.{SoloNode, issued, queue, front}
 use Rattle.cops_model.specs.Step.{reply_pull}
-use Rattle.cops_model.specs.declared.deliveries.Progress.{Progress}
-use Rattle.cops_model.specs.declared.deliveries.Progress.TheVariants as carrier_progress
-use Rattle.cops_model.specs.Carrier.{Carrier, Stream, ack_call, carrier_after, check, commit_call, pull}
+use Rattle.cops_model.specs.Carrier.{Carrier, ack_call, carrier_after, check, commit_call}
 use Rattle.cops_model.specs.Carrier as carrier
 use Rattle.cops_model.specs.Causal.{Traced}
 use Rattle.cops_model.specs.Cluster.{SoloCluster, OfCarrier, find_actor, has_node, call_node, carrier_stepped}
-use Rattle.cops_causal.proofs.ActorsKeep.{actor_found, each-with_actor, each-without, known-with_carrier, known-without}
+use Rattle.cops_causal.proofs.ActorsKeep.{actor_found, carried_to, known-carried}
 use Rattle.cops_repl.proofs.CarrierCalls.{IsCallOf, IsPull, IsCheck, IsCommit, IsAck, carrier_call, carrier_replies, each_reply}
 use Rattle.cops_types.proofs.Elements.{Among, Among-filter, Every-at, Every-append, and_right, and_true}
 use Rattle.cops_node.proofs.NodeTurns.{entries, Stores, Change, IsRefused, Answers, Joined, Taken}
 use Rattle.cops_causal.proofs.NodeEffects.{node_of, call_changes}
-use Rattle.cops_causal.proofs.Provenance.{IsPutEntry, IsPulled, IsTraced, IsActor, IsCarrier}
+use Rattle.cops_causal.proofs.Provenance.{IsPutEntry, IsPulled, IsTraced, IsActor, IsCarrier, HoldPuts, IsActorAt}
 use Rattle.cops_causal.proofs.TracedCalls.{traced-call, home-there}
 
 drop-Among : {A : Type 0} (n : ℕ) (xs : List A) (x : A) → Among x (drop n xs) → Among x xs
@@ -83,27 +81,6 @@ module _ (config : TenantConfig) (c : SoloCluster) (ts : List Traced) (inv : IsT
     abbrev is_carrier : IsCarrier config ts k
     is_carrier = actor_found (IsActor config ts) c name (OfCarrier k) inv.actors_are found
 
-    -- after a call at a node
-    stepped : (after : SoloCluster) → IsTraced config after ts → find_actor name after ≡ Some (OfCarrier k) → (next : Carrier) → IsCarrier config ts next → (shown : Progress) → IsTraced config (carrier_stepped name next shown after).after ts
-    stepped after traced there next is carrier_progress.Working =
-        record {
-          history = traced.history;
-          sized = traced.sized;
-          entries_are = traced.entries_are;
-          puts_are = traced.puts_are;
-          actors_are = each-with_actor (IsActor config ts) (IsActor config ts) after name (OfCarrier next) is (λ other a apart p. p) traced.actors_are;
-          known = λ t at. known-with_carrier after name t.operation.session k next there (traced.known t at);
-        }
-    stepped after traced there next is (carrier_progress.Done ending) =
-        record {
-          history = traced.history;
-          sized = traced.sized;
-          entries_are = traced.entries_are;
-          puts_are = traced.puts_are;
-          actors_are = each-without (IsActor config ts) after name traced.actors_are;
-          known = λ t at. known-without after name t.operation.session k there (traced.known t at);
-        }
-
     -- what a call of the carrier is to show
     record GoesWell (moment : ℕ) (directed : Directed) : Type 0 where
       pub there : has_node config directed.node.dc directed.node.shard ≡ true
@@ -152,8 +129,12 @@ module _ (config : TenantConfig) (c : SoloCluster) (ts : List Traced) (inv : IsT
         let call = call_node config directed.node moment directed.call c in
         let step : LogStep = record { moment = moment; outcome = Replied call.reply } in
         let called = call_changes config c directed.node moment directed.call well.there inv.sized in
-        stepped call.after (traced-call called ts (well.stores_put call.reply) inv) found (carrier_after k step)
-        (record {
-          stream_is = is_carrier.stream_is;
-          pulled = Every-append (λ (s : LogStep). IsPulled ts s.outcome) k.log (step ∷ []) is_carrier.pulled (well.replies_well call.reply (node_of config call.after (node_number config.shards directed.node)) called.change, tt);
-        }) (carrier.delivery_progress config.shards k step)
+        let traced = traced-call called ts (well.stores_put call.reply) inv in
+        let next = carrier_after k step in
+        record {
+          stands = carried_to (HoldPuts config) (IsActorAt config) call.after ts traced.stands name next (carrier.carrier_next config.shards next.stream next.log) (λ open_still. record {
+            stream_is = is_carrier.stream_is;
+            pulled = Every-append (λ (s : LogStep). IsPulled ts s.outcome) k.log (step ∷ []) is_carrier.pulled (well.replies_well call.reply (node_of config call.after (node_number config.shards directed.node)) called.change, tt);
+          });
+          known = λ t at. known-carried call.after name t.operation.session k next (carrier.carrier_next config.shards next.stream next.log) found (traced.known t at);
+        }

@@ -14,12 +14,12 @@ use Rattle.cops_model.specs.Session.{Session, context_created, context_deleted, 
 use Rattle.cops_model.specs.Carrier.{Stream, new_carrier}
 use Rattle.cops_model.specs.Causal.{Traced, put_by, past_after}
 use Rattle.cops_model.specs.Cluster.{SoloCluster, OfSession, OfCarrier, find_actor, find_session, with_actor, with_new_actor}
-use Rattle.cops_causal.proofs.ActorsKeep.{actor_found, session_actor, known_session, each-with_actor, each-with_new, known-with_session, known-with_new}
+use Rattle.cops_causal.proofs.ActorsKeep.{actor_found, session_actor, known_session, known-with_session, known-with_new, changed, joined}
 use Rattle.cops_types.proofs.KeyTests.{key_eq-true}
 use Rattle.cops_causal.proofs.Histories.{past_in, in_context, given}
 use Rattle.cops_types.proofs.Elements.{Among, Every-append, Every-weaker, Every-filter}
 use Rattle.cops_causal.proofs.Moves.{IsStream, head_passes, flipped}
-use Rattle.cops_causal.proofs.Provenance.{IsTraced, IsActor, IsSession, IsContext, IsRunning, IsFound}
+use Rattle.cops_causal.proofs.Provenance.{IsTraced, IsActor, IsSession, IsContext, IsRunning, IsFound, HoldPuts, IsActorAt}
 use Rattle.cops_session.proofs.RequestReplies.{put-open, get-open, get-begun}
 use Rattle.cops_causal.proofs.RequestSteps.{none_runs, only_runs, run}
 
@@ -29,24 +29,13 @@ module _ (config : TenantConfig) (c : SoloCluster) (ts : List Traced) (inv : IsT
 
   pub session_changed : (name : List ℕ) (s : Session) → IsSession config ts name s → IsTraced config (with_actor name (OfSession s) c) ts
   session_changed name s is =
-      record {
-        history = inv.history;
-        sized = inv.sized;
-        entries_are = inv.entries_are;
-        puts_are = inv.puts_are;
-        actors_are = each-with_actor (IsActor config ts) (IsActor config ts) c name (OfSession s) is (λ other a apart p. p) inv.actors_are;
-        known = λ t at. known-with_session c name t.operation.session s (inv.known t at);
-      }
+      record { stands = changed (HoldPuts config) (IsActorAt config) c ts inv.stands name (OfSession s) is; known = λ t at. known-with_session c name t.operation.session s (inv.known t at) }
 
   pub traced-opened : (name : List ℕ) (dc : ℕ) → find_actor name c ≡ None → nat_lt dc config.data_centres ≡ true → IsTraced config (with_new_actor name (OfSession (new_session dc 1)) c) ts
   traced-opened name dc free exists =
       record {
-        history = inv.history;
-        sized = inv.sized;
-        entries_are = inv.entries_are;
-        puts_are = inv.puts_are;
-        actors_are = each-with_new (IsActor config ts) c name (OfSession (new_session dc 1))
-            (record { placed = exists; contexts_are = tt; numbered = λ t at same. absurd (unknown t at same); running_is = λ running runs. cc }) inv.actors_are;
+        stands = joined (HoldPuts config) (IsActorAt config) c ts inv.stands name (OfSession (new_session dc 1))
+            (record { placed = exists; contexts_are = tt; numbered = λ t at same. absurd (unknown t at same); running_is = λ running runs. cc });
         known = λ t at. known-with_new c name t.operation.session (OfSession (new_session dc 1)) (inv.known t at);
       }
     where
@@ -58,11 +47,7 @@ module _ (config : TenantConfig) (c : SoloCluster) (ts : List Traced) (inv : IsT
   pub traced-carrier_begun : (name : List ℕ) (stream : Stream) → IsStream config stream → IsTraced config (with_new_actor name (OfCarrier (new_carrier stream)) c) ts
   traced-carrier_begun name stream is =
       record {
-        history = inv.history;
-        sized = inv.sized;
-        entries_are = inv.entries_are;
-        puts_are = inv.puts_are;
-        actors_are = each-with_new (IsActor config ts) c name (OfCarrier (new_carrier stream)) (record { stream_is = is; pulled = tt }) inv.actors_are;
+        stands = joined (HoldPuts config) (IsActorAt config) c ts inv.stands name (OfCarrier (new_carrier stream)) (record { stream_is = is; pulled = tt });
         known = λ t at. known-with_new c name t.operation.session (OfCarrier (new_carrier stream)) (inv.known t at);
       }
 

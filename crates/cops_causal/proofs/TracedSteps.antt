@@ -48,11 +48,15 @@ pub grown : (config : TenantConfig) (c : SoloCluster) (ts : List Traced) (name :
 grown config c ts name context effect past s history sized stored puts actors known mine new put is =
     let t : Traced = record { operation = record { session = name; context = context; effect = effect }; past = past } in
     record {
-      history = history;
-      sized = sized;
-      entries_are = stored;
-      puts_are = λ p at. elim (Among-cases p (puts_of ts) (put_by effect) (subst (Among p) (puts_of-push ts t) at)) [ inl old ↦ puts p old | inr now ↦ put p now ];
-      actors_are = each-with_actor (IsActor config ts) (IsActor config (ts ++ t ∷ [])) c name (OfSession s) is (λ other a apart p. IsActor-grown ts t new config other a (key_eq-false other name apart) p) actors;
+      stands = record {
+        nodes = record {
+          history = history;
+          sized = sized;
+          entries_are = stored;
+          puts_are = λ p at. elim (Among-cases p (puts_of ts) (put_by effect) (subst (Among p) (puts_of-push ts t) at)) [ inl old ↦ puts p old | inr now ↦ put p now ];
+        };
+        actors = each-with_actor (IsActor config ts) (IsActor config (ts ++ t ∷ [])) c name (OfSession s) is (λ other a apart p. IsActor-grown ts t new config other a (key_eq-false other name apart) p) actors;
+      };
       known = λ u at. known-with_session c name u.operation.session s (elim (Among-cases u ts (t ∷ []) at) [
         | inl old ↦ known u old
         | inr now ↦ elim now [ inl e ↦ subst (λ (v : Traced). IsKnown c v.operation.session) e mine | inr never ↦ absurd never ]
