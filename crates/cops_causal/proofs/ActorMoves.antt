@@ -72,10 +72,12 @@ module _ (config : TenantConfig) (N : List SoloNode → List Traced → Type 0) 
   -- ---- what follows for the cluster
 
   module _ (c : SoloCluster) (ts : List Traced) (stands : Stands N A c ts) where
+    -- a session after a step, with the history then
     stepped_to : (name : List ℕ) (next : Session) (us : List Traced) → Leaves c.nodes ts name next us → Stands N A (with_actor name (OfSession next) c) us
     stepped_to name next us leaves =
         record { nodes = leaves.nodes_are stands.nodes; actors = each-with_actor (A c.nodes ts) (A c.nodes us) c name (OfSession next) leaves.session_is leaves.others_are stands.actors }
 
+    -- a call of any node
     called_stands : (moment : ℕ) (directed : Directed) → CallLeaves c ts moment directed → Stands N A (call_node config directed.node moment directed.call c).after ts
     called_stands moment directed leaves =
         let nodes = (call_node config directed.node moment directed.call c).after.nodes in
@@ -84,6 +86,7 @@ module _ (config : TenantConfig) (N : List SoloNode → List Traced → Type 0) 
           actors = Every-weaker (λ (a : NamedActor). A c.nodes ts a.name a.actor) (λ (a : NamedActor). A nodes ts a.name a.actor) c.actors (λ a at is. leaves.stays a.name a.actor is) stands.actors;
         }
 
+    -- a step of a session after its call, or without one
     session_steps : (name : List ℕ) (s : Session) → find_session name c ≡ Some s → (running : Running) (step : LogStep) → s.running ≡ Some running → StepLeaves config ts name s (Leaves c.nodes ts name) running step →
         let turn = session_stepped config name s running step c in Stands N A turn.after (history_after ts c name turn.reply)
     session_steps name s found running step runs leaves =

@@ -108,6 +108,7 @@ known-without c name other k found known =
     carrier_apart c name other k (IsKnown (without_actor name c) other) found known
     (λ apart. ap (λ o. is_some (option_and_then session_in o)) (actor_in-without name other c.actors apart) ∙ known)
 
+-- after a step of a carrier the same sessions are known
 pub known-carried : (c : SoloCluster) (name other : List ℕ) (k after : Carrier) (n : Next Delivery) → find_actor name c ≡ Some (OfCarrier k) → IsKnown c other → IsKnown (carrier_stepped name after (carrier.progress_of n) c).after other
 known-carried c name other k after (Ended ending) found known = known-without c name other k found known
 known-carried c name other k after (Call directed) found known = known-with_carrier c name other k after found known

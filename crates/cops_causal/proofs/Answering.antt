@@ -76,6 +76,7 @@ pub record IsNext (before : List Traced) (t : Traced) : Type 0 where
   pub returned : (q : Pair) → Among q (returned_by t.operation.effect) → Among q (puts_of before)
   pub new : IsNew before t
 
+-- each transaction was answered consistently, and each operation followed those before it
 pub record AreAnswered (nodes : List SoloNode) (ts : List Traced) : Type 0 where
   pub answered : AllByRecursion IsTracedAnswer ts
   pub ordered : EachAfter IsNext [] ts
@@ -154,9 +155,11 @@ module _ (config : TenantConfig) (some : 0 < config.shards) (c : SoloCluster) (t
       let x = context_of s context opened in
       (mine config c ts inv.closed name s found).contexts_here x.0 x.1 p (subst (λ n. Among p (past_in ts name n)) (sym x.2) there)
 
+  -- a request whose attempt has read nothing older than the past of its context
   abbrev IsFreshRun : Running → Type 0
   IsFreshRun r = RepliesAreFresh (past_in ts name r.context) r.action r.log
 
+  -- what is to be shown of a step at these nodes
   abbrev Leaving : List SoloNode → Session → List Traced → Type 0
   Leaving nodes = Leaves config AreAnswered IsActorFresh nodes ts name
 
@@ -205,6 +208,7 @@ module _ (config : TenantConfig) (some : 0 < config.shards) (c : SoloCluster) (t
           let again : nat_le (length keys) (length (attempt_of (Fetch keys) log).steps) ≡ false = ap (λ r. begins_again (Fetch keys) (length (attempt_of (Fetch keys) log).steps) (Replied r)) (sym gone) ∙ stays in
           absurd (grind (arith, nat_tests)))
 
+  -- a step that calls: of a put by what its node did, of a transaction by what it read
   stepped_answering : (running : Running) (moment : ℕ) (directed : Directed) → s.running ≡ Some running → next config (request_of s running) running.log moment ≡ Call directed →
       let call = call_node config directed.node moment directed.call c in StepLeaves config ts name s (Leaving call.after.nodes) running (record { moment = moment; outcome = Replied call.reply })
   stepped_answering = by_call config ts name s this
@@ -237,6 +241,7 @@ module _ (config : TenantConfig) (some : 0 < config.shards) (c : SoloCluster) (t
             (staying context is.in_open keys log q call.reply at stays)),
       ))
 
+  -- a step that comes late reads nothing
   late_answering : (running : Running) (moment : ℕ) → s.running ≡ Some running → next config (request_of s running) running.log moment ≡ Restart → StepLeaves config ts name s (Leaving c.nodes) running (record { moment = moment; outcome = Late })
   late_answering = by_late config ts name s this (λ running moment. StepLeaves config ts name s (Leaving c.nodes) running (record { moment = moment; outcome = Late })) (λ number context keys log moment runs is.
       get_answering c.nodes number context keys log (record { moment = moment; outcome = Late }) (get-late (IsFound ts) keys log moment)
@@ -262,6 +267,7 @@ module _ (config : TenantConfig) (some : 0 < config.shards) (c : SoloCluster) (t
   call_answering : (moment : ℕ) (directed : Directed) → CallLeaves config AreAnswered IsActorFresh c ts moment directed
   call_answering moment directed = record { nodes_are = record { answered = answering.nodes.answered; ordered = answering.nodes.ordered }; stays = λ name a is. is }
 
+  -- all moves
   answering_moves : Moves config AreAnswered IsActorFresh c ts
   answering_moves =
       record {

@@ -74,6 +74,7 @@ abbrev pub IsActorTimed : TenantConfig → List SoloNode → List Traced → Lis
 IsActorTimed config nodes ts name (OfSession s) = (running : Running) → s.running ≡ Some running → RequestReads config (bare nodes) s.dc running.action running.log
 IsActorTimed config nodes ts name (OfCarrier k) = (ending : Delivery) → carrier.carrier_next config.shards k.stream k.log ≡ Ended ending → ⊥
 
+-- what each node removed was there for long
 abbrev pub AreNodesTimed : TenantConfig → List SoloNode → List Traced → Type 0
 AreNodesTimed config nodes ts = (n : ℕ) → AreLongThere config.trans_time (node_of config (bare nodes) n).recs (node_of config (bare nodes) n).moment
 
@@ -127,6 +128,7 @@ module _ (config : TenantConfig) (c : SoloCluster) (id : NodeId) (moment : ℕ) 
   actor_stays ts name (OfSession s) are = λ running runs. request_stays s.dc running.action running.log (are running runs)
   actor_stays ts name (OfCarrier k) open_still = open_still
 
+  -- a call keeps what nodes removed and attempts have read
   call_timed : (ts : List Traced) → IsTimed config c ts → CallLeaves config (AreNodesTimed config) (IsActorTimed config) c ts moment (record { node = id; call = call })
   call_timed ts is =
       record {
@@ -230,9 +232,11 @@ module _ (config : TenantConfig) (some : 0 < config.shards) (c : SoloCluster) (t
     pub reads_before : (running : Running) → s.running ≡ Some running → RequestReads config c s.dc running.action running.log
     reads_before running runs = actor_found (IsActorTimed config c.nodes ts) c name (OfSession s) timed.actors (session_actor c name s found) running runs
 
+    -- what a request has read at these nodes
     abbrev HasRead : List SoloNode → Running → Type 0
     HasRead nodes r = RequestReads config (bare nodes) s.dc r.action r.log
 
+    -- what is to be shown of a step
     abbrev Leaving : List SoloNode → Running → LogStep → Type 0
     Leaving nodes = StepLeaves config ts name s (Leaves config (AreNodesTimed config) (IsActorTimed config) nodes ts name)
 
@@ -246,6 +250,7 @@ module _ (config : TenantConfig) (some : 0 < config.shards) (c : SoloCluster) (t
     reads_late (Write key value) log moment = tt
     reads_late (Fetch keys) log moment = attempt_late config c s.dc keys log moment
 
+    -- the moves of a session
     session_timed : SessionMoves config (AreNodesTimed config) (IsActorTimed config) c ts name s
     session_timed =
         let this = session_of config c ts inv.traced name s found in
@@ -267,6 +272,7 @@ module _ (config : TenantConfig) (some : 0 < config.shards) (c : SoloCluster) (t
           late = λ running moment runs e. leaving c.nodes running _ (reads_late running.action running.log moment);
         }
 
+  -- all moves
   timed_moves : Moves config (AreNodesTimed config) (IsActorTimed config) c ts
   timed_moves =
       record {

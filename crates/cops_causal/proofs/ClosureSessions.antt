@@ -64,6 +64,7 @@ module _ (config : TenantConfig) (some : 0 < config.shards) (c : SoloCluster) (t
       by_value key version None is there = absurd there
       by_value key version (Some value) is there = elim there [ inl same ↦ subst (IsHere config c s.dc) same is | inr never ↦ absurd never ]
 
+  -- what is to be shown of the session after a step, and of the history then
   abbrev Leaving : Session → List Traced → Type 0
   Leaving = Leaves config (PastsAreHere config) (IsActorAtHome config) c.nodes ts name
 
@@ -75,6 +76,7 @@ module _ (config : TenantConfig) (some : 0 < config.shards) (c : SoloCluster) (t
         replies_here = none_runs _ None refl;
       })
 
+  -- a step of a transaction, whose replies found what is here
   pub get_home : (number context : ℕ) (keys : List (List ℕ)) (log : List LogStep) (step : LogStep) → is_open context s ≡ true →
       (let rs = replies_in keys (log ++ step ∷ []) in Zipped (IsFoundHere config c s.dc) (gets keys rs) rs) → StepLeaves config ts name s Leaving (run number context (Fetch keys) log) step
   get_home number context keys log step opened replied =
@@ -102,6 +104,7 @@ module _ (config : TenantConfig) (some : 0 < config.shards) (c after : SoloClust
   abbrev solo : SoloNode
   solo = node_of config c (node_number config.shards home)
 
+  -- the step of a put, after its call
   pub put_home : StepLeaves config ts name s (Leaves config (PastsAreHere config) (IsActorAtHome config) after.nodes ts name) (run number context (Write key value) []) (record { moment = moment; outcome = Replied reply })
   put_home = put_leaves config ts name s (Leaves config (PastsAreHere config) (IsActorAtHome config) after.nodes ts name) c after number context key value moment reply called
       (λ fault is. refused_home config some after ts pasts name s home_is context _) joined

@@ -76,6 +76,7 @@ module _ (config : TenantConfig) (some : 0 < config.shards) (c : SoloCluster) (t
               ]
         ]
 
+    -- what it put and returned being here, so is its past, and what its session has seen then
     pub operation_home : IsNew ts t → (next : Session) → next.dc ≡ s.dc → HasNumbersOf next s → next.running ≡ None → Leaves config (PastsAreHere config) (IsActorAtHome config) c.nodes ts name next (ts ++ t ∷ [])
     operation_home new next same_dc numbers idle =
         record {

@@ -45,9 +45,11 @@ abbrev pub IsActorWithin : ℕ → List ℕ → Actor → Type 0
 IsActorWithin most name (OfSession s) = (s.moment ≤ most) × ((running : Running) → s.running ≡ Some running → IsAscending (attempt_of running.action running.log).steps s.moment)
 IsActorWithin most name (OfCarrier k) = k.moment ≤ most
 
+-- so of each actor, whatever the nodes and the history
 abbrev AreActorsWithin : ℕ → List SoloNode → List Traced → List ℕ → Actor → Type 0
 AreActorsWithin most nodes ts = IsActorWithin most
 
+-- and of each node
 abbrev AreNodesWithin : TenantConfig → ℕ → List SoloNode → List Traced → Type 0
 AreNodesWithin config most nodes ts = (n : ℕ) → (node_of config (bare nodes) n).moment ≤ most
 
@@ -155,7 +157,7 @@ module _ (config : TenantConfig) (most : ℕ) where
         let same = is_gone.now_is in
         omega (arith, same)
 
-    -- a step that calls, and one that comes late
+    -- a step that calls leaves all moments within
     called_within : (running : Running) (moment : ℕ) (directed : Directed) → s.running ≡ Some running → s.moment ≤ moment → moment ≤ most → request.next config (request_of s running) running.log moment ≡ Call directed →
         let call = call_node config directed.node moment directed.call c in IsWithin config most (session_stepped config name s running (record { moment = moment; outcome = Replied call.reply }) call.after).after
     called_within running moment directed runs first low e =
@@ -166,6 +168,7 @@ module _ (config : TenantConfig) (most : ℕ) where
         (step_within running step first low (λ again now gone. gone_within running.number running.context running.action running.log moment directed low e again now gone)))
         (call_within c directed.node moment directed.call low is)
 
+    -- so does one that comes late
     late_within : (running : Running) (moment : ℕ) → s.running ≡ Some running → s.moment ≤ moment → moment ≤ most → IsWithin config most (session_stepped config name s running (record { moment = moment; outcome = Late }) c).after
     late_within running moment runs first low =
         let step : LogStep = record { moment = moment; outcome = Late } in

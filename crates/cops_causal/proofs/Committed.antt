@@ -67,6 +67,7 @@ module _ (config : TenantConfig) (some : 0 < config.shards) (c : SoloCluster) (t
       let called = call_changes config c directed.node moment directed.call there inv.0.sized in
       record { nodes_are = pasts_called called ts closed.nodes (shard-below directed.node there) (stored call.reply); stays = at_home-grown config c call.after (entries_grow called) ts }
 
+  -- of the calls of a carrier, only a commit stores, and its checks were answered by yes
   by_carrier : (stream : Stream) → IsStream config stream → (moment : ℕ) (directed : Directed) → Stage (Delivered config c stream) config.shards stream directed → ClosedAfter moment directed
   by_carrier stream is moment = by_stage config some c stream is (ClosedAfter moment) (λ there. by_stored moment (pull stream) there (λ reply f stores. absurd stores)) (record {
     checks = λ e near offered among there. by_stored moment (check config.shards stream near) there (λ reply f stores. absurd stores);
@@ -98,9 +99,11 @@ module _ (config : TenantConfig) (some : 0 < config.shards) (c : SoloCluster) (t
         absurd (unput config c ts inv.0 sent.node key (all_of (obs_of context s)) stores.0 stores.2 (subst (λ p. Among p (puts_of ts)) (ap pair_of_entry stores.3) was))))
         (λ number context keys log moment q runs is at e. by_stored moment (call_of config s.dc q) (home-there config s.dc q.key some this.placed) (λ reply e stores. absurd stores))
 
+    -- what is to be shown of a step at these nodes
     abbrev Leaving : List SoloNode → Running → LogStep → Type 0
     Leaving nodes = StepLeaves config ts name s (Leaves config (PastsAreHere config) (IsActorAtHome config) nodes ts name)
 
+    -- a step that calls leaves what the session has seen in its data centre
     session_stepped_home : (running : Running) (moment : ℕ) (directed : Directed) → s.running ≡ Some running → next config (request_of s running) running.log moment ≡ Call directed →
         let call = call_node config directed.node moment directed.call c in Leaving call.after.nodes running (record { moment = moment; outcome = Replied call.reply })
     session_stepped_home = by_call config ts name s this
@@ -140,6 +143,7 @@ module _ (config : TenantConfig) (some : 0 < config.shards) (c : SoloCluster) (t
     closed-begun number action are =
         record { contexts_here = at_home.contexts_here; replies_here = only_runs (λ (r : Running). RepliesAreHere config c s.dc r.action r.log) (run s.next_request number action []) are }
 
+    -- the moves of a session
     session_closed : SessionMoves config (PastsAreHere config) (IsActorAtHome config) c ts name s
     session_closed =
         record {
@@ -156,6 +160,7 @@ module _ (config : TenantConfig) (some : 0 < config.shards) (c : SoloCluster) (t
               get_home config some c ts closed.nodes name s at_home number context keys log (record { moment = moment; outcome = Late }) is.in_open (get-late (IsFoundHere config c s.dc) keys log moment));
         }
 
+  -- all moves
   closed_moves : Moves config (PastsAreHere config) (IsActorAtHome config) c ts
   closed_moves =
       record {

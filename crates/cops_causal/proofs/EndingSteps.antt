@@ -200,6 +200,7 @@ module _ (config : TenantConfig) (some : 0 < config.shards) where
   bounded_kept : IsKept config Bounded
   bounded_kept = kept_both (sound_kept config some) (limits_kept config some)
 
+  -- a step of any actor that goes on leaves one fewer
   step_left : (c : SoloCluster) (ts : List Traced) (inv : Bounded c ts) (name : List ℕ) (moment n : ℕ) → IsActorLeft config (find_actor name c) n → goes_on (actor_step config name moment c).reply ≡ true →
       Fewer config (IsActorLeft config (find_actor name (actor_step config name moment c).after)) n
   step_left c ts inv name moment n left = by_step config name moment c

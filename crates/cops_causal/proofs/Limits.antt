@@ -89,6 +89,7 @@ module _ (config : TenantConfig) where
   IsActorLimited nodes ts name (OfSession s) = HasRoom s
   IsActorLimited nodes ts name (OfCarrier k) = Unit {0}
 
+  -- each stored entry has few pairs
   abbrev pub AreEntriesFew : List SoloNode → List Traced → Type 0
   AreEntriesFew nodes ts = (n : ℕ) → AllByRecursion (HasFewPairs config) (entries (node_of config (bare nodes) n))
 
@@ -191,6 +192,7 @@ module _ (config : TenantConfig) where
     abbrev StoresFew : Directed → Type 0
     StoresFew directed = (reply : NodeReply) (e : Entry) → Stores (place_of config directed.node) directed.call (node_of config c (node_number config.shards directed.node)) reply e → HasFewPairs config e
 
+    -- so a call adds an entry with few pairs, if any
     call_limited : (moment : ℕ) (directed : Directed) → has_node config directed.node.dc directed.node.shard ≡ true → StoresFew directed → CallLeaves config AreEntriesFew IsActorLimited c ts moment directed
     call_limited moment directed there few =
         record {
@@ -319,6 +321,7 @@ module _ (config : TenantConfig) where
 
     -- ---- carriers
 
+    -- of the calls of a carrier, only a commit stores, and what is offered
     carrier_limited : (stream : Stream) → IsStream config stream → (moment : ℕ) (directed : Directed) → Stage (Delivered config c stream) config.shards stream directed → CallLeaves config AreEntriesFew IsActorLimited c ts moment directed
     carrier_limited stream is moment = by_stage config some c stream is (CallLeaves config AreEntriesFew IsActorLimited c ts moment) (λ there. call_limited moment (pull stream) there (λ reply f stores. absurd stores)) (record {
       checks = λ e near offered among there. call_limited moment (check config.shards stream near) there (λ reply f stores. absurd stores);
@@ -326,6 +329,7 @@ module _ (config : TenantConfig) where
       acks = λ e r offered brought kind there. call_limited moment (ack_call stream e) there (λ reply f stores. absurd stores);
     })
 
+    -- all moves
     limited_moves : Moves config AreEntriesFew IsActorLimited c ts
     limited_moves =
         record {

@@ -46,6 +46,7 @@ module _ (config : TenantConfig) (some : 0 < config.shards) (c : SoloCluster) (t
       let turn = session_stepped config name s running (record { moment = moment; outcome = Replied call.reply }) call.after in
       IsTraced config turn.after (history_after ts c name turn.reply)
 
+  -- a step that calls
   traced-called : (running : Running) (moment : ℕ) (directed : Directed) → s.running ≡ Some running → next config (request_of s running) running.log moment ≡ Call directed → AfterCall running moment directed
   traced-called = by_call config ts name s this AfterCall
       (λ number context key value moment runs is.
@@ -62,6 +63,7 @@ module _ (config : TenantConfig) (some : 0 < config.shards) (c : SoloCluster) (t
       get_stepped config call.after ts (traced-call called ts (λ e stores. absurd stores) inv) name s found number context keys log (record { moment = moment; outcome = Replied call.reply }) runs is.in_open
       (get-stepped (IsFound ts) keys log moment call.reply q is.replies_are at reads))
 
+  -- a step that comes late
   traced-late : (running : Running) (moment : ℕ) → s.running ≡ Some running → next config (request_of s running) running.log moment ≡ Restart →
       let turn = session_stepped config name s running (record { moment = moment; outcome = Late }) c in IsTraced config turn.after (history_after ts c name turn.reply)
   traced-late = by_late config ts name s this

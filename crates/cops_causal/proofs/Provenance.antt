@@ -92,6 +92,7 @@ pub record HoldPuts (config : TenantConfig) (nodes : List SoloNode) (ts : List T
   pub entries_are : (n : ℕ) → AllByRecursion (IsPutEntry ts) (entries (node_of config (bare nodes) n))
   pub puts_are : (p : Pair) → Among p (puts_of ts) → Among p (map pair_of_entry (entries (node_of config (bare nodes) p.version.node)))
 
+-- whatever the nodes
 abbrev pub IsActorAt : TenantConfig → List SoloNode → List Traced → List ℕ → Actor → Type 0
 IsActorAt config nodes ts = IsActor config ts
 

@@ -53,6 +53,7 @@ not_ended true Restart a open_still e = cc
 not_ended false Restart a open_still e = cc
 not_ended late (Ended b) a open_still e = cc
 
+-- what calls is not late
 called_late : (n : Next Answer) {directed : Directed} → n ≡ Call directed → n ≡ Restart → ⊥
 called_late n is late = cc
 

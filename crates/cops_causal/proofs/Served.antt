@@ -52,6 +52,7 @@ abbrev pub IsActorFine : TenantConfig → List SoloNode → List Traced → List
 IsActorFine config nodes ts name (OfSession s) = (running : Running) → s.running ≡ Some running → RepliesAreFine running.action running.log
 IsActorFine config nodes ts name (OfCarrier k) = Zipped (IsFineStep config.shards k.stream) (stream_calls config.shards k.stream (carrier_replies k.log)) (carrier_replies k.log)
 
+-- no audit has an unexpected reply
 abbrev pub AreTrailsFine : TenantConfig → List SoloNode → List Traced → Type 0
 AreTrailsFine config nodes ts = (n : ℕ) → AllByRecursion IsExpectedEntry (node_of config (bare nodes) n).trail
 
@@ -108,6 +109,7 @@ module _ (config : TenantConfig) (c : SoloCluster) (ts : List Traced) (inv : IsS
   pub called : Called config c directed.node directed.call reply_to after_it
   called = call_changes config c directed.node moment directed.call calls.there inv.traced.sized
 
+  -- so it adds a reply as expected to an audit
   call_served : CallLeaves config (AreTrailsFine config) (IsActorFine config) c ts moment directed
   call_served =
       record {
@@ -172,14 +174,17 @@ module _ (config : TenantConfig) (some : 0 < config.shards) (c : SoloCluster) (t
         let are : RepliesAreFine (Fetch keys) (log ++ record { moment = moment; outcome = Late } ∷ []) = get-late IsFineReply keys log moment in
         record { replies = are; answers = λ a ends. answer_fine config s.dc (obs_of context s) keys (log ++ record { moment = moment; outcome = Late } ∷ []) a are ends })
 
+    -- a request that had no reply which breaks it
     abbrev IsFineRun : Running → Type 0
     IsFineRun r = RepliesAreFine r.action r.log
 
+    -- a step with fine replies leaves such a request, or none
     leaving : (nodes : List SoloNode) (running : Running) (step : LogStep) → FineTurn config s running step → StepLeaves config ts name s (Leaves config (AreTrailsFine config) (IsActorFine config) nodes ts name) running step
     leaving nodes running step fine =
         plain_leaves config (λ nodes. AreTrailsFine config nodes []) (λ nodes. IsActorFine config nodes []) nodes ts name s running step
         (λ open_still. only_runs IsFineRun (record running { log = running.log ++ step ∷ [] }) fine.replies) (λ a ends. none_runs IsFineRun None refl)
 
+    -- the moves of a session
     session_served : SessionMoves config (AreTrailsFine config) (IsActorFine config) c ts name s
     session_served =
         record {
@@ -213,6 +218,7 @@ module _ (config : TenantConfig) (some : 0 < config.shards) (c : SoloCluster) (t
   pub collect_ready : (id : NodeId) → has_node config id.dc id.shard ≡ true → ReadyCall config c (record { node = id; call = node_call.Collect })
   collect_ready id there = record { there = there; ready = tt }
 
+  -- all moves
   served_moves : Moves config (AreTrailsFine config) (IsActorFine config) c ts
   served_moves =
       record {

@@ -116,6 +116,7 @@ module _ (config : TenantConfig) (some : 0 < config.shards) (c : SoloCluster) (t
         let origin = origin_of config stream in
         (Every-at (IsEquivalent config origin) e (entries (node_of config c origin)) (inv.1 origin) (offered_among config c stream e offered)).home ∙ shard_is config stream.origin is.origin_is
 
+    -- what the calls of a carrier leave
     by_carrier : (moment : ℕ) (directed : Directed) → Stage (Delivered config c stream) config.shards stream directed → AreEquivalent config (call_node config directed.node moment directed.call c).after ts
     by_carrier moment = by_stage config some c stream is (λ directed. AreEquivalent config (call_node config directed.node moment directed.call c).after ts)
         (λ there. called_at moment (pull stream) there (λ reply f stores. absurd stores)) (record {

@@ -27,6 +27,7 @@ offered_among config c stream e offered =
     (Among-filter (λ (g : Entry). g.version.node == origin) e (entries (node_of config c origin)) (slice_get-Among (of_origin origin (entries (node_of config c origin))) offered.place e offered.at)).0
 
 module _ (config : TenantConfig) (some : 0 < config.shards) (c : SoloCluster) (stream : Stream) (is : IsStream config stream) (G : Directed → Type 0) where
+  -- the node of the call is one of the cluster
   abbrev pub IsThere : Directed → Type 0
   IsThere directed = has_node config directed.node.dc directed.node.shard ≡ true
 
@@ -36,11 +37,13 @@ module _ (config : TenantConfig) (some : 0 < config.shards) (c : SoloCluster) (s
     pub commits : (e : Entry) → IsOffered config c stream e → AllByRecursion (λ near. Delivered config c stream (check config.shards stream near) (Checked true)) e.near → IsThere (commit_call stream e) → G (commit_call stream e)
     pub acks : (e : Entry) (r : NodeReply) → IsOffered config c stream e → Delivered config c stream (commit_call stream e) r → (r ≡ Committed) ⊎ (r ≡ Already) → IsThere (ack_call stream e) → G (ack_call stream e)
 
+  -- so is the one to which a stream brings entries
   end_there : has_node config stream.to_dc stream.origin.shard ≡ true
   end_there =
       and_true (nat_lt stream.to_dc config.data_centres) (nat_lt stream.origin.shard config.shards) is.to_is
       (and_right (nat_lt stream.origin.dc config.data_centres) (nat_lt stream.origin.shard config.shards) is.origin_is)
 
+  -- of the call that is made for this entry
   by_delivery : DeliveryCases → (e : Entry) (directed : Directed) → IsOffered config c stream e → InDelivery (Delivered config c stream) config.shards stream e directed → G directed
   by_delivery cases e directed offered (Checking near among same) = subst G (sym same) (cases.checks e near offered among (home-there config stream.to_dc near.key some is.to_is))
   by_delivery cases e directed offered (Committing near same) = subst G (sym same) (cases.commits e offered near end_there)

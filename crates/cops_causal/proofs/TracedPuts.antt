@@ -84,6 +84,7 @@ module _ (config : TenantConfig) (c after : SoloCluster) (ts : List Traced) (inv
     above : (version.clock ≡ max (clock config.first_clock node.recs) (greatest_clock (all_of (obs_of context s))) + 1) × (version.node ≡ node_number config.shards home)
     above = next-above (clock config.first_clock node.recs) (greatest_clock (all_of (obs_of context s))) (own_number (place_of config home)) version next
 
+    -- the pair is new
     unput_pair : Among pair (puts_of ts) → ⊥
     unput_pair = unput config c ts inv home key (all_of (obs_of context s)) version next
 
