@@ -269,7 +269,7 @@ impl Node {
     {
         match self.try_step(slot, moment, call) {
             Ok(reply) => reply,
-            Err(_) => NodeReply::Refused(Fault::OutOfMemory),
+            Err(error) => NodeReply::Refused(Fault::from(error)),
         }
     }
 }
@@ -296,7 +296,7 @@ impl Machine for Node {
     fn turn(&mut self, slot: u64, moment: u64, call: NodeCall) -> Result<NodeReply, Fault> {
         match self.try_step(slot, moment, call) {
             Ok(reply) => Ok(reply),
-            Err(_) => Err(Fault::OutOfMemory),
+            Err(error) => Err(Fault::from(error)),
         }
     }
 }

@@ -35,11 +35,9 @@ pub(crate) fn turn(
     if parts::is_audit_full(part) {
         return Ok(NodeReply::Refused(Fault::AuditFull));
     }
-    if part.trail.reserve().is_err() {
-        return Err(AllocError);
-    }
+    part.trail.reserve()?;
     let now = part.moment.max(moment);
-    let Ok(answered) = calls::act(
+    let answered = calls::act(
         alloc,
         home,
         &part.terms,
@@ -49,9 +47,7 @@ pub(crate) fn turn(
         slot,
         now,
         call,
-    ) else {
-        return Err(AllocError);
-    };
+    )?;
     part.moment = now;
     let row = AuditRow::new(moment, answered.kept);
     part.trail.push(row);

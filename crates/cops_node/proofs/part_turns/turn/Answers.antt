@@ -1,4 +1,8 @@
-use Rattle.std.proofs.Common.{◌≡◌, ◌∙◌, ◌++◌, ◌∷◌, [], ap, refl}
+use Rattle.std.proofs.Common.{◌≡◌, ◌∙◌, ◌++◌, ◌∷◌, [], ap, refl, subst, sym, Result, OnErr}
+use Rattle.std.specs.declared.alloc.AllocError.{AllocError}
+use Rattle.cops_model.specs.declared.calls.NodeReply.{NodeReply}
+use Rattle.cops_node.specs.Parts.{HasPartRoom}
+use Rattle.std.proofs.lemmas.Result.{err_from_is_err_and}
 use Rattle.cops_node.specs.declared.parts.Part.{Part}
 use Rattle.cops_node.specs.declared.rows.Exchange.{Exchange}
 use Rattle.cops_node.proofs.PartTurns.{full_turn, nothing_done, open_room, raised_solo, stands_still, turn_done, turn_joins, turn_stands}
@@ -20,13 +24,13 @@ returns-then-is_audit_full-clause-others c = record {
 
 -- ---- memory was refused
 
-pub returns-then-is_err-clause-stands : goal.returns-then-is_err-clause-stands
-returns-then-is_err-clause-stands c =
+pub returns-in_err-reserve-clause-stands : goal.returns-in_err-reserve-clause-stands
+returns-in_err-reserve-clause-stands c =
     stands_still c.args.slot c.args.home.now c.args.part.now (record c.args.part.now { trail = c.reserve.new.self }) c.args.store.now c.args.store.now c.args.outbox.now c.args.outbox.now c.requires.stands refl refl c.reserve.ensures.calls
     (record { counters_are = refl; rows = refl; tenants = refl; outbox_is = refl })
 
-pub returns-then-is_err-clause-others : goal.returns-then-is_err-clause-others
-returns-then-is_err-clause-others c = record {
+pub returns-in_err-reserve-clause-others : goal.returns-in_err-reserve-clause-others
+returns-in_err-reserve-clause-others c = record {
   rows = λ other differ. refl;
   queues = λ other dc differ. refl;
   tenants = refl;
@@ -35,26 +39,28 @@ returns-then-is_err-clause-others c = record {
   data_centres = refl;
 }
 
-pub returns-then-is_err-clause-room : goal.returns-then-is_err-clause-room
-returns-then-is_err-clause-room c =
-    open_room c.args.slot c.args.home.now c.args.part.now c.args.store.now c.args.outbox.now c.is_audit_full.result c.requires.stands c.is_audit_full.ensures.full c.if-is_audit_full.false
+pub returns-in_err-reserve-clause-room : goal.returns-in_err-reserve-clause-room
+returns-in_err-reserve-clause-room c =
+    let p = err_from_is_err_and c.from_residual.result c.from_residual.ensures.1 in
+    subst (λ (r : Result NodeReply AllocError). OnErr r (HasPartRoom c.args.home.now c.args.part.now)) (sym p.1) (open_room c.args.slot c.args.home.now c.args.part.now c.args.store.now c.args.outbox.now c.is_audit_full.result c.requires.stands c.is_audit_full.ensures.full c.if-is_audit_full.false)
 
 pub act-requires-clause-stands : goal.act-requires-clause-stands
 act-requires-clause-stands c =
     raised_solo c.args.slot c.max-now.result c.args.moment c.args.home.now c.args.part.now c.args.store.now c.args.outbox.now c.requires.stands c.max-now.ensures
 
-pub returns-in_default-clause-stands : goal.returns-in_default-clause-stands
-returns-in_default-clause-stands c =
+pub returns-in_err-answered-clause-stands : goal.returns-in_err-answered-clause-stands
+returns-in_err-answered-clause-stands c =
     stands_still c.args.slot c.args.home.now c.args.part.now (record c.args.part.now { counters = c.act.new.counters; trail = c.reserve.new.self }) c.args.store.now c.act.new.store c.args.outbox.now c.act.new.outbox c.requires.stands refl refl c.reserve.ensures.calls
-    c.in_default.ensures.err
+    c.in_err-answered.ensures.err
 
-pub returns-in_default-clause-others : goal.returns-in_default-clause-others
-returns-in_default-clause-others c =
-    nothing_done c.args.part.now.counters c.act.new.counters c.args.store.now c.act.new.store c.args.outbox.now c.act.new.outbox c.args.slot c.in_default.ensures.err
+pub returns-in_err-answered-clause-others : goal.returns-in_err-answered-clause-others
+returns-in_err-answered-clause-others c =
+    nothing_done c.args.part.now.counters c.act.new.counters c.args.store.now c.act.new.store c.args.outbox.now c.act.new.outbox c.args.slot c.in_err-answered.ensures.err
 
-pub returns-in_default-clause-room : goal.returns-in_default-clause-room
-returns-in_default-clause-room c =
-    open_room c.args.slot c.args.home.now c.args.part.now c.args.store.now c.args.outbox.now c.is_audit_full.result c.requires.stands c.is_audit_full.ensures.full c.if-is_audit_full.false
+pub returns-in_err-answered-clause-room : goal.returns-in_err-answered-clause-room
+returns-in_err-answered-clause-room c =
+    let p = err_from_is_err_and c.from_residual-in_err-answered.result c.from_residual-in_err-answered.ensures.1 in
+    subst (λ (r : Result NodeReply AllocError). OnErr r (HasPartRoom c.args.home.now c.args.part.now)) (sym p.1) (open_room c.args.slot c.args.home.now c.args.part.now c.args.store.now c.args.outbox.now c.is_audit_full.result c.requires.stands c.is_audit_full.ensures.full c.if-is_audit_full.false)
 
 -- ---- the call has its effect
 
@@ -62,23 +68,23 @@ abbrev next : goal.After-push → Part
 next c = record c.args.part.now { moment = c.max-now.result; counters = c.act.new.counters; trail = c.push.new.self }
 
 -- the row has the moment, the call and what was told
-row_is : (c : goal.After-push) → c.new-row.result ≡ record { moment = c.args.moment; call = c.args.call; reply = c.in-Ok.answered.told }
-row_is c = c.new-row.ensures ∙ ap (λ (e : Exchange). record { moment = c.args.moment; call = e.call; reply = e.reply }) c.in-Ok.ensures.kept
+row_is : (c : goal.After-push) → c.new-row.result ≡ record { moment = c.args.moment; call = c.args.call; reply = c.in_ok-answered.answered.told }
+row_is c = c.new-row.ensures ∙ ap (λ (e : Exchange). record { moment = c.args.moment; call = e.call; reply = e.reply }) c.in_ok-answered.ensures.kept
 
-pushed : (c : goal.After-push) → c.push.new.self.calls ≡ c.args.part.now.trail.calls ++ record { moment = c.args.moment; call = c.args.call; reply = c.in-Ok.answered.told } ∷ []
+pushed : (c : goal.After-push) → c.push.new.self.calls ≡ c.args.part.now.trail.calls ++ record { moment = c.args.moment; call = c.args.call; reply = c.in_ok-answered.answered.told } ∷ []
 pushed c = c.push.ensures.calls ∙ (λ i. c.reserve.ensures.calls i ++ row_is c i ∷ [])
 
 pub returns-clause-turn : goal.returns-clause-turn
 returns-clause-turn c =
-    turn_done c.args.slot c.args.moment c.max-now.result c.args.home.now c.args.call c.args.part.now (next c) c.args.store.now c.act.new.store c.args.outbox.now c.act.new.outbox c.in-Ok.answered.told c.in-Ok.answered.told c.is_audit_full.result
-    c.requires.stands c.is_audit_full.ensures.full c.if-is_audit_full.false c.max-now.ensures refl refl (pushed c) c.in-Ok.ensures.done refl
+    turn_done c.args.slot c.args.moment c.max-now.result c.args.home.now c.args.call c.args.part.now (next c) c.args.store.now c.act.new.store c.args.outbox.now c.act.new.outbox c.in_ok-answered.answered.told c.in_ok-answered.answered.told c.is_audit_full.result
+    c.requires.stands c.is_audit_full.ensures.full c.if-is_audit_full.false c.max-now.ensures refl refl (pushed c) c.in_ok-answered.ensures.done refl
 
 pub returns-clause-noted : goal.returns-clause-noted
 returns-clause-noted c =
-    turn_joins c.args.slot c.args.moment c.max-now.result c.args.home.now c.args.call c.args.part.now (next c) c.args.store.now c.act.new.store c.args.outbox.now c.act.new.outbox c.in-Ok.answered.told c.in-Ok.answered.told c.is_audit_full.result
-    c.requires.stands c.is_audit_full.ensures.full c.if-is_audit_full.false c.max-now.ensures refl refl (pushed c) c.in-Ok.ensures.done refl
+    turn_joins c.args.slot c.args.moment c.max-now.result c.args.home.now c.args.call c.args.part.now (next c) c.args.store.now c.act.new.store c.args.outbox.now c.act.new.outbox c.in_ok-answered.answered.told c.in_ok-answered.answered.told c.is_audit_full.result
+    c.requires.stands c.is_audit_full.ensures.full c.if-is_audit_full.false c.max-now.ensures refl refl (pushed c) c.in_ok-answered.ensures.done refl
 
 pub returns-clause-stands : goal.returns-clause-stands
 returns-clause-stands c =
-    turn_stands c.args.slot c.args.moment c.max-now.result c.args.home.now c.args.call c.args.part.now (next c) c.args.store.now c.act.new.store c.args.outbox.now c.act.new.outbox c.in-Ok.answered.told c.in-Ok.answered.told c.is_audit_full.result
-    c.requires.stands c.is_audit_full.ensures.full c.if-is_audit_full.false c.max-now.ensures refl refl (pushed c) c.in-Ok.ensures.done refl
+    turn_stands c.args.slot c.args.moment c.max-now.result c.args.home.now c.args.call c.args.part.now (next c) c.args.store.now c.act.new.store c.args.outbox.now c.act.new.outbox c.in_ok-answered.answered.told c.in_ok-answered.answered.told c.is_audit_full.result
+    c.requires.stands c.is_audit_full.ensures.full c.if-is_audit_full.false c.max-now.ensures refl refl (pushed c) c.in_ok-answered.ensures.done refl
