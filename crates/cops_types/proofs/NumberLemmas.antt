@@ -1,12 +1,13 @@
 -- Decimal digits are read into a number.
-use Rattle.std.proofs.Common.{◌≡◌, ℕ, ◌+◌, ◌-◌, ◌*◌, ◌<◌, ◌≤◌, ◌^◌, true, false, List, length, take, get_or, refl, sym, subst, ap, ◌∙◌, arith}
+use Rattle.std.proofs.Common.{◌≡◌, ℕ, ◌+◌, ◌-◌, ◌*◌, ◌<◌, ◌≤◌, ◌^◌, true, false, List, length, take, get_or, refl, sym, subst, ap, ◌∙◌, arith, length-take-le}
+use Rattle.std.proofs.Math.Nat.{pow-le-pow_right}
 use Rattle.std.specs.Prelude.{decimal, nat_lt, Option, Some, None}
-use Rattle.std.specs.Char.{digit_value}
+use Rattle.std.specs.Char.{digit_value, is_ascii_digit}
 use Rattle.std.specs.Option.{IfSome, IfNone}
 use Rattle.std.specs.Str.Parse.{AllDigits, digits_value}
 use Rattle.std.proofs.lemmas.Bool.Decides.{nat_tests}
 use Rattle.std.proofs.lemmas.Fmt.{decimal_is_IsNumeral, decimal_digit, decimal-digits_value, first_decimal}
-use Rattle.std.proofs.lemmas.Int.Digits.{digits_more, digits_value_more}
+use Rattle.std.proofs.lemmas.Int.Digits.{digits_more, digits_value_more, digits_value-lt}
 use Rattle.std.proofs.lemmas.Str.Parse.{digit_at, digits_value-take-le, numerals_by_value, tells_digits}
 use Rattle.cops_types.specs.Words.{number_of}
 use Rattle.cops_types.proofs.WordLemmas.{below, no_number, number_of-decimal}
@@ -25,6 +26,29 @@ read_more word i byte value n inside at read low high is small =
       digits_more 10 word i inside read.1 (omega (arith, digit)),
       is ∙ (λ j. read.2 j * 10 + sym digit j) ∙ sym (digits_value_more 10 word i inside),
     )
+
+-- fewer than 19 digits leave room for one more
+pub read_small : (word : List ℕ) (i value : ℕ) → i < length word → length word ≤ 19 → IsRead word i value → value < 1000000000000000000
+read_small word i value inside short read =
+    let size : length (take i word) ≡ i = length-take-le i word (omega arith) in
+    let below : length (take i word) ≤ 18 = omega (arith, size, inside, short) in
+    let few : 10 ^ length (take i word) ≤ 10 ^ 18 = pow-le-pow_right {n = 10} (omega arith) below in
+    let top : 10 ^ 18 ≡ 1000000000000000000 = refl in
+    omega (arith, digits_value-lt 10 (take i word) read.1, read.2, few, top)
+
+-- a byte that is a digit, and one that is none
+pub in_digits : (byte : ℕ) → is_ascii_digit byte ≡ true → (48 ≤ byte) × (byte ≤ 57)
+in_digits byte is = (grind (arith, nat_tests), grind (arith, nat_tests))
+
+pub no_digit : (word : List ℕ) (i : ℕ) → i < length word → is_ascii_digit (get_or word i 0) ≡ false → AllDigits 10 word → ⊥
+no_digit word i inside none all =
+    let range = digit_at word i all inside in
+    let low : 48 ≤ get_or word i 0 = range.0 in
+    let high : get_or word i 0 ≤ 57 = range.1 in
+    apart (get_or word i 0) low high none
+  where
+    apart : (byte : ℕ) → 48 ≤ byte → byte ≤ 57 → is_ascii_digit byte ≡ false → ⊥
+    apart byte low high none = grind (arith, nat_tests)
 
 -- a number too great ends the reading
 pub read_too_great : (word : List ℕ) (i byte value : ℕ) → i < length word → byte ≡ get_or word i 0 → IsRead word i value → (48 ≤ byte → byte ≤ 57 → 2 ^ 64 ≤ value * 10 + (byte - 48)) → AllDigits 10 word → 2 ^ 64 ≤ digits_value 10 word

@@ -1,5 +1,5 @@
 -- Texts that are put at a place, one after another.
-use Rattle.std.proofs.Common.{◌≡◌, ℕ, ◌+◌, ◌≤◌, ◌<◌, ◌/◌, ◌%◌, ◌^◌, List, ◌++◌, length, take, sym, subst, ap, ◌∙◌, append_assoc, arith, length-take-le}
+use Rattle.std.proofs.Common.{◌≡◌, ℕ, ◌+◌, ◌≤◌, ◌<◌, ◌/◌, ◌%◌, ◌^◌, List, [], ◌∷◌, ◌++◌, length, take, sym, subst, ap, ◌∙◌, append_assoc, arith, length-take-le}
 use Rattle.std.specs.Prelude.{decimal}
 use Rattle.std.proofs.Math.Seq.{take-append-add}
 use Rattle.std.proofs.lemmas.Fmt.{decimal_digit, decimal_step}
@@ -57,3 +57,25 @@ pub decimal_of_four : (n : ℕ) → 1000 ≤ n → n < 10000 → decimal n ≡ l
 decimal_of_four n low high =
     let only : n / 1000 ≡ n / 1000 % 10 = omega arith in
     decimal_last_three n low (omega arith) ∙ ap (λ m. decimal m ++ (decimal (n / 100 % 10) ++ (decimal (n / 10 % 10) ++ decimal (n % 10)))) only
+
+-- ---- a number of few digits, byte by byte
+
+abbrev glyph : ℕ → ℕ
+glyph n = 48 + n % 10
+
+last_glyph : (n : ℕ) → decimal (n % 10) ≡ glyph n ∷ []
+last_glyph n = decimal_digit (n % 10) (omega arith)
+
+pub decimal_two : (n : ℕ) → 10 ≤ n → n < 100 → decimal n ≡ glyph (n / 10) ∷ glyph n ∷ []
+decimal_two n low high =
+    let only : n / 10 ≡ n / 10 % 10 = omega arith in
+    decimal_last n low (omega arith) ∙ (λ i. decimal (only i) ++ last_glyph n i) ∙ ap (λ l. l ++ glyph n ∷ []) (last_glyph (n / 10))
+
+pub decimal_three : (n : ℕ) → 100 ≤ n → n < 1000 → decimal n ≡ glyph (n / 100) ∷ glyph (n / 10) ∷ glyph n ∷ []
+decimal_three n low high =
+    let only : n / 100 ≡ n / 100 % 10 = omega arith in
+    decimal_last_two n low (omega arith) ∙ (λ i. decimal (only i) ++ (last_glyph (n / 10) i ++ last_glyph n i)) ∙ ap (λ l. l ++ (glyph (n / 10) ∷ glyph n ∷ [])) (last_glyph (n / 100))
+
+pub decimal_four : (n : ℕ) → 1000 ≤ n → n < 10000 → decimal n ≡ glyph (n / 1000) ∷ glyph (n / 100) ∷ glyph (n / 10) ∷ glyph n ∷ []
+decimal_four n low high =
+    decimal_of_four n low high ∙ (λ i. last_glyph (n / 1000) i ++ (last_glyph (n / 100) i ++ (last_glyph (n / 10) i ++ last_glyph n i)))

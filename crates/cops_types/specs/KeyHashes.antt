@@ -2,9 +2,9 @@
 use Rattle.std.specs.Prelude.{ℕ, List, [], ◌∷◌, length, take, nat_le, if◌then◌else◌}
 use Rattle.cops_types.specs.Padding.{padded}
 
--- all of its cells, or the first 16 where the others are 0, in one write
+-- all of its cells, or the first 8 or 16 where the others are 0, in one write
 abbrev pub hashed_cells : List ℕ → List (List ℕ)
-hashed_cells key = (if nat_le (length key) 16 then take 16 (padded 64 key) else padded 64 key) ∷ []
+hashed_cells key = (if nat_le (length key) 8 then take 8 (padded 64 key) else if nat_le (length key) 16 then take 16 (padded 64 key) else padded 64 key) ∷ []
 
 -- all of its cells, in one write
 abbrev pub hashed_name : List ℕ → List (List ℕ)

@@ -1,6 +1,7 @@
 ghost use Rattle.std.specs.Prelude.{◌≡◌, ◌≤◌, [], ◌∷◌, length, IfOk, OnOk, OnErr};
+ghost use Rattle.std.specs.List.{list_any};
 ghost use Rattle.cops_types.specs.Growing.{HasRoomForOne};
-ghost use Rattle.cops_types.specs.Pairs.{IsNear, pair_cmp, is_over, without_held};
+ghost use Rattle.cops_types.specs.Pairs.{IsNear, holds, pair_cmp, is_over, without_held};
 ghost use Rattle.cops_types.specs.Refusal.{IsAnswer, refused_if};
 ghost use Rattle.cops_types.specs.Search.{add_item};
 
@@ -68,6 +69,13 @@ impl NearBuilder {
         ensures in_order { IsNear self.now.pairs }
     {
         self.pairs.as_slice()
+    }
+
+    /// Whether there is a pair that the deps hold exactly.
+    pub fn has_held(&self, deps: &Deps) -> bool
+        ensures { result ≡ list_any (holds deps.now) self.now.pairs }
+    {
+        pair_lists::has_held_in(self.pairs(), deps.owned())
     }
 
     /// Takes the memory for more pairs.

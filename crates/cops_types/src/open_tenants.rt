@@ -224,6 +224,14 @@ impl OpenTenants {
         if self.is_at(hint, name) {
             return Some(hint);
         }
+        self.slot_by_hash(name)
+    }
+
+    /// The same, by the name's hash.
+    #[inline(never)]
+    fn slot_by_hash(&self, name: &[u8]) -> Option<u64>
+        ensures { result ≡ open_slot_of_name self.now name.now }
+    {
         let names = &self.names;
         let Ok(name) = Name::new(name) else {
             return None;

@@ -1,9 +1,9 @@
 //! Lists of pairs as they are kept: a list whose keys are all short takes less memory.
-ghost use Rattle.std.specs.Prelude.{◌≡◌, ◌<◌, ◌≤◌, ◌+◌, ◌*◌, ◌++◌, [], length, take, slice_index_or, MatchResult, IfOk, IsTrue, ◌↔◌, nat_le};
+ghost use Rattle.std.specs.Prelude.{◌≡◌, ◌<◌, ◌≤◌, ◌+◌, ◌*◌, ◌++◌, [], length, take, slice_index_or, MatchResult, IfOk, IfSome, IsTrue, ◌↔◌, nat_le};
 ghost use Rattle.std.specs.List.{HoldsAt, list_all};
 ghost use Rattle.std.specs.List.Sorted.{IsSearchInRange, IsPartitionPoint};
 ghost use Rattle.std.specs.declared.cmp.Ordering.TheVariants.{Less, Equal, Greater};
-ghost use Rattle.cops_types.specs.Key.{key_cmp};
+ghost use Rattle.cops_types.specs.Key.{key_cmp, key_eq};
 ghost use Rattle.cops_types.specs.Packed.{SHORT, has_short_key};
 ghost use Rattle.cops_types.specs.PackedRows.{pairs_of};
 ghost use Rattle.cops_types.specs.PairForms.{is_pair};
@@ -23,6 +23,9 @@ use std::alloc::{AllocError, Global};
 use std::cmp::Ordering;
 use std::marker::Model;
 use std::slice;
+
+/// How many pairs are looked at one after another.
+const FEW: usize = 8;
 
 /// A pair whose key has at most 15 bytes. Contracts see a pair like any other.
 #[derive(Clone, Copy, Debug)]
@@ -74,10 +77,26 @@ impl ShortPair {
     }
 
     /// The version.
-    fn version(&self) -> Version
+    pub(crate) fn version(&self) -> Version
         ensures { result ≡ self.now.version }
     {
         self.version
+    }
+
+    /// Whether this is the key.
+    #[inline(always)]
+    fn has_key(&self, key: &Key) -> bool
+        ensures { result ≡ key_eq self.now.key key.now }
+    {
+        self.key_order(key) == Ordering::Equal
+    }
+
+    /// Whether this is the pair.
+    #[inline(always)]
+    fn is_pair(&self, pair: &Pair) -> bool
+        ensures { result ≡ pair_eq pair.now self.now }
+    {
+        self.has_key(&pair.key) && pair.version == self.version
     }
 
     /// Puts the key, a colon and the version at a place.
@@ -95,7 +114,7 @@ impl ShortPair {
 
     /// How the key stands to another.
     #[inline(always)]
-    fn key_order(&self, key: &Key) -> Ordering
+    pub(crate) fn key_order(&self, key: &Key) -> Ordering
         ensures { result ≡ key_cmp self.now.key key.now }
     {
         let order = order_of_fronts(&self.bytes, key.front(), 7);
@@ -220,6 +239,59 @@ fn place_among_short(pairs: &[ShortPair], key: &Key) -> Result<usize, usize>
     pairs.binary_search_by(|pair| pair.key_order(key))
 }
 
+/// The version that short pairs in order have of a key, 0.0 where they have none. Few pairs are looked
+/// at one after another.
+fn version_among_short(pairs: &[ShortPair], key: &Key) -> Version
+    requires { IsDeps pairs.now }
+    ensures { result ≡ version_of key.now pairs.now }
+{
+    if pairs.len() > FEW {
+        return version_among_many(pairs, key);
+    }
+    for pair in pairs {
+        if pair.has_key(key) {
+            return pair.version();
+        }
+    }
+    Version::none()
+}
+
+/// The same, by halves.
+#[inline(never)]
+fn version_among_many(pairs: &[ShortPair], key: &Key) -> Version
+    requires { IsDeps pairs.now }
+    ensures { result ≡ version_of key.now pairs.now }
+{
+    match place_among_short(pairs, key) {
+        Ok(place) => pairs[place].version(),
+        Err(_) => Version::none(),
+    }
+}
+
+/// Whether short pairs with one version for each key hold exactly this pair. Few pairs are looked at
+/// one after another.
+fn is_among_short(pairs: &[ShortPair], pair: &Pair) -> bool
+    requires { IsDeps pairs.now }
+    ensures { result ≡ holds pairs.now pair.now }
+{
+    if pairs.len() > FEW {
+        return is_among_many(pairs, pair);
+    }
+    pairs.iter().any(|other| other.is_pair(pair))
+}
+
+/// The same, by halves.
+#[inline(never)]
+fn is_among_many(pairs: &[ShortPair], pair: &Pair) -> bool
+    requires { IsDeps pairs.now }
+    ensures { result ≡ holds pairs.now pair.now }
+{
+    match place_among_short(pairs, &pair.key) {
+        Ok(place) => pairs[place].version() == pair.version,
+        Err(_) => false,
+    }
+}
+
 /// Whether two pairs are the same.
 fn is_same_pair(pair: Pair, other: Pair) -> bool
     ensures { IsTrue result ↔ (pair ≡ other) }
@@ -262,6 +334,18 @@ impl PackedPairs {
             Rows::Full(Vec::from_slice(alloc, pairs)?)
         };
         Ok(PackedPairs { alloc, rows })
+    }
+
+    /// All pairs, where their keys are kept as short ones.
+    #[inline(always)]
+    pub(crate) fn short(&self) -> Option<&[ShortPair]>
+        ensures { IfSome result (λ pairs. pairs.now ≡ self.now) }
+    {
+        match &self.rows {
+            Rows::One(pair) => Some(slice::from_ref(pair)),
+            Rows::Short(pairs) => Some(pairs.as_slice()),
+            Rows::Full(_) => None,
+        }
     }
 
     /// How many pairs there are.
@@ -395,6 +479,18 @@ impl PackedPairs {
         requires { IsDeps self.now }
         ensures { result ≡ version_of key.now self.now }
     {
+        match self.short() {
+            Some(pairs) => version_among_short(pairs, key),
+            None => self.version_by_place(key),
+        }
+    }
+
+    /// The same, of pairs in any form.
+    #[inline(never)]
+    fn version_by_place(&self, key: &Key) -> Version
+        requires { IsDeps self.now }
+        ensures { result ≡ version_of key.now self.now }
+    {
         match self.place_of(key) {
             Ok(place) => self.version(place),
             Err(_) => Version::none(),
@@ -403,6 +499,18 @@ impl PackedPairs {
 
     /// Whether pairs with one version for each key hold exactly this pair.
     pub(crate) fn holds(&self, pair: &Pair) -> bool
+        requires { IsDeps self.now }
+        ensures { result ≡ holds self.now pair.now }
+    {
+        match self.short() {
+            Some(pairs) => is_among_short(pairs, pair),
+            None => self.holds_at_place(pair),
+        }
+    }
+
+    /// The same, of pairs in any form.
+    #[inline(never)]
+    fn holds_at_place(&self, pair: &Pair) -> bool
         requires { IsDeps self.now }
         ensures { result ≡ holds self.now pair.now }
     {

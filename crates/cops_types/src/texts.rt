@@ -1,5 +1,5 @@
 //! Texts of numbers, versions, pairs and faults, put at the end of a vector.
-ghost use Rattle.std.specs.Prelude.{◌≡◌, ◌<◌, ◌++◌, length, drop, decimal, IsTrue, OnOk, OnErr};
+ghost use Rattle.std.specs.Prelude.{◌≡◌, ◌<◌, ◌+◌, ◌%◌, ◌++◌, length, drop, decimal, IsTrue, OnOk, OnErr};
 ghost use Rattle.std.specs.List.{list_all};
 ghost use Rattle.cops_types.specs.FaultText.{fault_text};
 ghost use Rattle.cops_types.specs.PairForms.{are_deps, are_near, is_pair, is_version};
@@ -15,7 +15,8 @@ use std::alloc::AllocError;
 
 /// Puts the decimal digits of a number at the end. After an `Err` nothing is put.
 ///
-/// Most numbers of a script have one digit: nodes, lengths of lists, first clocks.
+/// Most numbers of a script have few digits: nodes, lengths of lists, first clocks. So many are
+/// written as one word.
 pub fn push_number(out: &mut Vec<u8>, number: u64) -> Result<(), AllocError>
     ensures ok { OnOk result (out.new.items ≡ out.old.items ++ decimal number) }
     ensures err { OnErr result (out.new.items ≡ out.old.items) }
@@ -24,6 +25,40 @@ pub fn push_number(out: &mut Vec<u8>, number: u64) -> Result<(), AllocError>
         out.push(b'0' + number as u8)?;
         return Ok(());
     }
+    if number < 100 {
+        out.extend_from_slice(&[digit(number / 10), digit(number)])?;
+        return Ok(());
+    }
+    if number < 1000 {
+        out.extend_from_slice(&[digit(number / 100), digit(number / 10), digit(number)])?;
+        return Ok(());
+    }
+    if number < 10_000 {
+        out.extend_from_slice(&[
+            digit(number / 1000),
+            digit(number / 100),
+            digit(number / 10),
+            digit(number),
+        ])?;
+        return Ok(());
+    }
+    push_long(out, number)
+}
+
+/// The last decimal digit of a number.
+#[inline(always)]
+fn digit(number: u64) -> u8
+    ensures { result ≡ 48 + number % 10 }
+{
+    b'0' + (number % 10) as u8
+}
+
+/// Puts the decimal digits of any number at the end. After an `Err` nothing is put.
+#[inline(never)]
+fn push_long(out: &mut Vec<u8>, number: u64) -> Result<(), AllocError>
+    ensures ok { OnOk result (out.new.items ≡ out.old.items ++ decimal number) }
+    ensures err { OnErr result (out.new.items ≡ out.old.items) }
+{
     let mut buffer = itoa::Buffer::new();
     out.extend_from_slice(buffer.format(number).as_bytes())?;
     Ok(())

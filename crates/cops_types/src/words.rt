@@ -10,9 +10,8 @@ use std::marker::Model;
 /// How many bytes are looked at one by one.
 const FEW: usize = 8;
 
-/// A number below this stays below 2 to the 64 with one more digit, so that only the last digits of
-/// the longest numbers are looked at with care.
-const ROOM_FOR_A_DIGIT: u64 = 1_000_000_000_000_000_000;
+/// A number of so many digits is below 2 to the 64, whichever they are.
+const SURE_DIGITS: usize = 19;
 
 /// The words of a line that are still to come, between single spaces. Contracts see the list.
 #[derive(Debug, Drop)]
@@ -53,6 +52,9 @@ fn place_of_space(bytes: &[u8]) -> Option<usize>
             return Some(at);
         }
         at += 1;
+    }
+    if few == bytes.len() {
+        return None;
     }
     let more = memchr::memchr(b' ', &bytes[few..])?;
     Some(few + more)
@@ -97,6 +99,25 @@ fn value_of(word: &[u8]) -> Option<u64>
     ensures some { IfSome result (λ n. (n < 2 ^ 64) × AllDigits 10 word.now × (n ≡ digits_value 10 word.now)) }
     ensures none { IfNone result (AllDigits 10 word.now → 2 ^ 64 ≤ digits_value 10 word.now) }
 {
+    if word.len() > SURE_DIGITS {
+        return value_of_many(word);
+    }
+    let mut value = 0;
+    for byte in word {
+        if !byte.is_ascii_digit() {
+            return None;
+        }
+        value = value * 10 + u64::from(*byte - b'0');
+    }
+    Some(value)
+}
+
+/// The same of more digits, which may write a greater number.
+#[inline(never)]
+fn value_of_many(word: &[u8]) -> Option<u64>
+    ensures some { IfSome result (λ n. (n < 2 ^ 64) × AllDigits 10 word.now × (n ≡ digits_value 10 word.now)) }
+    ensures none { IfNone result (AllDigits 10 word.now → 2 ^ 64 ≤ digits_value 10 word.now) }
+{
     let mut value = 0;
     for byte in word {
         value = with_digit(value, *byte)?;
@@ -112,11 +133,7 @@ fn with_digit(value: u64, byte: u8) -> Option<u64>
     if !byte.is_ascii_digit() {
         return None;
     }
-    let digit = u64::from(byte - b'0');
-    if value < ROOM_FOR_A_DIGIT {
-        return Some(value * 10 + digit);
-    }
-    value.checked_mul(10)?.checked_add(digit)
+    value.checked_mul(10)?.checked_add(u64::from(byte - b'0'))
 }
 
 /// The number that the word writes: decimal, without a leading zero, and below 2 to the 64.

@@ -3,7 +3,7 @@ use Rattle.cops_types.specs.Key.{is_name}
 use Rattle.cops_types.specs.OpenSlots.{has_name, open_slot_of_name}
 use Rattle.cops_types.proofs.OpenSlotLemmas.{none_named, none_passes}
 use Rattle.cops_types.proofs.SlotLemmas.{no_name}
-use Rattle.cops_types.proofs.open_tenants.OpenTenants.slot_of_name.Goals as goal
+use Rattle.cops_types.proofs.open_tenants.OpenTenants.slot_by_hash.Goals as goal
 
 pub returns-in_default : goal.returns-in_default
 returns-in_default c =

@@ -1,7 +1,7 @@
 use Rattle.std.proofs.Common.{◌∙◌, sym, ap}
 use Rattle.cops_types.specs.Version.{version_eq}
 use Rattle.cops_types.proofs.PairPlaces.{no_key, holds-at, holds-no_key}
-use Rattle.cops_types.proofs.packed.PackedPairs.holds.Goals as goal
+use Rattle.cops_types.proofs.packed.PackedPairs.holds_at_place.Goals as goal
 
 pub returns-in-Ok : goal.returns-in-Ok
 returns-in-Ok c =

@@ -1,6 +1,6 @@
 use Rattle.std.proofs.Common.{◌≡◌, ◌≤◌, ◌+◌, ◌-◌, take, length}
 use Rattle.cops_types.specs.Pairs.{joined}
-use Rattle.cops_types.proofs.pair_lists.has_all_along.Given as goal
+use Rattle.cops_types.proofs.pair_lists.has_all_short.Given as goal
 
 -- the pairs so far change nothing
 abbrev pub invariant-loop-second : goal.invariant-loop-second

@@ -1,7 +1,7 @@
 use Rattle.std.proofs.Common.{◌∙◌, sym}
 use Rattle.cops_types.specs.declared.pairs.Pair.{Pair}
 use Rattle.cops_types.proofs.PairPlaces.{no_key, version_of-at, version_of-no_key}
-use Rattle.cops_types.proofs.packed.PackedPairs.version_of.Goals as goal
+use Rattle.cops_types.proofs.packed.PackedPairs.version_by_place.Goals as goal
 
 pub returns-in-Ok : goal.returns-in-Ok
 returns-in-Ok c =
