@@ -12,7 +12,7 @@ use Rattle.cops_model.specs.declared.replies.Reply.TheVariants.{Refused}
 use Rattle.cops_model.specs.Cluster.{SoloCluster, cluster_step}
 use Rattle.cops_model.specs.Events.{IsFrontOf, IsSpared, before_lack, config_at, is_out_of_memory, own, replies, replies_from, with_cluster}
 use Rattle.cops_script.specs.Said.{HostDeed, Said, OfHost, Unformed, Acts}
-use Rattle.cops_script.specs.Answers.{Answer, ToHost, ToTenant, reply_to_host}
+use Rattle.cops_script.specs.Answers.{Answer, ToHost, ToTenant}
 use Rattle.cops_script.specs.Script.{answers_of, events_in}
 use Rattle.cops_script.specs.ScriptRuns.{act_replies, replies_to}
 use Rattle.cops_script.proofs.AnswersTo.{answers_of-from, new_at}

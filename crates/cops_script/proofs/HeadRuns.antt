@@ -1,4 +1,4 @@
--- What a machine that begins in the head of a script comes to, over lines as they are cut.
+-- What the lines of a head come to, as they are cut.
 use Rattle.std.proofs.Common.{◌≡◌, ℕ, zero, suc, ◌+◌, ◌<◌, ◌≤◌, ◌^◌, ◌-◌, Bool, true, false, min, List, [], ◌∷◌, ◌++◌, length, map, take, inl, inr, refl, sym, subst, ap, ◌∙◌, length-append, length-take, true≢false, arith}
 use Rattle.std.specs.Prelude.{Option, Some, None, nat_lt, IsTrue}
 use Rattle.std.specs.List.{AllByRecursion}
@@ -7,19 +7,12 @@ use Rattle.std.proofs.lemmas.Bool.Decides.{nat_tests}
 use Rattle.cops_types.specs.declared.configs.Config.{Config}
 use Rattle.cops_types.specs.declared.configs.Tenant.{Tenant}
 use Rattle.cops_types.specs.Counts.{counted}
-use Rattle.cops_types.specs.Head.{Front, AtStart, Within, Begun, is_begun, Follows, front_after, Whole, BadAt, reading_from}
+use Rattle.cops_types.specs.Head.{Front, AtStart, Within, Begun, is_begun, Follows, front_after, BadAt, reading_from}
 use Rattle.cops_types.specs.HeadLines.{is_distinct, is_tenant}
-use Rattle.cops_types.specs.HeadReader.{front_with}
-use Rattle.cops_script.specs.LineRules.{LineRules, Run}
 use Rattle.cops_types.specs.Lines.{cut_line, longest_line}
 use Rattle.cops_types.proofs.FrontLemmas.{front_after-is}
 use Rattle.cops_types.proofs.HeadLengths.{AreGood, front_after-short, follows-good, name_of_good}
 use Rattle.cops_types.proofs.WordLemmas.{both}
-use Rattle.cops_script.specs.declared.scripts.HeadSoFar.{HeadSoFar}
-use Rattle.cops_script.specs.declared.scripts.Script.{Script}
-use Rattle.cops_script.specs.declared.scripts.Script.TheVariants.{Head, Running}
-use Rattle.cops_script.specs.declared.scripts.BadConfig.{BadConfig}
-use Rattle.cops_script.specs.HeadRules.{GoesOn, HeadAnswers, HeadRefuses, IsHeadAt}
 use Rattle.cops_types.specs.Slots.{AreNamed}
 use Rattle.cops_script.proofs.ApartTenants.{AreApart, apart_push, none_apart}
 
@@ -132,7 +125,7 @@ named_of config good = go config.tenants good
     go [] h = tt
     go (t ∷ tenants) h = (name_of_good t h.0, go tenants h.1)
 
-apart_of_begun : (front : Front) (line : List ℕ) (config : Config) → AreApart (tenants_in front) → Follows front line (Begun config) → AreApart config.tenants
+pub apart_of_begun : (front : Front) (line : List ℕ) (config : Config) → AreApart (tenants_in front) → Follows front line (Begun config) → AreApart config.tenants
 apart_of_begun AtStart line config apart h = absurd (true≢false (ap is_begun h.2))
 apart_of_begun (Within old) line config apart (inl joins) = absurd (true≢false (ap is_begun joins.after))
 apart_of_begun (Within old) line config apart (inr ends) = subst AreApart (sym (ap tenants_in ends.after)) apart
@@ -155,64 +148,3 @@ pub bad_end : (front : Front) (number : ℕ) → is_begun front ≡ false → re
 bad_end AtStart number still = refl
 bad_end (Within config) number still = refl
 bad_end (Begun config) number still = absurd (true≢false still)
-
-pub refused_line : (W : Type 0) (front : Front) (count : ℕ) (head : HeadSoFar) (line : List ℕ) (bad : BadConfig) → IsHeadAt {W = W} front count (Head head) → HeadRefuses head line bad → (front_after front line ≡ None) × (bad.line ≡ counted count)
-refused_line W front count head line bad here refused = (sym (ap (λ r. front_with r line) here.0) ∙ refused.0, refused.1 ∙ ap counted here.1)
-
--- ---- runs
-
-module _ {S W F : Type 0} (limit : ℕ) (wide : 8192 ≤ limit) (rules : LineRules S F) (stage : S → Script W) (Same : S → Type 0) (Starts : Config → W → Type 0)
-    (steps : (s : S) (head : HeadSoFar) → stage s ≡ Head head → Same s → (line text : List ℕ) (new : S) → rules.answers s line text new → Same new × HeadAnswers Starts head line text (stage new)) where
-  -- a run that begins in the head ends in it, or past it
-  pub data HeadRun (front : Front) (count : ℕ) (lines : List (List ℕ)) (text : List ℕ) (state : S) : Type 0 where
-    InHead : (next : Front) (later : ℕ) → IsCounted next later → is_begun next ≡ false → IsHeadAt next later (stage state) → Same state → text ≡ []
-        → ((others : List (List ℕ)) → reading_from (lines ++ others) (count + 1) front ≡ reading_from others (later + 1) next) → HeadRun front count lines text state
-    PastHead : (config : Config) (rest : List (List ℕ)) (s : S) (world : W) → AreGood (Begun config) → AreApart config.tenants → stage s ≡ Running world → Same s → Starts config world
-        → Run rules s (map (cut_line limit) rest) text state
-        → ((others : List (List ℕ)) → reading_from (lines ++ others) (count + 1) front ≡ Whole config (rest ++ others)) → HeadRun front count lines text state
-
-  -- one line of the head, and what the run does from there
-  head_line : (line : List ℕ) (lines : List (List ℕ)) (front : Front) (count : ℕ) (text : List ℕ) (state : S) (first later : List ℕ) (mid : S) (next : Front) →
-      IsCounted front count → is_begun front ≡ false → front_after front line ≡ Some next → first ≡ [] → Same mid → GoesOn Starts count next (stage mid) →
-      Run rules mid (map (cut_line limit) lines) later state → text ≡ first ++ later →
-      ((on : Front) (n : ℕ) (m : S) → IsCounted on n → is_begun on ≡ false → Same m → IsHeadAt on n (stage m) → Run rules m (map (cut_line limit) lines) text state → HeadRun on n lines text state) →
-      HeadRun front count (line ∷ lines) text state
-  head_line line lines front count text state first later mid AtStart c still e silent same goes run whole on_from = absurd goes
-  head_line line lines front count text state first later mid (Within config) c still e silent same goes run whole on_from =
-      let n = counted_next front count line config c e in
-      let text_is : later ≡ text = sym (whole ∙ ap (λ t. t ++ later) silent) in
-      let run_on = subst (λ t. Run rules mid (map (cut_line limit) lines) t state) text_is run in
-      one_more (on_from (Within config) (counted count) mid n refl same goes run_on)
-    where
-      number : counted count + 1 ≡ count + 1 + 1
-      number = ap (λ k. k + 1) (counted-small front count c)
-
-      read_here : (others : List (List ℕ)) → reading_from (line ∷ lines ++ others) (count + 1) front ≡ reading_from (lines ++ others) (counted count + 1) (Within config)
-      read_here others = read_once front (count + 1) line (lines ++ others) (Within config) still e ∙ ap (λ k. reading_from (lines ++ others) k (Within config)) (sym number)
-
-      one_more : HeadRun (Within config) (counted count) lines text state → HeadRun front count (line ∷ lines) text state
-      one_more (InHead next after n still is same silent reads) = InHead next after n still is same silent (λ others. read_here others ∙ reads others)
-      one_more (PastHead found rest s world good apart is same fresh run reads) = PastHead found rest s world good apart is same fresh run (λ others. read_here others ∙ reads others)
-  head_line line lines front count text state first later mid (Begun config) c still e silent same (world, fresh, is) run whole on_from =
-      let text_is : later ≡ text = sym (whole ∙ ap (λ t. t ++ later) silent) in
-      let follows = front_after-is front line (Begun config) e in
-      PastHead config lines mid world (follows-good front line (Begun config) c.good follows) (apart_of_begun front line config c.apart follows) is same fresh
-      (subst (λ t. Run rules mid (map (cut_line limit) lines) t state) text_is run)
-      (λ others. read_once front (count + 1) line (lines ++ others) (Begun config) still e)
-
-  pub heads : (lines : List (List ℕ)) (front : Front) (count : ℕ) (m : S) (text : List ℕ) (state : S) → IsCounted front count → is_begun front ≡ false → Same m → IsHeadAt front count (stage m) →
-      Run rules m (map (cut_line limit) lines) text state → HeadRun front count lines text state
-  heads [] front count m text state c still same here h =
-      InHead front count c still (subst (λ s. IsHeadAt front count (stage s)) (sym h.1) here) (subst Same (sym h.1) same) h.0 (λ others. refl)
-  heads (line ∷ lines) front count m text state c still same here (first, mid, later, answered, run, whole) = by (stage m) refl (λ n k s. heads lines n k s text state)
-    where
-      by : (st : Script W) → stage m ≡ st →
-          ((n : Front) (k : ℕ) (s : S) → IsCounted n k → is_begun n ≡ false → Same s → IsHeadAt n k (stage s) → Run rules s (map (cut_line limit) lines) text state → HeadRun n k lines text state) →
-          HeadRun front count (line ∷ lines) text state
-      by (Running world) e on = absurd (subst (IsHeadAt front count) e here)
-      by (Head head) e on =
-          let at = subst (IsHeadAt front count) e here in
-          let step = steps m head e same (cut_line limit line) first mid answered in
-          let next = step.1.0 in
-          let found : front_after front line ≡ Some next = sym (cut_in_head limit wide front line) ∙ sym (ap (λ r. front_with r (cut_line limit line)) at.0) ∙ step.1.1 in
-          head_line line lines front count text state first later mid next c still found step.1.2 step.0 (subst (λ n. GoesOn Starts n next (stage mid)) at.1 step.1.3) run whole on

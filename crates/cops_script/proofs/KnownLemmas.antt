@@ -1,5 +1,6 @@
 -- What a run says where the bytes of its reader are known.
-use Rattle.std.proofs.Common.{◌≡◌, ℕ, List, [], ◌∷◌, ◌++◌, inl, inr, Option, None, Some, refl, ap, ◌∙◌, append_assoc, append-nil}
+use Rattle.std.proofs.Common.{◌≡◌, ℕ, List, [], ◌∷◌, ◌++◌, inl, inr, Option, None, Some, refl, sym, subst, ap, ◌∙◌, append_assoc, append-nil}
+use Rattle.std.specs.Prelude.{IfSome}
 use Rattle.std.specs.Io.KnownBytes.{Consumes, IsAtEnd, Keeps}
 use Rattle.cops_types.specs.Sink.{AppendsFront}
 use Rattle.cops_types.specs.Lines.{cut_lines}
@@ -42,6 +43,20 @@ pub AppendsFront-nil : (old new : Option (List ℕ)) → AppendsFront old new []
 AppendsFront-nil None new p = tt
 AppendsFront-nil (Some x) None p = absurd p.1.appended
 AppendsFront-nil (Some x) (Some y) (rest, p) = p.appended ∙ ap (λ l. x ++ l) (front_of_nil p.written rest p.whole) ∙ append-nil x
+
+-- what holds of all that was read holds of what was known
+pub by_known : (P : List ℕ → Type 0) (known new : Option (List ℕ)) (input : List ℕ) → Consumes known new input → IsAtEnd new → P input → IfSome known P
+by_known P None new input read at_end holds = tt
+by_known P (Some bytes) new input read at_end holds = subst P (sym (input_is bytes input new read at_end)) holds
+
+-- a machine that is quiet at the end has been so from the start, and answered nothing
+pub Run-quiet : {M F : Type 0} (rules : LineRules M F) (IsQuiet : M → Type 0) → ((old : M) (line text : List ℕ) (new : M) → rules.answers old line text new → IsQuiet new → IsQuiet old × (text ≡ []))
+    → (old : M) (lines : List (List ℕ)) (text : List ℕ) (new : M) → Run rules old lines text new → IsQuiet new → IsQuiet old × (text ≡ [])
+Run-quiet rules IsQuiet before old [] text new h here = (subst IsQuiet h.1 here, h.0)
+Run-quiet rules IsQuiet before old (line ∷ lines) text new (first, mid, later, answered, run, whole) here =
+    let rest = Run-quiet rules IsQuiet before mid lines later new run here in
+    let one = before old line first mid answered rest.0 in
+    (one.0, whole ∙ (λ i. one.1 i ++ rest.1 i))
 
 -- ---- a machine that answers nothing never sees the writer fail
 

@@ -26,11 +26,11 @@ mod MachineLemmas
 pub mod ApartTenants
 pub mod NamedSlots
 pub mod HeadRuns
+pub mod BodyRuns
 pub mod SoloMachine
 pub mod SoloLemmas
 pub mod WholeHeads
 pub mod ScriptLemmas
-mod SilentHeads
 pub mod TenantConfigs
 pub mod BegunSetups
 pub mod MainLemmas

@@ -1,6 +1,6 @@
 -- What the lives of a new world are told is what the definition tells them.
 use Rattle.std.proofs.Common.{◌≡◌, ℕ, zero, suc, ◌<◌, Bool, true, false, ◌||◌, true≢false, List, [], ◌∷◌, ◌++◌, length, map, refl, sym, subst, ap, ◌∙◌, append-nil, arith}
-use Rattle.std.specs.Prelude.{slice_get, IsTrue, Option, Some, None}
+use Rattle.std.specs.Prelude.{slice_get, IsTrue, Option, Some}
 use Rattle.std.specs.List.{list_any}
 use Rattle.cops_types.specs.declared.configs.Config.{Config}
 use Rattle.cops_types.specs.declared.configs.Tenant.{Tenant}
@@ -8,8 +8,8 @@ use Rattle.cops_types.specs.OpenSlots.{begun_with, open_at}
 use Rattle.cops_types.specs.TenantConfig.{tenant_config}
 use Rattle.cops_model.specs.Cluster.{SoloCluster, new_cluster}
 use Rattle.cops_model.specs.Events.{IsFrontOf, before_lack, config_at}
-use Rattle.cops_script.specs.Lives.{Lives, first_lives, lives_past, of_lives, of_lives_from, with_all_lives}
-use Rattle.cops_script.specs.Said.{HostDeed, Admits, Closes, Refuses, Said, OfHost, Unformed, Acts, said_in, tenants_after, tenants_past}
+use Rattle.cops_script.specs.Lives.{first_lives, lives_past, of_lives, of_lives_from, with_all_lives}
+use Rattle.cops_script.specs.Said.{Admits, Closes, Refuses, Said, OfHost, Unformed, Acts, said_in, tenants_after, tenants_past}
 use Rattle.cops_model.specs.Setups.{Setup, is_open_at}
 use Rattle.cops_script.specs.Acting.{IsNew}
 use Rattle.cops_script.specs.Answers.{Answer, is_lack}

@@ -1,6 +1,6 @@
 -- What lives are told, where each line is done by a world, however it is kept.
-use Rattle.std.proofs.Common.{◌≡◌, ◌≢◌, ℕ, suc, ◌+◌, ◌<◌, ◌≤◌, Bool, true, false, ◌||◌, ◌==◌, List, [], ◌∷◌, ◌++◌, length, map, inl, inr, refl, sym, subst, ap, ◌∙◌, true≢false, arith}
-use Rattle.std.specs.Prelude.{filter_map, slice_get, IsTrue, Option, Some, None}
+use Rattle.std.proofs.Common.{◌≡◌, ◌≢◌, ℕ, suc, ◌≤◌, Bool, true, false, ◌||◌, ◌==◌, List, [], ◌∷◌, ◌++◌, length, map, inl, inr, refl, sym, subst, ap, ◌∙◌, true≢false, arith}
+use Rattle.std.specs.Prelude.{filter_map, IsTrue, Option, Some, None}
 use Rattle.std.specs.List.{list_any}
 use Rattle.std.proofs.lemmas.Bool.Decides.{Decides-eqb}
 use Rattle.cops_types.specs.declared.configs.Config.{Config}
@@ -10,15 +10,14 @@ use Rattle.cops_types.specs.declared.faults.Fault.TheVariants.{OutOfMemory, Synt
 use Rattle.cops_types.specs.OpenSlots.{open_at}
 use Rattle.cops_types.specs.TenantConfig.{TenantConfig, tenant_config}
 use Rattle.cops_model.specs.declared.acts.Event.{Event}
-use Rattle.cops_model.specs.declared.replies.HostReply.{HostReply}
-use Rattle.cops_model.specs.declared.replies.HostReply.TheVariants.{Admitted, Closed, Denied}
+use Rattle.cops_model.specs.declared.replies.HostReply.TheVariants.{Denied}
 use Rattle.cops_model.specs.declared.replies.Reply.{Reply}
 use Rattle.cops_model.specs.declared.replies.Reply.TheVariants.{Refused}
 use Rattle.cops_model.specs.Cluster.{SoloCluster, cluster_step, new_cluster}
 use Rattle.cops_model.specs.Events.{IsFrontOf, before_lack, cluster_after, config_at, is_out_of_memory, own, with_cluster}
-use Rattle.cops_script.specs.Lives.{Lives, lives_after, lives_past, of_life, of_lives_from, with_life}
+use Rattle.cops_script.specs.Lives.{Lives, lives_after, lives_past, of_lives_from, with_life}
 use Rattle.cops_script.specs.Said.{HostDeed, Admits, Closes, Refuses, Said, OfHost, Unformed, Acts, tenants_after, tenants_past}
-use Rattle.cops_model.specs.Setups.{Setup, config_in, config_of, is_open_at, with_slot}
+use Rattle.cops_model.specs.Setups.{Setup, config_in, config_of, is_open_at}
 use Rattle.cops_script.specs.Acting.{HasActed, HasAdmitted, HasClosed, HasStayed, OthersStay}
 use Rattle.cops_script.specs.Answers.{Answer, ToHost, ToTenant, addressee, is_lack, reply_to_host}
 use Rattle.cops_script.specs.Doing.{IsDone, IsHosted}
@@ -27,7 +26,7 @@ use Rattle.cops_script.specs.ScriptRuns.{AreSpared, due_to_host, heard, host_rep
 use Rattle.cops_script.proofs.AnswersTo.{new_at}
 use Rattle.cops_script.proofs.Fronts.{ActsAreTold, act_keeps, act_keeps_acts, host_keeps, host_keeps_acts, no_replies, replies_along, unformed_keeps, unformed_keeps_acts}
 use Rattle.cops_script.proofs.Numbered.{AreNumbered, AreOf, ArePlaced, HasTenantAt, next_numbered}
-use Rattle.cops_script.proofs.OpenSets.{closed_set, open_set_either, open_set_other}
+use Rattle.cops_script.proofs.OpenSets.{closed_set, open_set_other}
 use Rattle.cops_script.proofs.Sequence.{answers_from}
 use Rattle.cops_script.proofs.TenantConfigs.{quota_at, tenant_in}
 

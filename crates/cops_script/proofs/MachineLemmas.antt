@@ -1,12 +1,9 @@
--- What a machine has answered keeps to the rules of a script.
-use Rattle.std.proofs.Common.{◌≡◌, ℕ, Bool, true, false, List, [], ◌++◌, refl, sym, subst, ap, ◌∙◌, append-nil, true≢false}
-use Rattle.std.specs.Prelude.{is_err, is_some, IsTrue, OnOk, Option, Some, None, Result, Ok, Err}
+-- What is answered to a line behind a head keeps to the rules.
+use Rattle.std.proofs.Common.{◌≡◌, ℕ, Bool, true, false, List, ◌++◌, refl, sym, subst, ap, ◌∙◌}
+use Rattle.std.specs.Prelude.{is_some, IsTrue, Option, Some, None}
 use Rattle.std.specs.Str.{bytes_eq}
-use Rattle.cops_types.specs.declared.configs.Config.{Config}
 use Rattle.cops_types.specs.declared.configs.Tenant.{Tenant}
 use Rattle.cops_types.specs.declared.faults.Fault.TheVariants.{UnknownTenant}
-use Rattle.cops_types.specs.Head.{Begun}
-use Rattle.cops_types.specs.HeadReader.{front_with}
 use Rattle.cops_script.specs.HostLines.{admitted_in, closed_in}
 use Rattle.cops_script.specs.LineAnswers.{Answers}
 use Rattle.cops_types.specs.OpenSlots.{open_at, open_slot_of_name}
@@ -18,23 +15,15 @@ use Rattle.cops_script.specs.ActLines.{act_in}
 use Rattle.cops_model.specs.Cluster.{SoloCluster}
 use Rattle.cops_script.specs.Said.{Said, OfHost, admission_of, begins_admission, begins_closing, closing_of, said_found, said_by, said_in}
 use Rattle.cops_model.specs.Setups.{Setup}
-use Rattle.cops_script.specs.declared.scripts.HeadSoFar.{HeadSoFar}
-use Rattle.cops_script.specs.declared.scripts.Script.{Script}
-use Rattle.cops_script.specs.declared.scripts.Script.TheVariants.{Head, Running}
-use Rattle.cops_script.specs.Acting.{HasStayed, IsNew}
+use Rattle.cops_script.specs.Acting.{HasStayed}
 use Rattle.cops_script.specs.Answers.{ToHost, ToTenant, host_line, open_name, reply_line, slot_line}
-use Rattle.cops_script.specs.Doing.{IsDone, IsHosted}
-use Rattle.cops_script.specs.ScriptRules.{IsAnswered, line_answers}
+use Rattle.cops_script.specs.Doing.{IsDone}
+use Rattle.cops_script.specs.AllRules.{IsAnswered}
 use Rattle.cops_script.proofs.SaidLines.{named_open}
 
 -- a tenant who is found by name is open
 pub open_found : (tenants : List (Option Tenant)) (word : List ℕ) (slot : ℕ) → open_slot_of_name tenants word ≡ Some slot → IsTrue (is_some (open_at slot tenants))
 open_found tenants word slot e = ap is_some (named_open tenants word slot e).1
-
--- what holds of an answer holds where it did not fail
-pub answered_ok : {T E P : Type 0} (result : Result T E) (failed : Bool) → failed ≡ is_err result → failed ≡ false → OnOk result P → P
-answered_ok (Ok done) failed is e held = held
-answered_ok (Err lack) failed is e held = absurd (true≢false (sym is ∙ e))
 
 -- whether the line begins with this word, as it was tested
 pub first_is : {t : Bool} (line word literal sign : List ℕ) (tested : Bool) → word ≡ first_word line → literal ≡ sign → tested ≡ bytes_eq word literal → tested ≡ t → bytes_eq (first_word line) sign ≡ t
@@ -87,21 +76,3 @@ module _ {W : Type 0} (setup : W → Setup) (StandsFor : W → ℕ → SoloClust
   -- the host is told
   pub answers_host : (old new : W) (said : Said) (reply : HostReply) (out new_out : List ℕ) → IsDone setup StandsFor old said (ToHost reply) new → new_out ≡ out ++ host_line reply → Answers (MayAnswer old said) new out new_out
   answers_host old new said reply out new_out done appended = record { text = host_line reply; answered = (ToHost reply, done, refl); appended = appended }
-
-  -- the line ends the head, and the script runs in a new world
-  pub begins_running : (state : Script W) (head : HeadSoFar) (line : List ℕ) (config : Config) (world : W) → state ≡ Head head → front_with head.reader line ≡ Some (Begun config) → IsNew setup StandsFor config world →
-      line_answers setup StandsFor state line [] (Running world)
-  begins_running state head line config world is found fresh =
-      subst (λ s. line_answers setup StandsFor s line [] (Running world)) (sym is) (Begun config, found, refl, (world, fresh, refl))
-
-  -- nothing is written where the answer is empty
-  pub answers_nothing : (old new : Script W) (line out : List ℕ) → line_answers setup StandsFor old line [] new → Answers (line_answers setup StandsFor old line) new out out
-  answers_nothing old new line out answered = record { text = []; answered = answered; appended = sym (append-nil out) }
-
-  -- a line after the head is answered
-  pub answers_running : (state : Script W) (old new : W) (line out new_out : List ℕ) → state ≡ Running old → Answers (MayAnswer old (said_in (setup old).tenants line)) new out new_out → Answers (line_answers setup StandsFor state line) (Running new) out new_out
-  answers_running state old new line out new_out at p = record {
-    text = p.text;
-    answered = subst (λ s. line_answers setup StandsFor s line p.text (Running new)) (sym at) (new, p.answered, refl);
-    appended = p.appended;
-  }

@@ -1,20 +1,19 @@
 -- Who says a line is open, and who is admitted gets a free slot and has a name.
-use Rattle.std.proofs.Common.{◌≡◌, ℕ, zero, suc, ◌+◌, ◌-◌, Bool, true, false, cond, true≢false, List, [], ◌∷◌, ◌++◌, length, map, set, refl, sym, subst, ap, ◌∙◌, arith}
+use Rattle.std.proofs.Common.{◌≡◌, ℕ, zero, suc, ◌+◌, ◌-◌, Bool, true, false, cond, List, [], ◌∷◌, ◌++◌, length, map, set, refl, sym, subst, ap, ◌∙◌, arith}
 use Rattle.std.specs.Prelude.{IsTrue, replicate, Option, Some, None}
 use Rattle.cops_types.specs.declared.configs.Tenant.{Tenant}
 use Rattle.cops_types.specs.declared.faults.Fault.{Fault}
 use Rattle.cops_types.specs.HeadLines.{is_tenant, most_tenants}
 use Rattle.cops_script.specs.HostLines.{admitted_in, closed_in}
-use Rattle.cops_types.specs.OpenSlots.{IsNamed, admission_refusal, begun_with, first_from, has_name, open_at, open_slot_of_name}
+use Rattle.cops_types.specs.OpenSlots.{IsNamed, admission_refusal, begun_with, first_from, has_name, open_slot_of_name}
 use Rattle.cops_types.specs.Slots.{AreNamed as AreAllNamed}
 use Rattle.cops_types.specs.Words.{first_word}
 use Rattle.cops_types.proofs.HeadLengths.{name_of_good}
 use Rattle.cops_script.proofs.HostLineLemmas.{admitted-good}
 use Rattle.cops_model.specs.declared.acts.Act.{Act}
 use Rattle.cops_script.specs.ActLines.{act_in}
-use Rattle.cops_script.specs.Said.{HostDeed, Admits, Closes, Refuses, Said, OfHost, Unformed, Acts, admission_of, admission_unless, begins_admission, begins_closing, closing_at, closing_of, said_found, said_by, said_in, tenants_after}
+use Rattle.cops_script.specs.Said.{Admits, Closes, Refuses, Said, OfHost, Unformed, Acts, admission_of, admission_unless, begins_admission, begins_closing, closing_at, closing_of, said_found, said_by, said_in, tenants_after}
 use Rattle.cops_model.specs.Setups.{next_slot}
-use Rattle.cops_script.specs.Answers.{Answer}
 use Rattle.cops_script.specs.OpenNames.{AreOpenNamed}
 use Rattle.cops_script.proofs.Numbered.{HasTenantAt, IsPlaced}
 use Rattle.cops_script.proofs.OpenSets.{may_be_given}

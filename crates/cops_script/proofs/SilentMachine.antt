@@ -1,12 +1,8 @@
--- What the machine of a script whose replies are not written has done keeps to its rules.
-use Rattle.std.proofs.Common.{◌≡◌, ℕ, Bool, true, false, not, List, [], refl, sym, subst, ap, ◌∙◌, append-nil}
+-- What is done by a line whose reply is not written keeps to the rules.
+use Rattle.std.proofs.Common.{◌≡◌, ℕ, Bool, true, false, not, List, refl, sym, subst, ◌∙◌}
 use Rattle.std.specs.Prelude.{IsTrue, Option, Some, None}
-use Rattle.cops_types.specs.declared.configs.Config.{Config}
 use Rattle.cops_types.specs.declared.configs.Tenant.{Tenant}
 use Rattle.cops_types.specs.declared.faults.Fault.TheVariants.{Syntax, UnknownTenant}
-use Rattle.cops_types.specs.Head.{Begun}
-use Rattle.cops_types.specs.HeadReader.{front_with}
-use Rattle.cops_script.specs.LineAnswers.{Answers}
 use Rattle.cops_types.specs.OpenSlots.{open_slot_of_name}
 use Rattle.cops_types.specs.Words.{first_word}
 use Rattle.cops_model.specs.declared.replies.HostReply.{HostReply}
@@ -17,16 +13,12 @@ use Rattle.cops_model.specs.declared.replies.Reply.TheVariants.{Refused}
 use Rattle.cops_script.specs.ActLines.{act_in}
 use Rattle.cops_model.specs.Cluster.{SoloCluster}
 use Rattle.cops_model.specs.Events.{is_out_of_memory}
-use Rattle.cops_script.specs.Said.{Said, said_found, said_by, said_in}
+use Rattle.cops_script.specs.Said.{Said, said_found, said_by}
 use Rattle.cops_model.specs.Setups.{Setup}
-use Rattle.cops_script.specs.declared.scripts.HeadSoFar.{HeadSoFar}
-use Rattle.cops_script.specs.declared.scripts.Script.{Script}
-use Rattle.cops_script.specs.declared.scripts.Script.TheVariants.{Head, Running}
-use Rattle.cops_script.specs.declared.silent_machine.SilentScript.{SilentScript}
-use Rattle.cops_script.specs.Acting.{HasActed, IsNew}
+use Rattle.cops_script.specs.Acting.{HasActed}
 use Rattle.cops_script.specs.Answers.{ToHost, ToTenant, is_lack}
 use Rattle.cops_script.specs.Doing.{IsDone}
-use Rattle.cops_script.specs.SilentRules.{IsDoneWhole, silent_answers, silent_answers_in}
+use Rattle.cops_script.specs.SilentRules.{IsDoneWhole}
 use Rattle.cops_script.proofs.MachineLemmas.{stays_as_it_is}
 
 not_true : (b : Bool) → not b ≡ true → b ≡ false
@@ -63,21 +55,3 @@ module _ {W : Type 0} (setup : W → Setup) (StandsFor : W → ℕ → SoloClust
       IsDoneWhole setup StandsFor old said new
   done_for_host old new one said reply lacking says done is_lacking spared =
       subst (λ s. IsDoneWhole setup StandsFor old s new) (sym says) (ToHost reply, done, sym is_lacking ∙ not_true lacking spared)
-
-  -- the line ends the head, and a new world begins
-  pub begins_silent : (silent : SilentScript W) (head : HeadSoFar) (line : List ℕ) (config : Config) (world : W) (out : List ℕ) → silent.script ≡ Head head → front_with head.reader line ≡ Some (Begun config) →
-      IsNew setup StandsFor config world → Answers (silent_answers setup StandsFor silent line) (record { script = Running world }) out out
-  begins_silent silent head line config world out is found fresh = record {
-    text = [];
-    answered = subst (λ (script : Script W). silent_answers_in setup StandsFor script line [] (Running world)) (sym is) (Begun config, found, refl, (world, fresh, refl));
-    appended = sym (append-nil out);
-  }
-
-  -- a line after the head was done
-  pub done_running : (silent : SilentScript W) (old new : W) (line out : List ℕ) (fine : Bool) → silent.script ≡ Running old → fine ≡ true → (IsTrue fine → IsDoneWhole setup StandsFor old (said_in (setup old).tenants line) new) →
-      Answers (silent_answers setup StandsFor silent line) (record { script = Running new }) out out
-  done_running silent old new line out fine at e done = record {
-    text = [];
-    answered = subst (λ (script : Script W). silent_answers_in setup StandsFor script line [] (Running new)) (sym at) (refl, new, done e, refl);
-    appended = sym (append-nil out);
-  }

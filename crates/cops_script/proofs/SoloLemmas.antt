@@ -1,6 +1,6 @@
 -- What the rules of one name come to over a whole text.
-use Rattle.std.proofs.Common.{◌≡◌, ℕ, zero, suc, ◌+◌, ◌-◌, ◌<◌, Bool, true, false, cond, ◌||◌, true≢false, List, [], ◌∷◌, ◌++◌, length, map, inl, inr, refl, sym, subst, ap, ◌∙◌, append_assoc, append-nil, arith}
-use Rattle.std.specs.Prelude.{filter, filter_map, flat_map, is_some, nat_le, replicate, slice_get, IsFalse, IfSome, Option, Some, None}
+use Rattle.std.proofs.Common.{◌≡◌, ℕ, zero, suc, ◌-◌, ◌<◌, Bool, true, false, cond, ◌||◌, true≢false, List, [], ◌∷◌, ◌++◌, length, map, inl, inr, refl, sym, subst, ap, ◌∙◌, append-nil, arith}
+use Rattle.std.specs.Prelude.{filter, filter_map, flat_map, is_some, nat_le, replicate, slice_get, IsFalse, IsTrue, IfSome, OnErr, Option, Some, None, Result, Ok, Err}
 use Rattle.std.specs.List.{list_any}
 use Rattle.std.specs.Str.{bytes_eq}
 use Rattle.std.specs.Io.KnownBytes.{Appends, Keeps}
@@ -12,19 +12,17 @@ use Rattle.cops_types.specs.declared.configs.Config.{Config}
 use Rattle.cops_types.specs.declared.configs.Tenant.{Tenant}
 use Rattle.cops_types.specs.declared.faults.Fault.TheVariants.{Syntax, UnknownTenant as NobodyOfIt}
 use Rattle.cops_script.specs.declared.line_runs.fault.RunFault.{RunFault}
-use Rattle.cops_script.specs.declared.line_runs.fault.RunFault.TheVariants as fault
-use Rattle.cops_types.specs.Counts.{counted}
-use Rattle.cops_types.specs.Head.{Front, AtStart, Begun, is_begun, front_after, Whole, BadAt, reading_from, head_of}
+use Rattle.cops_types.specs.Head.{AtStart, Begun, Whole, head_of}
 use Rattle.cops_types.specs.HeadLines.{most_tenants}
 use Rattle.cops_script.specs.LineRules.{Run}
 use Rattle.cops_script.specs.LineRuns.{AnswersAll, IfRunRefused, StopsEarly}
-use Rattle.cops_types.specs.Lines.{lines_of, cut_line, cut_lines, longest_line}
+use Rattle.cops_types.specs.Lines.{lines_of, cut_line, longest_line}
 use Rattle.cops_types.specs.OpenSlots.{begun_with, has_name, open_at, open_slot_of_name}
 use Rattle.cops_types.specs.Sink.{AppendsFront}
 use Rattle.cops_types.specs.TenantTexts.{AreApart}
 use Rattle.cops_types.specs.Words.{first_word}
 use Rattle.cops_types.proofs.HeadLengths.{AreGood}
-use Rattle.cops_script.proofs.KnownLemmas.{AppendsFront-more, AppendsFront-nil, input_is, known_lines, known_whole}
+use Rattle.cops_script.proofs.KnownLemmas.{AppendsFront-more, Run-quiet, by_known}
 use Rattle.cops_types.proofs.OpenSlotLemmas.{any_found, left_fails, right_fails}
 use Rattle.cops_types.proofs.WordLemmas.{bytes_from_test}
 use Rattle.cops_model.specs.declared.acts.Act.{Act}
@@ -37,26 +35,25 @@ use Rattle.cops_script.specs.Lives.{Lives, admitted_by, first_lives, lives_after
 use Rattle.cops_model.specs.MainTheorem.{with_tenant_alone}
 use Rattle.cops_script.specs.Said.{Admits, Closes, Refuses, HostDeed, Said, OfHost, Unformed, Acts, admission_of, begins_admission, begins_closing, closing_of, is_host_line, said_found, said_by, said_in, tenants_after, tenants_past}
 use Rattle.cops_model.specs.Setups.{Setup, new_setup}
-use Rattle.cops_script.specs.declared.scripts.HeadSoFar.{HeadSoFar}
-use Rattle.cops_script.specs.declared.scripts.Script.{Script}
-use Rattle.cops_script.specs.declared.scripts.Script.TheVariants.{Head, Running}
+use Rattle.cops_script.specs.declared.head_machine.ScriptMachine.{ScriptMachine}
+use Rattle.cops_script.specs.declared.solo_machine.LinesOf.{LinesOf}
 use Rattle.cops_script.specs.declared.solo_machine.SoloRefusal.{SoloRefusal}
-use Rattle.cops_script.specs.declared.solo_machine.SoloRefusal.TheVariants.{BadConfig, UnknownTenant}
 use Rattle.cops_script.specs.declared.solo_scripts.SoloRun.{SoloRun}
-use Rattle.cops_script.specs.declared.solo_scripts.SoloScript.{SoloScript}
 use Rattle.cops_script.specs.Acting.{HasStayed, IsNew}
 use Rattle.cops_script.specs.Answers.{Answer, ToHost, ToTenant, answer_line}
 use Rattle.cops_script.specs.Doing.{IsDone, IsHosted}
-use Rattle.cops_script.specs.HeadRules.{HeadAnswers, IsHeadAt}
+use Rattle.cops_script.specs.HeadRules.{IsHeadAt}
 use Rattle.cops_script.specs.OpenNames.{AreOpenNamed}
 use Rattle.cops_script.specs.Script.{NoTenant, Written, all_tenants, answers_to, is_called, own_lines, said_by_lines, said_to, solo_after, solo_out, solo_text, text_for, was_open}
 use Rattle.cops_script.specs.ScriptRuns.{AreAnswered, AreSpared, config_told, heard, lives_told, said_from, said_told, text_in}
-use Rattle.cops_script.specs.SoloRules.{AnswersOwn, BeginsWith, IsKept, IsTaken, IsWorldOf, SoloStands, StartsAlone, admits_name, has_this_name, is_own, solo_answers, solo_answers_in, solo_end_answers, solo_end_answers_in, solo_end_refuses, solo_end_refuses_in, solo_line, solo_refuses, solo_refuses_in, solo_rules, solo_setup}
-use Rattle.cops_script.specs.SoloRuns.{IsRefusedFor, WritesSolo, WritesSoloFront}
+use Rattle.cops_script.specs.ScriptRules.{script_rules}
+use Rattle.cops_script.specs.SoloRules.{AnswersOwn, BeginsWith, IsKept, IsTaken, IsWorldOf, SoloStands, StartsAlone, admits_name, has_this_name, is_own, solo_line, solo_lines, solo_rules, solo_setup}
+use Rattle.cops_script.specs.SoloRuns.{IsRefusedFor, WritesSolo, WritesSoloFront, WritesSomeSolo}
 use Rattle.cops_script.proofs.ApartTenants.{AreApart as AreFew}
 use Rattle.cops_script.proofs.BegunSetups.{open_begun}
 use Rattle.cops_script.proofs.CutLemmas.{long_is_nobody, said_in-cut, same_admission, same_closing, same_first}
-use Rattle.cops_script.proofs.HeadRuns.{HeadRun, InHead, PastHead, bad_end, bad_first, counted-small, cut_in_head, heads, named_of, real_lines, start, refused_line as refused_in_head, wide}
+use Rattle.cops_script.proofs.BodyRuns.{Behind, RefusedBy, BadHead, NotBegun, AtLine, AtEnd, all_answered, front_answered, refused, unwritten}
+use Rattle.cops_script.proofs.HeadRuns.{named_of}
 use Rattle.cops_script.proofs.LifeAnswers.{all_are_told, answers_go_on, are_answered, for_all, said_to-append}
 use Rattle.cops_script.proofs.LifeLines.{done_setup, heard_named, heard_placed, name_there, slot_line_is}
 use Rattle.cops_script.proofs.LifeRuns.{AreFor, AreGiven, answer_of, for_next, given_nothing, given_one, setup_after, setup_past, stand_stayed}
@@ -332,48 +329,27 @@ module _ {W : Type 0} (setup : W → Setup) (StandsFor : W → ℕ → SoloClust
             subst (Stepped old line first after) (sym (λ i. eh i || ei i))
             (seen_whole (long_name false true es ei (λ same. true≢false (sym same))) eh ei (subst (λ b. AnswersOwn setup StandsFor b name old (cut_line longest_line line) first after) (λ i. (host_cut line ∙ eh) i || es i) h))
 
-  -- from here on each of these lines is answered, and no other
-  abbrev RunsTo : SoloRun W → Lives → List (List ℕ) → List ℕ → SoloScript W → Type 0
-  RunsTo old lives lines text state = (new : SoloRun W) × (state.script ≡ Running new) × RunsAlone old lives lines text new
-
-  one_line : (own : Bool) (line : List ℕ) (lines : List (List ℕ)) (first later text : List ℕ) (old after : SoloRun W) (lives : Lives) (state : SoloScript W) → is_own name line ≡ own → AreOpenNamed old.tenants → Stepped old line first after own → text ≡ first ++ later →
-      ((next : Lives) → AreOpenNamed after.tenants → IsKept setup StandsFor name after → RunsTo after next lines later state) → RunsTo old lives (cond own (line ∷ lines) lines) text state
-  one_line true line lines first later text old after lives state own named t whole on =
+  -- of these lines those of the host and of the name are answered, and no other
+  one_line : (own : Bool) (line : List ℕ) (lines : List (List ℕ)) (first later text : List ℕ) (old after new : SoloRun W) (lives : Lives) → is_own name line ≡ own → AreOpenNamed old.tenants → Stepped old line first after own → text ≡ first ++ later →
+      ((next : Lives) → AreOpenNamed after.tenants → IsKept setup StandsFor name after → RunsAlone after next lines later new) → RunsAlone old lives (cond own (line ∷ lines) lines) text new
+  one_line true line lines first later text old after new lives own named t whole on =
       let said = said_in old.tenants line in
       let answer = answer_of lives t.answer in
       let moved = done_setup solo_setup Stands old after lives said t.answer t.done in
       let still = subst (λ (s : Setup). AreOpenNamed s.tenants) (sym moved) (named_after old.tenants (heard said answer) named (heard_named old.tenants said answer (said_in-named old.tenants line))) in
-      let rest = on (lives_after lives (heard said answer)) still t.kept in
-      (rest.0, rest.1, one_taken line lines first later text old after rest.0 lives own t whole rest.2)
-  one_line false line lines first later text old after lives state own named passed whole on =
-      let rest = on lives (subst (λ (s : Setup). AreOpenNamed s.tenants) (sym passed.stayed.same) named) passed.kept in
-      (rest.0, rest.1, one_passed lines first later text old after rest.0 lives passed whole rest.2)
+      one_taken line lines first later text old after new lives own t whole (on (lives_after lives (heard said answer)) still t.kept)
+  one_line false line lines first later text old after new lives own named passed whole on =
+      one_passed lines first later text old after new lives passed whole (on lives (subst (λ (s : Setup). AreOpenNamed s.tenants) (sym passed.stayed.same) named) passed.kept)
 
-  running : (lines : List (List ℕ)) (old : SoloRun W) (lives : Lives) (text : List ℕ) (s state : SoloScript W) → AreOpenNamed old.tenants → IsKept setup StandsFor name old → s.script ≡ Running old → s.name ≡ name →
-      Run (solo_rules setup StandsFor) s (map (cut_line longest_line) lines) text state → RunsTo old lives (own_lines name lines) text state
-  running [] old lives text s state named kept at same h = (
-    old,
-    ap (λ (x : SoloScript W). x.script) h.1 ∙ at,
-    record { told = []; each = refl; whole_said = refl; given = given_nothing solo_setup Stands old lives; placed = tt; whole = λ config for. h.0; was = sym (or_false old.was_open) },
-  )
-  running (line ∷ lines) old lives text s state named kept at same (first, mid, later, (same_name, answered), run, whole) =
-      let here = subst (λ (st : Script (SoloRun W)). solo_answers_in setup StandsFor s.name st (cut_line longest_line line) first mid.script) at answered in
-      let own = subst (λ n. AnswersOwn setup StandsFor (is_own n (cut_line longest_line line)) n old (cut_line longest_line line) first here.0) same here.1 in
-      one_line (is_own name line) line (own_lines name lines) first later text old here.0 lives state refl named (stepped old here.0 line first named kept own) whole
-      (λ next still keeps. running lines here.0 next later mid state still keeps here.2 (same_name ∙ same) run)
+  running : (lines : List (List ℕ)) (old : SoloRun W) (lives : Lives) (text : List ℕ) (new : SoloRun W) → AreOpenNamed old.tenants → IsKept setup StandsFor name old →
+      Run (solo_lines setup StandsFor name) old (map (cut_line longest_line) lines) text new → RunsAlone old lives (own_lines name lines) text new
+  running [] old lives text new named kept h = subst (λ r. RunsAlone old lives [] text r) (sym h.1)
+      (record { told = []; each = refl; whole_said = refl; given = given_nothing solo_setup Stands old lives; placed = tt; whole = λ config for. h.0; was = sym (or_false old.was_open) })
+  running (line ∷ lines) old lives text new named kept (first, after, later, answered, run, whole) =
+      one_line (is_own name line) line (own_lines name lines) first later text old after new lives refl named (stepped old after line first named kept answered) whole
+      (λ next still keeps. running lines after next later new still keeps run)
 
   -- ---- the head
-
-  steps : (s : SoloScript W) (head : HeadSoFar) → s.script ≡ Head head → s.name ≡ name → (line text : List ℕ) (new : SoloScript W) → solo_answers setup StandsFor s line text new →
-      (new.name ≡ name) × HeadAnswers (StartsAlone setup StandsFor name) head line text new.script
-  steps s head is same line text new h =
-      (h.0 ∙ same, subst (λ n. HeadAnswers (StartsAlone setup StandsFor n) head line text new.script) same (subst (λ (st : Script (SoloRun W)). solo_answers_in setup StandsFor s.name st line text new.script) is h.1))
-
-  abbrev RunFromHead : List (List ℕ) → List ℕ → SoloScript W → Type 0
-  RunFromHead lines text state = HeadRun longest_line wide (solo_rules setup StandsFor) (λ s. s.script) (λ s. s.name ≡ name) (StartsAlone setup StandsFor name) steps AtStart 0 lines text state
-
-  from_head : (lines : List (List ℕ)) (s : SoloScript W) (text : List ℕ) (state : SoloScript W) → s.name ≡ name → IsHeadAt AtStart 0 s.script → Run (solo_rules setup StandsFor) s (map (cut_line longest_line) lines) text state → RunFromHead lines text state
-  from_head lines s text state same here = heads longest_line wide (solo_rules setup StandsFor) (λ s. s.script) (λ s. s.name ≡ name) (StartsAlone setup StandsFor name) steps lines AtStart 0 s text state start refl same here
 
   -- what runs on after a head
   record Begins (config : Config) (run : SoloRun W) : Type 0 where
@@ -424,32 +400,28 @@ module _ {W : Type 0} (setup : W → Setup) (StandsFor : W → ℕ → SoloClust
           }
 
   -- a run past its head
-  record RanAlone (config : Config) (rest : List (List ℕ)) (text : List ℕ) (state : SoloScript W) : Type 0 where
+  record RanAlone (config : Config) (rest : List (List ℕ)) (text : List ℕ) (new : SoloRun W) : Type 0 where
     first : SoloRun W
-    new : SoloRun W
     fresh : IsNew solo_setup Stands config first
-    at : state.script ≡ Running new
     runs : RunsAlone first (first_lives config) (own_lines name rest) text new
     was : new.was_open ≡ was_open config name rest
 
-  ran_alone : (config : Config) (rest : List (List ℕ)) (s : SoloScript W) (first : SoloRun W) (text : List ℕ) (state : SoloScript W) → AreGood (Begun config) → AreFew config.tenants → s.script ≡ Running first → s.name ≡ name →
-      StartsAlone setup StandsFor name config first → Run (solo_rules setup StandsFor) s (map (cut_line longest_line) rest) text state → RanAlone config rest text state
-  ran_alone config rest s first text state good few at same starts run =
+  ran_alone : (config : Config) (rest : List (List ℕ)) (first : SoloRun W) (text : List ℕ) (new : SoloRun W) → AreGood (Begun config) → AreFew config.tenants → StartsAlone setup StandsFor name config first →
+      Run (solo_lines setup StandsFor name) first (map (cut_line longest_line) rest) text new → RanAlone config rest text new
+  ran_alone config rest first text new good few starts run =
       let b = begins config first few starts in
       let named = subst (λ (k : Setup). AreOpenNamed k.tenants) (sym b.fresh.setup_is) (named_begun config.tenants (named_of config good)) in
-      let done = running rest first (first_lives config) text s state named b.kept at same run in
+      let runs = running rest first (first_lives config) text new named b.kept run in
       record {
         first = first;
-        new = done.0;
         fresh = b.fresh;
-        at = done.1;
-        runs = done.2;
-        was = done.2.was ∙ (λ i. b.was i || some_admitted name (said_to (b.fresh.setup_is i).tenants (own_lines name rest))) ∙ sym (was_open-is config name rest);
+        runs = runs;
+        was = runs.was ∙ (λ i. b.was i || some_admitted name (said_to (b.fresh.setup_is i).tenants (own_lines name rest))) ∙ sym (was_open-is config name rest);
       }
 
-  module _ (config : Config) (rest : List (List ℕ)) (text : List ℕ) (state : SoloScript W) (a : RanAlone config rest text state) where
-    given_at : AreGiven solo_setup Stands a.first (first_lives config) (said_told config (own_lines name rest) a.runs.told) a.runs.told a.new
-    given_at = subst (λ (s : Setup). AreGiven solo_setup Stands a.first (first_lives config) (said_from s.tenants (own_lines name rest) a.runs.told) a.runs.told a.new) a.fresh.setup_is a.runs.given
+  module _ (config : Config) (rest : List (List ℕ)) (text : List ℕ) (new : SoloRun W) (a : RanAlone config rest text new) where
+    given_at : AreGiven solo_setup Stands a.first (first_lives config) (said_told config (own_lines name rest) a.runs.told) a.runs.told new
+    given_at = subst (λ (s : Setup). AreGiven solo_setup Stands a.first (first_lives config) (said_from s.tenants (own_lines name rest) a.runs.told) a.runs.told new) a.fresh.setup_is a.runs.given
 
     placed_at : ArePlaced (begun_with config.tenants) (said_told config (own_lines name rest) a.runs.told)
     placed_at = subst (λ (s : Setup). ArePlaced s.tenants (said_from s.tenants (own_lines name rest) a.runs.told)) a.fresh.setup_is a.runs.placed
@@ -459,19 +431,19 @@ module _ {W : Type 0} (setup : W → Setup) (StandsFor : W → ℕ → SoloClust
     back whole for = subst (λ (s : Setup). AreFor whole (solo_setup a.first) (first_lives config) (said_from s.tenants (own_lines name rest) a.runs.told)) (sym a.fresh.setup_is) for
 
     given_answered : 0 < config.shards → AreAnswered (config_told config (own_lines name rest) a.runs.told) (lives_told config (own_lines name rest) a.runs.told) a.runs.told
-    given_answered some = are_answered solo_setup Stands config a.first (own_lines name rest) a.runs.told a.new some a.fresh given_at placed_at
+    given_answered some = are_answered solo_setup Stands config a.first (own_lines name rest) a.runs.told new some a.fresh given_at placed_at
 
     given_text : text ≡ text_for (config_told config (own_lines name rest) a.runs.told).tenants name a.runs.told
     given_text = a.runs.whole (config_told config (own_lines name rest) a.runs.told)
         (back (config_told config (own_lines name rest) a.runs.told) (for_all solo_setup Stands config a.first (own_lines name rest) a.runs.told a.fresh placed_at))
 
     given_whole : AreSpared a.runs.told → a.runs.told ≡ answers_to config (own_lines name rest)
-    given_whole spared = all_are_told solo_setup Stands config a.first (own_lines name rest) a.runs.told a.new a.fresh given_at a.runs.each spared
+    given_whole spared = all_are_told solo_setup Stands config a.first (own_lines name rest) a.runs.told new a.fresh given_at a.runs.each spared
 
     -- the definition's text begins so
     given_front : AreSpared a.runs.told → (others : List (List ℕ)) → (more : List ℕ) × (solo_text config name (rest ++ others) ≡ text ++ more)
     given_front spared others =
-        let goes = answers_go_on solo_setup Stands config a.first (own_lines name rest) a.runs.told a.new a.fresh given_at a.runs.each spared (own_lines name others) in
+        let goes = answers_go_on solo_setup Stands config a.first (own_lines name rest) a.runs.told new a.fresh given_at a.runs.each spared (own_lines name others) in
         let split = filter-append (is_own name) rest others in
         let tenants = all_tenants config (own_lines name rest ++ own_lines name others) in
         let written : text ≡ text_for tenants name a.runs.told =
@@ -484,212 +456,108 @@ module _ {W : Type 0} (setup : W → Setup) (StandsFor : W → ℕ → SoloClust
               ∙ ap (λ t. t ++ text_for tenants name goes.0) (sym written),
         )
 
-  -- ---- nothing is written before a tenant of the name is open
+  -- nothing is written before a tenant of the name is open
+  abbrev NeverOpen : SoloRun W → Type 0
+  NeverOpen run = IsFalse run.was_open
 
-  abbrev IsQuiet : Script (SoloRun W) → Type 0
-  IsQuiet (Head head) = Unit {0}
-  IsQuiet (Running run) = IsFalse run.was_open
-
-  own_silent : (own : Bool) (of : List ℕ) (old : SoloRun W) (line text : List ℕ) (new : SoloRun W) → AnswersOwn setup StandsFor own of old line text new → IsFalse new.was_open → IsFalse old.was_open × (text ≡ [])
+  own_silent : (own : Bool) (of : List ℕ) (old : SoloRun W) (line text : List ℕ) (new : SoloRun W) → AnswersOwn setup StandsFor own of old line text new → NeverOpen new → NeverOpen old × (text ≡ [])
   own_silent true of old line text new h still = h.0 still
   own_silent false of old line text new h still = (ap (λ (r : SoloRun W). r.was_open) (sym h.1) ∙ still, h.0)
 
-  line_silent : (of : List ℕ) (old : Script (SoloRun W)) (line text : List ℕ) (new : Script (SoloRun W)) → solo_answers_in setup StandsFor of old line text new → IsQuiet new → IsQuiet old × (text ≡ [])
-  line_silent of (Head head) line text new h here = (tt, h.2)
-  line_silent of (Running run) line text new (after, own, is) here = own_silent (is_own of line) of run line text after own (subst IsQuiet is here)
-
-  run_silent : (old : SoloScript W) (lines : List (List ℕ)) (text : List ℕ) (new : SoloScript W) → Run (solo_rules setup StandsFor) old lines text new → IsQuiet new.script → IsQuiet old.script × (text ≡ [])
-  run_silent old [] text new h here = (subst (λ (s : SoloScript W). IsQuiet s.script) h.1 here, h.0)
-  run_silent old (line ∷ lines) text new (first, mid, later, answered, run, whole) here =
-      let rest = run_silent mid lines later new run here in
-      let before = line_silent old.name old.script line first mid.script answered.1 rest.0 in
-      (before.0, whole ∙ (λ i. before.1 i ++ rest.1 i))
-
-  refused_quiet : (state : Script (SoloRun W)) (line : List ℕ) (refusal : SoloRefusal) → solo_refuses_in setup StandsFor state line refusal → IsQuiet state
-  refused_quiet (Head head) line refusal h = tt
-  refused_quiet (Running run) line refusal h = absurd h
-
-  ended_quiet : (state : Script (SoloRun W)) (refusal : SoloRefusal) → solo_end_refuses_in setup StandsFor state refusal → IsQuiet state
-  ended_quiet (Head head) refusal h = tt
-  ended_quiet (Running run) (BadConfig bad) h = absurd h
-  ended_quiet (Running run) UnknownTenant h = h
-
-  pub unwritten_alone : (old_contents new_contents new_remaining : Option (List ℕ)) (begun : SoloScript W) (known : Option (List ℕ)) (why : RunFault SoloRefusal) →
-      StopsEarly (solo_rules setup StandsFor) longest_line known new_remaining begun old_contents new_contents why → IfRunRefused why (λ refusal. Keeps old_contents new_contents)
-  unwritten_alone old_contents new_contents new_remaining begun known (fault.Refused refusal) p =
-      let here : IsQuiet p.machine.script =
-      elim p.refused.1 [ inl (line, first, refused) ↦ refused_quiet p.machine.script line refusal refused | inr (whole, refused) ↦ ended_quiet p.machine.script refusal refused ] in
-      let silent = run_silent begun p.lines p.text p.machine p.run here in
-      AppendsFront-nil old_contents new_contents (subst (AppendsFront old_contents new_contents) (ap (λ l. l ++ p.last) silent.1 ∙ p.refused.0) p.written)
-  unwritten_alone old_contents new_contents new_remaining begun known fault.OutOfMemory p = tt
-  unwritten_alone old_contents new_contents new_remaining begun known fault.ReadFault p = tt
-  unwritten_alone old_contents new_contents new_remaining begun known fault.WriteFault p = tt
+  line_silent : (of : List ℕ) (old : SoloRun W) (line text : List ℕ) (new : SoloRun W) → (solo_lines setup StandsFor of).answers old line text new → NeverOpen new → NeverOpen old × (text ≡ [])
+  line_silent of old line text new h still = own_silent (is_own of line) of old line text new h still
 
   -- ---- the whole text
 
   out_there : (bytes : List ℕ) (config : Config) (lines : List (List ℕ)) (there : Bool) → head_of (lines_of bytes) ≡ Whole config lines → was_open config name lines ≡ there → solo_out name bytes ≡ cond there (Written (solo_text config name lines)) NoTenant
   out_there bytes config lines there head is = ap (solo_after name) head ∙ ap (λ b. cond b (Written (solo_text config name lines)) NoTenant) is
 
-  module _ (old_contents new_contents new_remaining : Option (List ℕ)) (begun : SoloScript W) (named : begun.name ≡ name) (here : IsHeadAt AtStart 0 begun.script) where
-    not_ended : (state : Script (SoloRun W)) (front : Front) (count : ℕ) (last : List ℕ) (new : Script (SoloRun W)) → IsHeadAt front count state → solo_end_answers_in setup StandsFor state last new → ⊥
-    not_ended (Head head) front count last new at ends = ends
-    not_ended (Running run) front count last new at ends = at
+  abbrev Past : LinesOf → List ℕ → List (List ℕ) → List ℕ → SoloRun W → Type 0
+  Past body bytes others text new = Behind (solo_rules setup StandsFor) body bytes others text new
 
-    -- ---- ends at the end
+  ran : (body : LinesOf) → body.name ≡ name → (bytes : List ℕ) (others : List (List ℕ)) (text : List ℕ) (new : SoloRun W) → (b : Past body bytes others text new) → RanAlone b.config b.lines text new
+  ran body is bytes others text new b =
+      ran_alone b.config b.lines b.first text new b.good b.apart (subst (λ n. StartsAlone setup StandsFor n b.config b.first) is b.starts)
+      (subst (λ n. Run (solo_lines setup StandsFor n) b.first (map (cut_line longest_line) b.lines) text new) is b.run)
 
-    ended : (bytes : List ℕ) (new : SoloScript W) (text last : List ℕ) (machine : SoloScript W) → RunFromHead (lines_of bytes) text machine → solo_end_answers setup StandsFor machine last new → Appends old_contents new_contents (text ++ last) →
-        WritesSolo name bytes old_contents new_contents
-    ended bytes new text last machine (InHead next later n still is same silent reads) ends written = absurd (not_ended machine.script next later last new.script is ends)
-    ended bytes new text last machine (PastHead config rest s first good few at same starts run reads) ends written =
-        let a = ran_alone config rest s first text machine good few at same starts run in
-        let over = subst (λ (st : Script (SoloRun W)). solo_end_answers_in setup StandsFor st last new.script) a.at ends in
-        let head : head_of (lines_of bytes) ≡ Whole config rest = ap head_of (sym (append-nil (lines_of bytes))) ∙ reads [] ∙ ap (Whole config) (append-nil rest) in
+  whole_head : (body : LinesOf) (bytes text : List ℕ) (new : SoloRun W) → (b : Past body bytes [] text new) → head_of (lines_of bytes) ≡ Whole b.config b.lines
+  whole_head body bytes text new b = b.head ∙ ap (Whole b.config) (append-nil b.lines)
+
+  module _ (old_contents new_contents : Option (List ℕ)) (body : LinesOf) (named : body.name ≡ name) (bytes text : List ℕ) (new : SoloRun W) where
+    whole_written : Past body bytes [] text new → IsTrue new.was_open → Appends old_contents new_contents text → WritesSolo name bytes old_contents new_contents
+    whole_written b there written =
+        let a = ran body named bytes [] text new b in
+        let head = whole_head body bytes text new b in
         record {
-          config = config;
-          lines = rest;
+          config = b.config;
+          lines = b.lines;
           head = head;
-          there = sym a.was ∙ over.2;
+          there = sym a.was ∙ there;
           told = a.runs.told;
           each = a.runs.each;
-          answered = given_answered config rest text machine a (shards_of (lines_of bytes) config rest head);
-          right = given_whole config rest text machine a;
-          written = subst (Appends old_contents new_contents) (ap (λ l. text ++ l) over.0 ∙ append-nil text ∙ given_text config rest text machine a) written;
+          answered = given_answered b.config b.lines text new a (shards_of (lines_of bytes) b.config b.lines head);
+          right = given_whole b.config b.lines text new a;
+          written = subst (Appends old_contents new_contents) (given_text b.config b.lines text new a) written;
         }
 
-    pub all_written : (new : SoloScript W) (known : Option (List ℕ)) → AnswersAll (solo_rules setup StandsFor) longest_line known new_remaining begun new old_contents new_contents →
-        IfSome known (λ bytes. WritesSolo name bytes old_contents new_contents)
-    all_written new None p = tt
-    all_written new (Some bytes) p =
-        let same : lines_of p.input ≡ lines_of bytes = ap lines_of (sym (input_is bytes p.input new_remaining p.read p.at_end)) in
-        let run = subst (λ ls. Run (solo_rules setup StandsFor) begun (map (cut_line longest_line) ls) p.text p.machine) same p.run in
-        ended bytes new p.text p.last p.machine (from_head (lines_of bytes) begun p.text p.machine named here run) p.ended p.written
-
-    -- ---- ends before the end
-
-    record Stopped (bytes : List ℕ) (others : List (List ℕ)) (text : List ℕ) (machine : SoloScript W) : Type 0 where
-      front : List (List ℕ)
-      rest : List (List ℕ)
-      whole : lines_of bytes ≡ front ++ rest
-      others_are : others ≡ map (cut_line longest_line) rest
-      ran : RunFromHead front text machine
-
-    stopped : (bytes : List ℕ) (lines others : List (List ℕ)) (text : List ℕ) (machine : SoloScript W) → cut_lines longest_line bytes ≡ lines ++ others → Run (solo_rules setup StandsFor) begun lines text machine → Stopped bytes others text machine
-    stopped bytes lines others text machine e run =
-        let real = real_lines longest_line (lines_of bytes) lines others e in
+    some_written : (others : List (List ℕ)) → Past body bytes others text new → AppendsFront old_contents new_contents text → WritesSomeSolo name bytes old_contents new_contents
+    some_written others b written =
+        let a = ran body named bytes others text new b in
         record {
-          front = real.0;
-          rest = real.1;
-          whole = real.2;
-          others_are = real.4;
-          ran = from_head real.0 begun text machine named here (subst (λ ls. Run (solo_rules setup StandsFor) begun ls text machine) real.3 run);
+          config = b.config;
+          lines = b.lines;
+          others = others;
+          head = b.head;
+          told = a.runs.told;
+          each = a.runs.each;
+          answered = given_answered b.config b.lines text new a (shards_of (lines_of bytes) b.config (b.lines ++ others) b.head);
+          written = subst (AppendsFront old_contents new_contents) (given_text b.config b.lines text new a) written;
+          right = λ spared. by_test (was_open b.config name (b.lines ++ others))
+              (λ there.
+              let more = given_front b.config b.lines text new a spared others in
+              subst (AppendsFront old_contents new_contents) (sym (ap text_in (out_there bytes b.config (b.lines ++ others) true b.head there) ∙ more.1)) (AppendsFront-more old_contents new_contents text more.0 written))
+              (λ none.
+              let run = subst (λ n. Run (solo_lines setup StandsFor n) b.first (map (cut_line longest_line) b.lines) text new) named b.run in
+              let silent = (Run-quiet (solo_lines setup StandsFor name) NeverOpen (line_silent name) b.first (map (cut_line longest_line) b.lines) text new run (a.was ∙ was_open-front b.config name b.lines others none)).1 in
+              subst (AppendsFront old_contents new_contents) (silent ∙ sym (ap text_in (out_there bytes b.config (b.lines ++ others) false b.head none))) written);
         }
 
-    front_of_run : (bytes : List ℕ) (others : List (List ℕ)) (text : List ℕ) (machine : SoloScript W) → Stopped bytes others text machine → AppendsFront old_contents new_contents text → WritesSoloFront name bytes old_contents new_contents
-    front_of_run bytes others text machine p written = by_run p.ran
-      where
-        by_run : RunFromHead p.front text machine → WritesSoloFront name bytes old_contents new_contents
-        by_run (InHead next later n still is same silent reads) =
-            inl (AppendsFront-nil old_contents new_contents (subst (AppendsFront old_contents new_contents) silent written))
-        by_run (PastHead config rest s first good few at same starts run reads) =
-            let a = ran_alone config rest s first text machine good few at same starts run in
-            let head : head_of (lines_of bytes) ≡ Whole config (rest ++ p.rest) = ap head_of p.whole ∙ reads p.rest in
-            inr (record {
-              config = config;
-              lines = rest;
-              others = p.rest;
-              head = head;
-              told = a.runs.told;
-              each = a.runs.each;
-              answered = given_answered config rest text machine a (shards_of (lines_of bytes) config (rest ++ p.rest) head);
-              written = subst (AppendsFront old_contents new_contents) (given_text config rest text machine a) written;
-              right = λ spared. by_test (was_open config name (rest ++ p.rest))
-                  (λ there.
-                  let more = given_front config rest text machine a spared p.rest in
-                  subst (AppendsFront old_contents new_contents) (sym (ap text_in (out_there bytes config (rest ++ p.rest) true head there) ∙ more.1)) (AppendsFront-more old_contents new_contents text more.0 written))
-                  (λ none.
-                  let quiet = subst IsQuiet (sym a.at) (a.was ∙ was_open-front config name rest p.rest none) in
-                  let silent = (run_silent s (map (cut_line longest_line) rest) text machine run quiet).1 in
-                  subst (AppendsFront old_contents new_contents) (silent ∙ sym (ap text_in (out_there bytes config (rest ++ p.rest) false head none))) written);
-            })
+  module _ (old_contents new_contents new_remaining : Option (List ℕ)) (begun : ScriptMachine LinesOf (SoloRun W)) (named : begun.body.name ≡ name) (here : IsHeadAt AtStart 0 begun.script) where
+    abbrev StopsAt : Option (List ℕ) → RunFault SoloRefusal → Type 0
+    StopsAt known why = StopsEarly (script_rules (solo_rules setup StandsFor)) longest_line known new_remaining begun old_contents new_contents why
 
-    last_is_nothing : (machine : Script (SoloRun W)) (last : List ℕ) (new : Script (SoloRun W)) → solo_end_answers_in setup StandsFor machine last new → last ≡ []
-    last_is_nothing (Head head) last new h = absurd h
-    last_is_nothing (Running run) last new h = h.0
+    pub all_written : (new : ScriptMachine LinesOf (SoloRun W)) (known : Option (List ℕ)) → AnswersAll (script_rules (solo_rules setup StandsFor)) longest_line known new_remaining begun new old_contents new_contents →
+        IfSome known (λ bytes. WritesSolo name bytes old_contents new_contents)
+    all_written new known p =
+        let e = all_answered (solo_rules setup StandsFor) begun.body old_contents new_contents known new_remaining begun refl here new p in
+        by_known (λ bytes. WritesSolo name bytes old_contents new_contents) known new_remaining p.input p.read p.at_end
+        (whole_written old_contents new_contents begun.body named p.input p.text e.mid e.behind e.ended.2 (subst (Appends old_contents new_contents) (ap (λ l. p.text ++ l) e.ended.0 ∙ append-nil p.text) p.written))
 
-    pub front_written : (known : Option (List ℕ)) (why : RunFault SoloRefusal) → StopsEarly (solo_rules setup StandsFor) longest_line known new_remaining begun old_contents new_contents why →
-        IfSome known (λ bytes. WritesSoloFront name bytes old_contents new_contents)
+    pub front_written : (known : Option (List ℕ)) (why : RunFault SoloRefusal) → StopsAt known why → IfSome known (λ bytes. WritesSoloFront name bytes old_contents new_contents)
     front_written None why p = tt
     front_written (Some bytes) why p =
-        let found = known_lines longest_line bytes p.input new_remaining p.lines p.read p.first in
-        let last : p.last ≡ [] = elim p.ended [ inl e ↦ e | inr (whole, new, ends) ↦ last_is_nothing p.machine.script p.last new.script ends ] in
-        front_of_run bytes found.0 p.text p.machine (stopped bytes p.lines found.0 p.text p.machine found.1 p.run)
-        (subst (AppendsFront old_contents new_contents) (ap (λ l. p.text ++ l) last ∙ append-nil p.text) p.written)
+        elim (front_answered (solo_rules setup StandsFor) begun.body old_contents new_contents (Some bytes) new_remaining begun refl here (λ body old text new h. h.0) (Some bytes) why p) [
+          | inl nothing ↦ inl nothing
+          | inr (others, text, new, behind, written) ↦ inr (some_written old_contents new_contents begun.body named bytes text new others behind written)
+        ]
 
     -- ---- a refusal
 
-    -- a line in the head
-    refused_line : (state : Script (SoloRun W)) (bytes : List ℕ) (front : List (List ℕ)) (real : List ℕ) (rest : List (List ℕ)) (next : Front) (later : ℕ) (line : List ℕ) (refusal : SoloRefusal) → IsHeadAt next later state → counted later ≡ later + 1 → is_begun next ≡ false →
-        lines_of bytes ≡ front ++ real ∷ rest → line ≡ cut_line longest_line real → ((others : List (List ℕ)) → reading_from (front ++ others) 1 AtStart ≡ reading_from others (later + 1) next) → solo_refuses_in setup StandsFor state line refusal → IsRefusedFor name bytes refusal
-    refused_line (Head head) bytes front real rest next later line (BadConfig bad) at n still whole cut reads refused =
-        let none = refused_in_head (SoloRun W) next later head line bad at refused in
-        let stuck : front_after next real ≡ None = sym (cut_in_head longest_line wide next real) ∙ ap (front_after next) (sym cut) ∙ none.0 in
-        ap head_of whole ∙ reads (real ∷ rest) ∙ bad_first next (later + 1) real rest still stuck ∙ ap BadAt (sym (none.1 ∙ n))
-    refused_line (Head head) bytes front real rest next later line UnknownTenant at n still whole cut reads refused = absurd refused
-    refused_line (Running run) bytes front real rest next later line refusal at n still whole cut reads refused = absurd at
+    refused_by : (bytes : List ℕ) (refusal : SoloRefusal) → RefusedBy (solo_rules setup StandsFor) begun.body bytes refusal → IsRefusedFor name bytes refusal
+    refused_by bytes refusal (BadHead bad is head) = subst (IsRefusedFor name bytes) (sym is) head
+    refused_by bytes refusal (NotBegun config lines head refused) = absurd refused
+    refused_by bytes refusal (AtLine state line refused) = absurd refused
+    refused_by bytes refusal (AtEnd text state b (is, never)) =
+        let a = ran begun.body named bytes [] text state b in
+        subst (IsRefusedFor name bytes) (sym is) (out_there bytes b.config b.lines false (whole_head begun.body bytes text state b) (sym a.was ∙ never))
 
-    -- the end in the head
-    refused_end : (state : Script (SoloRun W)) (bytes : List ℕ) (front : List (List ℕ)) (next : Front) (later : ℕ) (refusal : SoloRefusal) → IsHeadAt next later state → counted later ≡ later + 1 → is_begun next ≡ false → lines_of bytes ≡ front ++ [] →
-        ((others : List (List ℕ)) → reading_from (front ++ others) 1 AtStart ≡ reading_from others (later + 1) next) → solo_end_refuses_in setup StandsFor state refusal → IsRefusedFor name bytes refusal
-    refused_end (Head head) bytes front next later (BadConfig bad) at n still whole reads refused =
-        ap head_of whole ∙ reads [] ∙ bad_end next (later + 1) still ∙ ap BadAt (sym (refused ∙ ap counted at.1 ∙ n))
-    refused_end (Head head) bytes front next later UnknownTenant at n still whole reads refused = absurd refused
-    refused_end (Running run) bytes front next later refusal at n still whole reads refused = absurd at
+    pub refused_for : (known : Option (List ℕ)) (why : RunFault SoloRefusal) → StopsAt known why → IfRunRefused why (λ refusal. IfSome known (λ bytes. IsRefusedFor name bytes refusal))
+    refused_for known why p = refused (solo_rules setup StandsFor) begun.body old_contents new_contents known new_remaining begun refl here (IsRefusedFor name) refused_by known why p
 
-    -- the end of all, where nobody of the name was open
-    nobody_of_it : (bytes : List ℕ) (config : Config) (rest : List (List ℕ)) (text : List ℕ) (machine : SoloScript W) → RanAlone config rest text machine → head_of (lines_of bytes) ≡ Whole config rest → (refusal : SoloRefusal) →
-        solo_end_refuses_in setup StandsFor machine.script refusal → IsRefusedFor name bytes refusal
-    nobody_of_it bytes config rest text machine a head (BadConfig bad) refused = absurd (subst (λ (st : Script (SoloRun W)). solo_end_refuses_in setup StandsFor st (BadConfig bad)) a.at refused)
-    nobody_of_it bytes config rest text machine a head UnknownTenant refused =
-        out_there bytes config rest false head (sym a.was ∙ subst (λ (st : Script (SoloRun W)). solo_end_refuses_in setup StandsFor st UnknownTenant) a.at refused)
-
-    refusal_is : (bytes : List ℕ) (refusal : SoloRefusal) → StopsEarly (solo_rules setup StandsFor) longest_line (Some bytes) new_remaining begun old_contents new_contents (fault.Refused refusal) → IsRefusedFor name bytes refusal
-    refusal_is bytes refusal p = elim p.refused.1 [
-      | inl (line, first, refused) ↦
-          let found = known_lines longest_line bytes p.input new_remaining (p.lines ++ line ∷ []) p.read first in
-          at_line line refused found.0 (stopped bytes p.lines (line ∷ found.0) p.text p.machine (found.1 ∙ append_assoc p.lines (line ∷ []) found.0) p.run)
-      | inr (whole, refused) ↦
-          let found = known_whole longest_line bytes p.input new_remaining p.lines p.read whole in
-          at_end refused (stopped bytes p.lines [] p.text p.machine (found ∙ sym (append-nil p.lines)) p.run)
-    ]
-      where
-        at_line : (line : List ℕ) → solo_refuses setup StandsFor p.machine line refusal → (others : List (List ℕ)) → Stopped bytes (line ∷ others) p.text p.machine → IsRefusedFor name bytes refusal
-        at_line line refused others st = by_run st.ran st.rest st.whole st.others_are
-          where
-            by_run : RunFromHead st.front p.text p.machine → (rest : List (List ℕ)) → lines_of bytes ≡ st.front ++ rest → line ∷ others ≡ map (cut_line longest_line) rest → IsRefusedFor name bytes refusal
-            by_run (PastHead config after s first good few at same starts run reads) rest whole alike =
-                let a = ran_alone config after s first p.text p.machine good few at same starts run in
-                absurd (subst (λ (x : Script (SoloRun W)). solo_refuses_in setup StandsFor x line refusal) a.at refused)
-            by_run (InHead next later n still is same silent reads) [] whole alike = cc
-            by_run (InHead next later n still is same silent reads) (real ∷ rest) whole alike =
-                let cut : line ≡ cut_line longest_line real = cc in
-                refused_line p.machine.script bytes st.front real rest next later line refusal is (counted-small next later n) still whole cut reads refused
-
-        at_end : solo_end_refuses setup StandsFor p.machine refusal → Stopped bytes [] p.text p.machine → IsRefusedFor name bytes refusal
-        at_end refused st = by_run st.ran st.rest st.whole st.others_are
-          where
-            by_run : RunFromHead st.front p.text p.machine → (rest : List (List ℕ)) → lines_of bytes ≡ st.front ++ rest → [] ≡ map (cut_line longest_line) rest → IsRefusedFor name bytes refusal
-            by_run run (real ∷ rest) whole alike = cc
-            by_run (PastHead config after s first good few at same starts run reads) [] whole alike =
-                nobody_of_it bytes config after p.text p.machine (ran_alone config after s first p.text p.machine good few at same starts run) (ap head_of whole ∙ reads [] ∙ ap (Whole config) (append-nil after)) refusal refused
-            by_run (InHead next later n still is same silent reads) [] whole alike = refused_end p.machine.script bytes st.front next later refusal is (counted-small next later n) still whole reads refused
-
-    pub refused_for : (known : Option (List ℕ)) (why : RunFault SoloRefusal) → StopsEarly (solo_rules setup StandsFor) longest_line known new_remaining begun old_contents new_contents why →
-        IfRunRefused why (λ refusal. IfSome known (λ bytes. IsRefusedFor name bytes refusal))
-    refused_for None (fault.Refused refusal) p = tt
-    refused_for (Some bytes) (fault.Refused refusal) p = refusal_is bytes refusal p
-    refused_for known fault.OutOfMemory p = tt
-    refused_for known fault.ReadFault p = tt
-    refused_for known fault.WriteFault p = tt
+    pub unwritten_alone : (known : Option (List ℕ)) (why : RunFault SoloRefusal) → StopsAt known why → IfRunRefused why (λ refusal. Keeps old_contents new_contents)
+    unwritten_alone known why p =
+        unwritten (solo_rules setup StandsFor) begun.body old_contents new_contents known new_remaining begun refl here NeverOpen
+        (line_silent begun.body.name) (λ state line refusal h. absurd h) (λ state refusal h. h.1) known why p
 
 -- ---- nothing is done
 
@@ -697,6 +565,7 @@ stays_as_it_is : (contents : Option (List ℕ)) → Keeps contents contents
 stays_as_it_is None = tt
 stays_as_it_is (Some bytes) = refl
 
-pub nothing_done : (name : List ℕ) (known contents : Option (List ℕ)) → IfSome known (λ bytes. WritesSoloFront name bytes contents contents)
-nothing_done name None contents = tt
-nothing_done name (Some bytes) contents = inl (stays_as_it_is contents)
+pub nothing_done : {T E : Type 0} (result : Result T E) (name : List ℕ) (known contents : Option (List ℕ)) → OnErr result (IfSome known (λ bytes. WritesSoloFront name bytes contents contents))
+nothing_done (Ok done) name known contents = tt
+nothing_done (Err fault) name None contents = tt
+nothing_done (Err fault) name (Some bytes) contents = inl (stays_as_it_is contents)

@@ -7,8 +7,6 @@ use Rattle.cops_types.specs.declared.configs.Config.{Config}
 use Rattle.cops_types.specs.declared.configs.Tenant.{Tenant}
 use Rattle.cops_types.specs.declared.faults.Fault.{Fault}
 use Rattle.cops_types.specs.declared.faults.Fault.TheVariants.{Syntax, UnknownTenant}
-use Rattle.cops_types.specs.Head.{Within, Begun}
-use Rattle.cops_types.specs.HeadReader.{front_with}
 use Rattle.cops_script.specs.LineAnswers.{Answers}
 use Rattle.cops_types.specs.OpenSlots.{open_at, open_slot_of_name}
 use Rattle.cops_types.specs.TenantTexts.{AreApart}
@@ -24,18 +22,13 @@ use Rattle.cops_model.specs.Cluster.{SoloCluster, cluster_step}
 use Rattle.cops_model.specs.MainTheorem.{with_tenant_alone}
 use Rattle.cops_script.specs.Said.{Admits, Closes, Refuses, Said, OfHost, admission_of, admission_unless, closing_at, closing_of, is_host_line, said_found, said_by, said_in}
 use Rattle.cops_model.specs.Setups.{Setup, config_in, config_of, new_setup, next_slot, with_slot}
-use Rattle.cops_script.specs.declared.scripts.HeadSoFar.{HeadSoFar}
-use Rattle.cops_script.specs.declared.scripts.Script.{Script}
-use Rattle.cops_script.specs.declared.scripts.Script.TheVariants.{Head, Running}
 use Rattle.cops_script.specs.declared.solo_scripts.SoloRun.{SoloRun}
-use Rattle.cops_script.specs.declared.solo_scripts.SoloScript.{SoloScript}
 use Rattle.cops_script.specs.Acting.{HasStayed, IsNew}
 use Rattle.cops_script.specs.Answers.{Answer, ToHost, ToTenant, reply_line, slot_line}
 use Rattle.cops_script.specs.Doing.{IsDone}
-use Rattle.cops_script.specs.GoodHeads.{HeadContinues}
 use Rattle.cops_script.specs.Lacks.{Lacks}
-use Rattle.cops_script.specs.ScriptRules.{IsAnswered}
-use Rattle.cops_script.specs.SoloRules.{AnswersOwn, IsGiven, IsKept, IsSilent, IsTaken, IsWorldOf, SoloStands, StartsAlone, Takes, is_own, solo_answers, solo_answers_in, solo_setup}
+use Rattle.cops_script.specs.AllRules.{IsAnswered}
+use Rattle.cops_script.specs.SoloRules.{AnswersOwn, IsGiven, IsKept, IsSilent, IsTaken, IsWorldOf, SoloStands, Takes, is_own, solo_setup}
 use Rattle.cops_script.proofs.NamedSlots.{HasNamedAt, admitted_apart, admitted_found, admitted_here, admitted_others, closed_apart, closed_found, closed_others, found_alone, named_found, open_to}
 
 pub or_false : (b : Bool) → (b || false) ≡ b
@@ -396,37 +389,4 @@ module _ {W : Type 0} (setup : W → Setup) (StandsFor : W → ℕ → SoloClust
     text = [];
     answered = subst (λ b. AnswersOwn setup StandsFor b name old line [] new) (sym (ap (λ b. b || bytes_eq (first_word line) name) is_host)) (subst (λ s. Takes setup StandsFor name old s [] new) (sym says) takes);
     appended = sym (append-nil out);
-  }
-
-  -- ---- the head
-
-  module _ (solo : SoloScript W) (head : HeadSoFar) (line out : List ℕ) (in_head : solo.script ≡ Head head) where
-    -- the head goes on
-    pub goes_on_alone : (next : HeadSoFar) → HeadContinues head.reader head.lines line next.reader next.lines → Answers (solo_answers setup StandsFor solo line) (record { name = solo.name; script = Head next }) out out
-    goes_on_alone next h = record {
-      text = [];
-      answered = (refl, subst (λ (script : Script (SoloRun W)). solo_answers_in setup StandsFor solo.name script line [] (Head next)) (sym in_head) (Within h.config, h.found, refl, (h.kept, h.counts)));
-      appended = sym (append-nil out);
-    }
-
-    -- the line ends the head, and the script runs on for the name
-    pub begins_alone : (config : Config) (run : SoloRun W) → front_with head.reader line ≡ Some (Begun config) → StartsAlone setup StandsFor solo.name config run →
-        Answers (solo_answers setup StandsFor solo line) (record { name = solo.name; script = Running run }) out out
-    begins_alone config run found starts = record {
-      text = [];
-      answered = (refl, subst (λ (script : Script (SoloRun W)). solo_answers_in setup StandsFor solo.name script line [] (Running run)) (sym in_head) (Begun config, found, refl, (run, starts, refl)));
-      appended = sym (append-nil out);
-    }
-
-  -- a line after it
-  pub answers_run : (solo : SoloScript W) (old new : SoloRun W) (name line out new_out : List ℕ) → name ≡ solo.name → solo.script ≡ Running old →
-      Answers (λ text r. AnswersOwn setup StandsFor (is_own name line) name old line text r) new out new_out → Answers (solo_answers setup StandsFor solo line) (record { name = solo.name; script = Running new }) out new_out
-  answers_run solo old new name line out new_out is_named at p = record {
-    text = p.text;
-    answered = (
-      refl,
-      subst (λ (script : Script (SoloRun W)). solo_answers_in setup StandsFor solo.name script line p.text (Running new)) (sym at)
-          (new, subst (λ n. AnswersOwn setup StandsFor (is_own n line) n old line p.text new) is_named p.answered, refl),
-    );
-    appended = p.appended;
   }

@@ -29,7 +29,9 @@ pub mod Doing
 pub mod Script
 pub mod GoodHeads
 pub mod HeadRules
+pub mod BodyRules
 pub mod ScriptRules
+pub mod AllRules
 pub mod ScriptRuns
 pub mod ScriptWorlds
 pub mod SilentRules

@@ -1,30 +1,16 @@
 -- The head of a script, of which nothing is read but its lines.
-use Rattle.std.specs.Prelude.{◌≡◌, ℕ, IsTrue, List, [], Some}
-use Rattle.cops_types.specs.declared.configs.Config.{Config}
-use Rattle.cops_types.specs.Counts.{counted}
-use Rattle.cops_types.specs.Head.{Within, Begun}
-use Rattle.cops_types.specs.HeadReader.{front_with}
-use Rattle.cops_script.specs.LineRules.{LineRules}
+use Rattle.std.specs.Prelude.{◌≡◌, [], IsTrue}
+use Rattle.cops_script.specs.BodyRules.{BodyRules}
+use Rattle.cops_script.specs.GoodHeads.{is_good}
+use Rattle.cops_script.specs.declared.heads.HeadAlone.{HeadAlone}
 use Rattle.cops_script.specs.declared.heads.HeadEnd.{HeadEnd}
 use Rattle.cops_script.specs.declared.heads.HeadEnd.TheVariants.{Whole, Bad}
-use Rattle.cops_script.specs.declared.scripts.HeadSoFar.{HeadSoFar}
-use Rattle.cops_script.specs.GoodHeads.{is_good}
-use Rattle.cops_script.specs.HeadRules.{HeadRefuses}
 
--- the head goes on with the line, and nothing is answered
-abbrev pub lone_answers : HeadSoFar → List ℕ → List ℕ → HeadSoFar → Type 0
-lone_answers old line text new =
-    (config : Config) × (front_with old.reader line ≡ Some (Within config)) × (text ≡ []) × (new.reader ≡ Some (Within config)) × (new.lines ≡ counted old.lines)
-
--- the line ends the head, or may not stand there
-abbrev pub lone_refuses : HeadSoFar → List ℕ → HeadEnd → Type 0
-lone_refuses head line (Whole config) = (front_with head.reader line ≡ Some (Begun config)) × IsTrue (is_good config)
-lone_refuses head line (Bad bad) = HeadRefuses head line bad
-
--- a head that has not ended is bad at the line after its last
-abbrev pub lone_refuses_end : HeadSoFar → HeadEnd → Type 0
-lone_refuses_end head (Whole config) = ⊥
-lone_refuses_end head (Bad bad) = bad.line ≡ counted head.lines
-
-abbrev pub lone_rules : LineRules HeadSoFar HeadEnd
-lone_rules = record { answers = lone_answers; refuses = lone_refuses; ends = λ old text new. ⊥; refuses_end = lone_refuses_end }
+-- the reading stops where the head is whole, so that nothing runs behind it
+abbrev pub lone_rules : BodyRules HeadAlone (Unit {0}) HeadEnd
+lone_rules = record {
+  starts = λ body config state. ⊥;
+  refuses_start = λ body config end. (end ≡ Whole config) × IsTrue (is_good config);
+  lines = λ body. record { answers = λ old line text new. text ≡ []; refuses = λ old line end. ⊥; ends = λ old text new. text ≡ []; refuses_end = λ old end. ⊥ };
+  bad_head = Bad;
+}

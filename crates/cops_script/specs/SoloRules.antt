@@ -1,11 +1,10 @@
--- What is answered to each line of a script of which the lines of one name's tenants are answered, and what is left after it.
+-- What is answered to each line behind the head of a script, where the lines of one name's tenants are answered.
 use Rattle.std.specs.Prelude.{◌≡◌, ℕ, Bool, true, false, ◌||◌, List, [], slice_set, Option, Some, None, IsFalse, IsTrue}
 use Rattle.std.specs.Option.{option_map_or}
 use Rattle.std.specs.Str.{bytes_eq}
 use Rattle.cops_types.specs.declared.configs.Config.{Config}
 use Rattle.cops_types.specs.declared.configs.Tenant.{Tenant}
 use Rattle.cops_types.specs.declared.faults.Fault.{Fault}
-use Rattle.cops_types.specs.Counts.{counted}
 use Rattle.cops_script.specs.LineRules.{LineRules}
 use Rattle.cops_types.specs.OpenSlots.{admission_refusal, begun_with, open_at, open_slot_of_name}
 use Rattle.cops_types.specs.TenantTexts.{AreApart}
@@ -15,16 +14,14 @@ use Rattle.cops_script.specs.Lives.{admitted_by}
 use Rattle.cops_model.specs.MainTheorem.{with_tenant_alone}
 use Rattle.cops_script.specs.Said.{Said, is_host_line, said_in}
 use Rattle.cops_model.specs.Setups.{Setup, new_setup, next_slot}
-use Rattle.cops_script.specs.declared.scripts.Script.{Script}
-use Rattle.cops_script.specs.declared.scripts.Script.TheVariants.{Head, Running}
+use Rattle.cops_script.specs.declared.solo_machine.LinesOf.{LinesOf}
 use Rattle.cops_script.specs.declared.solo_machine.SoloRefusal.{SoloRefusal}
 use Rattle.cops_script.specs.declared.solo_machine.SoloRefusal.TheVariants.{BadConfig, UnknownTenant}
 use Rattle.cops_script.specs.declared.solo_scripts.SoloRun.{SoloRun}
-use Rattle.cops_script.specs.declared.solo_scripts.SoloScript.{SoloScript}
 use Rattle.cops_script.specs.Acting.{IsNew}
+use Rattle.cops_script.specs.BodyRules.{BodyRules}
 use Rattle.cops_script.specs.Answers.{Answer, ToHost, ToTenant, slot_line}
 use Rattle.cops_script.specs.Doing.{IsDone}
-use Rattle.cops_script.specs.HeadRules.{HeadAnswers, HeadRefuses}
 use Rattle.cops_script.specs.ScriptRuns.{heard}
 
 -- ---- lines and tenants of a name
@@ -102,38 +99,21 @@ module _ {W : Type 0} (setup : W → Setup) (StandsFor : W → ℕ → SoloClust
   AnswersOwn true name old line text new = Takes name old (said_in old.tenants line) text new
   AnswersOwn false name old line text new = (text ≡ []) × (new ≡ old)
 
-  abbrev pub solo_answers_in : List ℕ → Script (SoloRun W) → List ℕ → List ℕ → Script (SoloRun W) → Type 0
-  solo_answers_in name (Head head) line text new = HeadAnswers (StartsAlone name) head line text new
-  solo_answers_in name (Running run) line text new = (after : SoloRun W) × AnswersOwn (is_own name line) name run line text after × (new ≡ Running after)
+  -- ---- behind the head
 
-  abbrev pub solo_answers : SoloScript W → List ℕ → List ℕ → SoloScript W → Type 0
-  solo_answers old line text new = (new.name ≡ old.name) × solo_answers_in old.name old.script line text new.script
+  -- no line is refused; the end is answered with nothing, and refused where no tenant of the name was ever open
+  abbrev pub solo_lines : List ℕ → LineRules (SoloRun W) SoloRefusal
+  solo_lines name = record {
+    answers = λ old line text new. AnswersOwn (is_own name line) name old line text new;
+    refuses = λ old line refusal. ⊥;
+    ends = λ old text new. (text ≡ []) × (new ≡ old) × IsTrue old.was_open;
+    refuses_end = λ old refusal. (refusal ≡ UnknownTenant) × IsFalse old.was_open;
+  }
 
-  abbrev pub solo_refuses_in : Script (SoloRun W) → List ℕ → SoloRefusal → Type 0
-  solo_refuses_in (Head head) line (BadConfig bad) = HeadRefuses head line bad
-  solo_refuses_in (Head head) line UnknownTenant = ⊥
-  solo_refuses_in (Running run) line refusal = ⊥
-
-  abbrev pub solo_refuses : SoloScript W → List ℕ → SoloRefusal → Type 0
-  solo_refuses old line refusal = solo_refuses_in old.script line refusal
-
-  -- ---- the end
-
-  abbrev pub solo_end_answers_in : Script (SoloRun W) → List ℕ → Script (SoloRun W) → Type 0
-  solo_end_answers_in (Head head) text new = ⊥
-  solo_end_answers_in (Running run) text new = (text ≡ []) × (new ≡ Running run) × IsTrue run.was_open
-
-  abbrev pub solo_end_answers : SoloScript W → List ℕ → SoloScript W → Type 0
-  solo_end_answers old text new = solo_end_answers_in old.script text new.script
-
-  abbrev pub solo_end_refuses_in : Script (SoloRun W) → SoloRefusal → Type 0
-  solo_end_refuses_in (Head head) (BadConfig bad) = bad.line ≡ counted head.lines
-  solo_end_refuses_in (Head head) UnknownTenant = ⊥
-  solo_end_refuses_in (Running run) (BadConfig bad) = ⊥
-  solo_end_refuses_in (Running run) UnknownTenant = IsFalse run.was_open
-
-  abbrev pub solo_end_refuses : SoloScript W → SoloRefusal → Type 0
-  solo_end_refuses old refusal = solo_end_refuses_in old.script refusal
-
-  abbrev pub solo_rules : LineRules (SoloScript W) SoloRefusal
-  solo_rules = record { answers = solo_answers; refuses = solo_refuses; ends = solo_end_answers; refuses_end = solo_end_refuses }
+  abbrev pub solo_rules : BodyRules LinesOf (SoloRun W) SoloRefusal
+  solo_rules = record {
+    starts = λ body config run. StartsAlone body.name config run;
+    refuses_start = λ body config refusal. ⊥;
+    lines = λ body. solo_lines body.name;
+    bad_head = BadConfig;
+  }

@@ -1,16 +1,18 @@
 //! The head of a script alone.
-ghost use Rattle.std.specs.Prelude.{◌≡◌, ◌⊎◌, ◌^◌, ℕ, IfErr, IfOk, IfSome, IsErrOf, IsTrue, List, Some};
+ghost use Rattle.std.specs.Prelude.{◌≡◌, ◌⊎◌, ◌^◌, ℕ, IfErr, IfOk, IfSome, IsErrOf, IsTrue, List};
 ghost use Rattle.cops_types.specs.Counts.{HasRisen, HasRisenBy};
-ghost use Rattle.cops_types.specs.Head.{AtStart, BadAt, Whole, head_of};
+ghost use Rattle.cops_types.specs.Head.{BadAt, Whole, head_of};
 ghost use Rattle.cops_script.specs.LineRuns.{IfRunRefused};
 ghost use Rattle.cops_types.specs.Lines.{lines_of};
 ghost use Rattle.cops_types.specs.Source.{source_failures, source_reader, source_reads};
 ghost use Rattle.cops_script.specs.GoodHeads.{is_good};
 
+use crate::bodies::Body;
+use crate::head_machine::{ScriptMachine, new_script};
 use crate::script_runs::{LONGEST_LINE, TURNS};
-use crate::scripts::{BadConfig, HeadSoFar, read_head};
-use crate::{LineMachine, RunFault, Stop, run_lines};
-use cops_types::{Config, ConfigReader, Sink, Source};
+use crate::scripts::BadConfig;
+use crate::{RunFault, Stop, run_lines};
+use cops_types::{Config, Sink, Source};
 use std::alloc::Global;
 use std::io::Read;
 
@@ -22,41 +24,37 @@ pub enum HeadEnd {
     Bad(BadConfig),
 }
 
-impl LineMachine for HeadSoFar {
+/// Nothing runs behind the head.
+#[derive(Clone, Copy)]
+pub struct HeadAlone;
+
+impl Body<()> for HeadAlone {
     ghost use Rattle.cops_script.specs.LoneHead.{lone_rules};
 
     type Refusal = HeadEnd;
 
     ghost rules = { lone_rules };
 
+    fn bad_head(bad: BadConfig) -> HeadEnd {
+        HeadEnd::Bad(bad)
+    }
+
+    fn begin(&self, _alloc: Global, config: Config) -> Result<(), Stop<HeadEnd>> {
+        Err(Stop::Refused(HeadEnd::Whole(config)))
+    }
+
     fn line(
-        &mut self,
-        alloc: Global,
-        line: &[u8],
+        &self,
+        _alloc: Global,
+        _state: &mut (),
+        _line: &[u8],
         _out: &mut Vec<u8>,
     ) -> Result<(), Stop<HeadEnd>> {
-        match read_head(alloc, self, line) {
-            Ok(None) => Ok(()),
-            Ok(Some(config)) => Err(Stop::Refused(HeadEnd::Whole(config))),
-            Err(Stop::Refused(bad)) => Err(Stop::Refused(HeadEnd::Bad(bad))),
-            Err(Stop::OutOfMemory) => Err(Stop::OutOfMemory),
-        }
+        Ok(())
     }
 
-    fn end(&mut self, _alloc: Global, _out: &mut Vec<u8>) -> Result<(), Stop<HeadEnd>> {
-        Err(Stop::Refused(HeadEnd::Bad(BadConfig {
-            line: self.lines.saturating_add(1),
-        })))
-    }
-}
-
-/// A head of which no line was read.
-fn new_head() -> HeadSoFar
-    ensures { (result.reader ≡ Some AtStart) × (result.lines ≡ 0) }
-{
-    HeadSoFar {
-        reader: ConfigReader::new(),
-        lines: 0,
+    fn end(&self, _state: &()) -> Result<(), Stop<HeadEnd>> {
+        Ok(())
     }
 }
 
@@ -80,7 +78,7 @@ pub fn read_config<R: Read>(
         ⊎ HasRisenBy (source_reads source.old) (source_reads source.new) (2 ^ 32) }
     ensures write_fault { IsErrOf result RunFault.WriteFault → ⊥ }
 {
-    let mut head = new_head();
+    let mut head: ScriptMachine<HeadAlone, ()> = new_script(HeadAlone);
     let mut nothing = Sink::new(Vec::new(alloc));
     match run_lines(&mut head, alloc, TURNS, LONGEST_LINE, source, &mut nothing) {
         Err(RunFault::Refused(HeadEnd::Whole(config))) => Ok(config),

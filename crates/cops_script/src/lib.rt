@@ -1,6 +1,8 @@
 //! Scripts: heads, the lines of tenants and of the host, what they say and what is answered, over any world.
 #![tactic(auto)]
 
+mod bodies;
+mod head_machine;
 mod heads;
 pub mod host_lines;
 mod host_machine;
@@ -27,9 +29,7 @@ pub use lone_tenants::with_tenant_alone;
 pub use runs::{Tenancy, run_all};
 pub use script_runs::{LONGEST_LINE, TURNS, run_script_in};
 pub use script_worlds::script_world_in;
-pub use scripts::{BadConfig, HeadSoFar, Script, read_head};
-pub use silent_machine::SilentScript;
+pub use scripts::{BadConfig, HeadSoFar, read_head};
 pub use solo_machine::SoloRefusal;
 pub use solo_runs::solo_script_in;
-pub use solo_scripts::{SoloRun, SoloScript};
 pub use texts::push_reply;

@@ -1,6 +1,6 @@
-//! The machine that answers the lines of a script.
-ghost use Rattle.std.specs.Prelude.{◌≡◌, [], is_some, IfErr, IfOk, IsTrue, OnOk};
-ghost use Rattle.cops_script.specs.LineAnswers.{Answers, IfRefused};
+//! What answers all lines behind the head of a script.
+ghost use Rattle.std.specs.Prelude.{◌≡◌, is_some, IsTrue, OnOk};
+ghost use Rattle.cops_script.specs.LineAnswers.{Answers};
 ghost use Rattle.cops_types.specs.Words.{first_word};
 ghost use Rattle.cops_script.specs.ActLines.{act_in};
 ghost use Rattle.cops_types.specs.OpenSlots.{open_at, open_slot_of_name};
@@ -8,16 +8,17 @@ ghost use Rattle.cops_script.specs.Said.{said_found, said_by, said_in};
 ghost use Rattle.cops_model.specs.Setups.{is_open_at};
 ghost use Rattle.cops_script.specs.Answers.{ToTenant, open_name};
 ghost use Rattle.cops_script.specs.Doing.{IsDone};
-ghost use Rattle.cops_script.specs.ScriptRules.{IsAnswered, IsInHead, line_answers, line_refuses};
+ghost use Rattle.cops_script.specs.AllRules.{IsAnswered};
 
+use crate::bodies::Body;
 use crate::host_machine::{admit, close};
 use crate::lines::parse_act;
-use crate::scripts::{BadConfig, Script, read_head};
+use crate::scripts::BadConfig;
 use crate::texts::{push_answer, push_host, push_nobody};
-use crate::{LineMachine, Stop, Tenancy};
+use crate::{Stop, Tenancy};
 use cops_model::{Event, Reply};
 use cops_types::words::split_word;
-use cops_types::{Fault, Name, OpenTenants};
+use cops_types::{Config, Fault, Name, OpenTenants};
 use std::alloc::{AllocError, Global};
 
 /// What the tenant who is open at the slot is told of the act that the line writes.
@@ -77,66 +78,37 @@ fn answer<W: Tenancy>(world: &mut W, line: &[u8], out: &mut Vec<u8>) -> Result<(
     answer_tenant(world, word, line, out)
 }
 
-/// Reads one more line of a script that is in its head. Where it is the last, the script runs from
-/// here on.
-///
-/// It is apart from the lines of a running script, each of which would have to make room for a
-/// configuration and a world.
-#[inline(never)]
-fn read_head_line<W: Tenancy + Drop>(
-    alloc: Global,
-    script: &mut Script<W>,
-    line: &[u8],
-) -> Result<(), Stop<BadConfig>>
-    requires { IsInHead script.old }
-    ensures ok { OnOk result (line_answers W.setup W.StandsFor script.old line.now [] script.new) }
-    ensures err { IfErr result (λ stop. IfRefused stop (line_refuses W.setup W.StandsFor script.old line.now)) }
-{
-    match script {
-        Script::Head(head) => {
-            let Some(config) = read_head(alloc, head, line)? else {
-                return Ok(());
-            };
-            let Ok(world) = W::begin(alloc, config) else {
-                return Err(Stop::OutOfMemory);
-            };
-            *script = Script::Running(world);
-            Ok(())
-        }
-        Script::Running(_) => unreachable!(),
-    }
-}
+/// Each line is answered, in one world of all tenants.
+#[derive(Clone, Copy)]
+pub struct AllLines;
 
-impl<W: Tenancy + Drop> LineMachine for Script<W> {
-    ghost use Rattle.cops_script.specs.ScriptRules.{script_rules};
+impl<W: Tenancy + Drop> Body<W> for AllLines {
+    ghost use Rattle.cops_script.specs.AllRules.{all_rules};
 
     type Refusal = BadConfig;
 
-    ghost rules = { script_rules W.setup W.StandsFor };
+    ghost rules = { all_rules W.setup W.StandsFor };
+
+    fn bad_head(bad: BadConfig) -> BadConfig {
+        bad
+    }
+
+    fn begin(&self, alloc: Global, config: Config) -> Result<W, Stop<BadConfig>> {
+        Ok(W::begin(alloc, config)?)
+    }
 
     fn line(
-        &mut self,
-        alloc: Global,
+        &self,
+        _alloc: Global,
+        world: &mut W,
         line: &[u8],
         out: &mut Vec<u8>,
     ) -> Result<(), Stop<BadConfig>> {
-        match self {
-            Script::Head(_) => read_head_line(alloc, self, line),
-            Script::Running(world) => {
-                if answer(world, line, out).is_err() {
-                    return Err(Stop::OutOfMemory);
-                }
-                Ok(())
-            }
-        }
+        answer(world, line, out)?;
+        Ok(())
     }
 
-    fn end(&mut self, _alloc: Global, _out: &mut Vec<u8>) -> Result<(), Stop<BadConfig>> {
-        match self {
-            Script::Head(head) => Err(Stop::Refused(BadConfig {
-                line: head.lines.saturating_add(1),
-            })),
-            Script::Running(_) => Ok(()),
-        }
+    fn end(&self, _world: &W) -> Result<(), Stop<BadConfig>> {
+        Ok(())
     }
 }

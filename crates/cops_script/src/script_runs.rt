@@ -2,17 +2,18 @@
 ghost use Rattle.std.specs.Prelude.{◌≡◌, ◌⊎◌, IfErr, IfSome, IsErrOf, OnErr, OnOk};
 ghost use Rattle.std.specs.Io.KnownBytes.{IsAtEnd, Keeps};
 ghost use Rattle.cops_types.specs.Counts.{HasRisen, HasRisenBy};
-ghost use Rattle.cops_types.specs.Head.{AtStart, BadAt, head_of};
+ghost use Rattle.cops_types.specs.Head.{BadAt, head_of};
 ghost use Rattle.cops_script.specs.LineRuns.{IfRunRefused};
 ghost use Rattle.cops_types.specs.Lines.{lines_of};
 ghost use Rattle.cops_types.specs.Sink.{sink_failures, sink_writer};
 ghost use Rattle.cops_types.specs.Source.{source_failures, source_reader, source_reads};
-ghost use Rattle.cops_script.specs.HeadRules.{IsHeadAt};
 ghost use Rattle.cops_script.specs.ScriptRuns.{WritesFront, WritesScript};
 
-use crate::scripts::{BadConfig, HeadSoFar, Script};
+use crate::head_machine::{ScriptMachine, new_script};
+use crate::script_machine::AllLines;
+use crate::scripts::BadConfig;
 use crate::{RunFault, Tenancy, run_lines};
-use cops_types::{ConfigReader, Sink, Source};
+use cops_types::{Sink, Source};
 use std::alloc::Global;
 use std::io::{Read, Write};
 use std::mem;
@@ -22,16 +23,6 @@ pub const TURNS: u64 = 4_294_967_296;
 
 /// No more of a line is read, but for one byte.
 pub const LONGEST_LINE: usize = 8192;
-
-/// A script that has come to no line.
-fn new_script<W: Tenancy>() -> Script<W>
-    ensures { IsHeadAt AtStart 0 result }
-{
-    Script::Head(HeadSoFar {
-        reader: ConfigReader::new(),
-        lines: 0,
-    })
-}
 
 /// Answers a script in a new world, in so many turns.
 pub fn run_script_in<W: Tenancy + Drop, R: Read, O: Write>(
@@ -59,7 +50,7 @@ pub fn run_script_in<W: Tenancy + Drop, R: Read, O: Write>(
         ⊎ HasRisenBy (source_reads source.old) (source_reads source.new) turns }
     ensures write_fault { IsErrOf result RunFault.WriteFault → HasRisen (sink_failures sink.old) (sink_failures sink.new) }
 {
-    let mut script: Script<W> = new_script();
+    let mut script: ScriptMachine<AllLines, W> = new_script(AllLines);
     let ended = run_lines(&mut script, alloc, turns, LONGEST_LINE, source, sink);
     // The process ends soon, and gives back its memory at once. To give back each record, queue
     // entry and row of the audit by itself took up to a quarter of the time of a run.

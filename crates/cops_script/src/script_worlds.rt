@@ -2,40 +2,28 @@
 ghost use Rattle.std.specs.Prelude.{◌≡◌, ◌⊎◌, IfErr, IfOk, IfSome, IsErrOf, OnOk};
 ghost use Rattle.std.specs.Io.KnownBytes.{IsAtEnd};
 ghost use Rattle.cops_types.specs.Counts.{HasRisen, HasRisenBy};
-ghost use Rattle.cops_types.specs.Head.{AtStart, BadAt, head_of};
+ghost use Rattle.cops_types.specs.Head.{BadAt, head_of};
 ghost use Rattle.cops_script.specs.LineRuns.{IfRunRefused};
 ghost use Rattle.cops_types.specs.Lines.{lines_of};
 ghost use Rattle.cops_types.specs.Source.{source_failures, source_reader, source_reads};
-ghost use Rattle.cops_script.specs.HeadRules.{IsHeadAt};
 ghost use Rattle.cops_script.specs.ScriptWorlds.{IsLeftBy, IsLeftByRead, IsRunning};
 ghost use Rattle.cops_script.specs.declared.scripts.Script.TheVariants.{Running};
 
+use crate::head_machine::{ScriptMachine, new_script};
 use crate::script_runs::LONGEST_LINE;
-use crate::scripts::{BadConfig, HeadSoFar, Script};
-use crate::silent_machine::SilentScript;
+use crate::scripts::{BadConfig, Script};
+use crate::silent_machine::SilentLines;
 use crate::{RunFault, Tenancy, run_lines};
-use cops_types::{ConfigReader, Sink, Source};
+use cops_types::{Sink, Source};
 use std::alloc::Global;
 use std::io::Read;
 
-/// A script that has come to no line.
-fn new_silent_script<W: Tenancy>() -> SilentScript<W>
-    ensures { IsHeadAt AtStart 0 result.script }
-{
-    SilentScript {
-        script: Script::Head(HeadSoFar {
-            reader: ConfigReader::new(),
-            lines: 0,
-        }),
-    }
-}
-
 /// The world of a script that is past its head.
-fn world_in<W: Drop>(silent: SilentScript<W>) -> W
-    requires { IsRunning silent.script }
-    ensures { silent.script ≡ Running result }
+fn world_in<W: Drop>(script: Script<W>) -> W
+    requires { IsRunning script }
+    ensures { script ≡ Running result }
 {
-    match silent.script {
+    match script {
         Script::Running(world) => world,
         Script::Head(_) => unreachable!(),
     }
@@ -62,10 +50,10 @@ pub fn script_world_in<W: Tenancy + Drop, R: Read>(
         ⊎ HasRisenBy (source_reads source.old) (source_reads source.new) turns }
     ensures write_fault { IsErrOf result RunFault.WriteFault → ⊥ }
 {
-    let mut silent: SilentScript<W> = new_silent_script();
+    let mut silent: ScriptMachine<SilentLines, W> = new_script(SilentLines);
     let mut sink = Sink::new(Vec::new(alloc));
     match run_lines(&mut silent, alloc, turns, LONGEST_LINE, source, &mut sink) {
-        Ok(()) => Ok(world_in(silent)),
+        Ok(()) => Ok(world_in(silent.script)),
         Err(fault) => Err(fault),
     }
 }

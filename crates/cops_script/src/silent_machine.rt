@@ -1,4 +1,4 @@
-//! The machine that does what the lines of a script say, and writes nothing.
+//! What does what all lines behind the head of a script say, and writes nothing.
 ghost use Rattle.std.specs.Prelude.{◌≡◌, IsTrue};
 ghost use Rattle.cops_types.specs.OpenSlots.{open_slot_of_name};
 ghost use Rattle.cops_types.specs.Words.{first_word};
@@ -9,20 +9,19 @@ ghost use Rattle.cops_model.specs.Setups.{is_open_at};
 ghost use Rattle.cops_script.specs.Answers.{ToHost, is_lack};
 ghost use Rattle.cops_script.specs.SilentRules.{IsDoneWhole};
 
+use crate::bodies::Body;
 use crate::host_machine::{admit, close};
 use crate::lines::parse_act;
-use crate::scripts::{BadConfig, Script, read_head};
-use crate::{LineMachine, Stop, Tenancy};
+use crate::scripts::BadConfig;
+use crate::{Stop, Tenancy};
 use cops_model::{Event, HostReply, Reply};
-use cops_types::Fault;
 use cops_types::words::split_word;
+use cops_types::{Config, Fault};
 use std::alloc::Global;
 
-/// A script whose replies are not written.
-#[derive(Drop)]
-pub struct SilentScript<W> {
-    pub script: Script<W>,
-}
+/// What each line says is done, in one world of all tenants, and no reply is written.
+#[derive(Clone, Copy)]
+pub struct SilentLines;
 
 /// Whether a reply says that memory was refused.
 fn is_out_of_memory(reply: &Reply) -> bool
@@ -83,44 +82,35 @@ fn act<W: Tenancy>(world: &mut W, line: &[u8]) -> bool
     act_tenant(world, word, line)
 }
 
-impl<W: Tenancy + Drop> LineMachine for SilentScript<W> {
+impl<W: Tenancy + Drop> Body<W> for SilentLines {
     ghost use Rattle.cops_script.specs.SilentRules.{silent_rules};
 
     type Refusal = BadConfig;
 
     ghost rules = { silent_rules W.setup W.StandsFor };
 
+    fn bad_head(bad: BadConfig) -> BadConfig {
+        bad
+    }
+
+    fn begin(&self, alloc: Global, config: Config) -> Result<W, Stop<BadConfig>> {
+        Ok(W::begin(alloc, config)?)
+    }
+
     fn line(
-        &mut self,
-        alloc: Global,
+        &self,
+        _alloc: Global,
+        world: &mut W,
         line: &[u8],
         _out: &mut Vec<u8>,
     ) -> Result<(), Stop<BadConfig>> {
-        match &mut self.script {
-            Script::Head(head) => {
-                let Some(config) = read_head(alloc, head, line)? else {
-                    return Ok(());
-                };
-                let Ok(world) = W::begin(alloc, config) else {
-                    return Err(Stop::OutOfMemory);
-                };
-                self.script = Script::Running(world);
-            }
-            Script::Running(world) => {
-                if !act(world, line) {
-                    return Err(Stop::OutOfMemory);
-                }
-            }
+        if !act(world, line) {
+            return Err(Stop::OutOfMemory);
         }
         Ok(())
     }
 
-    fn end(&mut self, _alloc: Global, _out: &mut Vec<u8>) -> Result<(), Stop<BadConfig>> {
-        match &self.script {
-            Script::Head(head) => Err(Stop::Refused(BadConfig {
-                line: head.lines.saturating_add(1),
-            })),
-            Script::Running(_) => Ok(()),
-        }
+    fn end(&self, _world: &W) -> Result<(), Stop<BadConfig>> {
+        Ok(())
     }
 }

@@ -1,31 +1,27 @@
-//! The machine that answers the lines of one name's tenants, each of whom has a world to himself.
-ghost use Rattle.std.specs.Prelude.{◌≡◌, [], None, Some, IfErr, IfNone, IfOk, IfSome, IsTrue, OnOk};
-ghost use Rattle.cops_types.specs.declared.configs.Config.{Config as Setup};
+//! What answers the lines of one name's tenants behind the head of a script. Each has a world to himself.
+ghost use Rattle.std.specs.Prelude.{◌≡◌, [], Some, IfErr, IfOk, IsTrue, OnOk};
 ghost use Rattle.cops_script.specs.declared.line_runs.machine.Stop.TheVariants.{OutOfMemory};
-ghost use Rattle.cops_types.specs.Head.{AtStart, Begun};
-ghost use Rattle.cops_types.specs.HeadReader.{front_with};
 ghost use Rattle.cops_types.specs.HeadLines.{is_tenant};
 ghost use Rattle.cops_script.specs.HostLines.{admitted_in, closed_in};
-ghost use Rattle.cops_script.specs.LineAnswers.{Answers, IfRefused};
+ghost use Rattle.cops_script.specs.LineAnswers.{Answers};
 ghost use Rattle.cops_types.specs.OpenSlots.{open_slot_of_name};
 ghost use Rattle.cops_types.specs.Words.{first_word};
 ghost use Rattle.cops_model.specs.MainTheorem.{with_tenant_alone};
 ghost use Rattle.cops_script.specs.Said.{OfHost, admission_of, closing_of, said_found};
 ghost use Rattle.cops_model.specs.Setups.{next_slot};
 ghost use Rattle.cops_script.specs.Acting.{IsNew};
-ghost use Rattle.cops_script.specs.GoodHeads.{is_good, HeadContinues};
-ghost use Rattle.cops_script.specs.HeadRules.{IsHeadAt};
-ghost use Rattle.cops_script.specs.SoloRules.{AnswersOwn, IsGiven, StartsAlone, Takes, is_own, solo_refuses_in};
-ghost use Rattle.cops_script.specs.declared.scripts.Script.TheVariants.{Head};
+ghost use Rattle.cops_script.specs.GoodHeads.{is_good};
+ghost use Rattle.cops_script.specs.SoloRules.{AnswersOwn, IsGiven, StartsAlone, Takes, is_own};
 
+use crate::bodies::Body;
 use crate::host_lines::{read_admission, read_closing};
 use crate::lone_tenants::with_tenant_alone;
 use crate::script_machine::answer_tenant;
-use crate::scripts::{BadConfig, HeadSoFar, Script, read_head};
-use crate::solo_scripts::{SoloRun, SoloScript};
-use crate::{LineMachine, Stop, Tenancy};
+use crate::scripts::BadConfig;
+use crate::solo_scripts::SoloRun;
+use crate::{Stop, Tenancy};
 use cops_types::words::split_word;
-use cops_types::{Bytes, Config, ConfigReader, Fault, OpenTenants, Tenant};
+use cops_types::{Bytes, Config, Fault, OpenTenants, Tenant};
 use std::alloc::{AllocError, Global};
 
 /// Why a tenant's lines are not answered.
@@ -36,26 +32,14 @@ pub enum SoloRefusal {
     UnknownTenant,
 }
 
+/// The lines of the tenants with this name are answered.
+#[derive(Drop)]
+pub struct LinesOf {
+    pub name: Bytes,
+}
+
 /// How many tenants may be open at once.
 const MOST_OPEN: u64 = 64;
-
-/// A script that has come to no line, for the tenants with this name.
-pub(crate) fn new_solo_script<W: Tenancy>(
-    alloc: Global,
-    name: &[u8],
-) -> Result<SoloScript<W>, AllocError>
-    ensures name { IfOk result (λ solo. solo.name ≡ name.now) }
-    ensures head { IfOk result (λ solo. IsHeadAt AtStart 0 solo.script) }
-{
-    let name = Bytes::new(alloc, name)?;
-    Ok(SoloScript {
-        name,
-        script: Script::Head(HeadSoFar {
-            reader: ConfigReader::new(),
-            lines: 0,
-        }),
-    })
-}
 
 /// A new world with the sizes of a head, for this tenant alone.
 fn begin_alone<W: Tenancy>(alloc: Global, head: &Config, tenant: &Tenant) -> Result<W, AllocError>
@@ -89,28 +73,6 @@ fn begin_run<W: Tenancy>(alloc: Global, head: Config, name: &[u8]) -> Result<Sol
         was_open: true,
         world: Some(world),
     })
-}
-
-/// Reads one more line of the head, and gives what runs on where the line ends it.
-fn read_head_line<W: Tenancy>(
-    alloc: Global,
-    name: &[u8],
-    head: &mut HeadSoFar,
-    line: &[u8],
-) -> Result<Option<SoloRun<W>>, Stop<SoloRefusal>>
-    ensures more { IfOk result (λ begun. IfNone begun (HeadContinues head.old.reader head.old.lines line.now head.new.reader head.new.lines)) }
-    ensures begun { IfOk result (λ begun. IfSome begun (λ run. (config : Setup) × (front_with head.old.reader line.now ≡ Some (Begun config)) × StartsAlone W.setup W.StandsFor name.now config run)) }
-    ensures err { IfErr result (λ stop. IfRefused stop (solo_refuses_in W.setup W.StandsFor (Head head.old) line.now)) }
-{
-    match read_head(alloc, head, line) {
-        Ok(None) => Ok(None),
-        Ok(Some(config)) => match begin_run(alloc, config, name) {
-            Ok(run) => Ok(Some(run)),
-            Err(_) => Err(Stop::OutOfMemory),
-        },
-        Err(Stop::Refused(bad)) => Err(Stop::Refused(SoloRefusal::BadConfig(bad))),
-        Err(Stop::OutOfMemory) => Err(Stop::OutOfMemory),
-    }
 }
 
 /// The least free slot, or the number of all slots where none is free.
@@ -234,43 +196,35 @@ fn answer<W: Tenancy + Drop>(
     Ok(())
 }
 
-impl<W: Tenancy + Drop> LineMachine for SoloScript<W> {
+impl<W: Tenancy + Drop> Body<SoloRun<W>> for LinesOf {
     ghost use Rattle.cops_script.specs.SoloRules.{solo_rules};
 
     type Refusal = SoloRefusal;
 
     ghost rules = { solo_rules W.setup W.StandsFor };
 
+    fn bad_head(bad: BadConfig) -> SoloRefusal {
+        SoloRefusal::BadConfig(bad)
+    }
+
+    fn begin(&self, alloc: Global, config: Config) -> Result<SoloRun<W>, Stop<SoloRefusal>> {
+        Ok(begin_run(alloc, config, self.name.as_slice())?)
+    }
+
     fn line(
-        &mut self,
+        &self,
         alloc: Global,
+        run: &mut SoloRun<W>,
         line: &[u8],
         out: &mut Vec<u8>,
     ) -> Result<(), Stop<SoloRefusal>> {
-        let name = self.name.as_slice();
-        match &mut self.script {
-            Script::Head(head) => {
-                let Some(run) = read_head_line(alloc, name, head, line)? else {
-                    return Ok(());
-                };
-                self.script = Script::Running(run);
-                Ok(())
-            }
-            Script::Running(run) => answer(alloc, name, run, line, out),
-        }
+        answer(alloc, self.name.as_slice(), run, line, out)
     }
 
-    fn end(&mut self, _alloc: Global, _out: &mut Vec<u8>) -> Result<(), Stop<SoloRefusal>> {
-        match &self.script {
-            Script::Head(head) => Err(Stop::Refused(SoloRefusal::BadConfig(BadConfig {
-                line: head.lines.saturating_add(1),
-            }))),
-            Script::Running(run) => {
-                if !run.was_open {
-                    return Err(Stop::Refused(SoloRefusal::UnknownTenant));
-                }
-                Ok(())
-            }
+    fn end(&self, run: &SoloRun<W>) -> Result<(), Stop<SoloRefusal>> {
+        if !run.was_open {
+            return Err(Stop::Refused(SoloRefusal::UnknownTenant));
         }
+        Ok(())
     }
 }

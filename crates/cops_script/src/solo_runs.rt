@@ -7,11 +7,12 @@ ghost use Rattle.cops_types.specs.Sink.{sink_failures, sink_writer};
 ghost use Rattle.cops_types.specs.Source.{source_failures, source_reader, source_reads};
 ghost use Rattle.cops_script.specs.SoloRuns.{IsRefusedFor, WritesSolo, WritesSoloFront};
 
+use crate::head_machine::{ScriptMachine, new_script};
 use crate::script_runs::{LONGEST_LINE, TURNS};
-use crate::solo_machine::{SoloRefusal, new_solo_script};
-use crate::solo_scripts::SoloScript;
+use crate::solo_machine::{LinesOf, SoloRefusal};
+use crate::solo_scripts::SoloRun;
 use crate::{RunFault, Tenancy, run_lines};
-use cops_types::{Sink, Source};
+use cops_types::{Bytes, Sink, Source};
 use std::alloc::Global;
 use std::io::{Read, Write};
 use std::mem;
@@ -42,10 +43,8 @@ pub fn solo_script_in<W: Tenancy + Drop, R: Read, O: Write>(
         ⊎ HasRisenBy (source_reads source.old) (source_reads source.new) 4294967296 }
     ensures write_fault { IsErrOf result RunFault.WriteFault → HasRisen (sink_failures sink.old) (sink_failures sink.new) }
 {
-    let Ok(solo) = new_solo_script(alloc, tenant) else {
-        return Err(RunFault::OutOfMemory);
-    };
-    let mut solo: SoloScript<W> = solo;
+    let name = Bytes::new(alloc, tenant)?;
+    let mut solo: ScriptMachine<LinesOf, SoloRun<W>> = new_script(LinesOf { name });
     let ended = run_lines(&mut solo, alloc, TURNS, LONGEST_LINE, source, sink);
     // As in `run_script`: the process gives back the memory of the world at its end.
     mem::forget(solo);

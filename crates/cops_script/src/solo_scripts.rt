@@ -1,11 +1,10 @@
-//! A script of which the lines of one name's tenants are answered.
+//! A script of which the lines of one name's tenants are answered, past its head.
 ghost use Rattle.std.specs.Prelude.{◌≡◌, IsFalse, IsTrue, None};
 ghost use Rattle.cops_script.specs.GoodHeads.{is_good};
 
-use crate::scripts::Script;
-use cops_types::{Bytes, Config, OpenTenants};
+use cops_types::{Config, OpenTenants};
 
-/// Such a script past its head.
+/// What such a script has come to.
 #[derive(Drop)]
 pub struct SoloRun<W> {
     /// Its sizes and limits are those of all worlds.
@@ -18,11 +17,4 @@ pub struct SoloRun<W> {
     pub world: Option<W>,
     ghost good: { IsTrue (is_good head) },
     ghost silent: { IsFalse was_open → world ≡ None },
-}
-
-/// A script of which the lines of the tenants with this name are answered.
-#[derive(Drop)]
-pub struct SoloScript<W> {
-    pub name: Bytes,
-    pub script: Script<SoloRun<W>>,
 }

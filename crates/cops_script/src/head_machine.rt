@@ -1,0 +1,114 @@
+//! The machine of a script: it reads the head, and then hands each line to what runs behind it.
+ghost use Rattle.std.specs.Prelude.{◌≡◌, [], Some, IfErr, IfNone, IfOk, IfSome, OnOk};
+ghost use Rattle.cops_types.specs.declared.configs.Config.{Config as Setup};
+ghost use Rattle.cops_types.specs.Head.{AtStart, Begun};
+ghost use Rattle.cops_types.specs.HeadReader.{front_with};
+ghost use Rattle.cops_script.specs.GoodHeads.{HeadContinues};
+ghost use Rattle.cops_script.specs.HeadRules.{IsHeadAt, IsInHead};
+ghost use Rattle.cops_script.specs.LineAnswers.{IfRefused};
+ghost use Rattle.cops_script.specs.ScriptRules.{head_refuses, rules_in};
+
+use crate::bodies::Body;
+use crate::scripts::{BadConfig, HeadSoFar, Script, read_head};
+use crate::{LineMachine, Stop};
+use cops_types::ConfigReader;
+use std::alloc::Global;
+
+/// A script, and what its lines are read for.
+#[derive(Drop)]
+pub struct ScriptMachine<B, R> {
+    pub body: B,
+    pub script: Script<R>,
+}
+
+/// A script that has come to no line.
+pub(crate) fn new_script<B, R>(body: B) -> ScriptMachine<B, R>
+    ensures body { result.body ≡ body }
+    ensures head { IsHeadAt AtStart 0 result.script }
+{
+    ScriptMachine {
+        body,
+        script: Script::Head(HeadSoFar {
+            reader: ConfigReader::new(),
+            lines: 0,
+        }),
+    }
+}
+
+/// Reads one more line of a head, and gives what runs on where the line ends it.
+fn read_line<B: Body<R>, R>(
+    alloc: Global,
+    body: &B,
+    head: &mut HeadSoFar,
+    line: &[u8],
+) -> Result<Option<R>, Stop<B::Refusal>>
+    ensures more { IfOk result (λ begun. IfNone begun (HeadContinues head.old.reader head.old.lines line.now head.new.reader head.new.lines)) }
+    ensures begun { IfOk result (λ begun. IfSome begun (λ state. (config : Setup) × (front_with head.old.reader line.now ≡ Some (Begun config)) × B.rules.starts body.now config state)) }
+    ensures err { IfErr result (λ stop. IfRefused stop (head_refuses B.rules body.now head.old line.now)) }
+{
+    match read_head(alloc, head, line) {
+        Ok(None) => Ok(None),
+        Ok(Some(config)) => match body.begin(alloc, config) {
+            Ok(state) => Ok(Some(state)),
+            Err(stop) => Err(stop),
+        },
+        Err(Stop::Refused(bad)) => Err(Stop::Refused(B::bad_head(bad))),
+        Err(Stop::OutOfMemory) => Err(Stop::OutOfMemory),
+    }
+}
+
+/// Reads one more line of a script that is in its head. Where it is the last, the body begins.
+///
+/// It is apart from the lines of a running script, each of which would have to make room for a
+/// configuration and a world.
+#[inline(never)]
+fn read_head_line<B: Body<R>, R: Drop>(
+    alloc: Global,
+    body: &B,
+    script: &mut Script<R>,
+    line: &[u8],
+) -> Result<(), Stop<B::Refusal>>
+    requires { IsInHead script.old }
+    ensures ok { OnOk result ((rules_in B.rules body.now).answers script.old line.now [] script.new) }
+    ensures err { IfErr result (λ stop. IfRefused stop ((rules_in B.rules body.now).refuses script.old line.now)) }
+{
+    match script {
+        Script::Head(head) => {
+            let Some(state) = read_line(alloc, body, head, line)? else {
+                return Ok(());
+            };
+            *script = Script::Running(state);
+            Ok(())
+        }
+        Script::Running(_) => unreachable!(),
+    }
+}
+
+impl<B: Body<R>, R: Drop> LineMachine for ScriptMachine<B, R> {
+    ghost use Rattle.cops_script.specs.ScriptRules.{script_rules};
+
+    type Refusal = B::Refusal;
+
+    ghost rules = { script_rules B.rules };
+
+    fn line(
+        &mut self,
+        alloc: Global,
+        line: &[u8],
+        out: &mut Vec<u8>,
+    ) -> Result<(), Stop<B::Refusal>> {
+        match &mut self.script {
+            Script::Head(_) => read_head_line(alloc, &self.body, &mut self.script, line),
+            Script::Running(state) => self.body.line(alloc, state, line, out),
+        }
+    }
+
+    fn end(&mut self, _alloc: Global, _out: &mut Vec<u8>) -> Result<(), Stop<B::Refusal>> {
+        match &self.script {
+            Script::Head(head) => Err(Stop::Refused(B::bad_head(BadConfig {
+                line: head.lines.saturating_add(1),
+            }))),
+            Script::Running(state) => self.body.end(state),
+        }
+    }
+}
