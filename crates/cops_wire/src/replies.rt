@@ -1,21 +1,34 @@
 //! Answers of requests, as the frames of their replies.
-ghost use Rattle.std.specs.Prelude.{◌≡◌, ◌≤◌, ◌∷◌, ◌++◌, length, map, true, IfOk, MatchBool, OnOk, OnErr};
+ghost use Rattle.std.specs.Prelude.{◌≡◌, ◌≤◌, ◌+◌, [], ◌∷◌, ◌++◌, length, map, take, true, IfOk, MatchBool, OnOk, OnErr};
 ghost use Rattle.std.specs.Bool.{OnTrue};
+ghost use Rattle.std.specs.List.{flat_map};
+ghost use Rattle.byteorder.specs.Endian.{big_bytes};
 ghost use Rattle.cops_types.specs.Words.{StartsWith};
 ghost use Rattle.cops_wire.specs.Requests.{are_counted, is_counted, is_one_frame, link_to, message_of_answer, outcome_of_read, values_of};
-ghost use Rattle.cops_wire.specs.Spelling.{body_of, link_of, outcome_of, parts_of, spelled_value, spelled_version, spelling};
+ghost use Rattle.cops_wire.specs.Spelling.{body_of, link_of, outcome_of, spelled_key, spelled_value, spelled_version, spelling};
 ghost use Rattle.cops_wire.specs.declared.messages.Message.{Message};
 
+use crate::placed::{put_key, put_number_16, put_number_32, put_value, put_version};
 use crate::writing::{
-    push_key, push_number_8, push_number_16, push_refusal, push_tag, push_value, push_version,
+    push_key, push_number_8, push_number_16, push_refusal, push_value, push_version,
 };
 use byteorder::{BigEndian, ByteOrder};
 use cops_session::Answer;
-use cops_types::{Deps, Fault, Key, OwnedDeps, Pair, Read, Reads, Value, Version};
+use cops_types::placed::put_byte;
+use cops_types::{Fault, Key, OwnedDeps, Pair, Read, Version};
 use std::alloc::AllocError;
 
 /// The greatest length of a body.
 const LONGEST_BODY: usize = 4_000_000;
+
+/// How many bytes a pair has at most: a key behind its length, and a version.
+const LONGEST_PAIR: usize = 73;
+
+/// How many bytes a value has at most that is put with its key and its version at once.
+const SHORT_VALUE: usize = 50;
+
+/// How many bytes a key has at most with a short value, its version, and how many dependencies there are.
+const SHORT_HELD: usize = 128;
 
 /// The bytes of a key, which one byte can count.
 fn key_bytes(key: &Key) -> &[u8]
@@ -25,42 +38,150 @@ fn key_bytes(key: &Key) -> &[u8]
     key.bytes()
 }
 
-fn push_pair(out: &mut Vec<u8>, pair: &Pair) -> Result<(), AllocError>
-    ensures ok { OnOk result (out.new.items ≡ out.old.items ++ link_of (link_to pair.now)) }
-    ensures counted { OnOk result (length pair.now.key ≤ 64) }
-    ensures front { StartsWith out.new.items out.old.items }
+/// Puts a pair at a place where there is room for it.
+#[inline(always)]
+fn put_pair(bytes: &mut [u8], at: usize, pair: &Pair) -> usize
+    requires { at + LONGEST_PAIR ≤ length bytes.old }
+    ensures text { take result bytes.new ≡ take at bytes.old ++ link_of (link_to pair.now) }
+    ensures end { result ≤ at + LONGEST_PAIR }
 {
-    push_key(out, key_bytes(&pair.key))?;
-    push_version(out, pair.version)
+    let of_version = put_key(bytes, at, key_bytes(&pair.key));
+    put_version(bytes, of_version, pair.version)
 }
 
-fn push_deps(out: &mut Vec<u8>, deps: &OwnedDeps) -> Result<(), AllocError>
-    requires { length deps.now ≤ 65535 }
-    ensures ok { OnOk result (out.new.items ≡ out.old.items ++ parts_of 2 link_of (map link_to deps.now)) }
+/// Puts a pair at the end. After an `Err` nothing is put.
+#[inline(always)]
+fn push_pair(out: &mut Vec<u8>, pair: &Pair) -> Result<(), AllocError>
+    ensures ok { OnOk result (out.new.items ≡ out.old.items ++ link_of (link_to pair.now)) }
     ensures front { StartsWith out.new.items out.old.items }
 {
-    push_number_16(out, deps.len() as u16)?;
+    let start = out.len();
+    out.extend_from_slice(&[0; LONGEST_PAIR])?;
+    let end = put_pair(out.as_mut_slice(), start, pair);
+    out.truncate(end);
+    Ok(())
+}
+
+/// Puts the dependencies at the end. After an `Err` a front of them may be there.
+fn push_pairs(out: &mut Vec<u8>, deps: &OwnedDeps) -> Result<(), AllocError>
+    ensures ok { OnOk result (out.new.items ≡ out.old.items ++ flat_map link_of (map link_to deps.now)) }
+    ensures front { StartsWith out.new.items out.old.items }
+{
     for place in 0..deps.len() {
         push_pair(out, &deps.pair(place))?;
     }
     Ok(())
 }
 
-/// Puts what a key had at the end.
-fn push_held(
-    out: &mut Vec<u8>,
-    value: &Value,
+/// Puts a key and what it had, up to its dependencies, of which it puts how many there are, where there is room for a short value.
+#[inline(always)]
+fn put_held(
+    bytes: &mut [u8],
+    at: usize,
+    key: &[u8],
+    value: &[u8],
     version: Version,
-    deps: &Deps,
+    deps: u16,
+) -> usize
+    requires key { length key.now ≤ 64 }
+    requires value { length value.now ≤ SHORT_VALUE }
+    requires room { at + SHORT_HELD ≤ length bytes.old }
+    ensures text { take result bytes.new ≡ take at bytes.old ++ (spelled_key key.now ++ (1 ∷ (spelled_value value.now ++ (spelled_version version ++ big_bytes 2 deps)))) }
+    ensures end { result ≤ at + SHORT_HELD }
+{
+    let of_held = put_key(bytes, at, key);
+    let of_value = put_byte(bytes, of_held, 1);
+    let of_version = put_value(bytes, of_value, value);
+    let of_deps = put_version(bytes, of_version, version);
+    put_number_16(bytes, of_deps, deps)
+}
+
+/// Puts a key and what it had at the end, with room that is asked for once, up to its dependencies. After an `Err` nothing is put.
+#[inline(always)]
+fn push_short_held(
+    out: &mut Vec<u8>,
+    key: &[u8],
+    value: &[u8],
+    version: Version,
+    deps: u16,
 ) -> Result<(), AllocError>
-    requires value { length value.now ≤ 65535 }
-    requires deps { length deps.now ≤ 65535 }
-    ensures ok { OnOk result (out.new.items ≡ out.old.items ++ (spelled_value value.now ++ (spelled_version version ++ parts_of 2 link_of (map link_to deps.now)))) }
+    requires key { length key.now ≤ 64 }
+    requires value { length value.now ≤ SHORT_VALUE }
+    ensures ok { OnOk result (out.new.items ≡ out.old.items ++ (spelled_key key.now ++ (1 ∷ (spelled_value value.now ++ (spelled_version version ++ big_bytes 2 deps))))) }
     ensures front { StartsWith out.new.items out.old.items }
 {
-    push_value(out, value.bytes())?;
+    let start = out.len();
+    out.extend_from_slice(&[0; SHORT_HELD])?;
+    let end = put_held(out.as_mut_slice(), start, key, value, version, deps);
+    out.truncate(end);
+    Ok(())
+}
+
+/// Puts a value, its version, and how many dependencies there are at the end. After an `Err` a front of that may be there.
+fn push_valued(
+    out: &mut Vec<u8>,
+    value: &[u8],
+    version: Version,
+    deps: u16,
+) -> Result<(), AllocError>
+    requires { length value.now ≤ 65535 }
+    ensures ok { OnOk result (out.new.items ≡ out.old.items ++ (spelled_value value.now ++ (spelled_version version ++ big_bytes 2 deps))) }
+    ensures front { StartsWith out.new.items out.old.items }
+{
+    push_value(out, value)?;
     push_version(out, version)?;
-    push_deps(out, deps.owned())
+    push_number_16(out, deps)
+}
+
+/// Puts a key and what it had at the end as `push_held` does, part by part.
+#[inline(never)]
+fn push_long_held(
+    out: &mut Vec<u8>,
+    key: &[u8],
+    value: &[u8],
+    version: Version,
+    deps: u16,
+) -> Result<(), AllocError>
+    requires key { length key.now ≤ 64 }
+    requires value { length value.now ≤ 65535 }
+    ensures ok { OnOk result (out.new.items ≡ out.old.items ++ (spelled_key key.now ++ (1 ∷ (spelled_value value.now ++ (spelled_version version ++ big_bytes 2 deps))))) }
+    ensures front { StartsWith out.new.items out.old.items }
+{
+    push_key(out, key)?;
+    push_number_8(out, 1)?;
+    push_valued(out, value, version, deps)
+}
+
+/// Puts a key and what it had at the end, up to its dependencies, of which it puts how many there are.
+///
+/// After an `Err` a front of that may be there.
+#[inline(always)]
+fn push_held(
+    out: &mut Vec<u8>,
+    key: &[u8],
+    value: &[u8],
+    version: Version,
+    deps: u16,
+) -> Result<(), AllocError>
+    requires key { length key.now ≤ 64 }
+    requires value { length value.now ≤ 65535 }
+    ensures ok { OnOk result (out.new.items ≡ out.old.items ++ (spelled_key key.now ++ (1 ∷ (spelled_value value.now ++ (spelled_version version ++ big_bytes 2 deps))))) }
+    ensures front { StartsWith out.new.items out.old.items }
+{
+    if value.len() <= SHORT_VALUE {
+        return push_short_held(out, key, value, version, deps);
+    }
+    push_long_held(out, key, value, version, deps)
+}
+
+/// Puts a key that had nothing at the end. After an `Err` a front of that may be there.
+fn push_absent(out: &mut Vec<u8>, key: &[u8]) -> Result<(), AllocError>
+    requires { length key.now ≤ 64 }
+    ensures ok { OnOk result (out.new.items ≡ out.old.items ++ (spelled_key key.now ++ (0 ∷ []))) }
+    ensures front { StartsWith out.new.items out.old.items }
+{
+    push_key(out, key)?;
+    push_number_8(out, 0)
 }
 
 #[tactic(auto, using(crate::proofs::ReplyLemmas::replies))]
@@ -69,12 +190,13 @@ fn push_read(out: &mut Vec<u8>, read: &Read) -> Result<(), AllocError>
     ensures ok { OnOk result (out.new.items ≡ out.old.items ++ outcome_of (outcome_of_read read.now)) }
     ensures front { StartsWith out.new.items out.old.items }
 {
-    push_key(out, key_bytes(&read.key))?;
+    let key = key_bytes(&read.key);
     match &read.value {
-        None => push_number_8(out, 0),
+        None => push_absent(out, key),
         Some(value) => {
-            push_number_8(out, 1)?;
-            push_held(out, value, read.version, &read.deps)
+            let deps = read.deps.owned();
+            push_held(out, key, value.bytes(), read.version, deps.len() as u16)?;
+            push_pairs(out, deps)
         }
     }
 }
@@ -130,25 +252,28 @@ fn push_values(out: &mut Vec<u8>, reads: &[Read]) -> Result<bool, AllocError>
     Ok(true)
 }
 
-/// Puts a place for a length, and the body of a reply with a stored pair at the end. After an `Err` a front of them may be there.
-fn push_stored_body(out: &mut Vec<u8>, pair: &Pair) -> Result<(), AllocError>
-    ensures ok { OnOk result (out.new.items ≡ out.old.items ++ (0 ∷ 0 ∷ 0 ∷ 0 ∷ body_of (Message.Stored pair.now.key pair.now.version))) }
-    ensures short { OnOk result (length (body_of (Message.Stored pair.now.key pair.now.version)) ≤ LONGEST_BODY) }
-    ensures front { StartsWith out.new.items out.old.items }
+/// Puts a frame with a stored pair at a place where there is room for it.
+#[inline(always)]
+fn put_stored(bytes: &mut [u8], at: usize, pair: &Pair) -> usize
+    requires { at + 5 + LONGEST_PAIR ≤ length bytes.old }
+    ensures text { take result bytes.new ≡ take at bytes.old ++ spelling (Message.Stored pair.now.key pair.now.version) }
+    ensures end { result ≤ at + 5 + LONGEST_PAIR }
 {
-    push_tag(out, 0x84)?;
-    push_pair(out, pair)
+    let len = (10 + key_bytes(&pair.key).len()) as u32;
+    let of_tag = put_number_32(bytes, at, len);
+    let of_pair = put_byte(bytes, of_tag, 0x84);
+    put_pair(bytes, of_pair, pair)
 }
 
-/// Puts a frame with a stored pair at the end. After an `Err` a front of it may be there.
+/// Puts a frame with a stored pair at the end. After an `Err` nothing is put.
 fn push_stored(out: &mut Vec<u8>, pair: &Pair) -> Result<(), AllocError>
     ensures ok { OnOk result (out.new.items ≡ out.old.items ++ spelling (Message.Stored pair.now.key pair.now.version)) }
-    ensures front { OnErr result (StartsWith out.new.items out.old.items) }
+    ensures err { OnErr result (out.new.items ≡ out.old.items) }
 {
     let start = out.len();
-    push_stored_body(out, pair)?;
-    let len = (out.len() - start - 4) as u32;
-    BigEndian::write_u32(&mut out[start..], len);
+    out.extend_from_slice(&[0; 5 + LONGEST_PAIR])?;
+    let end = put_stored(out.as_mut_slice(), start, pair);
+    out.truncate(end);
     Ok(())
 }
 
@@ -158,14 +283,7 @@ pub(crate) fn push_reply(out: &mut Vec<u8>, answer: &Answer) -> Result<(), Alloc
     ensures err { OnErr result (out.new.items ≡ out.old.items) }
 {
     match answer {
-        Answer::Stored(pair) => {
-            let len = out.len();
-            let result = push_stored(out, pair);
-            if result.is_err() {
-                out.truncate(len);
-            }
-            result
-        }
+        Answer::Stored(pair) => push_stored(out, pair),
         Answer::Values(reads) => {
             let len = out.len();
             match push_values(out, reads.as_slice()) {

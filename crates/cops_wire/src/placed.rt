@@ -1,0 +1,157 @@
+//! Parts of frames, put at a place of bytes that are there already.
+//!
+//! What stands before the place stays, and the answer is the place behind the part. Bytes behind that may have any value: whoever goes on
+//! from there writes over them. No memory is asked for, so the caller sees to it that there is room.
+ghost use Rattle.std.specs.Prelude.{◌≡◌, ◌≤◌, ◌+◌, [], ◌∷◌, ◌++◌, length, take, IfSome};
+ghost use Rattle.std.specs.List.{flat_map};
+ghost use Rattle.byteorder.specs.Endian.{big_bytes};
+ghost use Rattle.cops_wire.specs.Fitting.{IsCounted, PartsFit};
+ghost use Rattle.cops_wire.specs.Spelling.{spelled_key, spelled_value, spelled_version};
+
+use byteorder::{BigEndian, ByteOrder};
+use cops_types::placed::{put_byte, put_word};
+use cops_types::{Bytes, Version};
+
+/// Puts bytes whose number the compiler knows, with no call.
+#[inline(always)]
+fn put_block<const N: usize>(bytes: &mut [u8], at: usize, block: &[u8])
+    requires room { at + N ≤ length bytes.old }
+    requires size { length block.now ≡ N }
+    ensures { take (at + N) bytes.new ≡ take at bytes.old ++ block.now }
+{
+    let mut cells = [0; N];
+    cells.copy_from_slice(block);
+    let _ = put_word(bytes, at, &cells);
+}
+
+/// Puts bytes as two blocks, of their front and of their end, which may overlap.
+#[inline(always)]
+fn put_blocks<const N: usize>(bytes: &mut [u8], at: usize, word: &[u8]) -> usize
+    requires room { at + length word.now ≤ length bytes.old }
+    requires front { N ≤ length word.now }
+    requires end { length word.now ≤ N + N }
+    ensures text { take result bytes.new ≡ take at bytes.old ++ word.now }
+    ensures end { result ≡ at + length word.now }
+{
+    let rest = word.len() - N;
+    put_block::<N>(bytes, at, &word[..N]);
+    put_block::<N>(bytes, at + rest, &word[rest..]);
+    at + word.len()
+}
+
+/// Puts bytes. From 8 to 32 of them take no call.
+#[inline(always)]
+pub(crate) fn put_bytes(bytes: &mut [u8], at: usize, word: &[u8]) -> usize
+    requires { at + length word.now ≤ length bytes.old }
+    ensures text { take result bytes.new ≡ take at bytes.old ++ word.now }
+    ensures end { result ≡ at + length word.now }
+{
+    let len = word.len();
+    if 8 <= len && len <= 16 {
+        return put_blocks::<8>(bytes, at, word);
+    }
+    if 16 < len && len <= 32 {
+        return put_blocks::<16>(bytes, at, word);
+    }
+    put_word(bytes, at, word)
+}
+
+/// Puts a number in two bytes.
+#[inline(always)]
+pub(crate) fn put_number_16(bytes: &mut [u8], at: usize, number: u16) -> usize
+    requires { at + 2 ≤ length bytes.old }
+    ensures text { take result bytes.new ≡ take at bytes.old ++ big_bytes 2 number }
+    ensures end { result ≡ at + 2 }
+{
+    let mut cells = [0; 2];
+    BigEndian::write_u16(&mut cells, number);
+    put_word(bytes, at, &cells)
+}
+
+/// Puts a number in four bytes.
+#[inline(always)]
+pub(crate) fn put_number_32(bytes: &mut [u8], at: usize, number: u32) -> usize
+    requires { at + 4 ≤ length bytes.old }
+    ensures text { take result bytes.new ≡ take at bytes.old ++ big_bytes 4 number }
+    ensures end { result ≡ at + 4 }
+{
+    let mut cells = [0; 4];
+    BigEndian::write_u32(&mut cells, number);
+    put_word(bytes, at, &cells)
+}
+
+/// Puts a version in eight bytes.
+#[inline(always)]
+pub(crate) fn put_version(bytes: &mut [u8], at: usize, version: Version) -> usize
+    requires { at + 8 ≤ length bytes.old }
+    ensures text { take result bytes.new ≡ take at bytes.old ++ spelled_version version }
+    ensures end { result ≡ at + 8 }
+{
+    let mut cells = [0; 8];
+    BigEndian::write_u64(&mut cells, version.to_u64());
+    put_word(bytes, at, &cells)
+}
+
+/// Puts a key behind its length.
+#[inline(always)]
+pub(crate) fn put_key(bytes: &mut [u8], at: usize, key: &[u8]) -> usize
+    requires counted { IsCounted 1 key.now }
+    requires room { at + 1 + length key.now ≤ length bytes.old }
+    ensures text { take result bytes.new ≡ take at bytes.old ++ spelled_key key.now }
+    ensures end { result ≡ at + 1 + length key.now }
+{
+    let of_key = put_byte(bytes, at, key.len() as u8);
+    put_bytes(bytes, of_key, key)
+}
+
+/// Puts a value behind its length.
+#[inline(always)]
+pub(crate) fn put_value(bytes: &mut [u8], at: usize, value: &[u8]) -> usize
+    requires counted { IsCounted 2 value.now }
+    requires room { at + 2 + length value.now ≤ length bytes.old }
+    ensures text { take result bytes.new ≡ take at bytes.old ++ spelled_value value.now }
+    ensures end { result ≡ at + 2 + length value.now }
+{
+    let of_value = put_number_16(bytes, at, value.len() as u16);
+    put_bytes(bytes, of_value, value)
+}
+
+/// Puts a length, a tag, a handle, and how many keys, or bytes of a key, there are.
+#[inline(always)]
+pub(crate) fn put_head(
+    bytes: &mut [u8],
+    at: usize,
+    len: u32,
+    tag: u8,
+    handle: &[u8; 9],
+    count: u8,
+) -> usize
+    requires { at + 15 ≤ length bytes.old }
+    ensures text { take result bytes.new ≡ take at bytes.old ++ (big_bytes 4 len ++ (tag ∷ (handle.now ++ (count ∷ [])))) }
+    ensures end { result ≡ at + 15 }
+{
+    let of_tag = put_number_32(bytes, at, len);
+    let of_handle = put_byte(bytes, of_tag, tag);
+    put_block::<9>(bytes, of_handle, handle);
+    put_byte(bytes, of_handle + 9, count)
+}
+
+/// Puts keys behind one another, each behind its length, or finds that there is no room for them.
+#[inline(always)]
+pub(crate) fn put_keys(bytes: &mut [u8], at: usize, keys: &[Bytes]) -> Option<usize>
+    requires within { at ≤ length bytes.old }
+    requires counted { PartsFit 1 (IsCounted 1) keys.now }
+    ensures text { IfSome result (λ end. take end bytes.new ≡ take at bytes.old ++ flat_map spelled_key keys.now) }
+    ensures within { IfSome result (λ end. (at ≤ end) × (end ≤ length bytes.old)) }
+    ensures front { take at bytes.new ≡ take at bytes.old }
+{
+    let mut end = at;
+    for key in keys {
+        let key = key.as_slice();
+        if bytes.len() - end <= key.len() {
+            return None;
+        }
+        end = put_key(bytes, end, key);
+    }
+    Some(end)
+}
