@@ -268,6 +268,7 @@ impl Session {
     }
 
     /// Runs a request, under the next number.
+    #[inline(always)]
     fn begin(&mut self, context: Handle<Contexts>, work: Work) -> Handle<Running>
         requires left { self.old.next_request < 2 ^ 64 - 1 }
         requires ready { IsReadyFor work context self.old.contexts.rows }

@@ -12,6 +12,7 @@ use cops_node::{NodeCall, NodeId, NodeReply, Nodes};
 use cops_types::{Fault, Key, Pair};
 
 /// The answer that a node's reply gives to a put of the key.
+#[inline(always)]
 fn answer_of(key: Key, reply: NodeReply) -> Answer
     ensures { result ≡ answer_to_put key reply }
 {
