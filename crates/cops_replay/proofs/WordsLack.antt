@@ -156,7 +156,7 @@ module _ (s : ℕ) (low : s ≤ 32) where
   refused_free ClockFull h = (high (codes "E16") refl, tt)
   refused_free fault h = absurd cc
 
-  reply_free : (reply : NodeReply) → IsTrue (is_reply reply) → AllByRecursion (Lacks s) (reply_words reply)
+  pub reply_free : (reply : NodeReply) → IsTrue (is_reply reply) → AllByRecursion (Lacks s) (reply_words reply)
   reply_free (Found version value deps) h =
       let a = both (is_version version && is_bytes value) (are_deps deps) h in
       let b = both (is_version version) (is_bytes value) a.0 in

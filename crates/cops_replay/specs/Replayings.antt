@@ -1,15 +1,17 @@
 -- A replay on its way: a tenant's nodes after the records so far.
-use Rattle.std.specs.Prelude.{◌≡◌, ℕ, Bool, true, false, ◌⊎◌, Option, Some, None, List}
+use Rattle.std.specs.Prelude.{◌≡◌, ℕ, Bool, true, false, ◌⊎◌, Option, Some, None, List, IsTrue}
 use Rattle.cops_types.specs.declared.configs.Config.{Config}
 use Rattle.cops_types.specs.Counts.{counted}
 use Rattle.cops_types.specs.TenantConfig.{TenantConfig}
 use Rattle.cops_node.specs.Clusters.{Cluster, nodes_of}
 use Rattle.cops_replay.specs.declared.layouts.Layout.{Layout}
+use Rattle.cops_replay.specs.declared.layouts.Layout.TheVariants.{Today, Early, Old}
 use Rattle.cops_replay.specs.declared.Record.{Record}
 use Rattle.cops_replay.specs.declared.Replayed.{Replayed}
 use Rattle.cops_replay.specs.declared.Replayed.TheVariants.{Same, FirstDifference}
 use Rattle.cops_replay.specs.Replaying.{Agrees, fresh_nodes, nodes_after}
-use Rattle.cops_replay.specs.Replays.{IsAlone}
+use Rattle.cops_replay.specs.AskedLines.{record_told}
+use Rattle.cops_replay.specs.Replays.{IsAlone, IsReplayed}
 use Rattle.cops_replay.specs.ReplayText.{told_of}
 
 -- the layout of the records, the nodes, how many records agreed, and where the first that does not stands
@@ -19,8 +21,15 @@ pub record Standing : Type 0 where
   pub passed : ℕ
   pub found : Option ℕ
 
--- the nodes are of a cluster with these sizes
-pub record HasSizesOf (config : Config) (nodes : Cluster) : Type 0 where
+-- the layouts of files that are replayed
+abbrev pub is_replayed : Layout → Bool
+is_replayed Today = true
+is_replayed Early = true
+is_replayed Old = false
+
+-- the nodes are of a cluster with these sizes, and the layout is a file's
+pub record IsOfItsFile (layout : Layout) (config : Config) (nodes : Cluster) : Type 0 where
+  pub layout_is : IsTrue (is_replayed layout)
   pub data_centres : nodes.shape.data_centres ≡ config.data_centres
   pub shards : nodes.shape.shards ≡ config.shards
 
@@ -30,6 +39,16 @@ pub record IsBeforeRecords (config : TenantConfig) (replay : Standing) : Type 0 
   pub nodes_are : nodes_of config 0 replay.nodes ≡ fresh_nodes config
   pub passed_is : replay.passed ≡ 0
   pub found_is : replay.found ≡ None
+
+-- what today's layout tells of the line, where it is not too long, is what its own tells; or the line tells nothing
+abbrev pub MayAgree : Layout → List ℕ → Bool → Type 0
+MayAgree layout line true = told_of layout line ≡ record_told line
+MayAgree layout line false = told_of layout line ≡ None
+
+-- the line is a record that agrees, and the cluster took its turn; or it is none
+abbrev pub IsLineReplayed : TenantConfig → List ℕ → Cluster → Bool → Cluster → Type 0
+IsLineReplayed config line old true new = (told : Record) × (record_told line ≡ Some told) × IsReplayed config told old true new
+IsLineReplayed config line old false new = (told : Record) → record_told line ≡ Some told → Agrees config told (nodes_of config 0 old) → ⊥
 
 -- the line's record agreed, and the nodes took its turn
 pub record Passes (config : TenantConfig) (line : List ℕ) (old new : Standing) : Type 0 where

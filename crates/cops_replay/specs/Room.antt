@@ -1,12 +1,18 @@
--- How much room the text of a record takes at most, and which records are written where there is room.
-use Rattle.std.specs.Prelude.{ℕ, Bool, true, false, ◌+◌, ◌*◌, List, length}
+-- How much room the text of a record takes at most.
+use Rattle.std.specs.Prelude.{ℕ, ◌<◌, ◌≤◌, ◌+◌, ◌*◌, ◌^◌, List, [], ◌∷◌, ◌++◌, decimal, length}
 use Rattle.cops_types.specs.declared.pairs.Pair.{Pair}
 use Rattle.cops_types.specs.declared.records.EntryParts.{EntryParts as Entry}
+use Rattle.cops_types.specs.Words.{space}
+use Rattle.cops_model.specs.declared.calls.NodeCall.{NodeCall}
+use Rattle.cops_model.specs.declared.calls.NodeCall.TheVariants.{Put, Commit}
 use Rattle.cops_model.specs.declared.calls.NodeId.{NodeId}
+use Rattle.cops_model.specs.declared.calls.NodeReply.{NodeReply}
+use Rattle.cops_model.specs.declared.calls.NodeReply.TheVariants.{Found, Pulled}
 use Rattle.cops_node.specs.declared.rows.Packing.{Packing}
 use Rattle.cops_node.specs.declared.rows.Packing.TheVariants.{PutStored, LatestFound, ExactFound, LatestAbsent, NotCome, WasCommitted, WasNotCommitted, EntryPulled, NothingPulled, EntryCommitted, CommittedBefore, EntryOutOfOrder, FrontAcked, FrontNotAcked, Collected, InFull}
 use Rattle.cops_node.specs.Rows.{exchange_of}
 use Rattle.cops_replay.specs.declared.Record.{Record}
+use Rattle.cops_replay.specs.RecordText.{node_text}
 
 -- two digits for each byte of a value, and 107 bytes for each pair of both lists
 abbrev pub stored_room : List ℕ → List Pair → List Pair → ℕ
@@ -15,7 +21,19 @@ stored_room value deps near = 2 * length value + 107 * length deps + 107 * lengt
 abbrev pub entry_room : Entry → ℕ
 entry_room entry = stored_room entry.value entry.deps entry.near
 
--- that of the entry, where there is one
+-- that of a call
+abbrev pub call_room : NodeCall → ℕ
+call_room (Put key value deps near) = stored_room value deps near
+call_room (Commit entry) = entry_room entry
+call_room call = 0
+
+-- that of a reply
+abbrev pub reply_room : NodeReply → ℕ
+reply_room (Found version value deps) = stored_room value deps []
+reply_room (Pulled entry) = entry_room entry
+reply_room reply = 0
+
+-- that of a call and a reply that are kept so
 abbrev pub packing_room : Packing → ℕ
 packing_room (PutStored entry) = entry_room entry
 packing_room (LatestFound entry) = entry_room entry
@@ -32,16 +50,19 @@ packing_room (EntryOutOfOrder entry mark) = entry_room entry
 packing_room (FrontAcked dc version) = 0
 packing_room (FrontNotAcked dc version) = 0
 packing_room (Collected count) = 0
-packing_room (InFull exchange) = 0
+packing_room (InFull exchange) = call_room exchange.value.call + reply_room exchange.value.reply
 
 -- the whole line
 abbrev pub line_room : Packing → ℕ
 line_room packing = 430 + 2 * packing_room packing
 
--- the call and the reply don't stand apart
-abbrev pub is_packed : Packing → Bool
-is_packed (InFull exchange) = false
-is_packed packing = true
+-- so many bytes are room enough, unless they are more than there can be
+abbrev pub IsRoomFor : ℕ → ℕ → Type 0
+IsRoomFor text room = room < 2 ^ 63 → text ≤ room
+
+-- what stands before the call
+abbrev pub front_text : List ℕ → NodeId → ℕ → List ℕ
+front_text name node moment = name ++ (space ∷ (node_text node ++ (space ∷ (decimal moment ++ (space ∷ [])))))
 
 -- the record of a call that is kept so
 abbrev pub packed_record : NodeId → ℕ → Packing → Record

@@ -1,6 +1,6 @@
 //! The words of a record line that are still to come. A word that says a number, a version, a key or a
 //! name is mostly passed as it is read, and not split off first.
-ghost use Rattle.std.specs.Prelude.{◌≡◌, [], ◌∷◌, IfSome, MatchOption, false, true};
+ghost use Rattle.std.specs.Prelude.{◌≡◌, [], ◌∷◌, IfNone, IfSome, MatchOption, false, true};
 ghost use Rattle.std.specs.Option.{option_map_or};
 ghost use Rattle.cops_types.specs.Words.{no_words, number_of, parts_at, space};
 ghost use Rattle.cops_replay.specs.OldRecords.{versions_in};
@@ -123,6 +123,14 @@ impl<'a> LineWords<'a> {
         let (word, rest) = split_word(self.rest?);
         self.rest = rest;
         Some(word)
+    }
+
+    /// The text of the words that are to come, where there are any.
+    pub(crate) fn rest(&self) -> Option<&'a [u8]>
+        ensures some { IfSome result (λ text. self.now ≡ parts_at space text.now) }
+        ensures none { IfNone result (self.now ≡ []) }
+    {
+        self.rest
     }
 
     /// Whether no word is to come.

@@ -1,58 +1,48 @@
 //! Rows of an audit as text, read where they stand and put over bytes that are there already.
-ghost use Rattle.std.specs.Prelude.{◌≡◌, ◌≤◌, ◌+◌, ◌*◌, ◌++◌, length, take, IfSome, IsTrue};
+ghost use Rattle.std.specs.Prelude.{◌≡◌, ◌≤◌, ◌+◌, ◌*◌, ◌++◌, length, take, IsTrue};
 ghost use Rattle.cops_types.specs.Words.{spaced};
 ghost use Rattle.cops_node.specs.Rows.{exchange_of};
-ghost use Rattle.cops_model.specs.declared.calls.NodeCall.TheVariants.{Ack, DepCheck, Get, Put};
+ghost use Rattle.cops_model.specs.declared.calls.NodeCall.TheVariants.{DepCheck, Get, Put};
 ghost use Rattle.cops_model.specs.declared.calls.NodeReply.TheVariants.{Found};
 ghost use Rattle.cops_model.specs.declared.calls.Wanted.TheVariants.{Exactly, Latest};
 ghost use Rattle.cops_replay.specs.AuditText.{ended};
-ghost use Rattle.cops_replay.specs.RecordText.{call_words, is_call, is_record, is_reply, record_line, reply_words};
-ghost use Rattle.cops_replay.specs.Room.{entry_room, is_packed, line_room, packed_record, packing_room};
+ghost use Rattle.cops_replay.specs.RecordText.{call_words, has_form, is_call, is_record, is_reply, record_line, reply_words};
+ghost use Rattle.cops_replay.specs.Room.{IsRoomFor, entry_room, line_room, packed_record, packing_room};
 
-use crate::put_words::{put_entered, put_node, put_numbered, put_stored, put_value, put_versioned};
+use crate::put_exchanges::{
+    put_call, put_found, put_reply, room_of_call, room_of_entry, room_of_reply,
+};
+use crate::put_words::{put_ack, put_entered, put_front, put_numbered, put_stored, put_versioned};
 use cops_node::{NodeId, Packing};
-use cops_types::placed::{put_byte, put_deps, put_number, put_version, put_word};
+use cops_types::placed::{put_byte, put_version, put_word};
 use cops_types::{Entry, Name, ShortKey, Version};
 
-/// A value or a list that is longer than this is written another way.
-const LONG: usize = 100_000;
-
-/// How much room an entry takes at most, unless it is very long.
-fn room_of_entry(entry: &Entry) -> Option<usize>
-    ensures { IfSome result (λ room. room ≡ 430 + 2 * entry_room entry.now) }
-{
-    let value = entry.value().len();
-    let deps = entry.deps().len();
-    let near = entry.near().len();
-    if value > LONG || deps > LONG || near > LONG {
-        return None;
-    }
-    Some(430 + 2 * (2 * value + 107 * deps + 107 * near))
-}
-
-/// How much room the line of a call takes at most, where it can be written in place.
-pub(crate) fn room_of(packing: &Packing) -> Option<usize>
-    ensures room { IfSome result (λ room. room ≡ line_room packing.now) }
-    ensures packed { IfSome result (λ room. IsTrue (is_packed packing.now)) }
+/// How much room the values and the lists of a call and its reply take at most.
+fn room_of_packing(packing: &Packing) -> usize
+    ensures { IsRoomFor (packing_room packing.now) result }
 {
     match packing {
         Packing::PutStored(entry) => room_of_entry(entry),
         Packing::LatestFound(entry) => room_of_entry(entry),
         Packing::ExactFound(entry) => room_of_entry(entry),
-        Packing::LatestAbsent(_) => Some(430),
-        Packing::NotCome(_, _) => Some(430),
-        Packing::WasCommitted(_, _) => Some(430),
-        Packing::WasNotCommitted(_, _) => Some(430),
         Packing::EntryPulled(_, entry) => room_of_entry(entry),
-        Packing::NothingPulled(_) => Some(430),
         Packing::EntryCommitted(entry) => room_of_entry(entry),
         Packing::CommittedBefore(entry) => room_of_entry(entry),
         Packing::EntryOutOfOrder(entry, _) => room_of_entry(entry),
-        Packing::FrontAcked(_, _) => Some(430),
-        Packing::FrontNotAcked(_, _) => Some(430),
-        Packing::Collected(_) => Some(430),
-        Packing::InFull(_) => None,
+        Packing::InFull(exchange) => {
+            room_of_call(&exchange.call).saturating_add(room_of_reply(&exchange.reply))
+        }
+        _ => 0,
     }
+}
+
+/// How much room the line of a call takes at most.
+pub(crate) fn room_of(packing: &Packing) -> usize
+    ensures { IsRoomFor (line_room packing.now) result }
+{
+    room_of_packing(packing)
+        .saturating_mul(2)
+        .saturating_add(430)
 }
 
 /// Puts the put of an entry.
@@ -131,36 +121,19 @@ fn put_check(bytes: &mut [u8], at: usize, key: &ShortKey, version: Version) -> u
     put_version(bytes, of_version, version)
 }
 
-/// Puts an acknowledgement.
-fn put_ack(bytes: &mut [u8], at: usize, dc: u64, version: Version) -> usize
-    requires { at + 165 ≤ length bytes.old }
-    ensures text { take result bytes.new ≡ take at bytes.old ++ spaced (call_words (Ack dc version)) }
-    ensures end { result ≤ at + 165 }
-    ensures formed { IsTrue (is_call (Ack dc version)) }
-{
-    let after_dc = put_numbered(bytes, at, b"ack", dc);
-    let of_version = put_byte(bytes, after_dc, b' ');
-    put_version(bytes, of_version, version)
-}
-
 /// Puts that an entry is found.
-fn put_found(bytes: &mut [u8], at: usize, entry: &Entry) -> usize
+fn put_found_entry(bytes: &mut [u8], at: usize, entry: &Entry) -> usize
     requires { at + entry_room entry.now + 165 ≤ length bytes.old }
     ensures text { take result bytes.new ≡ take at bytes.old ++ spaced (reply_words (Found entry.now.version entry.now.value entry.now.deps)) }
     ensures end { result ≤ at + entry_room entry.now + 165 }
     ensures formed { IsTrue (is_reply (Found entry.now.version entry.now.value entry.now.deps)) }
 {
-    let after_version = put_versioned(bytes, at, b"found", entry.version());
-    let of_value = put_byte(bytes, after_version, b' ');
-    let after_value = put_value(bytes, of_value, entry.value());
-    let of_deps = put_byte(bytes, after_value, b' ');
-    put_deps(bytes, of_deps, entry.deps())
+    put_found(bytes, at, entry.version(), entry.value(), entry.deps())
 }
 
 /// Puts the call.
-fn put_call(bytes: &mut [u8], at: usize, packing: &Packing) -> usize
-    requires packed { IsTrue (is_packed packing.now) }
-    requires room { at + packing_room packing.now + 165 ≤ length bytes.old }
+fn put_row_call(bytes: &mut [u8], at: usize, packing: &Packing) -> usize
+    requires { at + packing_room packing.now + 165 ≤ length bytes.old }
     ensures text { take result bytes.new ≡ take at bytes.old ++ spaced (call_words (exchange_of packing.now).call) }
     ensures end { result ≤ at + packing_room packing.now + 165 }
     ensures formed { IsTrue (is_call (exchange_of packing.now).call) }
@@ -181,22 +154,21 @@ fn put_call(bytes: &mut [u8], at: usize, packing: &Packing) -> usize
         Packing::FrontAcked(dc, version) => put_ack(bytes, at, *dc, *version),
         Packing::FrontNotAcked(dc, version) => put_ack(bytes, at, *dc, *version),
         Packing::Collected(_) => put_word(bytes, at, b"collect"),
-        Packing::InFull(_) => unreachable!(),
+        Packing::InFull(exchange) => put_call(bytes, at, &exchange.call),
     }
 }
 
 /// Puts the reply.
-fn put_reply(bytes: &mut [u8], at: usize, packing: &Packing) -> usize
-    requires packed { IsTrue (is_packed packing.now) }
-    requires room { at + packing_room packing.now + 165 ≤ length bytes.old }
+fn put_row_reply(bytes: &mut [u8], at: usize, packing: &Packing) -> usize
+    requires { at + packing_room packing.now + 165 ≤ length bytes.old }
     ensures text { take result bytes.new ≡ take at bytes.old ++ spaced (reply_words (exchange_of packing.now).reply) }
     ensures end { result ≤ at + packing_room packing.now + 165 }
-    ensures formed { IsTrue (is_reply (exchange_of packing.now).reply) }
+    ensures formed { IsTrue (has_form (exchange_of packing.now).reply) → IsTrue (is_reply (exchange_of packing.now).reply) }
 {
     match packing {
         Packing::PutStored(entry) => put_versioned(bytes, at, b"stored", entry.version()),
-        Packing::LatestFound(entry) => put_found(bytes, at, entry),
-        Packing::ExactFound(entry) => put_found(bytes, at, entry),
+        Packing::LatestFound(entry) => put_found_entry(bytes, at, entry),
+        Packing::ExactFound(entry) => put_found_entry(bytes, at, entry),
         Packing::LatestAbsent(_) => put_word(bytes, at, b"absent"),
         Packing::NotCome(_, _) => put_word(bytes, at, b"notyet"),
         Packing::WasCommitted(_, _) => put_word(bytes, at, b"yes"),
@@ -209,7 +181,7 @@ fn put_reply(bytes: &mut [u8], at: usize, packing: &Packing) -> usize
         Packing::FrontAcked(_, _) => put_word(bytes, at, b"acked"),
         Packing::FrontNotAcked(_, _) => put_word(bytes, at, b"notfront"),
         Packing::Collected(count) => put_numbered(bytes, at, b"removed", *count),
-        Packing::InFull(_) => unreachable!(),
+        Packing::InFull(exchange) => put_reply(bytes, at, &exchange.reply),
     }
 }
 
@@ -221,20 +193,14 @@ pub(crate) fn put_line(
     moment: u64,
     packing: &Packing,
 ) -> usize
-    requires packed { IsTrue (is_packed packing.now) }
-    requires room { line_room packing.now ≤ length bytes.old }
+    requires { line_room packing.now ≤ length bytes.old }
     ensures text { take result bytes.new ≡ ended (record_line name.now (packed_record node moment packing.now)) }
     ensures within { result ≤ length bytes.old }
-    ensures formed { IsTrue (is_record (packed_record node moment packing.now)) }
+    ensures formed { IsTrue (has_form (exchange_of packing.now).reply) → IsTrue (is_record (packed_record node moment packing.now)) }
 {
-    let after_name = put_word(bytes, 0, name.bytes());
-    let of_node = put_byte(bytes, after_name, b' ');
-    let after_node = put_node(bytes, of_node, node);
-    let of_moment = put_byte(bytes, after_node, b' ');
-    let after_moment = put_number(bytes, of_moment, moment);
-    let of_call = put_byte(bytes, after_moment, b' ');
-    let after_call = put_call(bytes, of_call, packing);
+    let of_call = put_front(bytes, 0, name, node, moment);
+    let after_call = put_row_call(bytes, of_call, packing);
     let of_reply = put_word(bytes, after_call, b" = ");
-    let after_reply = put_reply(bytes, of_reply, packing);
+    let after_reply = put_row_reply(bytes, of_reply, packing);
     put_byte(bytes, after_reply, b'\n')
 }

@@ -3,12 +3,13 @@ ghost use Rattle.std.specs.Prelude.{◌≡◌, ◌≤◌, ◌<◌, ◌+◌, ◌*
 ghost use Rattle.std.specs.List.{list_all};
 ghost use Rattle.cops_types.specs.PairForms.{are_deps, are_near, is_version};
 ghost use Rattle.cops_types.specs.Words.{is_u64, list_text, spaced, version_text};
-ghost use Rattle.cops_replay.specs.RecordText.{bytes_text, digit_text, entry_words, is_bytes, is_entry, node_text, record_value};
-ghost use Rattle.cops_replay.specs.Room.{entry_room, stored_room};
+ghost use Rattle.cops_model.specs.declared.calls.NodeCall.TheVariants.{Ack};
+ghost use Rattle.cops_replay.specs.RecordText.{bytes_text, call_words, digit_text, entry_words, is_bytes, is_call, is_entry, node_text, record_value};
+ghost use Rattle.cops_replay.specs.Room.{entry_room, front_text, stored_room};
 
 use cops_node::NodeId;
 use cops_types::placed::{put_byte, put_deps, put_near, put_number, put_version, put_word};
-use cops_types::{Entry, OwnedDeps, OwnedNear, OwnedValue, Version};
+use cops_types::{Entry, Name, OwnedDeps, OwnedNear, OwnedValue, Version};
 
 /// The digit of a number below 16.
 #[inline(always)]
@@ -62,6 +63,27 @@ pub(crate) fn put_node(bytes: &mut [u8], at: usize, node: NodeId) -> usize
     let dot = put_number(bytes, at, node.dc);
     let shard = put_byte(bytes, dot, b'.');
     put_number(bytes, shard, node.shard)
+}
+
+/// Puts a name, a node and a moment, each with a space behind it.
+pub(crate) fn put_front(
+    bytes: &mut [u8],
+    at: usize,
+    name: &Name,
+    node: NodeId,
+    moment: u64,
+) -> usize
+    requires { at + 80 ≤ length bytes.old }
+    ensures text { take result bytes.new ≡ take at bytes.old ++ front_text name.now node moment }
+    ensures end { result ≤ at + 80 }
+    ensures formed { IsTrue (is_u64 node.dc && is_u64 node.shard && is_u64 moment) }
+{
+    let after_name = put_word(bytes, at, name.bytes());
+    let of_node = put_byte(bytes, after_name, b' ');
+    let after_node = put_node(bytes, of_node, node);
+    let of_moment = put_byte(bytes, after_node, b' ');
+    let after_moment = put_number(bytes, of_moment, moment);
+    put_byte(bytes, after_moment, b' ')
 }
 
 /// Puts a value and two lists.
@@ -137,4 +159,16 @@ pub(crate) fn put_entered(bytes: &mut [u8], at: usize, word: &[u8], entry: &Entr
     let after_word = put_word(bytes, at, word);
     let of_entry = put_byte(bytes, after_word, b' ');
     put_entry(bytes, of_entry, entry)
+}
+
+/// Puts an acknowledgement.
+pub(crate) fn put_ack(bytes: &mut [u8], at: usize, dc: u64, version: Version) -> usize
+    requires { at + 165 ≤ length bytes.old }
+    ensures text { take result bytes.new ≡ take at bytes.old ++ spaced (call_words (Ack dc version)) }
+    ensures end { result ≤ at + 165 }
+    ensures formed { IsTrue (is_call (Ack dc version)) }
+{
+    let after_dc = put_numbered(bytes, at, b"ack", dc);
+    let of_version = put_byte(bytes, after_dc, b' ');
+    put_version(bytes, of_version, version)
 }

@@ -15,6 +15,7 @@ ghost use Rattle.cops_script.specs.GoodHeads.{HeadContinues};
 ghost use Rattle.cops_replay.specs.declared.layouts.Layout.TheVariants.{Early, Today};
 ghost use Rattle.cops_replay.specs.OldHeads.{OldHeadContinues};
 ghost use Rattle.cops_replay.specs.ReplayRules.{HeadRefusesBy, IsHeadBy, IsNotBegun, RefusesOwn, ReplaysOwn, StartsFor, tells_today};
+ghost use Rattle.cops_replay.specs.Replayings.{is_replayed};
 ghost use Rattle.cops_replay.specs.ReplayText.{replayed_text, starts_great_in};
 
 use crate::Replayed;
@@ -95,6 +96,7 @@ fn begin_replay(
     config: &Config,
     name: &[u8],
 ) -> Result<Replay, Stop<ReplayRefusal>>
+    requires layout { IsTrue (is_replayed layout) }
     requires sizes { IsTrue (are_sizes config.now) }
     requires clocks { (slot : ℕ) (tenant : TenantLine) → slice_get config.now.tenants slot ≡ Some tenant → IsFalse (starts_great_in layout tenant) →
         IsTrue (are_clocks (with_tenant_alone config.now tenant)) }

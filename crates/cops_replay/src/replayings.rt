@@ -1,5 +1,5 @@
 //! A replay on its way.
-ghost use Rattle.std.specs.Prelude.{◌≡◌, ◌<◌, ℕ, None, Some, IfOk, IsTrue, OnOk, length, nat_le, slice_get};
+ghost use Rattle.std.specs.Prelude.{◌≡◌, ◌<◌, ℕ, Some, IfOk, IsTrue, OnOk, length, nat_le, slice_get};
 ghost use Rattle.std.specs.Option.{is_some};
 ghost use Rattle.cops_types.specs.declared.configs.Tenant.{Tenant};
 ghost use Rattle.cops_types.specs.HeadLines.{are_sizes};
@@ -7,16 +7,18 @@ ghost use Rattle.cops_types.specs.Refusal.{IsAnswer};
 ghost use Rattle.cops_types.specs.TenantConfig.{TenantConfig, tenant_config};
 ghost use Rattle.cops_node.specs.Parts.{are_clocks};
 ghost use Rattle.cops_model.specs.MainTheorem.{with_tenant_alone};
-ghost use Rattle.cops_replay.specs.OldRecords.{versions_in};
-ghost use Rattle.cops_replay.specs.RecordLines.{record_by};
-ghost use Rattle.cops_replay.specs.Replays.{IsAlone, IsReplayed};
-ghost use Rattle.cops_replay.specs.Replayings.{IsBeforeRecords, IsRecordCounted, IsReplayedLine, found_of};
-ghost use Rattle.cops_replay.specs.ReplayText.{great_clock_of, longest_record, told_of};
+ghost use Rattle.cops_replay.specs.declared.layouts.Layout.TheVariants.{Early};
+ghost use Rattle.cops_replay.specs.Replays.{IsAlone};
+ghost use Rattle.cops_replay.specs.Replayings.{IsBeforeRecords, IsLineReplayed, IsRecordCounted, IsReplayedLine, MayAgree, found_of, is_replayed};
+ghost use Rattle.cops_replay.specs.ReplayText.{great_clock_of, longest_record};
 
+use crate::Replayed;
+use crate::checking::is_record;
 use crate::layouts::Layout;
-use crate::reading::parse_record;
-use crate::replaying::{agrees, with_tenant_alone};
-use crate::{Record, Replayed};
+use crate::line_words::LineWords;
+use crate::reading::next_asked;
+use crate::replaying::{ask, with_tenant_alone};
+use crate::reply_texts::is_told;
 use cops_node::Cluster0;
 use cops_types::{Config, Fault};
 use std::alloc::{AllocError, Global};
@@ -34,62 +36,79 @@ pub struct Replay {
     nodes: Cluster0,
     passed: u64,
     found: Option<u64>,
+    /// Bytes over which replies are put as text.
+    place: Vec<u8>,
 }
 
 impl Model for Replay {
-    ghost use Rattle.cops_replay.specs.Replayings.{HasSizesOf, Standing};
+    ghost use Rattle.cops_replay.specs.Replayings.{IsOfItsFile, Standing};
 
     ghost Value = { Standing };
 
     ghost view = { λ r. record { layout = r.layout; nodes = r.nodes; passed = r.passed; found = r.found } };
 
-    ghost invariant = { λ r. HasSizesOf r.alone r.nodes };
+    ghost invariant = { λ r. IsOfItsFile r.layout r.alone r.nodes };
 }
 
-/// A short line that is no record: refused where it is one of layout 1, and only a clock is too great.
-fn check_unread(alloc: Global, layout: Layout, line: &[u8]) -> Result<(), Fault>
+/// Whether a short line of layout 1 is a record that today's layout has too. Refused where only a
+/// clock is too great.
+fn is_early(line: &[u8]) -> Result<bool, Fault>
     requires short { IsTrue (nat_le (length line.now) longest_record) }
-    requires unread { record_by (versions_in layout) line.now ≡ None }
-    ensures { IsAnswer (great_clock_of layout line.now) result }
+    ensures early { IfOk result (λ early. MayAgree Early line.now early) }
+    ensures great { IsAnswer (great_clock_of Early line.now) result }
 {
-    match layout {
-        Layout::Today | Layout::Old => Ok(()),
-        Layout::Early => {
-            let old = parse_record(alloc, Layout::Old, line)?;
-            if old.is_some() {
-                return Err(Fault::ClockTooGreat);
-            }
-            Ok(())
-        }
+    if is_record(Layout::Early, line) {
+        return Ok(true);
     }
+    if is_record(Layout::Old, line) {
+        return Err(Fault::ClockTooGreat);
+    }
+    Ok(false)
 }
 
-/// The record of a line, where it is one.
-fn told_by(alloc: Global, layout: Layout, line: &[u8]) -> Result<Option<Record>, Fault>
-    ensures told { IfOk result (λ told. told ≡ told_of layout line.now) }
+/// Whether the line may be a record that agrees: where it is one by today's layout, it is the same by
+/// its own.
+fn may_agree(layout: Layout, line: &[u8]) -> Result<bool, Fault>
+    requires { IsTrue (is_replayed layout) }
+    ensures may { IfOk result (λ may. MayAgree layout line.now may) }
     ensures great { IsAnswer (great_clock_of layout line.now) result }
 {
     if line.len() > LONGEST_RECORD {
-        return Ok(None);
+        return Ok(false);
     }
-    let Some((_name, told)) = parse_record(alloc, layout, line)? else {
-        check_unread(alloc, layout, line)?;
-        return Ok(None);
-    };
-    Ok(Some(told))
+    match layout {
+        Layout::Today => Ok(true),
+        Layout::Early => is_early(line),
+        Layout::Old => unreachable!(),
+    }
 }
 
-/// Looks at a line after a difference, for a clock that is too great.
-fn look_at(alloc: Global, layout: Layout, line: &[u8]) -> Result<(), Fault>
-    ensures { IsAnswer (great_clock_of layout line.now) result }
+/// Runs the call of a line again, where its node exists and it fits that. Whether the reply is the one
+/// that the line tells.
+fn agrees(
+    alloc: Global,
+    nodes: &mut Cluster0,
+    config: &Config,
+    place: &mut Vec<u8>,
+    line: &[u8],
+) -> Result<bool, AllocError>
+    requires data_centres { nodes.old.shape.data_centres ≡ config.now.data_centres }
+    requires shards { nodes.old.shape.shards ≡ config.now.shards }
+    ensures replayed { IfOk result (λ agrees. (tenant : TenantConfig) → IsAlone tenant nodes.old → IsLineReplayed tenant line.now nodes.old agrees nodes.new) }
+    ensures shape { nodes.new.shape ≡ nodes.old.shape }
 {
-    match layout {
-        Layout::Today | Layout::Old => Ok(()),
-        Layout::Early => {
-            let _told = told_by(alloc, layout, line)?;
-            Ok(())
-        }
-    }
+    let mut words = LineWords::of(line);
+    let Some(asked) = next_asked(alloc, &mut words)? else {
+        return Ok(false);
+    };
+    let Some(text) = words.rest() else {
+        return Ok(false);
+    };
+    let Some(reply) = ask(nodes, config, asked)? else {
+        return Ok(false);
+    };
+    let told = is_told(place, &reply, text)?;
+    Ok(told)
 }
 
 impl Replay {
@@ -100,6 +119,7 @@ impl Replay {
         config: &Config,
         slot: u64,
     ) -> Result<Self, AllocError>
+        requires layout { IsTrue (is_replayed layout) }
         requires sizes { IsTrue (are_sizes config.now) }
         requires slot { slot < length config.now.tenants }
         requires clocks { (tenant : Tenant) → slice_get config.now.tenants slot ≡ Some tenant → IsTrue (are_clocks (with_tenant_alone config.now tenant)) }
@@ -114,6 +134,7 @@ impl Replay {
             nodes,
             passed: 0,
             found: None,
+            place: Vec::new(alloc),
         })
     }
 
@@ -127,14 +148,14 @@ impl Replay {
         }
     }
 
-    /// Runs a record's call again. Whether the record agrees.
-    fn agrees(&mut self, told: Record) -> Result<bool, AllocError>
-        ensures replayed { IfOk result (λ agrees. (config : TenantConfig) → IsAlone config self.old.nodes → IsReplayed config told self.old.nodes agrees self.new.nodes) }
+    /// Runs the call of a line again. Whether the line is a record that agrees.
+    fn agrees(&mut self, alloc: Global, line: &[u8]) -> Result<bool, AllocError>
+        ensures replayed { IfOk result (λ agrees. (config : TenantConfig) → IsAlone config self.old.nodes → IsLineReplayed config line.now self.old.nodes agrees self.new.nodes) }
         ensures layout { self.new.layout ≡ self.old.layout }
         ensures passed { self.new.passed ≡ self.old.passed }
         ensures found { self.new.found ≡ self.old.found }
     {
-        agrees(&mut self.nodes, &self.alone, told)
+        agrees(alloc, &mut self.nodes, &self.alone, &mut self.place, line)
     }
 
     /// Notes whether the next record agreed.
@@ -162,14 +183,15 @@ impl Replay {
         ensures replayed { OnOk result (IsReplayedLine line.now self.old self.new) }
         ensures great { IsAnswer (great_clock_of self.old.layout line.now) result }
     {
+        let may_agree = may_agree(self.layout, line)?;
         if self.is_over() {
-            return look_at(alloc, self.layout, line);
+            return Ok(());
         }
-        let Some(told) = told_by(alloc, self.layout, line)? else {
+        if !may_agree {
             self.note(false);
             return Ok(());
-        };
-        let agreed = self.agrees(told)?;
+        }
+        let agreed = self.agrees(alloc, line)?;
         self.note(agreed);
         Ok(())
     }

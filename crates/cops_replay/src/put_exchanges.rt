@@ -1,0 +1,212 @@
+//! Calls and replies as text, put over bytes that are there already.
+ghost use Rattle.std.specs.Prelude.{◌≡◌, ◌≤◌, ◌+◌, ◌*◌, ◌++◌, [], length, take, IsTrue, OnOk};
+ghost use Rattle.cops_types.specs.FaultText.{fault_text};
+ghost use Rattle.cops_types.specs.Words.{spaced};
+ghost use Rattle.cops_model.specs.declared.calls.NodeCall.TheVariants.{DepCheck, Get, Put};
+ghost use Rattle.cops_model.specs.declared.calls.NodeReply.TheVariants.{Found};
+ghost use Rattle.cops_replay.specs.RecordText.{call_words, checked_text, has_form, is_call, is_reply, is_wanted, reply_words, wanted_text};
+ghost use Rattle.cops_replay.specs.Room.{IsRoomFor, call_room, entry_room, reply_room, stored_room};
+
+use crate::put_words::{put_ack, put_entered, put_numbered, put_stored, put_value, put_versioned};
+use cops_node::{NodeCall, NodeReply, Wanted};
+use cops_types::placed::{put_byte, put_deps, put_key, put_version, put_word};
+use cops_types::{Deps, Entry, Fault, Key, Near, OwnedDeps, OwnedValue, Value, Version};
+use std::alloc::AllocError;
+
+/// No value and no list is longer, since there is no memory for one.
+const MOST: usize = 1 << 50;
+
+/// How much room a value of so many bytes and lists of so many pairs take at most.
+fn room_of_parts(value: usize, deps: usize, near: usize) -> usize
+    ensures { IsRoomFor (2 * value + 107 * deps + 107 * near) result }
+{
+    if value > MOST || deps > MOST || near > MOST {
+        return usize::MAX;
+    }
+    2 * value + 107 * deps + 107 * near
+}
+
+/// How much room the value and the lists of an entry take at most.
+pub(crate) fn room_of_entry(entry: &Entry) -> usize
+    ensures { IsRoomFor (entry_room entry.now) result }
+{
+    room_of_parts(entry.value().len(), entry.deps().len(), entry.near().len())
+}
+
+/// How much room the value and the lists of a call take at most.
+pub(crate) fn room_of_call(call: &NodeCall) -> usize
+    ensures { IsRoomFor (call_room call.now) result }
+{
+    match call {
+        NodeCall::Put(_, value, deps, near) => room_of_parts(
+            value.owned().len(),
+            deps.owned().len(),
+            near.owned().len(),
+        ),
+        NodeCall::Commit(entry) => room_of_entry(entry),
+        _ => 0,
+    }
+}
+
+/// How much room the value and the lists of a reply take at most.
+pub(crate) fn room_of_reply(reply: &NodeReply) -> usize
+    ensures { IsRoomFor (reply_room reply.now) result }
+{
+    match reply {
+        NodeReply::Found(_, value, deps) => {
+            room_of_parts(value.owned().len(), deps.owned().len(), 0)
+        }
+        NodeReply::Pulled(entry) => room_of_entry(entry),
+        _ => 0,
+    }
+}
+
+/// Sees to it that so many bytes are there.
+pub(crate) fn make_room(place: &mut Vec<u8>, room: usize) -> Result<(), AllocError>
+    ensures { OnOk result (room ≤ length place.new.items) }
+{
+    if place.len() < room {
+        place.resize(room, 0)?;
+    }
+    Ok(())
+}
+
+/// Puts which version is asked for.
+fn put_wanted(bytes: &mut [u8], at: usize, wanted: &Wanted) -> usize
+    requires { at + 41 ≤ length bytes.old }
+    ensures text { take result bytes.new ≡ take at bytes.old ++ wanted_text wanted.now }
+    ensures end { result ≤ at + 41 }
+    ensures formed { IsTrue (is_wanted wanted.now) }
+{
+    match wanted {
+        Wanted::Latest => put_word(bytes, at, b"latest"),
+        Wanted::Exactly(version) => put_version(bytes, at, *version),
+    }
+}
+
+/// Puts a get.
+fn put_get(bytes: &mut [u8], at: usize, key: &Key, wanted: &Wanted) -> usize
+    requires { at + 165 ≤ length bytes.old }
+    ensures text { take result bytes.new ≡ take at bytes.old ++ spaced (call_words (Get key.now wanted.now)) }
+    ensures end { result ≤ at + 165 }
+    ensures formed { IsTrue (is_call (Get key.now wanted.now)) }
+{
+    let of_key = put_word(bytes, at, b"get ");
+    let after_key = put_key(bytes, of_key, key);
+    let of_wanted = put_byte(bytes, after_key, b' ');
+    put_wanted(bytes, of_wanted, wanted)
+}
+
+/// Puts a put.
+fn put_put(bytes: &mut [u8], at: usize, key: &Key, value: &Value, deps: &Deps, near: &Near) -> usize
+    requires { at + stored_room value.now deps.now near.now + 165 ≤ length bytes.old }
+    ensures text { take result bytes.new ≡ take at bytes.old ++ spaced (call_words (Put key.now value.now deps.now near.now)) }
+    ensures end { result ≤ at + stored_room value.now deps.now near.now + 165 }
+    ensures formed { IsTrue (is_call (Put key.now value.now deps.now near.now)) }
+{
+    let of_key = put_word(bytes, at, b"put ");
+    let after_key = put_key(bytes, of_key, key);
+    let of_value = put_byte(bytes, after_key, b' ');
+    put_stored(bytes, of_value, value.owned(), deps.owned(), near.owned())
+}
+
+/// Puts a check.
+fn put_check(bytes: &mut [u8], at: usize, key: &Key, version: Version) -> usize
+    requires { at + 165 ≤ length bytes.old }
+    ensures text { take result bytes.new ≡ take at bytes.old ++ spaced (call_words (DepCheck key.now version)) }
+    ensures end { result ≤ at + 165 }
+    ensures formed { IsTrue (is_call (DepCheck key.now version)) }
+{
+    let of_key = put_word(bytes, at, b"check ");
+    let after_key = put_key(bytes, of_key, key);
+    let of_version = put_byte(bytes, after_key, b' ');
+    put_version(bytes, of_version, version)
+}
+
+/// Puts a call.
+pub(crate) fn put_call(bytes: &mut [u8], at: usize, call: &NodeCall) -> usize
+    requires { at + call_room call.now + 165 ≤ length bytes.old }
+    ensures text { take result bytes.new ≡ take at bytes.old ++ spaced (call_words call.now) }
+    ensures end { result ≤ at + call_room call.now + 165 }
+    ensures formed { IsTrue (is_call call.now) }
+{
+    match call {
+        NodeCall::Get(key, wanted) => put_get(bytes, at, key, wanted),
+        NodeCall::Put(key, value, deps, near) => put_put(bytes, at, key, value, deps, near),
+        NodeCall::DepCheck(key, version) => put_check(bytes, at, key, *version),
+        NodeCall::Pull(dc) => put_numbered(bytes, at, b"pull", *dc),
+        NodeCall::Commit(entry) => put_entered(bytes, at, b"commit", entry),
+        NodeCall::Ack(dc, version) => put_ack(bytes, at, *dc, *version),
+        NodeCall::Collect => put_word(bytes, at, b"collect"),
+    }
+}
+
+/// Puts what is found.
+pub(crate) fn put_found(
+    bytes: &mut [u8],
+    at: usize,
+    version: Version,
+    value: &OwnedValue,
+    deps: &OwnedDeps,
+) -> usize
+    requires { at + stored_room value.now deps.now [] + 165 ≤ length bytes.old }
+    ensures text { take result bytes.new ≡ take at bytes.old ++ spaced (reply_words (Found version value.now deps.now)) }
+    ensures end { result ≤ at + stored_room value.now deps.now [] + 165 }
+    ensures formed { IsTrue (is_reply (Found version value.now deps.now)) }
+{
+    let after_version = put_versioned(bytes, at, b"found", version);
+    let of_value = put_byte(bytes, after_version, b' ');
+    let after_value = put_value(bytes, of_value, value);
+    let of_deps = put_byte(bytes, after_value, b' ');
+    put_deps(bytes, of_deps, deps)
+}
+
+/// Puts whether a version has been committed.
+fn put_checked(bytes: &mut [u8], at: usize, committed: bool) -> usize
+    requires { at + 165 ≤ length bytes.old }
+    ensures text { take result bytes.new ≡ take at bytes.old ++ checked_text committed }
+    ensures end { result ≤ at + 165 }
+{
+    if committed {
+        put_word(bytes, at, b"yes")
+    } else {
+        put_word(bytes, at, b"no")
+    }
+}
+
+/// Puts a fault.
+fn put_fault(bytes: &mut [u8], at: usize, fault: Fault) -> usize
+    requires { at + 165 ≤ length bytes.old }
+    ensures text { take result bytes.new ≡ take at bytes.old ++ fault_text fault }
+    ensures end { result ≤ at + 165 }
+{
+    put_word(bytes, at, &fault.text())
+}
+
+/// Puts a reply.
+pub(crate) fn put_reply(bytes: &mut [u8], at: usize, reply: &NodeReply) -> usize
+    requires { at + reply_room reply.now + 165 ≤ length bytes.old }
+    ensures text { take result bytes.new ≡ take at bytes.old ++ spaced (reply_words reply.now) }
+    ensures end { result ≤ at + reply_room reply.now + 165 }
+    ensures formed { IsTrue (has_form reply.now) → IsTrue (is_reply reply.now) }
+{
+    match reply {
+        NodeReply::Found(version, value, deps) => {
+            put_found(bytes, at, *version, value.owned(), deps.owned())
+        }
+        NodeReply::Absent => put_word(bytes, at, b"absent"),
+        NodeReply::Gone(now) => put_numbered(bytes, at, b"gone", *now),
+        NodeReply::NotYet => put_word(bytes, at, b"notyet"),
+        NodeReply::Stored(version) => put_versioned(bytes, at, b"stored", *version),
+        NodeReply::Checked(committed) => put_checked(bytes, at, *committed),
+        NodeReply::Pulled(entry) => put_entered(bytes, at, b"entry", entry),
+        NodeReply::Nothing => put_word(bytes, at, b"nothing"),
+        NodeReply::Committed => put_word(bytes, at, b"committed"),
+        NodeReply::Already => put_word(bytes, at, b"already"),
+        NodeReply::OutOfOrder(mark) => put_versioned(bytes, at, b"outoforder", *mark),
+        NodeReply::Acked => put_word(bytes, at, b"acked"),
+        NodeReply::NotFront => put_word(bytes, at, b"notfront"),
+        NodeReply::Removed(count) => put_numbered(bytes, at, b"removed", *count),
+        NodeReply::Refused(fault) => put_fault(bytes, at, *fault),
+    }
+}
