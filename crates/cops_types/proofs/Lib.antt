@@ -3,6 +3,7 @@ pub mod Examples
 pub mod FaultLemmas
 pub mod WordOrder
 pub mod FrontLemmas
+pub mod FrontWords
 pub mod GreatestLists
 pub mod Merging
 mod HeadExamples

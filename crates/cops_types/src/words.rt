@@ -1,9 +1,10 @@
 //! The words of a line, and the numbers that they write.
-ghost use Rattle.std.specs.Prelude.{◌≡◌, ◌+◌, ◌-◌, ◌*◌, ◌^◌, ◌<◌, ◌≤◌, [], ◌∷◌, ◌++◌, ◌&&◌, ◌==◌, nat_lt, length, slice_index, MatchOption, IfSome, IfNone};
+ghost use Rattle.std.specs.Prelude.{◌≡◌, ◌+◌, ◌-◌, ◌*◌, ◌^◌, ◌<◌, ◌≤◌, [], ◌∷◌, ◌++◌, ◌&&◌, ◌==◌, ℕ, List, nat_lt, length, take, slice_index, decimal, false, IsTrue, MatchOption, IfSome, IfNone};
+ghost use Rattle.std.specs.Char.{is_ascii_digit};
 ghost use Rattle.std.specs.Option.{option_map_or};
 ghost use Rattle.std.specs.Str.Parse.{AllDigits, digits_value};
 ghost use Rattle.memchr.specs.Find.{IsFirstByte, is_byte};
-ghost use Rattle.cops_types.specs.Words.{IsUnspaced, first_word, no_words, number_of, parts_at, space};
+ghost use Rattle.cops_types.specs.Words.{IsUnspaced, first_word, is_u64, no_words, number_of, parts_at, space};
 
 use std::marker::Model;
 
@@ -61,12 +62,100 @@ fn place_of_space(bytes: &[u8]) -> Option<usize>
 }
 
 /// The bytes before the first space, and those after it.
-fn split_at_space(bytes: &[u8]) -> Option<(&[u8], &[u8])>
+pub fn split_at_space(bytes: &[u8]) -> Option<(&[u8], &[u8])>
     ensures some { IfSome result (λ parts. IsUnspaced parts.0.now × (bytes.now ≡ parts.0.now ++ 32 ∷ parts.1.now)) }
     ensures none { IfNone result (IsUnspaced bytes.now) }
 {
     let at = place_of_space(bytes)?;
     Some((&bytes[..at], &bytes[at + 1..]))
+}
+
+/// What stands behind the space at a place, where one is there.
+#[inline(always)]
+pub(crate) fn behind_space(bytes: &[u8], at: usize) -> Option<&[u8]>
+    requires { at ≤ length bytes.now }
+    ensures some { IfSome result (λ rest. bytes.now ≡ take at bytes.now ++ 32 ∷ rest.now) }
+    ensures none { IfNone result ((word rest : List ℕ) → length word ≡ at → bytes.now ≡ word ++ 32 ∷ rest → ⊥) }
+{
+    if at == bytes.len() {
+        return None;
+    }
+    if bytes[at] != b' ' {
+        return None;
+    }
+    Some(&bytes[at + 1..])
+}
+
+/// What stands behind this word and a space, where the bytes begin so.
+#[inline(always)]
+pub fn behind_word<'a>(bytes: &'a [u8], word: &[u8]) -> Option<&'a [u8]>
+    ensures some { IfSome result (λ rest. bytes.now ≡ word.now ++ 32 ∷ rest.now) }
+    ensures none { IfNone result ((rest : List ℕ) → bytes.now ≡ word.now ++ 32 ∷ rest → ⊥) }
+{
+    if bytes.len() < word.len() {
+        return None;
+    }
+    let rest = behind_space(bytes, word.len())?;
+    for at in 0..word.len() {
+        if bytes[at] != word[at] {
+            return None;
+        }
+    }
+    Some(rest)
+}
+
+/// The number of the digits at the front, and how many they are. They are looked at only as long as
+/// the number is below 2 to the 64, whichever they are.
+#[inline(always)]
+fn digits_at_front(bytes: &[u8]) -> (u64, usize)
+    ensures within { result.1 ≤ length bytes.now }
+    ensures few { result.1 ≤ 19 }
+    ensures small { result.0 < 2 ^ 64 }
+    ensures digits { AllDigits 10 (take result.1 bytes.now) }
+    ensures value { result.0 ≡ digits_value 10 (take result.1 bytes.now) }
+    ensures ends { result.1 < 19 → result.1 < length bytes.now → is_ascii_digit (slice_index bytes.now result.1) ≡ false }
+{
+    let most = bytes.len().min(SURE_DIGITS);
+    let mut value = 0;
+    for at in 0..most {
+        let byte = bytes[at];
+        if !byte.is_ascii_digit() {
+            return (value, at);
+        }
+        value = value * 10 + u64::from(byte - b'0');
+    }
+    (value, most)
+}
+
+/// The number at the front, as far as a space, and what stands behind the space.
+#[inline(always)]
+pub fn number_at_front(bytes: &[u8]) -> Option<(u64, &[u8])>
+    ensures some { IfSome result (λ parts. IsTrue (is_u64 parts.0) × (bytes.now ≡ decimal parts.0 ++ 32 ∷ parts.1.now)) }
+    ensures none { IfNone result ((n : ℕ) (rest : List ℕ) → IsTrue (is_u64 n) → bytes.now ≡ decimal n ++ 32 ∷ rest → ⊥) }
+{
+    let (value, len) = digits_at_front(bytes);
+    if len == SURE_DIGITS {
+        return long_number_at_front(bytes);
+    }
+    if len == 0 {
+        return None;
+    }
+    if has_leading_zero(&bytes[..len]) {
+        return None;
+    }
+    let rest = behind_space(bytes, len)?;
+    Some((value, rest))
+}
+
+/// The same of any number.
+#[inline(never)]
+fn long_number_at_front(bytes: &[u8]) -> Option<(u64, &[u8])>
+    ensures some { IfSome result (λ parts. IsTrue (is_u64 parts.0) × (bytes.now ≡ decimal parts.0 ++ 32 ∷ parts.1.now)) }
+    ensures none { IfNone result ((n : ℕ) (rest : List ℕ) → IsTrue (is_u64 n) → bytes.now ≡ decimal n ++ 32 ∷ rest → ⊥) }
+{
+    let (word, rest) = split_at_space(bytes)?;
+    let number = parse_number(word)?;
+    Some((number, rest))
 }
 
 impl<'a> Words<'a> {
