@@ -3,6 +3,7 @@ ghost use Rattle.std.specs.Prelude.{◌≡◌, ◌≤◌, ◌++◌, ◌∷◌, [
 ghost use Rattle.std.specs.List.{AllByRecursion};
 ghost use Rattle.cops_store.specs.Tables.{chains_of, hits, is_hit as may_hit, renewed as renewed_note};
 
+use crate::guesses::Guesses;
 use crate::table::{self, Due};
 use cops_types::{Dated, Key, Seeds};
 use indexmap::IndexMap;
@@ -87,12 +88,13 @@ impl DueNotes {
     pub(crate) fn put_off(
         &mut self,
         table: &IndexMap<Key, Vec<Dated>, Seeds>,
+        guesses: &Guesses,
         now: u64,
         trans_time: u64,
     )
         ensures { self.new.items ≡ filter (λ d. not (may_hit now trans_time d)) (map (renewed_note now trans_time (chains_of table.now.entries)) self.old.items) }
     {
-        table::renew(table, &mut self.list, now, trans_time);
+        table::renew(table, guesses, &mut self.list, now, trans_time);
         table::forget(&mut self.list, now, trans_time);
         self.least = least_of(&self.list);
     }

@@ -7,6 +7,7 @@ ghost use Rattle.cops_types.specs.Records.{Tracked, StandsFor, latest as latest_
 ghost use Rattle.cops_store.specs.Shelves.{nothing};
 ghost use Rattle.cops_store.specs.Contents.{LacksVersion, NoneLater, use_of, refusal, size_of};
 
+use crate::guesses::Guesses;
 use crate::notes::DueNotes;
 use crate::usage::{InUse, size};
 use crate::{chain, table};
@@ -24,8 +25,10 @@ pub struct Shelf {
     due: DueNotes,
     /// What is kept.
     used: InUse,
-    /// Where in the table room was made last: a guess for the next look-up, which may be any number.
+    /// Where in the table room was made last: a guess for the next `insert`, which may be any number.
     last: usize,
+    /// Where in the table each key was found last.
+    guesses: Guesses,
 }
 
 impl Model for Shelf {
@@ -53,6 +56,7 @@ impl Shelf {
                 bytes: 0,
             },
             last: 0,
+            guesses: Guesses::new(alloc),
         }
     }
 
@@ -67,7 +71,7 @@ impl Shelf {
     pub(crate) fn latest(&self, key: &Key) -> Option<&Record>
         ensures { (tracked : List Tracked) → StandsFor self.now.rows tracked → option_copied result ≡ latest_record key.now tracked }
     {
-        match self.table.get(key) {
+        match table::chain_of(&self.table, self.guesses.guess(key), key) {
             Some(chain) => chain::last(chain),
             None => None,
         }
@@ -78,7 +82,7 @@ impl Shelf {
         ensures found { (tracked : List Tracked) → StandsFor self.now.rows tracked → option_copied result ≡ exact_record key.now version tracked }
         ensures absent { result ≡ None → LacksVersion key.now version self.now.rows }
     {
-        match self.table.get(key) {
+        match table::chain_of(&self.table, self.guesses.guess(key), key) {
             Some(chain) => chain::find(chain, version),
             None => None,
         }
@@ -109,10 +113,12 @@ impl Shelf {
         ensures rows { self.new.rows ≡ self.old.rows }
         ensures err { IfErr result (λ fault. fault ≡ OutOfMemory) }
     {
-        match table::make_room(alloc, &mut self.table, &mut self.due, &mut self.last, key) {
-            Ok(_) => Ok(()),
-            Err(error) => Err(Fault::from(error)),
-        }
+        self.guesses.reserve(&self.table)?;
+        let guess = self.guesses.guess(key);
+        let i = table::make_room(alloc, &mut self.table, &mut self.due, guess, key)?;
+        self.guesses.correct(key, guess, i);
+        self.last = i;
+        Ok(())
     }
 
     // Keeps an entry, committed at the moment `now`. A refusal changes no row.
@@ -140,7 +146,7 @@ impl Shelf {
             return Err(fault);
         }
         let key = entry.key();
-        let i = table::make_room(alloc, &mut self.table, &mut self.due, &mut self.last, &key)?;
+        let i = table::make_room(alloc, &mut self.table, &mut self.due, self.last, &key)?;
         let kept = entry.committed(now);
         table::put(&mut self.table, &mut self.due, i, &key, kept);
         self.used = InUse {
@@ -159,8 +165,15 @@ impl Shelf {
             return 0;
         }
         let used = self.in_use();
-        let freed = table::clean(&mut self.table, self.due.list(), now, trans_time);
-        self.due.put_off(&self.table, now, trans_time);
+        let freed = table::clean(
+            &mut self.table,
+            &self.guesses,
+            self.due.list(),
+            now,
+            trans_time,
+        );
+        self.due
+            .put_off(&self.table, &self.guesses, now, trans_time);
         self.used = InUse {
             records: used.records - freed.records,
             bytes: used.bytes - freed.bytes,
