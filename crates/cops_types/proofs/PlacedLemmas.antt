@@ -1,9 +1,9 @@
 -- Texts that are put at a place, one after another.
-use Rattle.std.proofs.Common.{◌≡◌, ℕ, ◌+◌, ◌≤◌, ◌<◌, ◌/◌, ◌%◌, ◌^◌, List, [], ◌∷◌, ◌++◌, length, take, sym, subst, ap, ◌∙◌, append_assoc, arith, length-take-le}
+use Rattle.std.proofs.Common.{◌≡◌, ℕ, ◌+◌, ◌≤◌, ◌<◌, ◌/◌, ◌%◌, ◌^◌, List, [], ◌∷◌, ◌++◌, length, take, drop, sym, subst, ap, ◌∙◌, append_assoc, arith, length-take-le}
 use Rattle.std.specs.Prelude.{decimal}
 use Rattle.std.proofs.Math.Seq.{take-append-add}
 use Rattle.std.proofs.lemmas.Fmt.{decimal_digit, decimal_step}
-use Rattle.std.proofs.lemmas.List.{take-append-le}
+use Rattle.std.proofs.lemmas.List.{take-append-drop, take-append-le, take-take}
 use Rattle.cops_types.specs.Placed.{last_four}
 
 -- the first bytes of what is copied over a list stand behind what stood before
@@ -14,6 +14,29 @@ front_placed at count bytes cells copied rest low within is =
     ap (λ n. take (n + count) (take at bytes ++ (copied ++ rest))) (sym size)
     ∙ take-append-add (take at bytes) (copied ++ rest) count
     ∙ ap (λ l. take at bytes ++ l) (take-append-le count copied rest fits ∙ ap (take count) is)
+
+-- a block of the front, and one of the end that begins within it, are the whole
+pub blocks_placed : (at size rest : ℕ) (b0 b1 b2 word front end : List ℕ) → at ≤ length b0 → rest + size ≡ length word → rest ≤ size
+    → front ≡ take size word → end ≡ drop rest word
+    → take (at + size) b1 ≡ take at b0 ++ front → take (at + rest + size) b2 ≡ take (at + rest) b1 ++ end
+    → take (at + length word) b2 ≡ take at b0 ++ word
+blocks_placed at size rest b0 b1 b2 word front end low sum within front_is end_is e1 e2 =
+    let size_at : length (take at b0) ≡ at = length-take-le at b0 low in
+    let room : rest ≤ length front = omega (arith, ap length front_is, length-take-le size word (omega arith)) in
+    let mid : take (at + rest) b1 ≡ take at b0 ++ take rest word =
+    sym (take-take (at + rest) (at + size) b1 (omega arith))
+    ∙ ap (take (at + rest)) e1
+    ∙ ap (λ n. take (n + rest) (take at b0 ++ front)) (sym size_at)
+    ∙ take-append-add (take at b0) front rest
+    ∙ ap (λ l. take at b0 ++ take rest l) front_is
+    ∙ ap (λ l. take at b0 ++ l) (take-take rest size word within) in
+    let sum_at : at + length word ≡ at + rest + size = omega arith in
+    ap (λ n. take n b2) sum_at
+    ∙ e2
+    ∙ ap (λ l. l ++ end) mid
+    ∙ append_assoc (take at b0) (take rest word) end
+    ∙ ap (λ l. take at b0 ++ (take rest word ++ l)) end_is
+    ∙ ap (λ l. take at b0 ++ l) (take-append-drop rest word)
 
 -- two texts, and three
 pub two_placed : (t0 t1 t2 a b whole : List ℕ) → t1 ≡ t0 ++ a → t2 ≡ t1 ++ b → whole ≡ a ++ b → t2 ≡ t0 ++ whole

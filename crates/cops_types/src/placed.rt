@@ -50,6 +50,50 @@ pub fn put_word(bytes: &mut [u8], at: usize, word: &[u8]) -> usize
     put_front(bytes, at, word, word.len())
 }
 
+/// Puts bytes whose number the compiler knows, with no call.
+#[inline(always)]
+fn put_block<const N: usize>(bytes: &mut [u8], at: usize, block: &[u8])
+    requires room { at + N ≤ length bytes.old }
+    requires size { length block.now ≡ N }
+    ensures { take (at + N) bytes.new ≡ take at bytes.old ++ block.now }
+{
+    let mut cells = [0; N];
+    cells.copy_from_slice(block);
+    let _ = put_word(bytes, at, &cells);
+}
+
+/// Puts bytes as two blocks, of their front and of their end, which may overlap.
+#[inline(always)]
+fn put_blocks<const N: usize>(bytes: &mut [u8], at: usize, word: &[u8]) -> usize
+    requires room { at + length word.now ≤ length bytes.old }
+    requires front { N ≤ length word.now }
+    requires end { length word.now ≤ N + N }
+    ensures text { take result bytes.new ≡ take at bytes.old ++ word.now }
+    ensures end { result ≡ at + length word.now }
+{
+    let rest = word.len() - N;
+    put_block::<N>(bytes, at, &word[..N]);
+    put_block::<N>(bytes, at + rest, &word[rest..]);
+    at + word.len()
+}
+
+/// Puts bytes. From 8 to 32 of them take no call.
+#[inline(always)]
+pub fn put_bytes(bytes: &mut [u8], at: usize, word: &[u8]) -> usize
+    requires { at + length word.now ≤ length bytes.old }
+    ensures text { take result bytes.new ≡ take at bytes.old ++ word.now }
+    ensures end { result ≡ at + length word.now }
+{
+    let len = word.len();
+    if 8 <= len && len <= 16 {
+        return put_blocks::<8>(bytes, at, word);
+    }
+    if 16 < len && len <= 32 {
+        return put_blocks::<16>(bytes, at, word);
+    }
+    put_word(bytes, at, word)
+}
+
 /// Puts the decimal digit of a number.
 #[inline(always)]
 fn put_digit(bytes: &mut [u8], at: usize, number: u64) -> usize

@@ -1,17 +1,21 @@
 //! Short frames of puts and get transactions, put at the end of a vector with room that is asked for once.
-ghost use Rattle.std.specs.Prelude.{◌≡◌, ◌≤◌, ◌<◌, ◌+◌, ◌-◌, ◌^◌, ℕ, List, ◌∷◌, ◌++◌, length, take, IfOk, IfSome, MatchBool, OnErr};
+ghost use Rattle.std.specs.Prelude.{◌≡◌, ◌≤◌, ◌<◌, ◌+◌, ◌-◌, ◌^◌, ℕ, List, ◌∷◌, ◌++◌, length, take, IfOk, IfSome, MatchBool, OnErr, OnOk};
 ghost use Rattle.cops_wire.specs.Fitting.{CanBeWritten, IsCounted, PartsFit};
 ghost use Rattle.cops_wire.specs.Spelling.{body_of, spelled_text, spelling};
 ghost use Rattle.cops_wire.specs.declared.messages.Message.{Message};
 
 use crate::messages::Message;
-use crate::placed::{put_bytes, put_head, put_keys, put_value};
+use crate::placed::{put_head, put_keys, put_value};
 use byteorder::{BigEndian, ByteOrder};
 use cops_types::Bytes;
+use cops_types::placed::put_bytes;
 use std::alloc::AllocError;
 
 /// How many bytes a short frame has at most.
 const SHORT_FRAME: usize = 128;
+
+/// How many bytes the frame of a short put has at most for which less room is cleared.
+const SHORTER_FRAME: usize = 64;
 
 /// Puts the frame of a put.
 #[inline(always)]
@@ -54,6 +58,28 @@ fn end_frame(out: &mut Vec<u8>, start: usize, end: usize)
     BigEndian::write_u32(&mut out[start..], len);
 }
 
+/// Puts the frame of a put at the end, with room for so many bytes that is asked for once. After an `Err` nothing is put.
+#[inline(always)]
+fn push_put_within<const ROOM: usize>(
+    out: &mut Vec<u8>,
+    handle: &[u8; 9],
+    key: &[u8],
+    value: &[u8],
+) -> Result<(), AllocError>
+    requires key { IsCounted 1 key.now }
+    requires value { IsCounted 2 value.now }
+    requires room { 17 + length key.now + length value.now ≤ ROOM }
+    requires few { ROOM ≤ SHORT_FRAME }
+    ensures ok { OnOk result (out.new.items ≡ out.old.items ++ spelling (Message.Put handle.now key.now value.now)) }
+    ensures err { OnErr result (out.new.items ≡ out.old.items) }
+{
+    let start = out.len();
+    out.extend_from_slice(&[0; ROOM])?;
+    let end = put_put(out.as_mut_slice(), start, handle, key, value);
+    out.truncate(end);
+    Ok(())
+}
+
 /// Puts the frame of a put at the end, if it is short. It tells whether it is; otherwise nothing is put.
 fn push_short_put(
     out: &mut Vec<u8>,
@@ -66,13 +92,15 @@ fn push_short_put(
     ensures ok { IfOk result (λ short. MatchBool short (out.new.items ≡ out.old.items ++ spelling (Message.Put handle.now key.now value.now)) (out.new.items ≡ out.old.items)) }
     ensures err { OnErr result (out.new.items ≡ out.old.items) }
 {
-    if 17 + key.len() + value.len() > SHORT_FRAME {
+    let size = 17 + key.len() + value.len();
+    if size > SHORT_FRAME {
         return Ok(false);
     }
-    let start = out.len();
-    out.extend_from_slice(&[0; SHORT_FRAME])?;
-    let end = put_put(out.as_mut_slice(), start, handle, key, value);
-    out.truncate(end);
+    if size > SHORTER_FRAME {
+        push_put_within::<SHORT_FRAME>(out, handle, key, value)?;
+    } else {
+        push_put_within::<SHORTER_FRAME>(out, handle, key, value)?;
+    }
     Ok(true)
 }
 

@@ -1,7 +1,7 @@
 use Rattle.std.proofs.Common.{◌-◌, length, take, drop, arith, length-drop}
 use Rattle.std.proofs.lemmas.List.{take_all}
-use Rattle.cops_wire.proofs.PlacedLemmas.{blocks_placed}
-use Rattle.cops_wire.proofs.placed.put_blocks.Goals as goal
+use Rattle.cops_types.proofs.PlacedLemmas.{blocks_placed}
+use Rattle.cops_types.proofs.placed.put_blocks.Goals as goal
 
 pub returns-clause-text : goal.returns-clause-text
 returns-clause-text g c =
