@@ -1,6 +1,8 @@
 -- Steps of a session that is kept are steps of each session of the definition that it stands for.
 use Rattle.std.proofs.Common.{◌≡◌, ℕ, ◌+◌, ◌*◌, ◌-◌, ◌^◌, ◌≤◌, Bool, true, false, cond, List, [], ◌∷◌, ◌++◌, length, filter, zero, suc, refl, sym, ap, subst, ◌∙◌, arith, length-append, length-drop}
-use Rattle.std.specs.Prelude.{Option, Some, None}
+use Rattle.std.specs.Prelude.{Option, Some, None, Result, Ok, Err, MatchResult, ◌==◌}
+use Rattle.std.specs.Option.{option_map}
+use Rattle.std.specs.declared.alloc.AllocError.{AllocError}
 use Rattle.std.proofs.lemmas.Bool.Decides.{nat_tests}
 use Rattle.std.proofs.lemmas.List.{length-map}
 use Rattle.cops_types.specs.TenantConfig.{TenantConfig}
@@ -27,8 +29,8 @@ use Rattle.cops_model.specs.Session.{Running, Session, moment_at, request_of, se
 use Rattle.cops_session.specs.SessionStands.{RunningStandsFor, SessionStandsFor, WorkStandsFor}
 use Rattle.cops_session.specs.Stepping as stepping
 use Rattle.cops_model.specs.Transaction.{outdated, reads_of, wanted_version}
-use Rattle.cops_wire.specs.Requests.{Backend, DoesNext, Ends, HasFewRestarts, KeepsShape, RequestGoesOn, Steps, backend}
-use Rattle.cops_wire.specs.Running.{ShowsAnswer, HasEnded, HasFewKeys, HasStepped}
+use Rattle.cops_wire.specs.Requests.{Backend, DoesNext, Ends, HasFewRestarts, KeepsShape, RequestGoesOn, Steps, backend, message_of_answer}
+use Rattle.cops_wire.specs.Running.{ShowsAnswer, HasEnded, HasFewKeys, HasStepped, PutsAnswer, PutsFrame}
 
 -- ---- one step
 
@@ -219,3 +221,44 @@ module _ {N M : Type 0} (Calls : N → NodeId → ℕ → ℕ → NodeCall → N
       let a = within.restarts in
       let b = within.steps in
       omega arith
+
+-- ---- what a step tells
+
+pub when_ok : {A E : Type 0} (P : A → Type 0) (Q : E → Type 0) (result : Result A E) (value : A) → result ≡ Ok value → MatchResult result P Q → P value
+when_ok P Q result value is so = subst (λ r. MatchResult r P Q) is so
+
+pub when_err : {A E : Type 0} (P : A → Type 0) (Q : E → Type 0) (result : Result A E) (error : E) → result ≡ Err error → MatchResult result P Q → Q error
+when_err P Q result error is so = subst (λ r. MatchResult r P Q) is so
+
+none_some : {A : Type 0} (x : A) → None ≡ Some x → ⊥
+none_some x e = cc
+
+some_same : {A : Type 0} (x y : A) → Some x ≡ Some y → x ≡ y
+some_same x y e = cc
+
+true_false : true ≡ false → ⊥
+true_false e = cc
+
+-- a session at which a request runs tells its number
+pub has_number : (session : Session) (running : Running) → session.running ≡ Some running → None ≡ option_map (λ (r : Running). r.number) session.running → ⊥
+has_number session running is none = none_some running.number (none ∙ ap (option_map (λ (r : Running). r.number)) is)
+
+-- and under that number it runs
+pub runs_so : (session : Session) (running : Running) (request : ℕ) → session.running ≡ Some running → Some request ≡ option_map (λ (r : Running). r.number) session.running → stepping.runs request session ≡ false → ⊥
+runs_so session running request is named idle =
+    let same : request ≡ running.number = some_same request running.number (named ∙ ap (option_map (λ (r : Running). r.number)) is) in
+    let told : stepping.runs request session ≡ (running.number == request) = rw is refl in
+    let yes : (running.number == running.number) ≡ true = grind (arith, nat_tests) in
+    true_false (sym yes ∙ ap (λ n. running.number == n) (sym same) ∙ sym told ∙ idle)
+
+-- ---- replies
+
+-- a reply that was put gives the answer
+pub put_gives : (put : Result Unit AllocError) (old new : List ℕ) (answer : Option Answer) → PutsAnswer (Some put) old new answer → (given : Answer) × (answer ≡ Some given) × PutsFrame put old new (message_of_answer given)
+put_gives put old new (Some given) puts = (given, refl, puts)
+put_gives put old new None puts = absurd puts
+
+-- where none was put there is no answer
+pub none_gives : (old new : List ℕ) (answer : Option Answer) → PutsAnswer None old new answer → (answer ≡ None) × (new ≡ old)
+none_gives old new (Some given) puts = absurd puts
+none_gives old new None puts = (refl, puts)

@@ -1,6 +1,5 @@
 -- The steps of a session that is kept, for each session of the definition that it stands for.
-use Rattle.std.specs.Prelude.{◌≡◌, ◌⊎◌, ◌≤◌, ◌++◌, ℕ, nat_lt, not, length, List, [], ◌∷◌, Option, Some, None, Result, Ok, Err, Vec, IfOk, OnOk, OnErr}
-use Rattle.std.specs.Global.{Global}
+use Rattle.std.specs.Prelude.{◌≡◌, ◌⊎◌, ◌≤◌, ◌++◌, ℕ, nat_lt, not, length, List, [], ◌∷◌, Option, Some, None, Result, Ok, Err, OnOk, OnErr}
 use Rattle.std.specs.List.{list_all}
 use Rattle.std.specs.declared.alloc.AllocError.{AllocError}
 use Rattle.cops_types.specs.declared.faults.Fault.{Fault}
@@ -62,8 +61,8 @@ pub record IsRequestDone (config : TenantConfig) (refusal : Option Fault) (old t
   pub told_is : ((reply ≡ Refused OutOfMemory) × (after ≡ old)) ⊎ IsTold refusal old then_be told after reply
 
 -- the keys were made of these lists, unless there are none or one is no key
-pub record AreKeysOf (lists : List (List ℕ)) (made : Result (Vec (List ℕ) Global) Fault) : Type 0 where
-  pub same : IfOk made (λ keys. keys.items ≡ lists)
+pub record AreKeysOf (lists : List (List ℕ)) (made : Result Unit Fault) (keys : List (List ℕ)) : Type 0 where
+  pub same : OnOk made (keys ≡ lists)
   pub refused : IsAnswer (first_refusal ((nat_lt (length lists) 1, Syntax) ∷ (not (list_all is_key lists), BadKey) ∷ [])) made
 
 -- the frame of a reply was put at the end, or nothing for want of memory
@@ -77,3 +76,10 @@ HasRun Calls GivesMoment old (Ok begun) new IsPut =
     × ((config : TenantConfig) (session : Session) (running : Running) → HasFewRestarts config → SessionStandsFor config old.session session → session.running ≡ Some running → running.log ≡ [] → HasFewKeys running.action →
     HasEnded Calls GivesMoment config old.session.setting.slot (backend session old.nodes old.moments) new.session new.nodes new.moments answer)
 HasRun Calls GivesMoment old (Err fault) new IsPut = IsPut (Refused fault) × (new ≡ old)
+
+-- the reply that gives the answer was put at the end if there is one; otherwise nothing was
+abbrev pub PutsAnswer : Option (Result Unit AllocError) → List ℕ → List ℕ → Option Answer → Type 0
+PutsAnswer (Some put) old new (Some answer) = PutsFrame put old new (message_of_answer answer)
+PutsAnswer (Some put) old new None = ⊥
+PutsAnswer None old new (Some answer) = ⊥
+PutsAnswer None old new None = new ≡ old

@@ -19,7 +19,6 @@ ghost use Rattle.cops_session.specs.Tags.{context_tag};
 use crate::messages::Message;
 use crate::moments::Moments;
 use crate::reading::Unseen;
-use crate::replies::push_reply;
 use crate::steps::finish;
 use crate::writing::{encode, push_refusal};
 use cops_handles::Handle;
@@ -102,32 +101,36 @@ fn begin_put(
     }
 }
 
-/// The keys of these lists, where each is one and there are some.
-fn keys_of(alloc: Global, lists: &ByteLists) -> Result<Vec<Key>, Fault>
-    ensures { AreKeysOf lists.now result }
+/// Makes keys of these lists, where each is one and there are some.
+///
+/// They take the place of those that stood there, in the same room.
+fn take_keys(keys: &mut Vec<Key>, lists: &ByteLists) -> Result<(), Fault>
+    ensures { AreKeysOf lists.now result keys.new.items }
 {
     let lists = lists.as_slice();
     if lists.is_empty() {
         return Err(Fault::Syntax);
     }
-    let mut keys = Vec::with_capacity(alloc, lists.len())?;
+    keys.clear();
     for list in lists {
         let key = Key::new(list.as_slice())?;
         if keys.push(key).is_err() {
             return Err(Fault::OutOfMemory);
         }
     }
-    Ok(keys)
+    Ok(())
 }
 
-/// The keys that lie behind one another, where each is one and there are some.
-fn keys_at(alloc: Global, count: u8, bytes: &[u8]) -> Result<Vec<Key>, Fault>
-    ensures { (lists : List (List ℕ)) → all_at (text_at 1) count bytes.now ≡ Some (lists, []) → AreKeysOf lists result }
+/// Makes keys of those that lie behind one another, where each is one and there are some.
+///
+/// They take the place of those that stood there, in the same room.
+fn take_keys_at(keys: &mut Vec<Key>, count: u8, bytes: &[u8]) -> Result<(), Fault>
+    ensures { (lists : List (List ℕ)) → all_at (text_at 1) count bytes.now ≡ Some (lists, []) → AreKeysOf lists result keys.new.items }
 {
     if count == 0 {
         return Err(Fault::Syntax);
     }
-    let mut keys = Vec::with_capacity(alloc, usize::from(count))?;
+    keys.clear();
     let mut unseen = Unseen::of(bytes);
     for _ in 0..count {
         let Some(bytes) = unseen.next_key() else {
@@ -138,25 +141,26 @@ fn keys_at(alloc: Global, count: u8, bytes: &[u8]) -> Result<Vec<Key>, Fault>
             return Err(Fault::OutOfMemory);
         }
     }
-    Ok(keys)
+    Ok(())
 }
 
-/// Begins a get transaction.
+/// Begins a get transaction of keys that were made of its lists.
 fn begin_get(
     session: &mut Session,
     handle: &[u8; 9],
-    keys: Result<Vec<Key>, Fault>,
+    made: Result<(), Fault>,
+    keys: &[Key],
 ) -> Result<(), Fault>
-    ensures begun { (lists : List (List ℕ)) → AreKeysOf lists keys → (config : TenantConfig) (solo : SoloSession) → SessionStandsFor config session.old solo →
+    ensures begun { (lists : List (List ℕ)) → AreKeysOf lists made keys.now → (config : TenantConfig) (solo : SoloSession) → SessionStandsFor config session.old solo →
         OnOk result (SessionStandsFor config session.new (request_begun (number_in handle.now) (Fetch lists) solo)) }
-    ensures refused { (lists : List (List ℕ)) → AreKeysOf lists keys → (config : TenantConfig) (solo : SoloSession) → SessionStandsFor config session.old solo →
+    ensures refused { (lists : List (List ℕ)) → AreKeysOf lists made keys.now → (config : TenantConfig) (solo : SoloSession) → SessionStandsFor config session.old solo →
         IsAnswer (reading_refusal config handle.now lists solo) result }
     ensures setting { session.new.setting ≡ session.old.setting }
     ensures err { OnErr result (session.new ≡ session.old) }
 {
-    let keys = keys?;
+    made?;
     let context = context_of(session, handle)?;
-    let _ = session.begin_get_trans(context, keys.as_slice())?;
+    let _ = session.begin_get_trans(context, keys)?;
     Ok(())
 }
 
@@ -174,7 +178,7 @@ fn run<N: Nodes, M: Moments>(
     ensures shape { N.shape nodes.new ≡ N.shape nodes.old }
 {
     match begun {
-        Ok(()) => push_reply(out, &finish(session, nodes, moments)),
+        Ok(()) => finish(session, nodes, moments, out),
         Err(fault) => push_refusal(out, fault),
     }
 }
@@ -207,40 +211,41 @@ fn answer_get<N: Nodes, M: Moments>(
     nodes: &mut N,
     moments: &mut M,
     handle: &[u8; 9],
-    keys: Result<Vec<Key>, Fault>,
+    made: Result<(), Fault>,
+    keys: &[Key],
     out: &mut Vec<u8>,
 ) -> Result<(), AllocError>
     requires fits { IsOfSizes (N.shape nodes.old).data_centres (N.shape nodes.old).shards session.old.setting }
-    ensures answered { (lists : List (List ℕ)) → AreKeysOf lists keys → (reply : Message)
+    ensures answered { (lists : List (List ℕ)) → AreKeysOf lists made keys.now → (reply : Message)
         × HasAnswered (KeepsShape N.shape N.Answers) M.Gives (backend session.old nodes.old moments.old) (Message.GetTrans handle.now lists) reply (backend session.new nodes.new moments.new)
         × PutsFrame result out.old.items out.new.items reply }
     ensures setting { session.new.setting ≡ session.old.setting }
     ensures shape { N.shape nodes.new ≡ N.shape nodes.old }
 {
-    let begun = begin_get(session, handle, keys);
+    let begun = begin_get(session, handle, made, keys);
     run(session, nodes, moments, begun, out)
 }
 
-/// Answers a get transaction whose keys lie behind one another, as `answer` does.
+/// Answers a get transaction whose keys lie behind one another, as `answer` does. The keys are made in the room of those that stood there.
 pub(crate) fn answer_get_at<N: Nodes, M: Moments>(
-    alloc: Global,
     session: &mut Session,
     nodes: &mut N,
     moments: &mut M,
+    keys: &mut Vec<Key>,
     handle: &[u8; 9],
     count: u8,
-    keys: &[u8],
+    bytes: &[u8],
     out: &mut Vec<u8>,
 ) -> Result<(), AllocError>
     requires fits { IsOfSizes (N.shape nodes.old).data_centres (N.shape nodes.old).shards session.old.setting }
-    ensures answered { (lists : List (List ℕ)) → all_at (text_at 1) count keys.now ≡ Some (lists, []) → (reply : Message)
+    ensures answered { (lists : List (List ℕ)) → all_at (text_at 1) count bytes.now ≡ Some (lists, []) → (reply : Message)
         × HasAnswered (KeepsShape N.shape N.Answers) M.Gives (backend session.old nodes.old moments.old) (Message.GetTrans handle.now lists) reply (backend session.new nodes.new moments.new)
         × PutsFrame result out.old.items out.new.items reply }
     ensures setting { session.new.setting ≡ session.old.setting }
     ensures shape { N.shape nodes.new ≡ N.shape nodes.old }
 {
-    let keys = keys_at(alloc, count, keys);
-    answer_get(session, nodes, moments, handle, keys, out)
+    let made = take_keys_at(keys, count, bytes);
+    answer_get(session, nodes, moments, handle, made, keys.as_slice(), out)
 }
 
 /// Answers a request, and puts its reply at the end.
@@ -276,8 +281,9 @@ pub(crate) fn answer<N: Nodes, M: Moments>(
             out,
         ),
         Message::GetTrans(handle, lists) => {
-            let keys = keys_of(alloc, lists);
-            answer_get(session, nodes, moments, handle, keys, out)
+            let mut keys = Vec::new(alloc);
+            let made = take_keys(&mut keys, lists);
+            answer_get(session, nodes, moments, handle, made, keys.as_slice(), out)
         }
         _ => Ok(()),
     }

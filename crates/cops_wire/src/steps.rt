@@ -1,59 +1,80 @@
 //! The steps of a request that runs.
-ghost use Rattle.std.specs.Prelude.{◌≡◌, [], Some};
+ghost use Rattle.std.specs.Prelude.{◌≡◌, [], Option, Some};
 ghost use Rattle.cops_types.specs.TenantConfig.{TenantConfig};
 ghost use Rattle.cops_session.specs.Kept.{IsOfSizes};
 ghost use Rattle.cops_model.specs.Session.{Running as SoloRunning, Session as SoloSession};
+ghost use Rattle.cops_model.specs.declared.requests.Answer.{Answer as SoloAnswer};
 ghost use Rattle.cops_session.specs.SessionStands.{SessionStandsFor};
-ghost use Rattle.cops_wire.specs.Requests.{KeepsShape, HasFewRestarts, backend};
-ghost use Rattle.cops_wire.specs.Running.{HasEnded, HasStepped, HasFewKeys};
+ghost use Rattle.cops_wire.specs.Requests.{KeepsShape, HasFewRestarts, backend, message_of_answer};
+ghost use Rattle.cops_wire.specs.Running.{HasEnded, HasStepped, HasFewKeys, PutsAnswer, PutsFrame, ShowsAnswer};
 
 use crate::moments::Moments;
+use crate::replies::push_reply;
+use crate::writing::push_refusal;
 use cops_node::Nodes;
-use cops_session::{Answer, Progress, Session};
+use cops_session::{Progress, Session};
 use cops_types::Fault;
+use std::alloc::AllocError;
 
-/// Takes a step of the running request, at the moment that comes next. It gives the answer, if the request ends with it.
+/// Puts the reply that gives the answer at the end, if the step that showed this ended its request.
+///
+/// The answer is looked at where the step left it, and not moved.
+#[inline(always)]
+fn push_answer(out: &mut Vec<u8>, shown: &Progress) -> Option<Result<(), AllocError>>
+    ensures { (answer : Option SoloAnswer) × PutsAnswer result out.old.items out.new.items answer × ShowsAnswer shown.now answer }
+{
+    match shown {
+        Progress::Done(answer) => Some(push_reply(out, answer)),
+        Progress::Working => None,
+        Progress::Restarted(_) => None,
+    }
+}
+
+/// Takes a step of the running request, at the moment that comes next. If the request ends with it, its reply is put at the end.
 fn step_once<N: Nodes, M: Moments>(
     session: &mut Session,
     nodes: &mut N,
     moments: &mut M,
-) -> Option<Answer>
+    out: &mut Vec<u8>,
+) -> Option<Result<(), AllocError>>
     requires fits { IsOfSizes (N.shape nodes.old).data_centres (N.shape nodes.old).shards session.old.setting }
-    ensures stepped { (config : TenantConfig) (solo : SoloSession) (running : SoloRunning) → SessionStandsFor config session.old solo → solo.running ≡ Some running →
-        HasStepped (KeepsShape N.shape N.Answers) M.Gives config session.old.setting.slot (backend solo nodes.old moments.old) session.new nodes.new moments.new result }
+    ensures stepped { (answer : Option SoloAnswer) × PutsAnswer result out.old.items out.new.items answer
+        × ((config : TenantConfig) (solo : SoloSession) (running : SoloRunning) → SessionStandsFor config session.old solo → solo.running ≡ Some running →
+        HasStepped (KeepsShape N.shape N.Answers) M.Gives config session.old.setting.slot (backend solo nodes.old moments.old) session.new nodes.new moments.new answer) }
     ensures setting { session.new.setting ≡ session.old.setting }
     ensures shape { N.shape nodes.new ≡ N.shape nodes.old }
 {
     let moment = moments.now();
     let Some(request) = session.running() else {
-        return Some(Answer::Refused(Fault::Idle));
+        return Some(push_refusal(out, Fault::Idle));
     };
-    match session.step(nodes, request, moment) {
-        Ok(Progress::Done(answer)) => Some(answer),
-        Ok(Progress::Working) => None,
-        Ok(Progress::Restarted(_)) => None,
-        Err(fault) => Some(Answer::Refused(fault)),
+    let stepped = session.step(nodes, request, moment);
+    match &stepped {
+        Ok(shown) => push_answer(out, shown),
+        Err(fault) => Some(push_refusal(out, *fault)),
     }
 }
 
-/// Steps the running request until it has its answer.
+/// Steps the running request until it has its answer, and puts that at the end.
 ///
 /// No request has as many steps as are allowed here: each of its attempts takes at most two a key.
 pub(crate) fn finish<N: Nodes, M: Moments>(
     session: &mut Session,
     nodes: &mut N,
     moments: &mut M,
-) -> Answer
+    out: &mut Vec<u8>,
+) -> Result<(), AllocError>
     requires fits { IsOfSizes (N.shape nodes.old).data_centres (N.shape nodes.old).shards session.old.setting }
-    ensures ended { (config : TenantConfig) (solo : SoloSession) (running : SoloRunning) → HasFewRestarts config → SessionStandsFor config session.old solo → solo.running ≡ Some running → running.log ≡ [] → HasFewKeys running.action →
-        HasEnded (KeepsShape N.shape N.Answers) M.Gives config session.old.setting.slot (backend solo nodes.old moments.old) session.new nodes.new moments.new result }
+    ensures ended { (answer : SoloAnswer) × PutsFrame result out.old.items out.new.items (message_of_answer answer)
+        × ((config : TenantConfig) (solo : SoloSession) (running : SoloRunning) → HasFewRestarts config → SessionStandsFor config session.old solo → solo.running ≡ Some running → running.log ≡ [] → HasFewKeys running.action →
+        HasEnded (KeepsShape N.shape N.Answers) M.Gives config session.old.setting.slot (backend solo nodes.old moments.old) session.new nodes.new moments.new answer) }
     ensures setting { session.new.setting ≡ session.old.setting }
     ensures shape { N.shape nodes.new ≡ N.shape nodes.old }
 {
     for _ in 0..u64::MAX {
-        if let Some(answer) = step_once(session, nodes, moments) {
-            return answer;
+        if let Some(put) = step_once(session, nodes, moments, out) {
+            return put;
         }
     }
-    Answer::Refused(Fault::Overrun)
+    push_refusal(out, Fault::Overrun)
 }

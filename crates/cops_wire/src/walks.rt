@@ -11,12 +11,12 @@ use crate::decoders::{Decoder, Parted};
 use crate::first_frames::{FirstFrame, read_first_frame, whole_body};
 use crate::messages::Message;
 use crate::moments::Moments;
-use crate::reading::{find_get, read_put};
+use crate::reading::{find_get, is_create, read_delete, read_put};
 use crate::requests::{answer, answer_get_at, answer_put};
 use crate::serving::{LONG, answer_messages, is_asked, send};
 use cops_node::Nodes;
 use cops_session::Session;
-use cops_types::{Fault, Sink};
+use cops_types::{Fault, Key, Sink};
 use std::alloc::{AllocError, Global};
 use std::io::Write;
 
@@ -85,13 +85,14 @@ fn answer_any<N: Nodes, M: Moments>(
 
 /// Answers the request that stands first, and puts its reply at the end. After an `Err` it may have been answered, with no reply there.
 ///
-/// Puts and get transactions are answered where they lie.
+/// Puts and get transactions are answered where they lie, and the others that are requests are read there.
 fn answer_first_frame<N: Nodes, M: Moments>(
     alloc: Global,
     session: &mut Session,
     nodes: &mut N,
     moments: &mut M,
     bytes: &[u8],
+    keys: &mut Vec<Key>,
     out: &mut Vec<u8>,
 ) -> Result<AnsweredFrame, AllocError>
     requires fits { IsOfSizes (N.shape nodes.old).data_centres (N.shape nodes.old).shards session.old.setting }
@@ -117,13 +118,28 @@ fn answer_first_frame<N: Nodes, M: Moments>(
         }
         if let Some(get) = find_get(body) {
             answer_get_at(
+                session,
+                nodes,
+                moments,
+                keys,
+                &get.handle,
+                get.count,
+                get.keys,
+                out,
+            )?;
+            return Ok(AnsweredFrame::Whole(4 + body.len()));
+        }
+        if is_create(body) {
+            answer(alloc, session, nodes, moments, &Message::CreateContext, out)?;
+            return Ok(AnsweredFrame::Whole(4 + body.len()));
+        }
+        if let Some(handle) = read_delete(body) {
+            answer(
                 alloc,
                 session,
                 nodes,
                 moments,
-                &get.handle,
-                get.count,
-                get.keys,
+                &Message::DeleteContext(handle),
                 out,
             )?;
             return Ok(AnsweredFrame::Whole(4 + body.len()));
@@ -140,6 +156,7 @@ fn answer_frames<N: Nodes, M: Moments, W: Write>(
     nodes: &mut N,
     moments: &mut M,
     bytes: &[u8],
+    keys: &mut Vec<Key>,
     out: &mut Vec<u8>,
     sink: &mut Sink<W>,
 ) -> Result<Option<Parted>, Fault>
@@ -153,7 +170,7 @@ fn answer_frames<N: Nodes, M: Moments, W: Write>(
 {
     let mut taken = 0;
     loop {
-        match answer_first_frame(alloc, session, nodes, moments, &bytes[taken..], out)? {
+        match answer_first_frame(alloc, session, nodes, moments, &bytes[taken..], keys, out)? {
             AnsweredFrame::Partial => {
                 return Ok(Some(Parted {
                     broken: false,
@@ -181,6 +198,7 @@ fn answer_in_place<N: Nodes, M: Moments, W: Write>(
     moments: &mut M,
     decoder: &mut Decoder,
     piece: &[u8],
+    keys: &mut Vec<Key>,
     out: &mut Vec<u8>,
     sink: &mut Sink<W>,
 ) -> Result<bool, Fault>
@@ -193,7 +211,7 @@ fn answer_in_place<N: Nodes, M: Moments, W: Write>(
     ensures setting { session.new.setting ≡ session.old.setting }
     ensures shape { N.shape nodes.new ≡ N.shape nodes.old }
 {
-    let Some(parted) = answer_frames(alloc, session, nodes, moments, piece, out, sink)? else {
+    let Some(parted) = answer_frames(alloc, session, nodes, moments, piece, keys, out, sink)? else {
         return Ok(false);
     };
     decoder.keep(&piece[parted.taken..], parted.broken)?;
@@ -241,6 +259,7 @@ fn answer_on<N: Nodes, M: Moments, W: Write>(
     moments: &mut M,
     decoder: &mut Decoder,
     piece: &[u8],
+    keys: &mut Vec<Key>,
     out: &mut Vec<u8>,
     sink: &mut Sink<W>,
 ) -> Result<bool, Fault>
@@ -255,7 +274,9 @@ fn answer_on<N: Nodes, M: Moments, W: Write>(
     if decoder.pending() > 0 {
         return answer_behind(alloc, session, nodes, moments, decoder, piece, out, sink);
     }
-    answer_in_place(alloc, session, nodes, moments, decoder, piece, out, sink)
+    answer_in_place(
+        alloc, session, nodes, moments, decoder, piece, keys, out, sink,
+    )
 }
 
 /// Answers the requests of a piece as `answer_piece` does, where a frame is begun. Their replies are gathered.
@@ -268,6 +289,7 @@ fn answer_cut<N: Nodes, M: Moments, W: Write>(
     moments: &mut M,
     decoder: &mut Decoder,
     piece: &[u8],
+    keys: &mut Vec<Key>,
     out: &mut Vec<u8>,
     sink: &mut Sink<W>,
 ) -> Result<bool, Fault>
@@ -289,7 +311,9 @@ fn answer_cut<N: Nodes, M: Moments, W: Write>(
         return Ok(true);
     }
     let others = &piece[front..];
-    answer_on(alloc, session, nodes, moments, decoder, others, out, sink)
+    answer_on(
+        alloc, session, nodes, moments, decoder, others, keys, out, sink,
+    )
 }
 
 /// Answers the requests that a piece completes as `answer_piece` does. Their replies are gathered.
@@ -300,6 +324,7 @@ fn answer_taken<N: Nodes, M: Moments, W: Write>(
     moments: &mut M,
     decoder: &mut Decoder,
     piece: &[u8],
+    keys: &mut Vec<Key>,
     out: &mut Vec<u8>,
     sink: &mut Sink<W>,
 ) -> Result<bool, Fault>
@@ -312,9 +337,13 @@ fn answer_taken<N: Nodes, M: Moments, W: Write>(
     ensures shape { N.shape nodes.new ≡ N.shape nodes.old }
 {
     if decoder.pending() > 0 {
-        return answer_cut(alloc, session, nodes, moments, decoder, piece, out, sink);
+        return answer_cut(
+            alloc, session, nodes, moments, decoder, piece, keys, out, sink,
+        );
     }
-    answer_in_place(alloc, session, nodes, moments, decoder, piece, out, sink)
+    answer_in_place(
+        alloc, session, nodes, moments, decoder, piece, keys, out, sink,
+    )
 }
 
 /// Answers the requests that a piece completes, in order, up to the first message that is no request. It tells whether all were requests.
@@ -328,6 +357,7 @@ pub(crate) fn answer_piece<N: Nodes, M: Moments, W: Write>(
     moments: &mut M,
     decoder: &mut Decoder,
     piece: &[u8],
+    keys: &mut Vec<Key>,
     out: &mut Vec<u8>,
     sink: &mut Sink<W>,
 ) -> Result<bool, Fault>
@@ -340,7 +370,9 @@ pub(crate) fn answer_piece<N: Nodes, M: Moments, W: Write>(
     ensures shape { N.shape nodes.new ≡ N.shape nodes.old }
 {
     out.clear();
-    let all = answer_taken(alloc, session, nodes, moments, decoder, piece, out, sink)?;
+    let all = answer_taken(
+        alloc, session, nodes, moments, decoder, piece, keys, out, sink,
+    )?;
     send(out, sink, 1)?;
     Ok(all)
 }

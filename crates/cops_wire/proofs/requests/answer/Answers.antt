@@ -4,7 +4,7 @@ use Rattle.cops_model.specs.Session.{context_created, context_deleted, create_re
 use Rattle.cops_wire.specs.declared.messages.Message.{Message}
 use Rattle.cops_wire.specs.declared.messages.Message.TheVariants.{CreateContext, DeleteContext, Put, Created, Deleted}
 use Rattle.cops_wire.specs.Requests.{KeepsShape, HasAnswered, backend, deletion_refusal, number_in}
-use Rattle.cops_wire.specs.Running.{PutsFrame}
+use Rattle.cops_wire.specs.Running.{AreKeysOf, PutsFrame}
 use Rattle.cops_wire.proofs.RequestLemmas.{answered_at_once}
 use Rattle.cops_wire.proofs.requests.answer.Goals as goal
 use Rattle.cops_session.specs.Tags.{context_tag}
@@ -41,4 +41,4 @@ pub returns-in-GetTrans-clause-answered : goal.returns-in-GetTrans-clause-answer
 returns-in-GetTrans-clause-answered g c =
     let get = c.answer_get in
     subst (λ request. (reply : Message) × HasAnswered (KeepsShape g.N.Nodes.shape g.N.Nodes.Answers) g.M.Moments.Gives (backend c.args.session.now c.args.nodes.now c.args.moments.now) request reply (backend get.new.session get.new.nodes get.new.moments)
-    × PutsFrame get.result c.args.out.now.items get.new.out.items reply) (sym c.in-GetTrans.is) (get.ensures.answered c.in-GetTrans.lists c.keys_of-keys.ensures)
+    × PutsFrame get.result c.args.out.now.items get.new.out.items reply) (sym c.in-GetTrans.is) (get.ensures.answered c.in-GetTrans.lists (subst (AreKeysOf c.in-GetTrans.lists c.take_keys-made.result) (sym c.as_slice-in-GetTrans.ensures.value) c.take_keys-made.ensures))

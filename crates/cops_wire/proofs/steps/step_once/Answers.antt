@@ -1,22 +1,33 @@
-use Rattle.std.proofs.Common.{subst, sym}
-use Rattle.cops_wire.specs.Requests.{RequestGoesOn}
-use Rattle.cops_wire.proofs.StepLemmas.{stepped}
+use Rattle.std.specs.Prelude.{Some}
+use Rattle.cops_types.specs.declared.faults.Fault.TheVariants.{Idle}
+use Rattle.cops_model.specs.declared.requests.Answer.TheVariants.{Refused}
+use Rattle.cops_wire.proofs.StepLemmas.{has_number, runs_so, stepped, when_err, when_ok}
 use Rattle.cops_wire.proofs.steps.step_once.Goals as goal
 
-pub returns-in-Ok-Done-clause-stepped : goal.returns-in-Ok-Done-clause-stepped
-returns-in-Ok-Done-clause-stepped g c = λ config solo running stands runs.
-    let does = c.in-Ok-Done.ensures.stepped config solo stands in
-    stepped g.N.Nodes.Answers g.M.Moments.Gives config c.args.session.now.setting.slot g.N.Nodes.shape solo does.0 c.args.nodes.now c.step.new.nodes c.args.moments.now c.now-moment.new.self c.now-moment.result c.in-Ok-Done.field-0 c.step.new.self _
-    does.1 c.now-moment.ensures c.in-Ok-Done.ensures.shape does.3 c.in-Ok-Done.field-0-is
+pub returns-in_default-clause-stepped : goal.returns-in_default-clause-stepped
+returns-in_default-clause-stepped g c = (
+  Some (Refused Idle),
+  (c.push_refusal.ensures.ok, c.push_refusal.ensures.err),
+  λ config solo running stands runs.
+      absurd (has_number solo running runs (c.in_default.ensures config solo stands)),
+)
 
-pub returns-in-Ok-Working-clause-stepped : goal.returns-in-Ok-Working-clause-stepped
-returns-in-Ok-Working-clause-stepped g c = λ config solo running stands runs.
-    let does = c.in-Ok-Working.ensures.stepped config solo stands in
-    stepped g.N.Nodes.Answers g.M.Moments.Gives config c.args.session.now.setting.slot g.N.Nodes.shape solo does.0 c.args.nodes.now c.step.new.nodes c.args.moments.now c.now-moment.new.self c.now-moment.result c.in-Ok-Working.field-0 c.step.new.self _
-    does.1 c.now-moment.ensures c.in-Ok-Working.ensures.shape does.3 (subst RequestGoesOn (sym c.in-Ok-Working.field-0-is) tt)
+pub returns-in-Ok-clause-stepped : goal.returns-in-Ok-clause-stepped
+returns-in-Ok-clause-stepped g c =
+    let put = c.push_answer.ensures in (
+      put.0,
+      put.1,
+      λ config solo running stands runs.
+          let does = when_ok _ _ c.step-stepped.result c.in-Ok.shown c.in-Ok.is (c.step-stepped.ensures.stepped config solo stands) in
+          stepped g.N.Nodes.Answers g.M.Moments.Gives config c.args.session.now.setting.slot g.N.Nodes.shape solo does.0 c.args.nodes.now c.step-stepped.new.nodes c.args.moments.now c.now-moment.new.self c.now-moment.result c.in-Ok.shown c.step-stepped.new.self _
+          does.1 c.now-moment.ensures c.step-stepped.ensures.shape does.3 put.2,
+    )
 
-pub returns-in-Ok-Restarted-clause-stepped : goal.returns-in-Ok-Restarted-clause-stepped
-returns-in-Ok-Restarted-clause-stepped g c = λ config solo running stands runs.
-    let does = c.in-Ok-Restarted.ensures.stepped config solo stands in
-    stepped g.N.Nodes.Answers g.M.Moments.Gives config c.args.session.now.setting.slot g.N.Nodes.shape solo does.0 c.args.nodes.now c.step.new.nodes c.args.moments.now c.now-moment.new.self c.now-moment.result c.in-Ok-Restarted.field-0 c.step.new.self _
-    does.1 c.now-moment.ensures c.in-Ok-Restarted.ensures.shape does.3 (subst RequestGoesOn (sym c.in-Ok-Restarted.field-0-is) tt)
+pub returns-clause-stepped : goal.returns-clause-stepped
+returns-clause-stepped g c = (
+  Some (Refused c.in-Err.fault),
+  (c.push_refusal-in-Err.ensures.ok, c.push_refusal-in-Err.ensures.err),
+  λ config solo running stands runs.
+      let idle = when_err _ _ c.step-stepped.result c.in-Err.fault c.in-Err.is (c.step-stepped.ensures.stepped config solo stands) in
+      absurd (runs_so solo running c.in-Some.request runs (c.in-Some.ensures config solo stands) idle.1),
+)

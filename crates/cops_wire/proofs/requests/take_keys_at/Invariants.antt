@@ -3,7 +3,7 @@ use Rattle.std.specs.List.{list_all}
 use Rattle.cops_types.specs.Key.{is_key}
 use Rattle.cops_wire.specs.Reading.{all_at, text_at}
 use Rattle.cops_wire.proofs.AllParts.{with_front}
-use Rattle.cops_wire.proofs.requests.keys_at.Given as goal
+use Rattle.cops_wire.proofs.requests.take_keys_at.Given as goal
 
 -- the keys so far stand before those that are still to be read
 abbrev pub invariant-loop : goal.invariant-loop

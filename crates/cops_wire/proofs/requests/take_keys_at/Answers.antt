@@ -6,15 +6,15 @@ use Rattle.cops_wire.specs.Reading.{all_at, text_at}
 use Rattle.cops_wire.proofs.AllParts.{goes_on}
 use Rattle.cops_wire.proofs.KeyLemmas.{all_keys, no_keys, one_more_key, part_there, refused_key}
 use Rattle.cops_wire.proofs.RequestLemmas.{ok_if, ok_same}
-use Rattle.cops_wire.proofs.requests.keys_at.Goals as goal
+use Rattle.cops_wire.proofs.requests.take_keys_at.Goals as goal
 
 pub returns-then-count-eq0 : goal.returns-then-count-eq0
-returns-then-count-eq0 c = λ lists is. no_keys lists c.args.count (text_at 1) c.args.bytes.now c.if-count-eq0.true is
+returns-then-count-eq0 c = λ lists is. no_keys lists c.args.count (text_at 1) c.args.bytes.now c.if-count-eq0.true is _
 
 pub returns-in_err-key : goal.returns-in_err-key
 returns-in_err-key c = λ lists is.
-    let p = err_from_is_err_and c.from_residual-in_err-key.result c.from_residual-in_err-key.ensures.1 in
-    rw (p.1, p.2) (refused_key (text_at 1) c.loop.keys.items c.args.count c.loop.counter c.loop.unseen c.in-Some.bytes.now c.next_key.new.self lists c.in_err-key.field-0.0 c.loop-test.true c.in-Some.ensures (c.loop.invariant.so_far ∙ is) c.in_err-key.ensures)
+    let p = err_from_is_err_and c.from_residual.result c.from_residual.ensures.1 in
+    rw (p.1, p.2) (refused_key (text_at 1) c.loop.keys.items c.args.count c.loop.counter c.loop.unseen c.in-Some.bytes.now c.next_key.new.self lists c.in_err-key.field-0.0 c.loop-test.true c.in-Some.ensures (c.loop.invariant.so_far ∙ is) c.in_err-key.ensures _)
 
 pub returns-in_default : goal.returns-in_default
 returns-in_default c = λ lists is.
@@ -35,4 +35,4 @@ loop-preserved c =
 
 pub returns : goal.returns
 returns c = λ lists is.
-    all_keys (text_at 1) c.loop.keys c.args.count c.loop.counter c.loop.unseen lists c.loop-test.false (omega (arith, c.if-count-eq0.false, c.loop-test.false, c.loop.invariant.count)) (c.loop.invariant.so_far ∙ is) c.loop.invariant.all
+    all_keys (text_at 1) c.loop.keys.items c.args.count c.loop.counter c.loop.unseen lists c.loop-test.false (omega (arith, c.if-count-eq0.false, c.loop-test.false, c.loop.invariant.count)) (c.loop.invariant.so_far ∙ is) c.loop.invariant.all

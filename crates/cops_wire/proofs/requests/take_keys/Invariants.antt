@@ -1,7 +1,7 @@
 use Rattle.std.proofs.Common.{◌≡◌, true, take}
 use Rattle.std.specs.List.{list_all}
 use Rattle.cops_types.specs.Key.{is_key}
-use Rattle.cops_wire.proofs.requests.keys_of.Given as goal
+use Rattle.cops_wire.proofs.requests.take_keys.Given as goal
 
 -- the keys so far are the lists so far, and each of those is one
 abbrev pub invariant-loop-list : goal.invariant-loop-list
