@@ -1,10 +1,10 @@
 -- A word at the front of bytes, as far as a space.
-use Rattle.std.proofs.Common.{◌≡◌, ℕ, zero, suc, ◌<◌, ◌≤◌, ◌^◌, Bool, true, false, List, [], ◌∷◌, ◌++◌, length, take, get_or, refl, sym, subst, ap, ◌∙◌, arith, length-append}
+use Rattle.std.proofs.Common.{◌≡◌, ℕ, zero, suc, ◌+◌, ◌<◌, ◌≤◌, ◌^◌, Bool, true, false, List, [], ◌∷◌, ◌++◌, length, take, drop, get_or, refl, sym, subst, ap, ◌∙◌, arith, length-append}
 use Rattle.std.specs.Prelude.{IsTrue, decimal, ◌==◌, ◌&&◌, nat_lt, Some, None}
 use Rattle.std.specs.Char.{is_ascii_digit}
 use Rattle.std.specs.List.{list_all}
 use Rattle.std.specs.Str.Parse.{AllDigits, digits_value}
-use Rattle.std.proofs.Math.Seq.{take-append_seam}
+use Rattle.std.proofs.Math.Seq.{drop-append-add, take-append_seam}
 use Rattle.std.proofs.lemmas.Bool.Decides.{nat_tests}
 use Rattle.std.proofs.lemmas.Fmt.{decimal_is_IsNumeral}
 use Rattle.std.proofs.lemmas.List.{take-take}
@@ -34,6 +34,12 @@ run_ends test (byte ∷ word) rest (suc len) out all run ends =
 -- the word is so many first bytes
 pub word_front : (bytes word rest : List ℕ) (len : ℕ) → length word ≡ len → bytes ≡ word ++ 32 ∷ rest → take len bytes ≡ word
 word_front bytes word rest len size e = ap (take len) e ∙ ap (λ n. take n (word ++ 32 ∷ rest)) (sym size) ∙ take-append_seam word (32 ∷ rest)
+
+-- and the rest are those behind it
+pub word_rest : (bytes word rest : List ℕ) → bytes ≡ word ++ 32 ∷ rest → bytes ≡ word ++ 32 ∷ drop (length word + 1) bytes
+word_rest bytes word rest e =
+    let behind : drop (length word + 1) (word ++ 32 ∷ rest) ≡ rest = drop-append-add word (32 ∷ rest) 1 in
+    e ∙ ap (λ l. word ++ 32 ∷ l) (sym behind ∙ ap (drop (length word + 1)) (sym e))
 
 -- bytes without a space begin with no word and a space
 pub no_front : (bytes word rest : List ℕ) → IsUnspaced bytes → Lacks space word → bytes ≡ word ++ 32 ∷ rest → ⊥
