@@ -34,32 +34,30 @@ impl Guesses {
 
     // Where the guess for a key lies.
     #[inline(always)]
-    fn cell_of(&self, key: &Key) -> usize {
+    pub(crate) fn cell_of(&self, key: &Key) -> usize {
         number_of(key) & self.cells.len().saturating_sub(1)
     }
 
-    // The guess for a key.
+    // The guess that lies there.
     #[inline(always)]
-    pub(crate) fn guess(&self, key: &Key) -> usize {
-        match self.cells.get(self.cell_of(key)) {
+    pub(crate) fn guess(&self, cell: usize) -> usize {
+        match self.cells.get(cell) {
             Some(place) => *place as usize,
             None => 0,
         }
     }
 
-    // Notes where a key is.
-    fn note(&mut self, key: &Key, place: usize) {
-        let cell = self.cell_of(key);
-        if let Some(guess) = self.cells.get_mut(cell) {
-            *guess = (place & 0xFFFF_FFFF) as u32;
-        }
+    // The guess for a key.
+    #[inline(always)]
+    pub(crate) fn guess_for(&self, key: &Key) -> usize {
+        self.guess(self.cell_of(key))
     }
 
-    // Notes where a key was found, if it is not where it was guessed to be.
+    // Notes there where a key is.
     #[inline(always)]
-    pub(crate) fn correct(&mut self, key: &Key, guess: usize, place: usize) {
-        if guess != place {
-            self.note(key, place);
+    pub(crate) fn note(&mut self, cell: usize, place: usize) {
+        if let Some(guess) = self.cells.get_mut(cell) {
+            *guess = (place & 0xFFFF_FFFF) as u32;
         }
     }
 
@@ -83,7 +81,8 @@ impl Guesses {
         self.cells = vec![in alloc; 0; cells]?;
         for place in 0..table.len() {
             if let Some((key, _)) = table.get_index(place) {
-                self.note(key, place);
+                let cell = self.cell_of(key);
+                self.note(cell, place);
             }
         }
         Ok(())

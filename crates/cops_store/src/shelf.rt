@@ -71,7 +71,7 @@ impl Shelf {
     pub(crate) fn latest(&self, key: &Key) -> Option<&Record>
         ensures { (tracked : List Tracked) → StandsFor self.now.rows tracked → option_copied result ≡ latest_record key.now tracked }
     {
-        match table::chain_of(&self.table, self.guesses.guess(key), key) {
+        match table::chain_of(&self.table, self.guesses.guess_for(key), key) {
             Some(chain) => chain::last(chain),
             None => None,
         }
@@ -82,7 +82,7 @@ impl Shelf {
         ensures found { (tracked : List Tracked) → StandsFor self.now.rows tracked → option_copied result ≡ exact_record key.now version tracked }
         ensures absent { result ≡ None → LacksVersion key.now version self.now.rows }
     {
-        match table::chain_of(&self.table, self.guesses.guess(key), key) {
+        match table::chain_of(&self.table, self.guesses.guess_for(key), key) {
             Some(chain) => chain::find(chain, version),
             None => None,
         }
@@ -114,9 +114,10 @@ impl Shelf {
         ensures err { IfErr result (λ fault. fault ≡ OutOfMemory) }
     {
         self.guesses.reserve(&self.table)?;
-        let guess = self.guesses.guess(key);
+        let cell = self.guesses.cell_of(key);
+        let guess = self.guesses.guess(cell);
         let i = table::make_room(alloc, &mut self.table, &mut self.due, guess, key)?;
-        self.guesses.correct(key, guess, i);
+        self.guesses.note(cell, i);
         self.last = i;
         Ok(())
     }
