@@ -93,12 +93,13 @@ pub(crate) fn commit(
             kept: PackedExchange::out_of_order(entry, mark),
         });
     }
-    if let Some(fault) = store.refused(slot, &entry.key(), entry.value(), &terms.quota) {
+    let key = entry.key();
+    if let Some(fault) = store.refused(slot, &key, entry.value(), &terms.quota) {
         let answered = Answered::refused(alloc, NodeCall::Commit(entry), fault)?;
         return Ok(answered);
     }
     let shared = entry.copy(alloc)?;
-    reserve(store, slot, &entry.key())?;
+    reserve(store, slot, &key)?;
     keep(home, terms, counters, store, slot, now, entry);
     Ok(Answered {
         told: NodeReply::Committed,

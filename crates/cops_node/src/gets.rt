@@ -15,6 +15,7 @@ use cops_types::{Key, Record, Version};
 use std::alloc::{AllocError, Global};
 
 // The reply that a record is found.
+#[inline(always)]
 fn found(alloc: Global, stored: &Record) -> Result<NodeReply, AllocError>
     ensures { IfOk result (λ reply. reply ≡ found_reply stored.now) }
 {

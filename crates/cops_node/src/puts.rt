@@ -107,7 +107,7 @@ pub(crate) fn put(
         },
     )?;
     let shared = entry.copy(alloc)?;
-    commits::reserve(store, slot, &entry.key())?;
+    commits::reserve(store, slot, &key)?;
     match outbox.push(slot, &entry, terms.quota.outbox) {
         Ok(()) => {}
         Err(Fault::OutOfMemory) => return Err(AllocError),

@@ -279,13 +279,21 @@ impl Deps {
     }
 }
 
+/// A copy of an entry's dependencies.
+#[inline(never)]
+fn copied_deps(alloc: Global, parts: &Arc<KeptParts>) -> Result<Deps, AllocError>
+    ensures { IfOk result (λ deps. deps ≡ (arc_value parts.now).deps) }
+{
+    Ok(Deps::of(parts.deps.copy(alloc)?))
+}
+
 /// One more owner of an entry's dependencies. Where no more can be counted, they are copied.
 pub(crate) fn shared_deps(alloc: Global, parts: &Arc<KeptParts>) -> Result<Deps, AllocError>
     ensures { IfOk result (λ deps. deps ≡ (arc_value parts.now).deps) }
 {
     match parts.clone() {
         Ok(parts) => Ok(Deps::of_entry(parts)),
-        Err(_) => Ok(Deps::of(parts.deps.copy(alloc)?)),
+        Err(_) => copied_deps(alloc, parts),
     }
 }
 

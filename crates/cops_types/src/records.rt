@@ -173,13 +173,22 @@ impl Entry {
         })
     }
 
-    /// The same entry, over the same memory.
+    /// The same entry, over memory of its own.
+    #[inline(never)]
+    fn copy_apart(&self, alloc: Global) -> Result<Self, AllocError>
+        ensures { IfOk result (λ entry. entry ≡ self.now) }
+    {
+        Entry::new(alloc, self.to_parts(alloc)?)
+    }
+
+    /// The same entry, over the same memory. Where no more owners can be counted, it is copied.
+    #[inline(always)]
     pub fn copy(&self, alloc: Global) -> Result<Self, AllocError>
         ensures { IfOk result (λ entry. entry ≡ self.now) }
     {
         match self.parts.clone() {
             Ok(parts) => Ok(Entry { parts }),
-            Err(_) => Entry::new(alloc, self.to_parts(alloc)?),
+            Err(_) => self.copy_apart(alloc),
         }
     }
 }
