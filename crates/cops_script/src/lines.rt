@@ -1,15 +1,15 @@
 //! The acts that the lines of a tenant write.
-ghost use Rattle.std.specs.Prelude.{◌≡◌, [], ◌∷◌, ℕ, List, IsTrue, IfSome, IfNone, decimal};
+ghost use Rattle.std.specs.Prelude.{◌≡◌, ◌≤◌, ◌+◌, [], ◌∷◌, ℕ, List, drop, length, IsTrue, IfSome, IfNone, decimal};
 ghost use Rattle.std.specs.Option.{option_and_then};
 ghost use Rattle.cops_types.specs.Key.{is_name};
-ghost use Rattle.cops_types.specs.Words.{first_word, is_u64, is_word};
+ghost use Rattle.cops_types.specs.Words.{first_word, is_u64, is_word, parts_at, space};
 ghost use Rattle.cops_model.specs.declared.acts.Act.TheVariants.{Open, Delete, Show, Step, Done};
-ghost use Rattle.cops_script.specs.ActLines.{act_in, act_of_verb, carry_of, collect_of, create_of, get_of, is_value_word, named_of, put_of};
-ghost use Rattle.cops_script.specs.ActWords.{AreUnspaced, keys_of, with_line};
+ghost use Rattle.cops_script.specs.ActLines.{act_in, act_of_words, carry_of, collect_of, create_of, get_of, is_value_word, named_of, put_of};
+ghost use Rattle.cops_script.specs.ActWords.{keys_of, with_line};
 
 use cops_model::{Act, ByteSlice, ByteSlices};
 use cops_types::Name;
-use cops_types::words::parse_number;
+use cops_types::words::{behind_word, number_at_front, parse_number, split_at_space, split_word};
 
 /// The most bytes of a line that may be an act.
 const LONGEST_LINE: usize = 8192;
@@ -21,195 +21,223 @@ pub fn parse_act(line: &[u8]) -> Option<Act>
     if line.len() > LONGEST_LINE {
         return None;
     }
-    let mut words = ByteSlices::in_line(line);
-    let _tenant = words.next_slice();
-    let verb = words.next_slice()?;
-    read_act(verb, &mut words)
+    let (_tenant, rest) = split_word(line);
+    read_act(rest?)
 }
 
-/// The act of a verb and the words after it. The verbs of most lines come first.
-fn read_act<'a>(verb: &[u8], words: &mut ByteSlices<'a>) -> Option<Act<'a>>
-    requires { AreUnspaced words.old }
-    ensures { result ≡ option_and_then with_line (act_of_verb verb.now words.old) }
+/// The act of the words behind the tenant's name. The verbs of most lines come first. Each verb has
+/// words behind it, so a space.
+fn read_act(words: &[u8]) -> Option<Act>
+    ensures { result ≡ option_and_then with_line (act_of_words ([] ∷ parts_at space words.now)) }
 {
-    if verb == b"put".as_slice() {
-        return read_put(words);
+    if let Some(rest) = behind_word(words, b"put".as_slice()) {
+        return read_put(rest);
     }
-    if verb == b"get".as_slice() {
-        return read_get(words);
+    if let Some(rest) = behind_word(words, b"get".as_slice()) {
+        return read_get(rest);
     }
-    if verb == b"step".as_slice() {
-        return read_step(words);
+    if let Some(rest) = behind_word(words, b"step".as_slice()) {
+        return read_step(rest);
     }
-    if verb == b"done".as_slice() {
-        return read_done(words);
+    if let Some(rest) = behind_word(words, b"done".as_slice()) {
+        return read_done(rest);
     }
-    if verb == b"open".as_slice() {
-        return read_open(words);
+    if let Some(rest) = behind_word(words, b"open".as_slice()) {
+        return read_open(rest);
     }
-    if verb == b"ctx".as_slice() {
-        return read_create(words);
+    if let Some(rest) = behind_word(words, b"ctx".as_slice()) {
+        return read_create(rest);
     }
-    if verb == b"drop".as_slice() {
-        return read_delete(words);
+    if let Some(rest) = behind_word(words, b"drop".as_slice()) {
+        return read_delete(rest);
     }
-    if verb == b"show".as_slice() {
-        return read_show(words);
+    if let Some(rest) = behind_word(words, b"show".as_slice()) {
+        return read_show(rest);
     }
-    if verb == b"carry".as_slice() {
-        return read_carry(words);
+    if let Some(rest) = behind_word(words, b"carry".as_slice()) {
+        return read_carry(rest);
     }
-    if verb == b"collect".as_slice() {
-        return read_collect(words);
+    if let Some(rest) = behind_word(words, b"collect".as_slice()) {
+        return read_collect(rest);
     }
     None
 }
 
 /// A session's name and a data centre.
-fn read_open<'a>(words: &mut ByteSlices<'a>) -> Option<Act<'a>>
-    ensures { result ≡ option_and_then with_line (named_of Open words.old) }
+fn read_open(words: &[u8]) -> Option<Act>
+    ensures { result ≡ option_and_then with_line (named_of Open (parts_at space words.now)) }
 {
     let (name, dc) = last_name_and_number(words)?;
     Some(Act::Open(name, dc))
 }
 
 /// A session's name.
-fn read_create<'a>(words: &mut ByteSlices<'a>) -> Option<Act<'a>>
-    ensures { result ≡ option_and_then with_line (create_of words.old) }
+fn read_create(words: &[u8]) -> Option<Act>
+    ensures { result ≡ option_and_then with_line (create_of (parts_at space words.now)) }
 {
-    let name = next_name(words)?;
-    if !words.is_empty() {
-        return None;
-    }
+    let name = last_name(words)?;
     Some(Act::Create(name))
 }
 
 /// A session's name and a context.
-fn read_delete<'a>(words: &mut ByteSlices<'a>) -> Option<Act<'a>>
-    ensures { result ≡ option_and_then with_line (named_of Delete words.old) }
+fn read_delete(words: &[u8]) -> Option<Act>
+    ensures { result ≡ option_and_then with_line (named_of Delete (parts_at space words.now)) }
 {
     let (name, context) = last_name_and_number(words)?;
     Some(Act::Delete(name, context))
 }
 
 /// A session's name, a context, a key and a value.
-fn read_put<'a>(words: &mut ByteSlices<'a>) -> Option<Act<'a>>
-    requires { AreUnspaced words.old }
-    ensures { result ≡ option_and_then with_line (put_of words.old) }
+fn read_put(words: &[u8]) -> Option<Act>
+    ensures { result ≡ option_and_then with_line (put_of (parts_at space words.now)) }
 {
-    let (name, context) = name_and_number(words)?;
-    let (key, value) = last_key_and_value(words)?;
+    let name = next_name(words)?;
+    let rest = behind_name(words, &name);
+    let (context, rest) = next_number(rest)?;
+    let (key, value) = last_key_and_value(rest)?;
     let key = ByteSlice::of(key);
     let value = ByteSlice::of(value);
     Some(Act::Put(name, context, key, value))
 }
 
 /// A session's name, a context, and one key at least.
-fn read_get<'a>(words: &mut ByteSlices<'a>) -> Option<Act<'a>>
-    requires { AreUnspaced words.old }
-    ensures { result ≡ option_and_then with_line (get_of words.old) }
+fn read_get(words: &[u8]) -> Option<Act>
+    ensures { result ≡ option_and_then with_line (get_of (parts_at space words.now)) }
 {
-    let (name, context) = name_and_number(words)?;
-    let keys = last_keys(words)?;
+    let name = next_name(words)?;
+    let rest = behind_name(words, &name);
+    let (context, rest) = next_number(rest)?;
+    let keys = last_keys(rest)?;
     Some(Act::Get(name, context, keys))
 }
 
 /// A session's name and a context.
-fn read_show<'a>(words: &mut ByteSlices<'a>) -> Option<Act<'a>>
-    ensures { result ≡ option_and_then with_line (named_of Show words.old) }
+fn read_show(words: &[u8]) -> Option<Act>
+    ensures { result ≡ option_and_then with_line (named_of Show (parts_at space words.now)) }
 {
     let (name, context) = last_name_and_number(words)?;
     Some(Act::Show(name, context))
 }
 
 /// A carrier's name, the data centre and shard of a stream, and where it goes.
-fn read_carry<'a>(words: &mut ByteSlices<'a>) -> Option<Act<'a>>
-    ensures { result ≡ option_and_then with_line (carry_of words.old) }
+fn read_carry(words: &[u8]) -> Option<Act>
+    ensures { result ≡ option_and_then with_line (carry_of (parts_at space words.now)) }
 {
     let name = next_name(words)?;
-    let (dc, shard, to_dc) = last_three_numbers(words)?;
+    let rest = behind_name(words, &name);
+    let (dc, shard, to_dc) = last_three_numbers(rest)?;
     Some(Act::Carry(name, dc, shard, to_dc))
 }
 
 /// An actor's name and a moment.
-fn read_step<'a>(words: &mut ByteSlices<'a>) -> Option<Act<'a>>
-    ensures { result ≡ option_and_then with_line (named_of Step words.old) }
+fn read_step(words: &[u8]) -> Option<Act>
+    ensures { result ≡ option_and_then with_line (named_of Step (parts_at space words.now)) }
 {
     let (name, moment) = last_name_and_number(words)?;
     Some(Act::Step(name, moment))
 }
 
 /// An actor's name and a moment.
-fn read_done<'a>(words: &mut ByteSlices<'a>) -> Option<Act<'a>>
-    ensures { result ≡ option_and_then with_line (named_of Done words.old) }
+fn read_done(words: &[u8]) -> Option<Act>
+    ensures { result ≡ option_and_then with_line (named_of Done (parts_at space words.now)) }
 {
     let (name, moment) = last_name_and_number(words)?;
     Some(Act::Done(name, moment))
 }
 
 /// A data centre, a shard and a moment.
-fn read_collect<'a>(words: &mut ByteSlices<'a>) -> Option<Act<'a>>
-    ensures { result ≡ option_and_then with_line (collect_of words.old) }
+fn read_collect(words: &[u8]) -> Option<Act>
+    ensures { result ≡ option_and_then with_line (collect_of (parts_at space words.now)) }
 {
     let (dc, shard, moment) = last_three_numbers(words)?;
     Some(Act::Collect(dc, shard, moment))
 }
 
-/// The next word, where it is a name.
-fn next_name(words: &mut ByteSlices) -> Option<Name>
-    ensures some { IfSome result (λ name. IsTrue (is_name name) × (words.old ≡ name ∷ words.new)) }
-    ensures none { IfNone result ((name : List ℕ) (rest : List (List ℕ)) → IsTrue (is_name name) → words.old ≡ name ∷ rest → ⊥) }
+/// The next word, where it is a name and more words are to come.
+#[inline(always)]
+fn next_name(words: &[u8]) -> Option<Name>
+    ensures some { IfSome result (λ name. IsTrue (is_name name) × (length name + 1 ≤ length words.now) × (parts_at space words.now ≡ name ∷ parts_at space (drop (length name + 1) words.now))) }
+    ensures none { IfNone result ((name second : List ℕ) (rest : List (List ℕ)) → IsTrue (is_name name) → parts_at space words.now ≡ name ∷ second ∷ rest → ⊥) }
 {
-    Name::new(words.next_slice()?).ok()
+    let name = Name::at_front(words)?;
+    Some(name)
 }
 
-/// The next word, where it writes a number.
-fn next_number(words: &mut ByteSlices) -> Option<u64>
-    ensures some { IfSome result (λ n. IsTrue (is_u64 n) × (words.old ≡ decimal n ∷ words.new)) }
-    ensures none { IfNone result ((n : ℕ) (rest : List (List ℕ)) → IsTrue (is_u64 n) → words.old ≡ decimal n ∷ rest → ⊥) }
+/// The words behind the first, which is this name.
+#[inline(always)]
+fn behind_name<'a>(words: &'a [u8], name: &Name) -> &'a [u8]
+    requires { length name.now + 1 ≤ length words.now }
+    ensures { result.now ≡ drop (length name.now + 1) words.now }
 {
-    parse_number(words.next_slice()?)
+    &words[name.len() + 1..]
 }
 
-/// The next two words, where they are a name and a number.
-fn name_and_number(words: &mut ByteSlices) -> Option<(Name, u64)>
-    ensures some { IfSome result (λ both. IsTrue (is_name both.0) × IsTrue (is_u64 both.1) × (words.old ≡ both.0 ∷ decimal both.1 ∷ words.new)) }
-    ensures none { IfNone result ((name : List ℕ) (n : ℕ) (rest : List (List ℕ)) → IsTrue (is_name name) → IsTrue (is_u64 n) → words.old ≡ name ∷ decimal n ∷ rest → ⊥) }
+/// The next word, where it writes a number and more words are to come, and those.
+#[inline(always)]
+fn next_number(words: &[u8]) -> Option<(u64, &[u8])>
+    ensures some { IfSome result (λ both. IsTrue (is_u64 both.0) × (parts_at space words.now ≡ decimal both.0 ∷ parts_at space both.1.now)) }
+    ensures none { IfNone result ((n : ℕ) (second : List ℕ) (rest : List (List ℕ)) → IsTrue (is_u64 n) → parts_at space words.now ≡ decimal n ∷ second ∷ rest → ⊥) }
 {
-    let name = next_name(words)?;
-    let number = next_number(words)?;
-    Some((name, number))
+    let (number, rest) = number_at_front(words)?;
+    Some((number, rest))
+}
+
+/// The word, where it is a name and no more are to come.
+fn last_name(words: &[u8]) -> Option<Name>
+    ensures some { IfSome result (λ name. IsTrue (is_name name) × (parts_at space words.now ≡ name ∷ [])) }
+    ensures none { IfNone result ((name : List ℕ) → IsTrue (is_name name) → parts_at space words.now ≡ name ∷ [] → ⊥) }
+{
+    let Ok(name) = Name::new(words) else {
+        return None;
+    };
+    Some(name)
+}
+
+/// The word, where it writes a number and no more are to come.
+#[inline(always)]
+fn last_number(words: &[u8]) -> Option<u64>
+    ensures some { IfSome result (λ n. IsTrue (is_u64 n) × (parts_at space words.now ≡ decimal n ∷ [])) }
+    ensures none { IfNone result ((n : ℕ) → IsTrue (is_u64 n) → parts_at space words.now ≡ decimal n ∷ [] → ⊥) }
+{
+    let number = parse_number(words)?;
+    Some(number)
 }
 
 /// The two words, where they are a name and a number and no more are to come.
-fn last_name_and_number(words: &mut ByteSlices) -> Option<(Name, u64)>
-    ensures some { IfSome result (λ both. IsTrue (is_name both.0) × IsTrue (is_u64 both.1) × (words.old ≡ both.0 ∷ decimal both.1 ∷ [])) }
-    ensures none { IfNone result ((name : List ℕ) (n : ℕ) → IsTrue (is_name name) → IsTrue (is_u64 n) → words.old ≡ name ∷ decimal n ∷ [] → ⊥) }
+#[inline(always)]
+fn last_name_and_number(words: &[u8]) -> Option<(Name, u64)>
+    ensures some { IfSome result (λ both. IsTrue (is_name both.0) × IsTrue (is_u64 both.1) × (parts_at space words.now ≡ both.0 ∷ decimal both.1 ∷ [])) }
+    ensures none { IfNone result ((name : List ℕ) (n : ℕ) → IsTrue (is_name name) → IsTrue (is_u64 n) → parts_at space words.now ≡ name ∷ decimal n ∷ [] → ⊥) }
 {
-    let both = name_and_number(words)?;
-    words.is_empty().then_some(both)
+    let name = next_name(words)?;
+    let rest = behind_name(words, &name);
+    let number = last_number(rest)?;
+    Some((name, number))
 }
 
 /// The three words, where they are numbers and no more are to come.
-fn last_three_numbers(words: &mut ByteSlices) -> Option<(u64, u64, u64)>
-    ensures some { IfSome result (λ all. IsTrue (is_u64 all.0) × IsTrue (is_u64 all.1) × IsTrue (is_u64 all.2) × (words.old ≡ decimal all.0 ∷ decimal all.1 ∷ decimal all.2 ∷ [])) }
-    ensures none { IfNone result ((n m k : ℕ) → IsTrue (is_u64 n) → IsTrue (is_u64 m) → IsTrue (is_u64 k) → words.old ≡ decimal n ∷ decimal m ∷ decimal k ∷ [] → ⊥) }
+fn last_three_numbers(words: &[u8]) -> Option<(u64, u64, u64)>
+    ensures some { IfSome result (λ all. IsTrue (is_u64 all.0) × IsTrue (is_u64 all.1) × IsTrue (is_u64 all.2) × (parts_at space words.now ≡ decimal all.0 ∷ decimal all.1 ∷ decimal all.2 ∷ [])) }
+    ensures none { IfNone result ((n m k : ℕ) → IsTrue (is_u64 n) → IsTrue (is_u64 m) → IsTrue (is_u64 k) → parts_at space words.now ≡ decimal n ∷ decimal m ∷ decimal k ∷ [] → ⊥) }
 {
-    let first = next_number(words)?;
-    let second = next_number(words)?;
-    let third = next_number(words)?;
-    words.is_empty().then_some((first, second, third))
+    let (first, rest) = next_number(words)?;
+    let (second, rest) = next_number(rest)?;
+    let third = last_number(rest)?;
+    Some((first, second, third))
 }
 
-/// The two words, where they are a key and a value and no more are to come.
-fn last_key_and_value<'a>(words: &mut ByteSlices<'a>) -> Option<(&'a [u8], &'a [u8])>
-    requires { AreUnspaced words.old }
-    ensures some { IfSome result (λ both. IsTrue (is_word both.0.now) × IsTrue (is_value_word both.1.now) × (words.old ≡ both.0.now ∷ both.1.now ∷ [])) }
-    ensures none { IfNone result ((key value : List ℕ) → IsTrue (is_word key) → IsTrue (is_value_word value) → words.old ≡ key ∷ value ∷ [] → ⊥) }
+/// The two words, where they are a key and a value and no more are to come. A value has no space, so
+/// none is looked for behind the key.
+#[inline(always)]
+fn last_key_and_value(words: &[u8]) -> Option<(&[u8], &[u8])>
+    ensures some { IfSome result (λ both. IsTrue (is_word both.0.now) × IsTrue (is_value_word both.1.now) × (parts_at space words.now ≡ both.0.now ∷ both.1.now ∷ [])) }
+    ensures none { IfNone result ((key value : List ℕ) → IsTrue (is_word key) → IsTrue (is_value_word value) → parts_at space words.now ≡ key ∷ value ∷ [] → ⊥) }
 {
-    let key = words.next_slice()?;
-    let value = words.next_slice()?;
-    if key.is_empty() || !is_value_word(value) || !words.is_empty() {
+    let (key, value) = split_at_space(words)?;
+    if key.is_empty() {
+        return None;
+    }
+    if !is_value_word(value) {
         return None;
     }
     Some((key, value))
@@ -227,19 +255,15 @@ fn is_value_word(word: &[u8]) -> bool
     seen && !word.is_empty()
 }
 
-/// The words, where there is one at least and none is empty.
-fn last_keys<'a>(words: &mut ByteSlices<'a>) -> Option<ByteSlices<'a>>
-    requires { AreUnspaced words.old }
-    ensures { result ≡ keys_of words.old }
+/// The words, where none is empty.
+fn last_keys(words: &[u8]) -> Option<ByteSlices>
+    ensures { result ≡ keys_of (parts_at space words.now) }
 {
-    if words.is_empty() {
-        return None;
-    }
-    let keys = words.again();
-    while let Some(word) = words.next_slice() {
+    let mut rest = ByteSlices::in_line(words);
+    while let Some(word) = rest.next_slice() {
         if word.is_empty() {
             return None;
         }
     }
-    Some(keys)
+    Some(ByteSlices::in_line(words))
 }

@@ -1,9 +1,8 @@
-use Rattle.std.proofs.Common.{◌≡◌, ◌∙◌, ap, sym, arith}
-use Rattle.std.specs.Option.{option_and_then}
-use Rattle.cops_types.specs.Words.{first_word}
-use Rattle.cops_script.specs.ActLines.{act_in, act_of_verb}
-use Rattle.cops_script.specs.ActWords.{with_line}
-use Rattle.cops_script.proofs.ActReading.{act_in-words, rest_unspaced, verb_found}
+use Rattle.std.proofs.Common.{◌≡◌, ◌∙◌, ◌∷◌, [], ℕ, List, ap, sym, arith}
+use Rattle.std.specs.Borrow.{Bor}
+use Rattle.std.specs.Option.{option_map_or}
+use Rattle.cops_types.specs.Words.{first_word, parts_at, space}
+use Rattle.cops_script.proofs.ActReading.{rest_read}
 use Rattle.cops_script.proofs.CutLemmas.{long_is_no_act}
 use Rattle.cops_script.proofs.lines.parse_act.Goals as goal
 
@@ -12,16 +11,10 @@ returns-then-line-gt-LONGEST_LINE c =
     let line = c.args.line.now in
     sym (long_is_no_act (first_word line) line (omega arith))
 
-pub read_act-requires : goal.read_act-requires
-read_act-requires c =
-    rest_unspaced c.args.line.now c.in_line-words.result c.next_slice-tenant.result c.next_slice-tenant.new.self c.in_ok-verb.verb.now c.next_slice.new.self
-    c.in_line-words.ensures c.next_slice-tenant.ensures c.in_ok-verb.ensures
-
 pub returns : goal.returns
 returns c =
     let line = c.args.line.now in
-    let verb = c.in_ok-verb.verb.now in
-    let rest = c.next_slice.new.self in
-    let found = verb_found line c.in_line-words.result c.next_slice-tenant.result c.next_slice-tenant.new.self verb rest c.in_line-words.ensures c.next_slice-tenant.ensures c.in_ok-verb.ensures in
-    let same : option_and_then with_line (act_of_verb verb rest) ≡ act_in (first_word line) line = ap (option_and_then with_line) (sym found) ∙ sym (act_in-words line (omega arith)) in
-    c.read_act.ensures ∙ same
+    let word = c.split_word.result.0.now in
+    let first : parts_at space line ≡ word ∷ parts_at space c.in_ok-rest.field-0.now =
+    c.split_word.ensures.parts ∙ ap (λ (rest : _). word ∷ option_map_or (λ (bytes : Bor (List ℕ)). parts_at space bytes.now) rest []) c.in_ok-rest.was in
+    c.read_act.ensures ∙ rest_read line word (parts_at space c.in_ok-rest.field-0.now) (omega arith) first

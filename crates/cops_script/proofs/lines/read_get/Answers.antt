@@ -1,5 +1,17 @@
-use Rattle.cops_script.proofs.ActReading.{get_found}
+use Rattle.cops_types.specs.Words.{parts_at, space}
+use Rattle.cops_script.proofs.ActReading.{begin_named, get_found, named_rest, no_get}
 use Rattle.cops_script.proofs.lines.read_get.Goals as goal
 
+pub returns-in_err-context : goal.returns-in_err-context
+returns-in_err-context c =
+    let named = named_rest c.args.words.now c.in_ok-name.name c.behind_name-rest.result.now c.in_ok-name.ensures.some c.behind_name-rest.ensures in
+    rw c.from_residual-in_err-context.ensures (no_get (parts_at space c.args.words.now) (parts_at space c.behind_name-rest.result.now) c.in_ok-name.name named.1 c.in_err-context.ensures.none)
+
 pub returns : goal.returns
-returns c = get_found c.args.words.now c.name_and_number.new.words c.in_ok-keys.keys _ _ c.in_ok-keys.ensures c.in_ok-name.ensures.some
+returns c =
+    let whole = parts_at space c.args.words.now in
+    let middle = parts_at space c.behind_name-rest.result.now in
+    let rest = parts_at space c.in_ok-context.rest.now in
+    let named = named_rest c.args.words.now c.in_ok-name.name c.behind_name-rest.result.now c.in_ok-name.ensures.some c.behind_name-rest.ensures in
+    let begin = begin_named whole middle rest c.in_ok-name.name c.in_ok-context.context named c.in_ok-context.ensures.some in
+    get_found whole rest c.in_ok-keys.keys c.in_ok-name.name c.in_ok-context.context c.in_ok-keys.ensures begin

@@ -1,7 +1,8 @@
+use Rattle.cops_types.specs.Words.{parts_at, space}
 use Rattle.std.proofs.Common.{refl}
 use Rattle.cops_model.specs.declared.acts.Act.TheVariants.{Show}
 use Rattle.cops_script.proofs.ActReading.{named_found}
 use Rattle.cops_script.proofs.lines.read_show.Goals as goal
 
 pub returns : goal.returns
-returns c = named_found Show c.args.words.now c.in_ok-name.name c.in_ok-name.context refl c.in_ok-name.ensures.some
+returns c = named_found Show (parts_at space c.args.words.now) c.in_ok-name.name c.in_ok-name.context refl c.in_ok-name.ensures.some
