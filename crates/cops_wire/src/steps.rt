@@ -6,7 +6,7 @@ ghost use Rattle.cops_model.specs.Session.{Running as SoloRunning, Session as So
 ghost use Rattle.cops_model.specs.declared.requests.Answer.{Answer as SoloAnswer};
 ghost use Rattle.cops_session.specs.SessionStands.{SessionStandsFor};
 ghost use Rattle.cops_wire.specs.Requests.{KeepsShape, HasFewRestarts, backend, message_of_answer};
-ghost use Rattle.cops_wire.specs.Running.{HasEnded, HasStepped, HasFewKeys, PutsAnswer, PutsFrame, ShowsAnswer};
+ghost use Rattle.cops_wire.specs.Running.{HasEnded, HasStepped, HasFewKeys, PutsAnswer, PutsFrame};
 
 use crate::moments::Moments;
 use crate::replies::push_reply;
@@ -16,21 +16,9 @@ use cops_session::{Progress, Session};
 use cops_types::Fault;
 use std::alloc::AllocError;
 
-/// Puts the reply that gives the answer at the end, if the step that showed this ended its request.
+/// Takes a step of the running request, at the moment that comes next. If the request ends with it, its reply is put at the end.
 ///
 /// The answer is looked at where the step left it, and not moved.
-#[inline(always)]
-fn push_answer(out: &mut Vec<u8>, shown: &Progress) -> Option<Result<(), AllocError>>
-    ensures { (answer : Option SoloAnswer) × PutsAnswer result out.old.items out.new.items answer × ShowsAnswer shown.now answer }
-{
-    match shown {
-        Progress::Done(answer) => Some(push_reply(out, answer)),
-        Progress::Working => None,
-        Progress::Restarted(_) => None,
-    }
-}
-
-/// Takes a step of the running request, at the moment that comes next. If the request ends with it, its reply is put at the end.
 fn step_once<N: Nodes, M: Moments>(
     session: &mut Session,
     nodes: &mut N,
@@ -50,7 +38,11 @@ fn step_once<N: Nodes, M: Moments>(
     };
     let stepped = session.step(nodes, request, moment);
     match &stepped {
-        Ok(shown) => push_answer(out, shown),
+        Ok(shown) => match shown {
+            Progress::Done(answer) => Some(push_reply(out, answer)),
+            Progress::Working => None,
+            Progress::Restarted(_) => None,
+        },
         Err(fault) => Some(push_refusal(out, *fault)),
     }
 }

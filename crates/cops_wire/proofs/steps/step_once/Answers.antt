@@ -1,6 +1,8 @@
-use Rattle.std.specs.Prelude.{Some}
+use Rattle.std.proofs.Common.{refl, subst, sym}
+use Rattle.std.specs.Prelude.{None, Some}
 use Rattle.cops_types.specs.declared.faults.Fault.TheVariants.{Idle}
 use Rattle.cops_model.specs.declared.requests.Answer.TheVariants.{Refused}
+use Rattle.cops_wire.specs.Requests.{RequestGoesOn}
 use Rattle.cops_wire.proofs.StepLemmas.{has_number, runs_so, stepped, when_err, when_ok}
 use Rattle.cops_wire.proofs.steps.step_once.Goals as goal
 
@@ -12,16 +14,35 @@ returns-in_default-clause-stepped g c = (
       absurd (has_number solo running runs (c.in_default.ensures config solo stands)),
 )
 
+pub returns-in-Done-clause-stepped : goal.returns-in-Done-clause-stepped
+returns-in-Done-clause-stepped g c = (
+  Some c.in-Done.answer,
+  (c.push_reply.ensures.ok, c.push_reply.ensures.err),
+  λ config solo running stands runs.
+      let does = when_ok _ _ c.step-stepped.result c.in-Ok.shown c.in-Ok.is (c.step-stepped.ensures.stepped config solo stands) in
+      stepped g.N.Nodes.Answers g.M.Moments.Gives config c.args.session.now.setting.slot g.N.Nodes.shape solo does.0 c.args.nodes.now c.step-stepped.new.nodes c.args.moments.now c.now-moment.new.self c.now-moment.result c.in-Ok.shown c.step-stepped.new.self _
+      does.1 c.now-moment.ensures c.step-stepped.ensures.shape does.3 c.in-Done.is,
+)
+
+pub returns-in-Working-clause-stepped : goal.returns-in-Working-clause-stepped
+returns-in-Working-clause-stepped g c = (
+  None,
+  refl,
+  λ config solo running stands runs.
+      let does = when_ok _ _ c.step-stepped.result c.in-Ok.shown c.in-Ok.is (c.step-stepped.ensures.stepped config solo stands) in
+      stepped g.N.Nodes.Answers g.M.Moments.Gives config c.args.session.now.setting.slot g.N.Nodes.shape solo does.0 c.args.nodes.now c.step-stepped.new.nodes c.args.moments.now c.now-moment.new.self c.now-moment.result c.in-Ok.shown c.step-stepped.new.self _
+      does.1 c.now-moment.ensures c.step-stepped.ensures.shape does.3 (subst RequestGoesOn (sym c.in-Working.is) tt),
+)
+
 pub returns-in-Ok-clause-stepped : goal.returns-in-Ok-clause-stepped
-returns-in-Ok-clause-stepped g c =
-    let put = c.push_answer.ensures in (
-      put.0,
-      put.1,
-      λ config solo running stands runs.
-          let does = when_ok _ _ c.step-stepped.result c.in-Ok.shown c.in-Ok.is (c.step-stepped.ensures.stepped config solo stands) in
-          stepped g.N.Nodes.Answers g.M.Moments.Gives config c.args.session.now.setting.slot g.N.Nodes.shape solo does.0 c.args.nodes.now c.step-stepped.new.nodes c.args.moments.now c.now-moment.new.self c.now-moment.result c.in-Ok.shown c.step-stepped.new.self _
-          does.1 c.now-moment.ensures c.step-stepped.ensures.shape does.3 put.2,
-    )
+returns-in-Ok-clause-stepped g c = (
+  None,
+  refl,
+  λ config solo running stands runs.
+      let does = when_ok _ _ c.step-stepped.result c.in-Ok.shown c.in-Ok.is (c.step-stepped.ensures.stepped config solo stands) in
+      stepped g.N.Nodes.Answers g.M.Moments.Gives config c.args.session.now.setting.slot g.N.Nodes.shape solo does.0 c.args.nodes.now c.step-stepped.new.nodes c.args.moments.now c.now-moment.new.self c.now-moment.result c.in-Ok.shown c.step-stepped.new.self _
+      does.1 c.now-moment.ensures c.step-stepped.ensures.shape does.3 (subst RequestGoesOn (sym c.in-Restarted.is) tt),
+)
 
 pub returns-clause-stepped : goal.returns-clause-stepped
 returns-clause-stepped g c = (
