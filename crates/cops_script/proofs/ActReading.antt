@@ -170,10 +170,6 @@ tenant_passed tenant other (verb ∷ words) = refl
 pub rest_read : (line word : List ℕ) (rest : List (List ℕ)) → length line ≤ 8192 → parts_at space line ≡ word ∷ rest → option_and_then with_line (act_of_words ([] ∷ rest)) ≡ act_in (first_word line) line
 rest_read line word rest short first = ap (option_and_then with_line) (tenant_passed [] word rest ∙ ap act_of_words (sym first)) ∙ sym (act_in-words line short)
 
--- a tenant's name alone is no act
-pub name_alone : (line word : List ℕ) → length line ≤ 8192 → parts_at space line ≡ word ∷ [] → None ≡ act_in (first_word line) line
-name_alone line word short first = rest_read line word [] short first
-
 -- ---- one word, and what stands behind its space
 
 pub front_parts : (bytes word rest : List ℕ) → Lacks space word → bytes ≡ word ++ 32 ∷ rest → parts_at space bytes ≡ word ∷ parts_at space rest

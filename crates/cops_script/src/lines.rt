@@ -15,6 +15,7 @@ use cops_types::words::{behind_word, number_at_front, parse_number, split_at_spa
 const LONGEST_LINE: usize = 8192;
 
 /// The act that a line writes, where it writes one. The tenant's name is its first word.
+#[inline(always)]
 pub fn parse_act(line: &[u8]) -> Option<Act>
     ensures { result ≡ act_in (first_word line.now) line.now }
 {
