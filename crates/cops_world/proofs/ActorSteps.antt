@@ -14,8 +14,7 @@ use Rattle.cops_model.specs.declared.replies.Reply.{Reply}
 use Rattle.cops_model.specs.Cluster.{Actor, OfSession, OfCarrier}
 use Rattle.cops_world.specs.declared.actors.Actor.{Actor as Kept}
 use Rattle.cops_world.specs.declared.actors.Actor.TheVariants as kept
-use Rattle.cops_world.specs.declared.actors.Stepped.{Stepped}
-use Rattle.cops_world.specs.ActorsStand.{ActorStandsFor, ActorSteps, CarrierSteps, SessionSteps, RunsAt}
+use Rattle.cops_world.specs.ActorsStand.{ActorStandsFor, ActorSteps, CarrierSteps, SessionSteps, RunsAt, Stepped}
 
 module _ (called : ℕ → ℕ → NodeId → NodeCall → NodeReply → Type 0) (stays : Type 0) (shape : Shape) (slot : ℕ) (config : TenantConfig) (moment : ℕ) where
   pub session_steps : (before after : KeptSession) (reply : Reply) (old : Kept) (solo : Actor) → old ≡ kept.OfSession before → RunsAt shape slot old → ActorStandsFor config old solo →

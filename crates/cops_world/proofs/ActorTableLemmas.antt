@@ -1,6 +1,6 @@
 -- The tables of actors: what is found, and what follows when one is put in another's place.
 use Rattle.std.proofs.Common.{◌≡◌, ◌≢◌, inl, inr, ℕ, zero, suc, ◌+◌, ◌<◌, nat_lt, lt-ltb, not, unwrap_or, Bool, true, false, cond, ◌&&◌, List, [], ◌∷◌, length, get_or, set, nat_eq, refl, sym, subst, ap, ◌∙◌, true≢false, arith}
-use Rattle.std.specs.Prelude.{IfOk, IsTrue, OnOk, Option, Some, None, is_some, Result, Ok, Err, slice_get, position}
+use Rattle.std.specs.Prelude.{IfOk, IfSome, IsTrue, OnOk, Option, Some, None, is_some, Result, Ok, Err, slice_get, position}
 use Rattle.std.specs.Result.{is_ok}
 use Rattle.std.specs.Cmp.Lexicographic.{nat_list_eq_equiv}
 use Rattle.std.specs.List.{AllByRecursion, IsDistinct, position_or_len}
@@ -104,6 +104,14 @@ module _ {V Z : Type 0} (name : List ℕ) (table : IndexMap (List ℕ) V Z) (uni
   pub found_here : (value : V) → slice_get (values_of table.entries) i ≡ Some value → lookup (key_eq name) table.entries ≡ Some value
   found_here value at = (Found-position (key_eq name) table.entries i (sym index)).value ∙ at
 
+-- what is taken out at the index of an actor is that actor
+module _ {V Z : Type 0} (name : List ℕ) (table : IndexMap (List ℕ) V Z) (unique : IsUnique key_eq table) (i : ℕ) (index : Some i ≡ position (key_eq name) (keys table)) where
+  pub takes : (new : IndexMap (List ℕ) V Z) (taken : Option (List ℕ × V)) → taken ≡ slice_get table.entries i → IfSome taken (λ p. Updates key_eq table new p.0 None) → Updates key_eq table new name None
+  takes new taken is updates = let h = here name table.entries i index in subst (λ (o : Option (List ℕ × V)). IfSome o (λ p. Updates key_eq table new p.0 None)) (is ∙ h.entry) updates
+
+  pub takes_one : (taken : Option (List ℕ × V)) (new old : ℕ) → taken ≡ slice_get table.entries i → new + cond (is_some taken) 1 0 ≡ old → new + 1 ≡ old
+  takes_one taken new old is less = let h = here name table.entries i index in subst (λ (o : Option (List ℕ × V)). new + cond (is_some o) 1 0 ≡ old) (is ∙ h.entry) less
+
 pub stays_unique : {V Z : Type 0} (table : IndexMap (List ℕ) V Z) (i : ℕ) (after : V) → IsDistinct key_eq (keys table) → IsDistinct key_eq (keys (with_value_at table i after))
 stays_unique table i after unique = subst (IsDistinct key_eq) (sym (keys-with_value_at table i after)) unique
 
@@ -171,7 +179,7 @@ module _ (tables : List Table) (id : ActorId) (within : id.slot < length tables)
 
 -- the same, where the table was read before it was changed
 module _ (tables : List Table) (id : ActorId) (within : id.slot < length tables) (table : Table) (read : table ≡ get_or tables id.slot table) where
-  own : table_of id.slot tables ≡ table
+  pub own : table_of id.slot tables ≡ table
   own = item_is tables id.slot table [] within read
 
   pub actor_read : actor_at tables id ≡ lookup (key_eq id.name) table

@@ -30,8 +30,7 @@ use Rattle.cops_model.specs.Cluster.{ActEffect, Actor, OfCarrier, OfSession, Sol
 use Rattle.cops_model.specs.Events.{is_out_of_memory}
 use Rattle.cops_world.specs.declared.actors.Actor.{Actor as Kept}
 use Rattle.cops_world.specs.declared.actors.Actor.TheVariants as kept
-use Rattle.cops_world.specs.declared.actors.Stepped.{Stepped}
-use Rattle.cops_world.specs.ActorsStand.{ActorSteps, CarrierSteps, SessionSteps, NodesTurn, IsAfter, StepsCluster, reply_of_carrying}
+use Rattle.cops_world.specs.ActorsStand.{ActorSteps, CarrierSteps, SessionSteps, NodesTurn, IsAfter, StepsCluster, reply_of_carrying, Stepped}
 use Rattle.cops_world.specs.Actors.{HaveDistinctNames}
 use Rattle.cops_world.proofs.ActorMoves.{with_actor-same}
 use Rattle.cops_session.proofs.RefusedRequests.{request_refused}

@@ -31,8 +31,7 @@ use Rattle.cops_model.specs.Cluster.{Actor, OfCarrier, OfSession, SoloCluster, c
 use Rattle.cops_model.specs.Events.{is_out_of_memory}
 use Rattle.cops_world.specs.declared.actors.Actor.{Actor as Kept}
 use Rattle.cops_world.specs.declared.actors.Actor.TheVariants as kept
-use Rattle.cops_world.specs.declared.actors.Stepped.{Stepped}
-use Rattle.cops_world.specs.ActorsStand.{ActorSteps, CarrierSteps, SessionSteps, NodesTurn, IsAfter, StepsCluster, reply_of_carrying}
+use Rattle.cops_world.specs.ActorsStand.{ActorSteps, CarrierSteps, SessionSteps, NodesTurn, IsAfter, StepsCluster, reply_of_carrying, Stepped}
 use Rattle.cops_script.specs.Lacks.{ActorStops, IsLastRead, SessionStops, StepStops, without_request}
 use Rattle.cops_world.proofs.SparedCalls.{carrier_spared, lacks, node_spared}
 

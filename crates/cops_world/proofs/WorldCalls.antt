@@ -21,9 +21,9 @@ use Rattle.cops_model.specs.Cluster.{ActEffect, Actor, SoloCluster, actor_refusa
 use Rattle.cops_model.specs.Setups.{config_in, is_open_at}
 use Rattle.cops_world.specs.declared.actors.Actor.{Actor as Kept}
 use Rattle.cops_world.specs.declared.actors.ActorId.{ActorId}
-use Rattle.cops_world.specs.declared.actors.Stepped.{Stepped}
 use Rattle.cops_world.specs.Worlds.{World, IsWorld, Moves, join_step}
 use Rattle.cops_script.specs.Sizes.{HasSizes}
+use Rattle.cops_world.specs.ActorsStand.{Stepped}
 use Rattle.cops_world.proofs.WorldJoins.{refused_moves, same_moves, taken_moves}
 use Rattle.cops_world.proofs.WorldKeeps.{sizes_in}
 use Rattle.cops_world.proofs.WorldSteps.{CountsAfter, HasSteppedAt, step_moves, table_after}

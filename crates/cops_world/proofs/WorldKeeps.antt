@@ -137,15 +137,16 @@ counts_back old new id after over goes_on back = record { own = none_less ∙ ba
     none_less : count_at new id.slot + cond over 1 0 ≡ count_at new id.slot
     none_less = ap (λ b. count_at new id.slot + cond b 1 0) goes_on ∙ omega arith
 
-pub counts_left : (old mid new : List Table) (id : ActorId) (after : Kept) (over : Bool) → over ≡ true → PutsBack old id after mid → Places mid id None new → count_at new id.slot + cond (is_some (actor_at mid id)) 1 0 ≡ count_at mid id.slot →
+pub counts_left : (old mid new : List Table) (id : ActorId) (after : Kept) (over : Bool) → over ≡ true → PutsBack old id after mid → Places mid id None new → count_at new id.slot + 1 ≡ count_at mid id.slot →
     CountsAfter over (count_at old) id.slot (count_at new)
 counts_left old mid new id after over is back out less = record {
-  own = ap (λ b. count_at new id.slot + cond b 1 0) (is ∙ sym there) ∙ less ∙ back.1;
+  own = ap (λ b. count_at new id.slot + cond b 1 0) is ∙ less ∙ back.1;
   others = λ other differ. out.others other differ ∙ back.0.others other differ;
 }
-  where
-    there : is_some (actor_at mid id) ≡ true
-    there = ap is_some (back.0.at id ∙ ap (λ b. cond b (Some after) (actor_at old id)) (same_actor-refl id))
+
+-- it is the one that is there
+pub put_back : (old new : List Table) (id : ActorId) (after : Kept) → PutsBack old id after new → actor_at new id ≡ Some after
+put_back old new id after back = back.0.at id ∙ ap (λ b. cond b (Some after) (actor_at old id)) (same_actor-refl id)
 
 -- ---- the world as it is kept
 

@@ -19,8 +19,7 @@ use Rattle.cops_model.specs.Events.{is_out_of_memory}
 use Rattle.cops_model.specs.Setups.{Setup, config_in, is_open_at}
 use Rattle.cops_world.specs.declared.actors.Actor.{Actor as Kept}
 use Rattle.cops_world.specs.declared.actors.ActorId.{ActorId}
-use Rattle.cops_world.specs.declared.actors.Stepped.{Stepped}
-use Rattle.cops_world.specs.ActorsStand.{ActorStandsFor}
+use Rattle.cops_world.specs.ActorsStand.{ActorStandsFor, Stepped}
 use Rattle.cops_script.specs.Lacks.{Lacks, Stays, StepStops, StepsStop}
 use Rattle.cops_world.specs.Worlds.{ClusterStandsAt, IsWorld, Leaves, Moves, World}
 use Rattle.cops_world.proofs.Stops.{actor_stops}

@@ -23,9 +23,8 @@ use Rattle.cops_model.specs.Setups.{Setup, config_in}
 use Rattle.cops_world.specs.declared.actors.Actor.{Actor as Kept}
 use Rattle.cops_world.specs.declared.actors.Actor.TheVariants as kept
 use Rattle.cops_world.specs.declared.actors.ActorId.{ActorId}
-use Rattle.cops_world.specs.declared.actors.Stepped.{Stepped}
 use Rattle.cops_world.specs.Actors.{ActorsStandFor}
-use Rattle.cops_world.specs.ActorsStand.{ActorStandsFor, ActorSteps, SessionSteps, NodesTurn, IsAfter, StepsCluster}
+use Rattle.cops_world.specs.ActorsStand.{ActorStandsFor, ActorSteps, SessionSteps, NodesTurn, IsAfter, StepsCluster, Stepped}
 use Rattle.cops_world.specs.ActorTables.{same_actor}
 use Rattle.cops_world.specs.Worlds.{ClusterStandsAt, IsWorld, Moves, World}
 use Rattle.cops_world.proofs.ActorMoves.{absent_too, found_too, put_in_place, leaves, count-with_actor, count-without}

@@ -1,6 +1,6 @@
 -- The actors of all tenants: a table for each slot, by name.
 use Rattle.std.specs.Prelude.{◌≡◌, ◌≢◌, ℕ, Bool, ◌&&◌, if◌then◌else◌, nat_eq, List, [], length, slice_index_or, Option, Some}
-use Rattle.std.specs.Map.{lookup}
+use Rattle.std.specs.Map.{keys_of, lookup}
 use Rattle.cops_types.specs.Key.{key_eq}
 use Rattle.cops_node.specs.declared.Shape.{Shape}
 use Rattle.cops_world.specs.declared.actors.Actor.{Actor}
@@ -23,6 +23,10 @@ PlacesIn old name after new = (other : List ℕ) → lookup (key_eq other) new �
 -- the table of a slot
 abbrev pub table_of : ℕ → List Table → Table
 table_of slot tables = slice_index_or tables slot []
+
+-- the names of its actors, by their places
+abbrev pub names_at : ℕ → List Table → List (List ℕ)
+names_at slot tables = keys_of (table_of slot tables)
 
 -- the actor of a slot and a name
 abbrev pub actor_at : List Table → ActorId → Option Actor

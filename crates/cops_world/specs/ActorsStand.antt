@@ -20,14 +20,13 @@ use Rattle.cops_session.specs.SessionStands.{SessionStandsFor}
 use Rattle.cops_model.specs.declared.deliveries.Progress.{Progress as CarrierProgress}
 use Rattle.cops_model.specs.declared.deliveries.Progress.TheVariants as carrying
 use Rattle.cops_model.specs.Carrier.{Carrier}
-use Rattle.cops_repl.specs.Stands.{CarrierStandsFor, IsStepOf, KeptCarrier, RunsIn, is_done}
+use Rattle.cops_repl.specs.Stands.{CarrierStandsFor, IsStepOf, KeptCarrier, RunsIn, has_ended, is_done}
 use Rattle.cops_model.specs.declared.replies.Reply.{Reply}
 use Rattle.cops_model.specs.declared.replies.Reply.TheVariants.{Working, Refused}
 use Rattle.cops_model.specs.Cluster.{ActEffect, Actor, OfCarrier, OfSession, SoloCluster, reply_of_delivery, reply_of_progress, with_actor, without_actor}
 use Rattle.cops_model.specs.Events.{is_out_of_memory}
 use Rattle.cops_world.specs.declared.actors.Actor.{Actor as Kept}
 use Rattle.cops_world.specs.declared.actors.Actor.TheVariants as kept
-use Rattle.cops_world.specs.declared.actors.Stepped.{Stepped}
 use Rattle.cops_world.specs.ActorTurns.{ActorTurn}
 
 abbrev pub ActorStandsFor : TenantConfig → Kept → Actor → Type 0
@@ -42,6 +41,20 @@ RunsAt shape slot (kept.OfSession s) = (s.setting.data_centres ≡ shape.data_ce
 RunsAt shape slot (kept.OfCarrier c) = RunsIn shape c.shards c.stream
 
 -- ---- steps
+
+-- what a step of an actor shows, and whether it was its last
+pub record Stepped : Type 0 where
+  pub reply : Reply
+  pub is_over : Bool
+
+-- it is a carrier that has ended
+abbrev pub actor_ended : Kept → Bool
+actor_ended (kept.OfSession s) = false
+actor_ended (kept.OfCarrier c) = has_ended c
+
+-- the step showed this reply, and this is the actor after it
+abbrev pub stepped_to : Reply → Kept → Stepped
+stepped_to reply after = record { reply = reply; is_over = actor_ended after }
 
 -- a session without a request refuses to step; the running request does what comes next
 abbrev pub SessionSteps : (ℕ → NodeId → NodeCall → NodeReply → Type 0) → Type 0 → TenantConfig → Session → ℕ → Reply → KeptSession → Option Running → Type 0

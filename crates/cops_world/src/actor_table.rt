@@ -1,5 +1,5 @@
 //! The actors of all tenants: a table for each slot, by name.
-ghost use Rattle.std.specs.Prelude.{◌≡◌, ◌<◌, ◌+◌, ◌⊎◌, ℕ, [], length, replicate, if◌then◌else◌, IsTrue, IsFalse, IfOk, IfSome, is_some, position, Some, None};
+ghost use Rattle.std.specs.Prelude.{◌≡◌, ◌<◌, ◌+◌, ◌⊎◌, ℕ, [], length, replicate, if◌then◌else◌, true, false, IsTrue, IsFalse, IfOk, IfSome, is_some, position, Some, None};
 ghost use Rattle.std.specs.Map.{keys_of, lookup};
 ghost use Rattle.cops_types.specs.Key.{key_eq};
 ghost use Rattle.cops_types.specs.TenantConfig.{TenantConfig};
@@ -8,17 +8,17 @@ ghost use Rattle.cops_node.specs.declared.Shape.{Shape};
 ghost use Rattle.cops_model.specs.declared.calls.NodeCall.{NodeCall};
 ghost use Rattle.cops_model.specs.declared.calls.NodeId.{NodeId};
 ghost use Rattle.cops_model.specs.declared.calls.NodeReply.{NodeReply};
-ghost use Rattle.cops_model.specs.Cluster.{Actor as Solo};
+ghost use Rattle.cops_model.specs.Cluster.{Actor as Solo, goes_on};
 ghost use Rattle.cops_model.specs.Events.{is_out_of_memory};
 ghost use Rattle.cops_model.specs.declared.replies.Reply.TheVariants.{Refused};
-ghost use Rattle.cops_world.specs.ActorTables.{AllRun, Places, PlacesIn, PutsBack, actor_at, count_at, table_of};
+ghost use Rattle.cops_world.specs.ActorTables.{AllRun, Places, PlacesIn, PutsBack, actor_at, count_at, names_at};
 ghost use Rattle.cops_world.specs.ActorTurns.{actor_does};
-ghost use Rattle.cops_world.specs.ActorsStand.{ActorStandsFor, ActorSteps, HasDone, RunsAt};
+ghost use Rattle.cops_world.specs.ActorsStand.{ActorStandsFor, ActorSteps, HasDone, RunsAt, actor_ended, stepped_to};
 ghost use Rattle.cops_world.specs.declared.actors.Actor.{Actor as Kept};
 ghost use Rattle.cops_world.specs.declared.actors.ActorId.{ActorId as Id};
 
 use crate::Reply;
-use crate::actors::{Actor, ActorId, Deed, Stepped};
+use crate::actors::{Actor, ActorId, Deed};
 use crate::guesses::Guesses;
 use cops_node::Nodes;
 use cops_types::{Fault, Name, Seeds};
@@ -96,16 +96,18 @@ impl ActorTable {
     }
 
     /// Takes a step of the actor at a place.
-    fn step<N: Nodes>(&mut self, place: usize, id: ActorId, nodes: &mut N, moment: u64) -> Stepped
-        requires place { Some place ≡ position (key_eq id.name) (keys_of self.old) }
-        requires runs { (actor : Kept) → lookup (key_eq id.name) self.old ≡ Some actor → RunsAt (N.shape nodes.old) id.slot actor }
-        ensures stepped { (before : Kept) → lookup (key_eq id.name) self.old ≡ Some before → (after : Kept) × PlacesIn self.old id.name (Some after) self.new
+    fn step<N: Nodes>(&mut self, place: usize, id: &ActorId, nodes: &mut N, moment: u64) -> Reply
+        requires place { Some place ≡ position (key_eq id.now.name) (keys_of self.old) }
+        requires runs { (actor : Kept) → lookup (key_eq id.now.name) self.old ≡ Some actor → RunsAt (N.shape nodes.old) id.now.slot actor }
+        ensures stepped { (before : Kept) → lookup (key_eq id.now.name) self.old ≡ Some before → (after : Kept) × PlacesIn self.old id.now.name (Some after) self.new
             × ((config : TenantConfig) (solo : Solo) → ActorStandsFor config before solo →
-            ActorSteps (λ at node call reply. N.Answers nodes.old node id.slot at call reply nodes.new) (nodes.new ≡ nodes.old) config moment result solo after)
-            × ((shape : Shape) → RunsAt shape id.slot before → RunsAt shape id.slot after) }
-        ensures there { (before : Kept) × (lookup (key_eq id.name) self.old ≡ Some before) }
+            ActorSteps (λ at node call reply. N.Answers nodes.old node id.now.slot at call reply nodes.new) (nodes.new ≡ nodes.old) config moment (stepped_to result after) solo after)
+            × ((shape : Shape) → RunsAt shape id.now.slot before → RunsAt shape id.now.slot after) }
+        ensures last { (after : Kept) → lookup (key_eq id.now.name) self.new ≡ Some after → actor_ended after ≡ true → goes_on result ≡ false }
+        ensures keys { keys_of self.new ≡ keys_of self.old }
+        ensures there { (before : Kept) × (lookup (key_eq id.now.name) self.old ≡ Some before) }
         ensures once { (nodes.new ≡ nodes.old)
-            ⊎ ((node : NodeId) × (at : ℕ) × (call : NodeCall) × (reply : NodeReply) × N.Answers nodes.old node id.slot at call reply nodes.new) }
+            ⊎ ((node : NodeId) × (at : ℕ) × (call : NodeCall) × (reply : NodeReply) × N.Answers nodes.old node id.now.slot at call reply nodes.new) }
         ensures shape { N.shape nodes.new ≡ N.shape nodes.old }
         ensures len { length self.new ≡ length self.old }
     {
@@ -122,12 +124,22 @@ impl ActorTable {
         self.actors.insert(name, actor).is_ok()
     }
 
-    /// Takes out an actor.
-    fn take_out(&mut self, name: &Name)
-        ensures out { PlacesIn self.old name.now None self.new }
-        ensures len { length self.new + (if is_some (lookup (key_eq name.now) self.old) then 1 else 0) ≡ length self.old }
+    /// Whether the actor at a place is a carrier that has ended.
+    fn has_ended(&self, place: usize, name: &Name) -> bool
+        requires { Some place ≡ position (key_eq name.now) (keys_of self.now) }
+        ensures { (actor : Kept) → lookup (key_eq name.now) self.now ≡ Some actor → result ≡ actor_ended actor }
     {
-        let _over = self.actors.swap_remove(name);
+        let actor = &self.actors[place];
+        actor.has_ended()
+    }
+
+    /// Takes out the actor at a place.
+    fn take_out(&mut self, place: usize, name: &Name)
+        requires { Some place ≡ position (key_eq name.now) (keys_of self.old) }
+        ensures out { PlacesIn self.old name.now None self.new }
+        ensures len { length self.new + 1 ≡ length self.old }
+    {
+        let _over = self.actors.swap_remove_index(place);
     }
 }
 
@@ -149,7 +161,7 @@ pub(crate) fn empty_tables(
 /// The place of an actor in the table of its slot. Where the guess is right, nothing is hashed.
 pub(crate) fn place_of(actors: &Vec<ActorTable>, guess: usize, id: &ActorId) -> Option<usize>
     ensures within { IfSome result (λ _. id.now.slot < length actors.now.items) }
-    ensures index { IfSome result (λ place. Some place ≡ position (key_eq id.now.name) (keys_of (table_of id.now.slot actors.now.items))) }
+    ensures index { IfSome result (λ place. Some place ≡ position (key_eq id.now.name) (names_at id.now.slot actors.now.items)) }
     ensures found { is_some result ≡ is_some (actor_at actors.now.items id.now) }
 {
     match actors.get(id.slot as usize) {
@@ -190,43 +202,62 @@ pub(crate) fn act_at(
 pub(crate) fn step_at<N: Nodes>(
     actors: &mut Vec<ActorTable>,
     place: usize,
-    id: ActorId,
+    id: &ActorId,
     nodes: &mut N,
     moment: u64,
-) -> Stepped
-    requires within { id.slot < length actors.old.items }
-    requires place { Some place ≡ position (key_eq id.name) (keys_of (table_of id.slot actors.old.items)) }
+) -> Reply
+    requires within { id.now.slot < length actors.old.items }
+    requires place { Some place ≡ position (key_eq id.now.name) (names_at id.now.slot actors.old.items) }
     requires runs { AllRun (N.shape nodes.old) actors.old.items }
-    ensures stepped { (before : Kept) → actor_at actors.old.items id ≡ Some before → (after : Kept) × PutsBack actors.old.items id after actors.new.items
+    ensures stepped { (before : Kept) → actor_at actors.old.items id.now ≡ Some before → (after : Kept) × PutsBack actors.old.items id.now after actors.new.items
         × ((config : TenantConfig) (solo : Solo) → ActorStandsFor config before solo →
-        ActorSteps (λ at node call reply. N.Answers nodes.old node id.slot at call reply nodes.new) (nodes.new ≡ nodes.old) config moment result solo after)
-        × ((shape : Shape) → RunsAt shape id.slot before → RunsAt shape id.slot after) }
-    ensures there { (before : Kept) × (actor_at actors.old.items id ≡ Some before) }
+        ActorSteps (λ at node call reply. N.Answers nodes.old node id.now.slot at call reply nodes.new) (nodes.new ≡ nodes.old) config moment (stepped_to result after) solo after)
+        × ((shape : Shape) → RunsAt shape id.now.slot before → RunsAt shape id.now.slot after) }
+    ensures last { (after : Kept) → actor_at actors.new.items id.now ≡ Some after → actor_ended after ≡ true → goes_on result ≡ false }
+    ensures place { Some place ≡ position (key_eq id.now.name) (names_at id.now.slot actors.new.items) }
+    ensures there { (before : Kept) × (actor_at actors.old.items id.now ≡ Some before) }
     ensures once { (nodes.new ≡ nodes.old)
-        ⊎ ((node : NodeId) × (at : ℕ) × (call : NodeCall) × (reply : NodeReply) × N.Answers nodes.old node id.slot at call reply nodes.new) }
+        ⊎ ((node : NodeId) × (at : ℕ) × (call : NodeCall) × (reply : NodeReply) × N.Answers nodes.old node id.now.slot at call reply nodes.new) }
     ensures shape { N.shape nodes.new ≡ N.shape nodes.old }
 {
     let table = &mut actors[id.slot as usize];
     table.step(place, id, nodes, moment)
 }
 
-/// Puts in an actor. Whether there was memory for it.
-pub(crate) fn put_new(actors: &mut Vec<ActorTable>, id: ActorId, actor: Actor) -> bool
+/// Puts in an actor. Whether there was memory for it. Its place, behind the others, is noted.
+pub(crate) fn put_new(
+    actors: &mut Vec<ActorTable>,
+    guesses: &mut Guesses,
+    id: ActorId,
+    actor: Actor,
+) -> bool
     requires { id.slot < length actors.old.items }
     ensures ok { IsTrue result → Places actors.old.items id (Some actor) actors.new.items }
     ensures count { IsTrue result → actor_at actors.old.items id ≡ None → count_at actors.new.items id.slot ≡ count_at actors.old.items id.slot + 1 }
     ensures lack { IsFalse result → actors.new.items ≡ actors.old.items }
 {
     let table = &mut actors[id.slot as usize];
+    guesses.note(Guesses::cell_of(&id), table.len());
     table.put(id.name, actor)
 }
 
-/// Takes out an actor.
-pub(crate) fn take_out(actors: &mut Vec<ActorTable>, id: ActorId)
-    requires { id.slot < length actors.old.items }
-    ensures out { Places actors.old.items id None actors.new.items }
-    ensures count { count_at actors.new.items id.slot + (if is_some (actor_at actors.old.items id) then 1 else 0) ≡ count_at actors.old.items id.slot }
+/// Whether the actor at a place of its table is a carrier that has ended.
+pub(crate) fn has_ended(actors: &Vec<ActorTable>, place: usize, id: &ActorId) -> bool
+    requires within { id.now.slot < length actors.now.items }
+    requires place { Some place ≡ position (key_eq id.now.name) (names_at id.now.slot actors.now.items) }
+    ensures { (actor : Kept) → actor_at actors.now.items id.now ≡ Some actor → result ≡ actor_ended actor }
+{
+    let table = &actors[id.slot as usize];
+    table.has_ended(place, &id.name)
+}
+
+/// Takes out the actor at a place of its table.
+pub(crate) fn take_out(actors: &mut Vec<ActorTable>, place: usize, id: &ActorId)
+    requires within { id.now.slot < length actors.old.items }
+    requires place { Some place ≡ position (key_eq id.now.name) (names_at id.now.slot actors.old.items) }
+    ensures out { Places actors.old.items id.now None actors.new.items }
+    ensures count { count_at actors.new.items id.now.slot + 1 ≡ count_at actors.old.items id.now.slot }
 {
     let table = &mut actors[id.slot as usize];
-    table.take_out(&id.name);
+    table.take_out(place, &id.name);
 }

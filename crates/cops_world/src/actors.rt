@@ -1,5 +1,5 @@
 //! The actors of tenants: sessions and carriers.
-ghost use Rattle.std.specs.Prelude.{◌≡◌, ◌<◌, ◌⊎◌, ℕ, false, IfOk, IsTrue};
+ghost use Rattle.std.specs.Prelude.{◌≡◌, ◌<◌, ◌⊎◌, ℕ, true, false, IfOk, IsTrue};
 ghost use Rattle.cops_types.specs.TenantConfig.{TenantConfig};
 ghost use Rattle.cops_node.specs.declared.Shape.{Shape};
 ghost use Rattle.cops_model.specs.Session.{Session as SoloSession};
@@ -9,11 +9,11 @@ ghost use Rattle.cops_model.specs.declared.calls.NodeId.{NodeId};
 ghost use Rattle.cops_model.specs.declared.calls.NodeReply.{NodeReply};
 ghost use Rattle.cops_model.specs.Carrier.{Carrier as SoloCarrier};
 ghost use Rattle.cops_repl.specs.Stands.{CarrierStandsFor, RunsIn, has_ended};
-ghost use Rattle.cops_model.specs.Cluster.{Actor as Solo, reply_of_answer, reply_of_progress, reply_of_delivery};
+ghost use Rattle.cops_model.specs.Cluster.{Actor as Solo, goes_on, reply_of_answer, reply_of_delivery, reply_of_progress};
 ghost use Rattle.cops_model.specs.Events.{is_out_of_memory};
-ghost use Rattle.cops_world.specs.ActorsStand.{ActorStandsFor, ActorSteps, CarrierSteps, SessionSteps, RunsAt, HasDone};
+ghost use Rattle.cops_world.specs.ActorsStand.{ActorStandsFor, ActorSteps, CarrierSteps, SessionSteps, RunsAt, HasDone, actor_ended, stepped_to};
 ghost use Rattle.cops_world.specs.ActorTurns.{actor_does, session_does};
-ghost use Rattle.cops_world.specs.declared.actors.Actor.TheVariants.{OfSession as KeptSession};
+ghost use Rattle.cops_world.specs.declared.actors.Actor.TheVariants.{OfCarrier as KeptCarrier, OfSession as KeptSession};
 ghost use Rattle.cops_world.specs.declared.actors.Deed.TheVariants as deeds;
 
 use crate::Reply;
@@ -68,13 +68,6 @@ impl Keys {
     {
         self.keys.as_slice()
     }
-}
-
-/// What a step of an actor shows, and whether it was its last.
-#[derive(Debug, Drop)]
-pub struct Stepped {
-    pub reply: Reply,
-    pub is_over: bool,
 }
 
 /// What a session is asked to do without a step.
@@ -203,7 +196,8 @@ fn reply_of_progress(progress: Progress) -> Reply
 
 /// How a carrier ended, as a reply.
 fn reply_of_delivery(delivery: Delivery) -> Reply
-    ensures { result ≡ reply_of_delivery delivery }
+    ensures reply { result ≡ reply_of_delivery delivery }
+    ensures last { goes_on result ≡ false }
 {
     match delivery {
         Delivery::Nothing => Reply::Nothing,
@@ -235,25 +229,20 @@ fn step_session<N: Nodes>(session: &mut Session, nodes: &mut N, moment: u64) -> 
 }
 
 /// A step of a carrier.
-fn step_carrier<N: Nodes>(carrier: &mut Carrier, nodes: &mut N, slot: u64, moment: u64) -> Stepped
+fn step_carrier<N: Nodes>(carrier: &mut Carrier, nodes: &mut N, slot: u64, moment: u64) -> Reply
     requires goes_on { has_ended carrier.old ≡ false }
     requires stream { RunsIn (N.shape nodes.old) carrier.old.shards carrier.old.stream }
     ensures steps { (config : TenantConfig) (solo : SoloCarrier) → CarrierStandsFor config.shards carrier.old solo →
-        CarrierSteps (λ at id call reply. N.Answers nodes.old id slot at call reply nodes.new) config solo moment result carrier.new }
+        CarrierSteps (λ at id call reply. N.Answers nodes.old id slot at call reply nodes.new) config solo moment (stepped_to result (KeptCarrier carrier.new)) carrier.new }
     ensures once { (id : NodeId) × (at : ℕ) × (call : NodeCall) × (reply : NodeReply) × N.Answers nodes.old id slot at call reply nodes.new }
     ensures shape { N.shape nodes.new ≡ N.shape nodes.old }
+    ensures last { has_ended carrier.new ≡ true → goes_on result ≡ false }
     ensures stream { carrier.new.stream ≡ carrier.old.stream }
     ensures shards { carrier.new.shards ≡ carrier.old.shards }
 {
     match carrier.step(nodes, slot, moment) {
-        Carrying::Working => Stepped {
-            reply: Reply::Working,
-            is_over: false,
-        },
-        Carrying::Done(delivery) => Stepped {
-            reply: reply_of_delivery(delivery),
-            is_over: true,
-        },
+        Carrying::Working => Reply::Working,
+        Carrying::Done(delivery) => reply_of_delivery(delivery),
     }
 }
 
@@ -271,29 +260,34 @@ impl Actor {
     }
 
     /// Takes a step at a moment, for the tenant of a slot.
-    pub(crate) fn step<N: Nodes>(&mut self, nodes: &mut N, slot: u64, moment: u64) -> Stepped
+    pub(crate) fn step<N: Nodes>(&mut self, nodes: &mut N, slot: u64, moment: u64) -> Reply
         requires { RunsAt (N.shape nodes.old) slot self.old }
         ensures steps { (config : TenantConfig) (solo : Solo) → ActorStandsFor config self.old solo →
-            ActorSteps (λ at id call reply. N.Answers nodes.old id slot at call reply nodes.new) (nodes.new ≡ nodes.old) config moment result solo self.new }
+            ActorSteps (λ at id call reply. N.Answers nodes.old id slot at call reply nodes.new) (nodes.new ≡ nodes.old) config moment (stepped_to result self.new) solo self.new }
+        ensures last { actor_ended self.new ≡ true → goes_on result ≡ false }
         ensures once { (nodes.new ≡ nodes.old)
             ⊎ ((id : NodeId) × (at : ℕ) × (call : NodeCall) × (reply : NodeReply) × N.Answers nodes.old id slot at call reply nodes.new) }
         ensures shape { N.shape nodes.new ≡ N.shape nodes.old }
         ensures runs { (shape : Shape) (slot : ℕ) → RunsAt shape slot self.old → RunsAt shape slot self.new }
     {
         match self {
-            Actor::OfSession(session) => Stepped {
-                reply: step_session(session, nodes, moment),
-                is_over: false,
-            },
+            Actor::OfSession(session) => step_session(session, nodes, moment),
             Actor::OfCarrier(carrier) => {
                 if carrier.ended() {
-                    return Stepped {
-                        reply: Reply::Refused(Fault::Torn),
-                        is_over: true,
-                    };
+                    return Reply::Refused(Fault::Torn);
                 }
                 step_carrier(carrier, nodes, slot, moment)
             }
+        }
+    }
+
+    /// Whether it is a carrier that has ended.
+    pub(crate) fn has_ended(&self) -> bool
+        ensures { result ≡ actor_ended self.now }
+    {
+        match self {
+            Actor::OfSession(_) => false,
+            Actor::OfCarrier(carrier) => carrier.ended(),
         }
     }
 }

@@ -7,7 +7,7 @@ use std::hash::{FoldHasher, Hash, Hasher};
 /// How many guesses are kept.
 const GUESSES: usize = 1024;
 
-/// Where actors were found last. Several share a guess, which may be any number.
+/// Where actors joined, or were found last. Several share a guess, which may be any number.
 #[derive(Drop)]
 pub struct Guesses {
     places: Vec<usize>,

@@ -1,5 +1,5 @@
 //! All tenants of a cluster in one process.
-ghost use Rattle.std.specs.Prelude.{◌≡◌, ◌<◌, ◌⊎◌, ℕ, true, false, not, is_some, Err, IfErr, IfOk, IfSome, IfNone, IsOk, IsTrue, IsFalse, None, OnErr, OnOk, Some, length, map, nat_le};
+ghost use Rattle.std.specs.Prelude.{◌≡◌, ◌<◌, ◌⊎◌, ℕ, true, false, not, is_some, position, Err, IfErr, IfOk, IfSome, IfNone, IsOk, IsTrue, IsFalse, None, OnErr, OnOk, Some, length, map, nat_le};
 ghost use Rattle.cops_types.specs.TenantConfig.{TenantConfig, tenant_config};
 ghost use Rattle.cops_node.specs.Clusters.{IsCluster, shape_of};
 ghost use Rattle.cops_node.specs.Parts.{AuditFits, site_in};
@@ -7,7 +7,7 @@ ghost use Rattle.cops_model.specs.Session.{new_session};
 ghost use Rattle.cops_model.specs.Carrier.{new_carrier};
 ghost use Rattle.cops_repl.specs.Stands.{RunsIn};
 ghost use Rattle.cops_types.specs.HeadLines.{is_tenant};
-ghost use Rattle.cops_types.specs.Key.{is_key};
+ghost use Rattle.cops_types.specs.Key.{is_key, key_eq};
 ghost use Rattle.cops_types.specs.OpenSlots.{admission_refusal, open_at};
 ghost use Rattle.cops_types.specs.Refusal.{IsAnswer, refused_if};
 ghost use Rattle.cops_types.specs.declared.faults.Fault.TheVariants.{BadKey, OutOfMemory, UnknownTenant};
@@ -19,6 +19,7 @@ ghost use Rattle.cops_model.specs.declared.acts.Act.TheVariants as acts;
 ghost use Rattle.cops_model.specs.declared.replies.Reply.TheVariants.{Refused};
 ghost use Rattle.cops_script.specs.Acting.{HasActed, IsNew};
 ghost use Rattle.cops_script.specs.GoodHeads.{is_good};
+ghost use Rattle.cops_world.specs.ActorTables.{names_at};
 ghost use Rattle.cops_world.specs.ActorsStand.{ActorStandsFor, RunsAt};
 ghost use Rattle.cops_world.specs.Deeds.{deed_step};
 ghost use Rattle.cops_script.specs.Lacks.{Lacks, Stays, StepStops, StepsStop};
@@ -26,8 +27,10 @@ ghost use Rattle.cops_world.specs.Trails.{audited_at};
 ghost use Rattle.cops_world.specs.Worlds.{Admits, AreSitesIn, ClusterStandsAt, Closes, HasOpenCluster, Leaves, Moves, StaysOpen, open_setup, join_step, world_of};
 ghost use Rattle.cops_script.specs.Sizes.{HasSizes};
 
-use crate::actor_table::{ActorTable, act_at, empty_tables, place_of, put_new, step_at, take_out};
-use crate::actors::{Actor, ActorId, Deed, Keys, Stepped};
+use crate::actor_table::{
+    ActorTable, act_at, empty_tables, has_ended, place_of, put_new, step_at, take_out,
+};
+use crate::actors::{Actor, ActorId, Deed, Keys};
 use crate::guesses::Guesses;
 use crate::{Act, ByteSlice, ByteSlices, Event, Reply};
 use cops_node::{AuditRow, Cluster0, Node, NodeCall, NodeId, NodeReply, Nodes};
@@ -101,16 +104,11 @@ fn new_carrier(config: &Config, origin: NodeId, to_dc: u64) -> Actor
     Actor::OfCarrier(Carrier::new(config, origin, to_dc))
 }
 
-/// The reply, where the actor doesn't go on after it.
-fn answer_in(reply: Reply) -> Option<Reply>
-    ensures some { IfSome result (λ answer. answer ≡ reply) }
-    ensures last { IfSome result (λ answer. goes_on reply ≡ false) }
-    ensures none { IfNone result (goes_on reply ≡ true) }
+/// Whether the actor goes on after the reply.
+fn goes_on(reply: &Reply) -> bool
+    ensures { result ≡ goes_on reply.now }
 {
-    match reply {
-        Reply::Working | Reply::Restarted(_) => None,
-        answer => Some(answer),
-    }
+    matches!(reply, Reply::Working | Reply::Restarted(_))
 }
 
 /// What a collection answered, as a reply.
@@ -126,18 +124,18 @@ fn reply_of_collect(answered: NodeReply) -> Reply
 
 impl World {
     /// Has a session of a tenant do what is asked.
-    fn act(&mut self, slot: u64, name: Name, deed: Deed) -> Reply
-        ensures moves { Moves (λ config. deed_step config name deed) (world_of self.old) slot result (world_of self.new) }
+    fn act(&mut self, slot: u64, name: &Name, deed: Deed) -> Reply
+        ensures moves { Moves (λ config. deed_step config name.now deed) (world_of self.old) slot result (world_of self.new) }
         ensures lack { Leaves Stays (world_of self.old) slot result (world_of self.new) }
     {
-        let id = ActorId { slot, name };
+        let id = ActorId { slot, name: *name };
         act_at(&mut self.actors, &mut self.guesses, id, self.alloc, deed)
     }
 
     /// Creates a context of a session.
     #[inline(never)]
-    fn create(&mut self, slot: u64, name: Name) -> Reply
-        ensures moves { Moves (λ config. cluster_step config (acts.Create name)) (world_of self.old) slot result (world_of self.new) }
+    fn create(&mut self, slot: u64, name: &Name) -> Reply
+        ensures moves { Moves (λ config. cluster_step config (acts.Create name.now)) (world_of self.old) slot result (world_of self.new) }
         ensures lack { Leaves Stays (world_of self.old) slot result (world_of self.new) }
     {
         self.act(slot, name, Deed::Create)
@@ -145,8 +143,8 @@ impl World {
 
     /// Deletes a context of a session.
     #[inline(never)]
-    fn delete(&mut self, slot: u64, name: Name, number: u64) -> Reply
-        ensures moves { Moves (λ config. cluster_step config (acts.Delete name number)) (world_of self.old) slot result (world_of self.new) }
+    fn delete(&mut self, slot: u64, name: &Name, number: u64) -> Reply
+        ensures moves { Moves (λ config. cluster_step config (acts.Delete name.now number)) (world_of self.old) slot result (world_of self.new) }
         ensures lack { Leaves Stays (world_of self.old) slot result (world_of self.new) }
     {
         self.act(slot, name, Deed::Delete(number))
@@ -154,8 +152,8 @@ impl World {
 
     /// Shows the two lists of a context of a session.
     #[inline(never)]
-    fn show(&mut self, slot: u64, name: Name, number: u64) -> Reply
-        ensures moves { Moves (λ config. cluster_step config (acts.Show name number)) (world_of self.old) slot result (world_of self.new) }
+    fn show(&mut self, slot: u64, name: &Name, number: u64) -> Reply
+        ensures moves { Moves (λ config. cluster_step config (acts.Show name.now number)) (world_of self.old) slot result (world_of self.new) }
         ensures lack { Leaves Stays (world_of self.old) slot result (world_of self.new) }
     {
         self.act(slot, name, Deed::Show(number))
@@ -227,25 +225,25 @@ impl World {
             Moves (join_step id.name solo reply) (world_of self.old) id.slot reply (world_of self.new) }
         ensures lack { IsFalse result → world_of self.new ≡ world_of self.old }
     {
-        put_new(&mut self.actors, id, actor)
+        put_new(&mut self.actors, &mut self.guesses, id, actor)
     }
 
     /// Opens a session of a tenant at a data centre.
     #[inline(never)]
-    fn open(&mut self, slot: u64, name: Name, dc: u64) -> Reply
+    fn open(&mut self, slot: u64, name: &Name, dc: u64) -> Reply
         requires { IsTrue (is_open_at self.old.setup slot) }
-        ensures moves { Moves (λ config. cluster_step config (acts.Open name dc)) (world_of self.old) slot result (world_of self.new) }
+        ensures moves { Moves (λ config. cluster_step config (acts.Open name.now dc)) (world_of self.old) slot result (world_of self.new) }
         ensures lack { Leaves Stays (world_of self.old) slot result (world_of self.new) }
     {
         if dc >= self.config.data_centres {
             return Reply::Refused(Fault::NoSuchPlace);
         }
-        if let Some(fault) = self.refuses(ActorId { slot, name }) {
+        if let Some(fault) = self.refuses(ActorId { slot, name: *name }) {
             return Reply::Refused(fault);
         }
         let tenant = self.tenant(slot);
         let session = new_session(self.alloc, &self.config, tenant, slot, dc);
-        if self.join(ActorId { slot, name }, session) {
+        if self.join(ActorId { slot, name: *name }, session) {
             Reply::Opened
         } else {
             Reply::Refused(Fault::OutOfMemory)
@@ -270,63 +268,72 @@ impl World {
 
     /// Begins a carrier of a tenant from a node to another data centre.
     #[inline(never)]
-    fn carry(&mut self, slot: u64, name: Name, origin: NodeId, to_dc: u64) -> Reply
+    fn carry(&mut self, slot: u64, name: &Name, origin: NodeId, to_dc: u64) -> Reply
         requires { IsTrue (is_open_at self.old.setup slot) }
-        ensures moves { Moves (λ config. cluster_step config (acts.Carry name origin.dc origin.shard to_dc)) (world_of self.old) slot result (world_of self.new) }
+        ensures moves { Moves (λ config. cluster_step config (acts.Carry name.now origin.dc origin.shard to_dc)) (world_of self.old) slot result (world_of self.new) }
         ensures lack { Leaves Stays (world_of self.old) slot result (world_of self.new) }
     {
         if !self.has_stream(origin, to_dc) {
             return Reply::Refused(Fault::NoSuchPlace);
         }
-        if let Some(fault) = self.refuses(ActorId { slot, name }) {
+        if let Some(fault) = self.refuses(ActorId { slot, name: *name }) {
             return Reply::Refused(fault);
         }
         let carrier = new_carrier(&self.config, origin, to_dc);
-        if self.join(ActorId { slot, name }, carrier) {
+        if self.join(ActorId { slot, name: *name }, carrier) {
             Reply::Started
         } else {
             Reply::Refused(Fault::OutOfMemory)
         }
     }
 
-    /// Takes a step of an actor at a moment.
-    fn step(&mut self, slot: u64, name: Name, moment: u64) -> Reply
-        requires { IsTrue (is_open_at self.old.setup slot) }
-        ensures moves { Moves (λ config. actor_step config name moment) (world_of self.old) slot result (world_of self.new) }
-        ensures lack { Leaves (λ config. StepStops config name moment) (world_of self.old) slot result (world_of self.new) }
+    /// The place of an actor. It is looked for first where its guess says, and noted there.
+    fn place_of(&mut self, id: &ActorId) -> Option<usize>
+        ensures same { self.new ≡ self.old }
+        ensures place { IfSome result (λ place. Some place ≡ position (key_eq id.now.name) (names_at id.now.slot self.old.tables)) }
+        ensures nobody { IfNone result ((world_of self.old).actors id.now ≡ None) }
     {
-        let id = ActorId { slot, name };
-        let cell = Guesses::cell_of(&id);
-        let Some(place) = place_of(&self.actors, self.guesses.guess(cell), &id) else {
-            return Reply::Refused(Fault::UnknownName);
-        };
+        let cell = Guesses::cell_of(id);
+        let place = place_of(&self.actors, self.guesses.guess(cell), id)?;
         self.guesses.note(cell, place);
-        let Stepped { reply, is_over } = step_at(
-            &mut self.actors,
-            place,
-            id,
-            &mut self.nodes,
-            moment,
-        );
-        if is_over {
-            take_out(&mut self.actors, id);
+        Some(place)
+    }
+
+    /// Takes a step of the actor at a place of its table. It stays there if it goes on.
+    fn step_at(&mut self, place: usize, id: &ActorId, moment: u64) -> Reply
+        requires slot { IsTrue (is_open_at self.old.setup id.now.slot) }
+        requires place { Some place ≡ position (key_eq id.now.name) (names_at id.now.slot self.old.tables) }
+        ensures moves { Moves (λ config. actor_step config id.now.name moment) (world_of self.old) id.now.slot result (world_of self.new) }
+        ensures lack { Leaves (λ config. StepStops config id.now.name moment) (world_of self.old) id.now.slot result (world_of self.new) }
+        ensures place { goes_on result ≡ true → Some place ≡ position (key_eq id.now.name) (names_at id.now.slot self.new.tables) }
+    {
+        let reply = step_at(&mut self.actors, place, id, &mut self.nodes, moment);
+        if has_ended(&self.actors, place, id) {
+            take_out(&mut self.actors, place, id);
         }
         reply
     }
 
     /// Takes steps of an actor at one moment until it has answered, at most `more` after the first.
-    fn steps(&mut self, slot: u64, name: Name, moment: u64, mut more: u64) -> Reply
+    fn steps(&mut self, slot: u64, name: &Name, moment: u64, mut more: u64) -> Reply
         requires { IsTrue (is_open_at self.old.setup slot) }
-        ensures moves { Moves (λ config. actor_steps more config name moment) (world_of self.old) slot result (world_of self.new) }
-        ensures lack { Leaves (λ config. StepsStop more config name moment) (world_of self.old) slot result (world_of self.new) }
+        ensures moves { Moves (λ config. actor_steps more config name.now moment) (world_of self.old) slot result (world_of self.new) }
+        ensures lack { Leaves (λ config. StepsStop more config name.now moment) (world_of self.old) slot result (world_of self.new) }
     {
-        while more > 0 {
-            if let Some(answer) = answer_in(self.step(slot, name, moment)) {
-                return answer;
+        let id = ActorId { slot, name: *name };
+        let Some(place) = self.place_of(&id) else {
+            return Reply::Refused(Fault::UnknownName);
+        };
+        loop {
+            let reply = self.step_at(place, &id, moment);
+            if !goes_on(&reply) {
+                return reply;
+            }
+            if more == 0 {
+                return reply;
             }
             more -= 1;
         }
-        self.step(slot, name, moment)
     }
 
     /// Collects at a node.
@@ -346,12 +353,12 @@ impl World {
     fn put(
         &mut self,
         slot: u64,
-        name: Name,
+        name: &Name,
         number: u64,
         key: &ByteSlice,
         value: &ByteSlice,
     ) -> Reply
-        ensures moves { Moves (λ config. cluster_step config (acts.Put name number key.now value.now)) (world_of self.old) slot result (world_of self.new) }
+        ensures moves { Moves (λ config. cluster_step config (acts.Put name.now number key.now value.now)) (world_of self.old) slot result (world_of self.new) }
         ensures lack { Leaves Stays (world_of self.old) slot result (world_of self.new) }
     {
         let key = match Key::new(key.as_slice()) {
@@ -365,8 +372,8 @@ impl World {
     }
 
     /// Begins a get transaction of a session, where there are keys and each is one.
-    fn get(&mut self, slot: u64, name: Name, number: u64, keys: &ByteSlices) -> Reply
-        ensures moves { Moves (λ config. cluster_step config (acts.Get name number keys.now)) (world_of self.old) slot result (world_of self.new) }
+    fn get(&mut self, slot: u64, name: &Name, number: u64, keys: &ByteSlices) -> Reply
+        ensures moves { Moves (λ config. cluster_step config (acts.Get name.now number keys.now)) (world_of self.old) slot result (world_of self.new) }
         ensures lack { Leaves Stays (world_of self.old) slot result (world_of self.new) }
     {
         if keys.is_empty() {
@@ -409,23 +416,23 @@ impl World {
             return Reply::Refused(Fault::UnknownTenant);
         }
         match act {
-            Act::Open(name, dc) => self.open(slot, *name, *dc),
-            Act::Create(name) => self.create(slot, *name),
-            Act::Delete(name, number) => self.delete(slot, *name, *number),
-            Act::Put(name, number, key, value) => self.put(slot, *name, *number, key, value),
-            Act::Get(name, number, keys) => self.get(slot, *name, *number, keys),
-            Act::Show(name, number) => self.show(slot, *name, *number),
+            Act::Open(name, dc) => self.open(slot, name, *dc),
+            Act::Create(name) => self.create(slot, name),
+            Act::Delete(name, number) => self.delete(slot, name, *number),
+            Act::Put(name, number, key, value) => self.put(slot, name, *number, key, value),
+            Act::Get(name, number, keys) => self.get(slot, name, *number, keys),
+            Act::Show(name, number) => self.show(slot, name, *number),
             Act::Carry(name, dc, shard, to_dc) => {
                 let origin = NodeId {
                     dc: *dc,
                     shard: *shard,
                 };
-                self.carry(slot, *name, origin, *to_dc)
+                self.carry(slot, name, origin, *to_dc)
             }
-            Act::Step(name, moment) => self.step(slot, *name, *moment),
+            Act::Step(name, moment) => self.steps(slot, name, *moment, 0),
             Act::Done(name, moment) => {
                 let more = self.most_steps(slot);
-                self.steps(slot, *name, *moment, more)
+                self.steps(slot, name, *moment, more)
             }
             Act::Collect(dc, shard, moment) => {
                 let id = NodeId {
@@ -569,8 +576,9 @@ impl Tenancy for World {
         World::tenants(self)
     }
 
+    // Not by way of `World::apply`: a reply is large, and each call hands it up by a copy.
     fn apply(&mut self, event: &Event) -> Reply {
-        World::apply(self, event)
+        self.act_for(event.slot, &event.act)
     }
 
     fn admit(&mut self, tenant: Tenant) -> Result<u64, Fault> {

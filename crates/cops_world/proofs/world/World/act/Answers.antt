@@ -19,11 +19,11 @@ invariant_of-self c =
         good = whole.good;
         tenants_good = whole.tenants_good;
         enough = whole.enough;
-        run = runs_after_act (shape_of c.self.inside.config) (actor_at c.self.inside.actors.items) (actor_at c.act_at.new.actors.items) (record { slot = c.args.slot; name = c.args.name }) whole.run
+        run = runs_after_act (shape_of c.self.inside.config) (actor_at c.self.inside.actors.items) (actor_at c.act_at.new.actors.items) (record { slot = c.args.slot; name = c.args.name.now }) whole.run
             (λ before e. let f = c.act_at.ensures.found before e in (f.0, (f.1.0.at, f.3)))
             (λ e. ap actor_at (c.act_at.ensures.absent e).1);
         hosted = hosted_after_act (record { head = c.self.inside.config; tenants = c.self.inside.tenants }) (actor_at c.self.inside.actors.items) (actor_at c.act_at.new.actors.items)
-            (record { slot = c.args.slot; name = c.args.name }) whole.hosted
+            (record { slot = c.args.slot; name = c.args.name.now }) whole.hosted
             (λ before e. let f = c.act_at.ensures.found before e in (f.0, f.1.0.at))
             (λ e. ap actor_at (c.act_at.ensures.absent e).1);
       };
@@ -34,8 +34,8 @@ pub returns-clause-moves : goal.returns-clause-moves
 returns-clause-moves c =
     let new = c.act_at.new.actors.items in
     let old : KeptWorld = record { setup = record { head = c.self.inside.config; tenants = c.self.inside.tenants }; nodes = c.self.inside.nodes; tables = c.self.inside.actors.items } in
-    subst (λ (kept : KeptWorld). Moves (λ config. deed_step config c.args.name c.args.deed) (world_of kept) c.args.slot c.act_at.result (record (world_of old) { actors = actor_at new; count = count_at new })) c.self.view_is
-    (deed_moves (world_of old) c.args.slot c.args.name (actor_at new) (count_at new) c.args.deed c.act_at.result (record {
+    subst (λ (kept : KeptWorld). Moves (λ config. deed_step config c.args.name.now c.args.deed) (world_of kept) c.args.slot c.act_at.result (record (world_of old) { actors = actor_at new; count = count_at new })) c.self.view_is
+    (deed_moves (world_of old) c.args.slot c.args.name.now (actor_at new) (count_at new) c.args.deed c.act_at.result (record {
       found = λ before e. let f = c.act_at.ensures.found before e in (f.0, (f.1.0.at, f.2));
       absent = λ e. let a = c.act_at.ensures.absent e in (a.0, ap actor_at a.1);
       counts = c.act_at.ensures.counts;

@@ -41,13 +41,13 @@ pub returns-in-Carry-clause-moves : goal.returns-in-Carry-clause-moves
 returns-in-Carry-clause-moves c = acted (world_of c.args.self.now) c.args.slot c.args.act.now _ c.in-Carry.is c.carry.result (world_of c.carry.new.self) c.carry.ensures.moves
 
 pub returns-in-Step-clause-moves : goal.returns-in-Step-clause-moves
-returns-in-Step-clause-moves c = acted (world_of c.args.self.now) c.args.slot c.args.act.now _ c.in-Step.is c.step.result (world_of c.step.new.self) c.step.ensures.moves
+returns-in-Step-clause-moves c = acted (world_of c.args.self.now) c.args.slot c.args.act.now _ c.in-Step.is c.steps.result (world_of c.steps.new.self) c.steps.ensures.moves
 
 pub returns-in-Done-clause-moves : goal.returns-in-Done-clause-moves
-returns-in-Done-clause-moves c = acted (world_of c.args.self.now) c.args.slot c.args.act.now _ c.in-Done.is c.steps.result (world_of c.steps.new.self)
+returns-in-Done-clause-moves c = acted (world_of c.args.self.now) c.args.slot c.args.act.now _ c.in-Done.is c.steps-in-Done.result (world_of c.steps-in-Done.new.self)
     (same_moves (λ config. actor_steps c.most_steps-more.result config c.in-Done.name c.in-Done.moment) (λ config. cluster_step config (acts.Done c.in-Done.name c.in-Done.moment)) (world_of c.args.self.now) c.args.slot
-    c.steps.result (world_of c.steps.new.self)
-    (λ cluster. ap (λ n. actor_steps n (config_in c.args.self.now.setup c.args.slot) c.in-Done.name c.in-Done.moment cluster) c.most_steps-more.ensures) c.steps.ensures.moves)
+    c.steps-in-Done.result (world_of c.steps-in-Done.new.self)
+    (λ cluster. ap (λ n. actor_steps n (config_in c.args.self.now.setup c.args.slot) c.in-Done.name c.in-Done.moment cluster) c.most_steps-more.ensures) c.steps-in-Done.ensures.moves)
 
 pub returns-in-Collect-clause-moves : goal.returns-in-Collect-clause-moves
 returns-in-Collect-clause-moves c = acted (world_of c.args.self.now) c.args.slot c.args.act.now _ c.in-Collect.is c.collect.result (world_of c.collect.new.self) c.collect.ensures.moves
@@ -74,13 +74,13 @@ pub returns-in-Carry-clause-lack : goal.returns-in-Carry-clause-lack
 returns-in-Carry-clause-lack c = acted_leaves (world_of c.args.self.now) c.args.slot c.args.act.now _ c.in-Carry.is c.carry.result (world_of c.carry.new.self) c.carry.ensures.lack
 
 pub returns-in-Step-clause-lack : goal.returns-in-Step-clause-lack
-returns-in-Step-clause-lack c = acted_leaves (world_of c.args.self.now) c.args.slot c.args.act.now _ c.in-Step.is c.step.result (world_of c.step.new.self) c.step.ensures.lack
+returns-in-Step-clause-lack c = acted_leaves (world_of c.args.self.now) c.args.slot c.args.act.now _ c.in-Step.is c.steps.result (world_of c.steps.new.self) c.steps.ensures.lack
 
 pub returns-in-Collect-clause-lack : goal.returns-in-Collect-clause-lack
 returns-in-Collect-clause-lack c = acted_leaves (world_of c.args.self.now) c.args.slot c.args.act.now _ c.in-Collect.is c.collect.result (world_of c.collect.new.self) c.collect.ensures.lack
 
 pub returns-in-Done-clause-lack : goal.returns-in-Done-clause-lack
-returns-in-Done-clause-lack c = acted_leaves (world_of c.args.self.now) c.args.slot c.args.act.now _ c.in-Done.is c.steps.result (world_of c.steps.new.self)
+returns-in-Done-clause-lack c = acted_leaves (world_of c.args.self.now) c.args.slot c.args.act.now _ c.in-Done.is c.steps-in-Done.result (world_of c.steps-in-Done.new.self)
     (λ lack cluster stands.
-    let left = c.steps.ensures.lack lack cluster stands in
+    let left = c.steps-in-Done.ensures.lack lack cluster stands in
     (left.0, subst (λ n. StepsStop n (config_in c.args.self.now.setup c.args.slot) c.in-Done.name c.in-Done.moment cluster left.0) c.most_steps-more.ensures left.1, left.2))

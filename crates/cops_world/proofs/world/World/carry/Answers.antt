@@ -19,7 +19,7 @@ returns-then-not-has_stream-clause-moves c =
     let setup = c.args.self.now.setup in
     let config = config_in setup c.args.slot in
     let solo = OfCarrier (new_carrier (record { origin = c.args.origin; to_dc = c.args.to_dc })) in
-    no_place_moves (world_of c.args.self.now) c.args.slot c.args.name (λ config. has_stream config c.args.origin.dc c.args.origin.shard c.args.to_dc) solo Started
+    no_place_moves (world_of c.args.self.now) c.args.slot c.args.name.now (λ config. has_stream config c.args.origin.dc c.args.origin.shard c.args.to_dc) solo Started
     (sym (c.has_stream.ensures config (sizes_in setup c.args.slot c.requires)) ∙ c.if-not-has_stream.true)
 
 pub returns-in-Some-clause-moves : goal.returns-in-Some-clause-moves
@@ -27,7 +27,7 @@ returns-in-Some-clause-moves c =
     let setup = c.args.self.now.setup in
     let config = config_in setup c.args.slot in
     let solo = OfCarrier (new_carrier (record { origin = c.args.origin; to_dc = c.args.to_dc })) in
-    joins_there (world_of c.args.self.now) c.args.slot c.args.name (λ config. has_stream config c.args.origin.dc c.args.origin.shard c.args.to_dc) solo Started
+    joins_there (world_of c.args.self.now) c.args.slot c.args.name.now (λ config. has_stream config c.args.origin.dc c.args.origin.shard c.args.to_dc) solo Started
     (sym (c.has_stream.ensures config (sizes_in setup c.args.slot c.requires)) ∙ c.if-not-has_stream.false) (Refused c.in-Some.fault) (world_of c.args.self.now) (c.in-Some.ensures.refused solo Started)
 
 pub new_carrier-carrier-requires : goal.new_carrier-carrier-requires
@@ -50,7 +50,7 @@ returns-then-join-clause-moves c =
     let config = config_in setup slot in
     let sizes = sizes_in setup slot c.requires in
     let solo = OfCarrier (new_carrier (record { origin = c.args.origin; to_dc = c.args.to_dc })) in
-    joins_there (world_of c.args.self.now) slot c.args.name (λ config. has_stream config c.args.origin.dc c.args.origin.shard c.args.to_dc) solo Started
+    joins_there (world_of c.args.self.now) slot c.args.name.now (λ config. has_stream config c.args.origin.dc c.args.origin.shard c.args.to_dc) solo Started
     (sym (c.has_stream.ensures config sizes) ∙ c.if-not-has_stream.false) Started (world_of c.join.new.self)
     (c.join.ensures.joined c.if-join.true solo Started (c.new_carrier-carrier.ensures.stands config (sizes.shards ∙ sym (ap (λ (k : KeptWorld). k.setup.head.shards) c.self.view_is))))
 

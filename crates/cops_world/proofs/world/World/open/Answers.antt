@@ -20,7 +20,7 @@ returns-then-dc-self-clause-moves c =
     let setup = c.args.self.now.setup in
     let sizes = sizes_in setup c.args.slot c.requires in
     let beyond = subst (λ n. n ≤ c.args.dc) (ap (λ (k : KeptWorld). k.setup.head.data_centres) c.self.view_is ∙ sym sizes.data_centres) c.if-dc-self.true in
-    no_place_moves (world_of c.args.self.now) c.args.slot c.args.name (λ config. nat_lt c.args.dc config.data_centres) (OfSession (new_session c.args.dc 1)) Opened
+    no_place_moves (world_of c.args.self.now) c.args.slot c.args.name.now (λ config. nat_lt c.args.dc config.data_centres) (OfSession (new_session c.args.dc 1)) Opened
     (le-ltb c.args.dc (config_in setup c.args.slot).data_centres beyond)
 
 pub returns-in-Some-clause-moves : goal.returns-in-Some-clause-moves
@@ -29,7 +29,7 @@ returns-in-Some-clause-moves c =
     let sizes = sizes_in setup c.args.slot c.requires in
     let solo = OfSession (new_session c.args.dc 1) in
     let there = subst (λ n. c.args.dc < n) (ap (λ (k : KeptWorld). k.setup.head.data_centres) c.self.view_is ∙ sym sizes.data_centres) c.if-dc-self.false in
-    joins_there (world_of c.args.self.now) c.args.slot c.args.name (λ config. nat_lt c.args.dc config.data_centres) solo Opened
+    joins_there (world_of c.args.self.now) c.args.slot c.args.name.now (λ config. nat_lt c.args.dc config.data_centres) solo Opened
     (lt-ltb c.args.dc (config_in setup c.args.slot).data_centres there) (Refused c.in-Some.fault) (world_of c.args.self.now) (c.in-Some.ensures.refused solo Opened)
 
 pub returns-then-join-clause-moves : goal.returns-then-join-clause-moves
@@ -38,7 +38,7 @@ returns-then-join-clause-moves c =
     let sizes = sizes_in setup c.args.slot c.requires in
     let solo = OfSession (new_session c.args.dc 1) in
     let there = subst (λ n. c.args.dc < n) (ap (λ (k : KeptWorld). k.setup.head.data_centres) c.self.view_is ∙ sym sizes.data_centres) c.if-dc-self.false in
-    joins_there (world_of c.args.self.now) c.args.slot c.args.name (λ config. nat_lt c.args.dc config.data_centres) solo Opened
+    joins_there (world_of c.args.self.now) c.args.slot c.args.name.now (λ config. nat_lt c.args.dc config.data_centres) solo Opened
     (lt-ltb c.args.dc (config_in setup c.args.slot).data_centres there) Opened (world_of c.join.new.self)
     (c.join.ensures.joined c.if-join.true solo Opened
     (subst (λ (k : KeptWorld). ActorStandsFor (config_in k.setup c.args.slot) c.new_session-session.result solo) c.self.view_is

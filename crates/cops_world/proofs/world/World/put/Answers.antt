@@ -17,13 +17,13 @@ pub returns-in-Err-clause-moves : goal.returns-in-Err-clause-moves
 returns-in-Err-clause-moves c =
     let old = world_of c.args.self.now in
     let bad = bad_key c.args.key.now c.in-Err.fault (sym c.in-Err.is ∙ c.new.ensures ∙ ap key_or_fault c.as_slice.ensures) in
-    subst (λ f. Moves (λ config. cluster_step config (acts.Put c.args.name c.args.number c.args.key.now c.args.value.now)) old c.args.slot (Refused f) old) (sym bad.0)
-    (bad_key_moves old c.args.slot c.args.name c.args.number c.args.key.now c.args.value.now bad.1)
+    subst (λ f. Moves (λ config. cluster_step config (acts.Put c.args.name.now c.args.number c.args.key.now c.args.value.now)) old c.args.slot (Refused f) old) (sym bad.0)
+    (bad_key_moves old c.args.slot c.args.name.now c.args.number c.args.key.now c.args.value.now bad.1)
 
 pub returns-in-Err-new-clause-moves : goal.returns-in-Err-new-clause-moves
 returns-in-Err-new-clause-moves c =
     let good = good_key c.args.key.now c.in-Ok.key (sym c.in-Ok.is ∙ c.new.ensures ∙ ap key_or_fault c.as_slice.ensures) in
-    bad_value_moves (world_of c.args.self.now) c.args.slot c.args.name c.args.number c.args.key.now c.args.value.now c.in-Err-new.fault good.1
+    bad_value_moves (world_of c.args.self.now) c.args.slot c.args.name.now c.args.number c.args.key.now c.args.value.now c.in-Err-new.fault good.1
     (subst (λ v. (c.in-Err-new.fault ≡ OutOfMemory) ⊎ (refused_if (is_too_long v) ValueTooLong ≡ Some c.in-Err-new.fault)) c.as_slice-2.ensures c.in-Err-new.ensures.refused)
 
 pub returns-in-Ok-new-clause-moves : goal.returns-in-Ok-new-clause-moves
@@ -31,7 +31,7 @@ returns-in-Ok-new-clause-moves c =
     let old = world_of c.args.self.now in
     let new = world_of c.act.new.self in
     let slot = c.args.slot in
-    let name = c.args.name in
+    let name = c.args.name.now in
     let number = c.args.number in
     let reply = c.act.result in
     let key = good_key c.args.key.now c.in-Ok.key (sym c.in-Ok.is ∙ c.new.ensures ∙ ap key_or_fault c.as_slice.ensures) in
