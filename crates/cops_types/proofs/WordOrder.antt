@@ -281,3 +281,17 @@ front_size key front is e =
     let fits = is_key-fits key is in
     let size : length (padded 64 key) ≡ 64 = length-append key (replicate (64 - length key) 0) ∙ omega (arith, length-replicate {A = ℕ} (64 - length key) 0) in
     omega (arith, ap length e, length-take-le 15 (padded 64 key) (omega arith))
+
+-- the cells of two short keys decide
+pub shorts_decide : (b c : List ℕ) (m n : ℕ) (o : Ordering) → IsPadded 15 is_key b m → IsPadded 15 is_key c n →
+    o ≡ slice_cmp nat_cmp (take 15 b) (take 15 c) → o ≡ key_cmp (take m b) (take n c)
+shorts_decide b c m n o h k is = is ∙ sym whole
+  where
+    fits : (cells : List ℕ) (len : ℕ) → IsPadded 15 is_key cells len → length (take len cells) ≤ 15
+    fits cells len p = omega (arith, (padded-take 15 is_key cells len p).1, p.fits)
+
+    whole : key_cmp (take m b) (take n c) ≡ slice_cmp nat_cmp (take 15 b) (take 15 c)
+    whole =
+        padded_cmp 15 15 15 (take m b) (take n c) (omega arith) (omega arith) (fits b m h) (fits c n k) h.formed k.formed
+        ∙ (λ i. ordering_then (slice_cmp nat_cmp (take 15 ((padded-take 15 is_key b m h).0 i)) (take 15 ((padded-take 15 is_key c n k).0 i))) (slice_cmp nat_cmp (drop_all 15 (take m b) (fits b m h) i) (drop_all 15 (take n c) (fits c n k) i)))
+        ∙ then_Equal _

@@ -4,6 +4,7 @@ pub mod Context
 pub mod Counts
 pub mod FaultText
 pub mod Growing
+pub mod GrowingForms
 pub mod Head
 pub mod HeadLines
 pub mod HeadProgress

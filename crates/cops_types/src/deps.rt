@@ -7,9 +7,9 @@ ghost use Rattle.cops_types.specs.Version.{last_clock};
 ghost use Rattle.std.specs.Cmp.{partial_equiv_from_equiv};
 
 use crate::faults::Fault;
+use crate::growing_pairs::GrowingPairs;
 use crate::keys::Key;
 use crate::packed::PackedPairs;
-use crate::pair_lists::{copy_of_packed, joined_within, put_within};
 use crate::pairs::Pair;
 use crate::records::KeptParts;
 use crate::versions::Version;
@@ -159,6 +159,14 @@ impl Deps {
         }))
     }
 
+    /// The dependencies that packed pairs in order are.
+    pub(crate) fn of_packed(pairs: PackedPairs) -> Self
+        requires { IsDeps pairs }
+        ensures { result ≡ pairs }
+    {
+        Deps::of(OwnedDeps { pairs })
+    }
+
     /// Dependencies over their own memory.
     pub(crate) fn of(deps: OwnedDeps) -> Self
         ensures { result ≡ deps }
@@ -259,9 +267,9 @@ impl Deps {
         ensures err { OnErr result (self.new ≡ self.old) }
     {
         let alloc = self.packed().allocator();
-        let mut pairs = copy_of_packed(alloc, self.packed(), 1)?;
-        put_within(&mut pairs, pair, limit)?;
-        *self = Deps::copy_of(alloc, pairs.as_slice())?;
+        let mut pairs = GrowingPairs::of_packed(alloc, self.packed(), 1)?;
+        pairs.put_within(&pair, limit)?;
+        *self = Deps::of_packed(pairs.to_packed()?);
         Ok(())
     }
 
@@ -272,9 +280,9 @@ impl Deps {
         ensures err { OnErr result (self.new ≡ self.old) }
     {
         let alloc = self.packed().allocator();
-        let own = copy_of_packed(alloc, self.packed(), 0)?;
-        let pairs = joined_within(alloc, own.as_slice(), other.owned(), limit)?;
-        *self = Deps::copy_of(alloc, pairs.as_slice())?;
+        let mut pairs = GrowingPairs::of_packed(alloc, self.packed(), 0)?;
+        pairs.join(other.packed(), limit)?;
+        *self = Deps::of_packed(pairs.to_packed()?);
         Ok(())
     }
 }

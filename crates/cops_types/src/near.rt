@@ -7,8 +7,8 @@ ghost use Rattle.cops_types.specs.Search.{add_item};
 ghost use Rattle.std.specs.Cmp.{partial_equiv_from_equiv};
 
 use crate::faults::Fault;
+use crate::growing_pairs::GrowingPairs;
 use crate::packed::PackedPairs;
-use crate::pair_lists::{copy_of_packed, put_near};
 use crate::pairs::Pair;
 use crate::records::KeptParts;
 use std::alloc::{AllocError, Global};
@@ -135,6 +135,14 @@ impl Near {
         }))
     }
 
+    /// The dependencies that packed pairs in order are.
+    pub(crate) fn of_packed(pairs: PackedPairs) -> Self
+        requires { IsNear pairs }
+        ensures { result ≡ pairs }
+    {
+        Near::of(OwnedNear { pairs })
+    }
+
     /// Dependencies over their own memory.
     pub(crate) fn of(near: OwnedNear) -> Self
         ensures { result ≡ near }
@@ -213,9 +221,9 @@ impl Near {
         ensures err { OnErr result (self.new ≡ self.old) }
     {
         let alloc = self.packed().allocator();
-        let mut pairs = copy_of_packed(alloc, self.packed(), 1)?;
-        put_near(&mut pairs, pair, limit)?;
-        *self = Near::copy_of(alloc, pairs.as_slice())?;
+        let mut pairs = GrowingPairs::of_packed(alloc, self.packed(), 1)?;
+        pairs.put_near(&pair, limit)?;
+        *self = Near::of_packed(pairs.to_packed()?);
         Ok(())
     }
 }

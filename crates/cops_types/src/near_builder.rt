@@ -1,4 +1,4 @@
-ghost use Rattle.std.specs.Prelude.{◌≡◌, ◌≤◌, [], ◌∷◌, length, IfOk, OnOk, OnErr};
+ghost use Rattle.std.specs.Prelude.{◌≡◌, ◌<◌, ◌≤◌, [], ◌∷◌, length, slice_index_or, IfOk, OnOk, OnErr, false};
 ghost use Rattle.std.specs.List.{list_any};
 ghost use Rattle.cops_types.specs.Growing.{HasRoomForOne};
 ghost use Rattle.cops_types.specs.Pairs.{IsNear, holds, pair_cmp, is_over, without_held};
@@ -7,29 +7,29 @@ ghost use Rattle.cops_types.specs.Search.{add_item};
 
 use crate::deps::Deps;
 use crate::faults::Fault;
+use crate::growing_pairs::GrowingPairs;
+use crate::keys::Key;
 use crate::near::Near;
-use crate::pair_lists;
 use crate::pairs::Pair;
 use std::alloc::{AllocError, Global};
 use std::marker::Model;
 
 /// The nearest dependencies, growing in place. Contracts see the pairs, strictly rising by key and
-/// then by version, and how many more fit without memory.
+/// then by version, how many more fit without memory, and whether pairs with long keys do.
 #[derive(Debug, Drop)]
 pub struct NearBuilder {
-    pairs: Vec<Pair>,
+    pairs: GrowingPairs,
 }
 
 impl Model for NearBuilder {
-    ghost use Rattle.std.specs.Prelude.{◌-◌, vec_len, vec_capacity};
     ghost use Rattle.cops_types.specs.Growing.{Growing};
     ghost use Rattle.cops_types.specs.Pairs.{IsNear};
 
     ghost Value = { Growing };
 
-    ghost view = { λ n. record { pairs = n.pairs.items; spare = vec_capacity n.pairs - vec_len n.pairs } };
+    ghost view = { λ n. n.pairs };
 
-    ghost invariant = { λ n. IsNear n.pairs.items };
+    ghost invariant = { λ n. IsNear n.pairs.pairs };
 }
 
 impl NearBuilder {
@@ -38,62 +38,62 @@ impl NearBuilder {
         ensures { result.pairs ≡ [] }
     {
         NearBuilder {
-            pairs: Vec::new(alloc),
+            pairs: GrowingPairs::empty(alloc),
         }
     }
 
-    /// A copy, with room for more pairs.
+    /// A copy, with room for more pairs in the same form.
     pub fn with_room(&self, more: usize) -> Result<Self, AllocError>
         ensures pairs { IfOk result (λ copy. copy.pairs ≡ self.now.pairs) }
         ensures room { IfOk result (λ copy. more ≤ copy.spare) }
+        ensures form { IfOk result (λ copy. copy.takes_long ≡ self.now.takes_long) }
     {
         Ok(NearBuilder {
-            pairs: pair_lists::copy_with_room(
-                *self.pairs.allocator(),
-                self.pairs.as_slice(),
-                more,
-            )?,
+            pairs: self.pairs.with_room(more)?,
         })
     }
 
     /// How many pairs there are.
     pub fn len(&self) -> usize
-        ensures { result ≡ length self.now.pairs }
+        ensures len { result ≡ length self.now.pairs }
+        ensures in_order { IsNear self.now.pairs }
     {
         self.pairs.len()
     }
 
-    /// All pairs, in order.
-    pub fn pairs(&self) -> &[Pair]
-        ensures value { result.now ≡ self.now.pairs }
-        ensures in_order { IsNear self.now.pairs }
+    /// The pair at a place.
+    pub fn pair(&self, place: usize) -> Pair
+        requires { place < length self.now.pairs }
+        ensures { result ≡ slice_index_or self.now.pairs place result }
     {
-        self.pairs.as_slice()
+        self.pairs.pair(place)
     }
 
     /// Whether there is a pair that the deps hold exactly.
     pub fn has_held(&self, deps: &Deps) -> bool
         ensures { result ≡ list_any (holds deps.now) self.now.pairs }
     {
-        pair_lists::has_held_in(self.pairs(), deps.owned())
+        self.pairs.has_held(deps.owned())
     }
 
-    /// Takes the memory for more pairs.
-    pub fn reserve(&mut self, more: usize) -> Result<(), AllocError>
-        ensures ok { OnOk result (more ≤ self.new.spare) }
+    /// Takes the memory for one more pair with the key.
+    pub fn reserve_for(&mut self, key: &Key) -> Result<(), AllocError>
+        ensures ok { OnOk result (HasRoomForOne self.new key.now) }
+        ensures room { OnOk result (0 < self.new.spare) }
         ensures pairs { self.new.pairs ≡ self.old.pairs }
         ensures spare { self.old.spare ≤ self.new.spare }
+        ensures form { self.new.takes_long ≡ false → self.old.takes_long ≡ false }
         ensures err { OnErr result (self.new ≡ self.old) }
     {
-        self.pairs.reserve(more)
+        self.pairs.reserve_for(key)
     }
 
     /// Leaves one pair alone, where there is room for it.
     pub fn set_only(&mut self, pair: Pair)
-        requires { HasRoomForOne self.old }
+        requires { HasRoomForOne self.old pair.key }
         ensures { self.new.pairs ≡ pair ∷ [] }
     {
-        pair_lists::set_only(&mut self.pairs, pair);
+        self.pairs.set_only(&pair);
     }
 
     /// Adds a pair. One that is there is kept once.
@@ -102,20 +102,20 @@ impl NearBuilder {
         ensures refused { IsAnswer (refused_if (is_over limit (add_item pair_cmp pair self.old.pairs)) Fault.DependenciesFull) result }
         ensures err { OnErr result (self.new ≡ self.old) }
     {
-        pair_lists::put_near(&mut self.pairs, pair, limit)
+        self.pairs.put_near(&pair, limit)
     }
 
     /// Takes out each pair that the deps hold exactly.
     pub fn drop_held(&mut self, deps: &Deps)
         ensures { self.new.pairs ≡ without_held deps.now self.old.pairs }
     {
-        pair_lists::drop_held(&mut self.pairs, deps.owned());
+        self.pairs.drop_held(deps.owned());
     }
 
     /// A list of these pairs that is shared from now on. It is copied once, here.
     pub fn to_near(&self) -> Result<Near, AllocError>
         ensures { IfOk result (λ near. near ≡ self.now.pairs) }
     {
-        Near::copy_of(*self.pairs.allocator(), self.pairs())
+        Ok(Near::of_packed(self.pairs.to_packed()?))
     }
 }

@@ -55,7 +55,7 @@ impl Model for ShortPair {
 
 impl ShortPair {
     /// A pair with a short key.
-    fn of(pair: &Pair) -> Self
+    pub(crate) fn of(pair: &Pair) -> Self
         requires { length pair.now.key ≤ SHORT }
         ensures { result ≡ pair.now }
     {
@@ -67,7 +67,7 @@ impl ShortPair {
     }
 
     /// The same pair, with a key like any other.
-    fn pair(&self) -> Pair
+    pub(crate) fn pair(&self) -> Pair
         ensures { result ≡ self.now }
     {
         Pair {
@@ -89,6 +89,30 @@ impl ShortPair {
         ensures { result ≡ key_eq self.now.key key.now }
     {
         self.key_order(key) == Ordering::Equal
+    }
+
+    /// How the key stands to that of another short pair.
+    #[inline(always)]
+    pub(crate) fn order_to_short(&self, other: &ShortPair) -> Ordering
+        ensures { result ≡ key_cmp self.now.key other.now.key }
+    {
+        order_of_fronts(&self.bytes, &other.bytes, 7)
+    }
+
+    /// Whether the key is that of another short pair.
+    #[inline(always)]
+    pub(crate) fn has_key_of(&self, other: &ShortPair) -> bool
+        ensures { result ≡ key_eq self.now.key other.now.key }
+    {
+        self.order_to_short(other) == Ordering::Equal
+    }
+
+    /// Whether another short pair is the same.
+    #[inline(always)]
+    fn is_short_pair(&self, other: &ShortPair) -> bool
+        ensures { result ≡ pair_eq other.now self.now }
+    {
+        other.has_key_of(self) && other.version == self.version
     }
 
     /// Whether this is the pair.
@@ -292,6 +316,27 @@ fn is_among_many(pairs: &[ShortPair], pair: &Pair) -> bool
     }
 }
 
+/// Whether short pairs with one version for each key hold exactly this short pair, in the same way.
+#[inline(always)]
+pub(crate) fn has_short(pairs: &[ShortPair], pair: &ShortPair) -> bool
+    requires { IsDeps pairs.now }
+    ensures { result ≡ holds pairs.now pair.now }
+{
+    if pairs.len() > FEW {
+        return has_short_among_many(pairs, pair);
+    }
+    pairs.iter().any(|other| other.is_short_pair(pair))
+}
+
+/// The same, by halves.
+#[inline(never)]
+fn has_short_among_many(pairs: &[ShortPair], pair: &ShortPair) -> bool
+    requires { IsDeps pairs.now }
+    ensures { result ≡ holds pairs.now pair.now }
+{
+    is_among_many(pairs, &pair.pair())
+}
+
 /// Whether two pairs are the same.
 fn is_same_pair(pair: Pair, other: Pair) -> bool
     ensures { IsTrue result ↔ (pair ≡ other) }
@@ -332,6 +377,18 @@ impl PackedPairs {
             short_rows(alloc, pairs)?
         } else {
             Rows::Full(Vec::from_slice(alloc, pairs)?)
+        };
+        Ok(PackedPairs { alloc, rows })
+    }
+
+    /// A copy of short pairs, with one request for memory.
+    pub(crate) fn copy_of_short(alloc: Global, pairs: &[ShortPair]) -> Result<Self, AllocError>
+        ensures { IfOk result (λ packed. packed ≡ pairs.now) }
+    {
+        let rows = if pairs.len() == 1 {
+            Rows::One(pairs[0])
+        } else {
+            Rows::Short(Vec::from_slice(alloc, pairs)?)
         };
         Ok(PackedPairs { alloc, rows })
     }

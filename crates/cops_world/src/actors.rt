@@ -138,8 +138,8 @@ fn lists_of(alloc: Global, context: &Context) -> Result<(Deps, Near), AllocError
     ensures all { IfOk result (λ lists. lists.0 ≡ context.now.all) }
     ensures near { IfOk result (λ lists. lists.1 ≡ context.now.near) }
 {
-    let all = Deps::copy_of(alloc, context.all())?;
-    let near = Near::copy_of(alloc, context.near())?;
+    let all = context.all().to_deps()?;
+    let near = context.near().to_near()?;
     Ok((all, near))
 }
 

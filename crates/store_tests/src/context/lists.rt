@@ -1,6 +1,6 @@
 use crate::pairs::{assert_deps, assert_near, deps, pair};
 use cops_context::Context;
-use cops_types::{Deps, Pair};
+use cops_types::{Deps, DepsBuilder, NearBuilder, Pair};
 use std::alloc::Global;
 use std::process::Abort;
 
@@ -16,6 +16,11 @@ pub(crate) fn z(rt: &impl Abort) -> Pair {
     pair(rt, b"z", 3, 0)
 }
 
+/// A key that short pairs have no place for.
+pub(crate) fn long(rt: &impl Abort) -> Pair {
+    pair(rt, b"a_key_of_many_letters", 4, 1)
+}
+
 /// Sees y, which depends on x.
 fn observe_y(rt: &impl Abort, alloc: Global, context: &mut Context) {
     let on_x = deps(rt, alloc, &[x(rt)]);
@@ -28,9 +33,26 @@ fn observe_x(rt: &impl Abort, alloc: Global, context: &mut Context) {
     context.observe(x(rt), &none, 20).expect(rt, "room");
 }
 
+/// Dependencies that grow are these.
+fn assert_all(rt: &impl Abort, all: &DepsBuilder, pairs: &[Pair]) {
+    assert!(rt; all.len() == pairs.len());
+    for (place, pair) in pairs.iter().enumerate() {
+        assert!(rt; place < all.len() && all.pair(place) == *pair);
+    }
+}
+
+/// Nearest dependencies that grow are these.
+fn assert_nearest(rt: &impl Abort, near: &NearBuilder, pairs: &[Pair]) {
+    assert!(rt; near.len() == pairs.len());
+    for (place, pair) in pairs.iter().enumerate() {
+        assert!(rt; place < near.len() && near.pair(place) == *pair);
+    }
+}
+
 /// The context has these lists.
 pub(crate) fn assert_lists(rt: &impl Abort, context: &Context, all: &[Pair], near: &[Pair]) {
-    assert!(rt; context.all() == all && context.near() == near);
+    assert_all(rt, context.all(), all);
+    assert_nearest(rt, context.near(), near);
 }
 
 /// Asserts the two lists that a put of z sends, which depend on y, and what is left of them after it.
@@ -58,4 +80,30 @@ fn a_dependency_is_seen_first(rt: HostRuntime) {
     observe_x(&rt, rt.alloc(), &mut context);
     observe_y(&rt, rt.alloc(), &mut context);
     assert_put(&rt, rt.alloc(), &mut context);
+}
+
+#[test]
+fn a_long_key_is_seen_beside_short_ones(rt: HostRuntime) {
+    let mut context = Context::new(rt.alloc());
+    observe_y(&rt, rt.alloc(), &mut context);
+    let on_long = deps(&rt, rt.alloc(), &[long(&rt)]);
+    context.observe(z(&rt), &on_long, 20).expect(&rt, "room");
+    assert_lists(
+        &rt,
+        &context,
+        &[long(&rt), x(&rt), y(&rt), z(&rt)],
+        &[y(&rt), z(&rt)],
+    );
+}
+
+#[test]
+fn a_long_key_is_put_after_short_ones(rt: HostRuntime) {
+    let put = long(&rt);
+    let key = put.key;
+    let mut context = Context::new(rt.alloc());
+    observe_y(&rt, rt.alloc(), &mut context);
+    let is_ready = context.put_args(&key, 20).is_ok();
+    assert!(rt; is_ready);
+    context.after_put(put);
+    assert_lists(&rt, &context, &[long(&rt), x(&rt), y(&rt)], &[long(&rt)]);
 }

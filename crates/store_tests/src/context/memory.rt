@@ -1,7 +1,7 @@
 //! Each request for memory may be refused: the context is then as it was, and the same call again
 //! is answered. Run with the Nth request refused, for each N.
 
-use super::lists::{assert_lists, x, y, z};
+use super::lists::{assert_lists, long, x, y, z};
 use crate::entries::value;
 use cops_context::Context;
 use cops_types::{Deps, Fault, Pair, Read};
@@ -132,4 +132,31 @@ fn refused_memory_sends_no_put(rt: HostRuntime) {
     assert!(rt; is_ready);
     context.after_put(put);
     assert_lists(&rt, &context, &[z(&rt)], &[z(&rt)]);
+}
+
+#[test]
+fn refused_memory_turns_no_list_full(rt: HostRuntime) {
+    let key = long(&rt).key;
+    let mut context = Context::new(rt.alloc());
+    observe(
+        &rt,
+        &mut context,
+        &x(&rt),
+        &Deps::empty(rt.alloc()),
+        &[],
+        &[],
+    );
+    if let Err(fault) = context.put_args(&key, 20) {
+        assert!(rt; fault == Fault::OutOfMemory);
+        assert_lists(&rt, &context, &[x(&rt)], &[x(&rt)]);
+    }
+    observe(
+        &rt,
+        &mut context,
+        &long(&rt),
+        &Deps::empty(rt.alloc()),
+        &[x(&rt)],
+        &[x(&rt)],
+    );
+    assert_lists(&rt, &context, &[long(&rt), x(&rt)], &[long(&rt), x(&rt)]);
 }

@@ -1,9 +1,10 @@
-use Rattle.std.proofs.Common.{◌≡◌, ℕ, suc, ◌+◌, ◌<◌, inl, inr, drop, length, List, [], ◌∷◌, ◌++◌, sym, subst, ap, ◌∙◌, arith}
+use Rattle.std.proofs.Common.{◌≡◌, ℕ, suc, ◌+◌, ◌-◌, ◌<◌, inl, inr, drop, take, length, List, [], ◌∷◌, ◌++◌, sym, subst, ap, ◌∙◌, arith}
+use Rattle.std.proofs.lemmas.List.{length-drop, take_all}
 use Rattle.cops_types.specs.declared.pairs.Pair.{Pair}
 use Rattle.cops_types.specs.Pairs.{newer_pair}
 use Rattle.cops_types.proofs.Merging.{IsMerging, left_at, merged_all, merging_both, merging_first, merging_second, merging_start}
 use Rattle.cops_types.proofs.pair_lists.merge.Goals as goal
-use Rattle.cops_types.proofs.pair_lists.merge.Goals.{then-loop-first-test+else-second-len, else-loop-first-test}
+use Rattle.cops_types.proofs.pair_lists.merge.Goals.{then-loop-first-test+else-second-more, else-loop-first-test}
 
 pub loop-first-init : goal.loop-first-init
 loop-first-init c = record {
@@ -25,12 +26,12 @@ loop-first-preserved-in-Less c =
     let pairs = c.args.pairs.now in
     let more = c.args.more.now in
     let p = c.index-pairs-first.result in
-    let q = c.pair-other.result in
+    let q = c.index-more-second.result in
     let test = c.loop-first-test.true in
-    let other : l.second < length more = omega (arith, c.if-second-len.true, c.len.ensures) in
+    let other : l.second < length more = c.if-second-more.true in
     let left = left_at pairs l.first p test c.index-pairs-first.is in
-    let right = left_at more l.second q other c.pair-other.ensures in
-    let step = merging_first pairs more l.merged.items p (drop (suc l.first) pairs) q (drop (suc l.second) more) (opened pairs more l.merged.items l.first l.second p q l.invariant.merging left right) (sym c.cmp.ensures ∙ c.in-Less.is) in
+    let right = left_at more l.second q other c.index-more-second.is in
+    let step = merging_first pairs more l.merged.items p (drop (suc l.first) pairs) q (drop (suc l.second) more) (opened pairs more l.merged.items l.first l.second p q l.invariant.merging left right) (sym c.order_to_short.ensures ∙ c.in-Less.is) in
     let one_more : suc l.first ≡ l.first + 1 = omega arith in
     let within = l.invariant.within_second in
     let room = l.invariant.room in
@@ -49,12 +50,12 @@ loop-first-preserved-in-Greater c =
     let pairs = c.args.pairs.now in
     let more = c.args.more.now in
     let p = c.index-pairs-first.result in
-    let q = c.pair-other.result in
+    let q = c.index-more-second.result in
     let test = c.loop-first-test.true in
-    let other : l.second < length more = omega (arith, c.if-second-len.true, c.len.ensures) in
+    let other : l.second < length more = c.if-second-more.true in
     let left = left_at pairs l.first p test c.index-pairs-first.is in
-    let right = left_at more l.second q other c.pair-other.ensures in
-    let step = merging_second pairs more l.merged.items p (drop (suc l.first) pairs) q (drop (suc l.second) more) (opened pairs more l.merged.items l.first l.second p q l.invariant.merging left right) (sym c.cmp.ensures ∙ c.in-Greater.is) in
+    let right = left_at more l.second q other c.index-more-second.is in
+    let step = merging_second pairs more l.merged.items p (drop (suc l.first) pairs) q (drop (suc l.second) more) (opened pairs more l.merged.items l.first l.second p q l.invariant.merging left right) (sym c.order_to_short.ensures ∙ c.in-Greater.is) in
     let one_more : suc l.second ≡ l.second + 1 = omega arith in
     let within = l.invariant.within_first in
     let room = l.invariant.room in
@@ -73,12 +74,12 @@ loop-first-preserved c =
     let pairs = c.args.pairs.now in
     let more = c.args.more.now in
     let p = c.index-pairs-first.result in
-    let q = c.pair-other.result in
+    let q = c.index-more-second.result in
     let test = c.loop-first-test.true in
-    let other : l.second < length more = omega (arith, c.if-second-len.true, c.len.ensures) in
+    let other : l.second < length more = c.if-second-more.true in
     let left = left_at pairs l.first p test c.index-pairs-first.is in
-    let right = left_at more l.second q other c.pair-other.ensures in
-    let step = merging_both pairs more l.merged.items p (drop (suc l.first) pairs) q (drop (suc l.second) more) (opened pairs more l.merged.items l.first l.second p q l.invariant.merging left right) (sym c.cmp.ensures ∙ c.in-Equal.is) in
+    let right = left_at more l.second q other c.index-more-second.is in
+    let step = merging_both pairs more l.merged.items p (drop (suc l.first) pairs) q (drop (suc l.second) more) (opened pairs more l.merged.items l.first l.second p q l.invariant.merging left right) (sym c.order_to_short.ensures ∙ c.in-Equal.is) in
     let one_more : suc l.first ≡ l.first + 1 = omega arith in
     let one_other : suc l.second ≡ l.second + 1 = omega arith in
     let room = l.invariant.room in
@@ -91,10 +92,14 @@ loop-first-preserved c =
           (subst (λ n. IsMerging pairs more (l.merged.items ++ newer_pair p q ∷ []) (drop (suc l.first) pairs) (drop n more)) one_other step));
     }
 
+rest : (l : List Pair) (n : ℕ) → take (length l - n) (drop n l) ≡ drop n l
+rest l n = take_all (length l - n) (drop n l) (omega (arith, length-drop n l))
+
 pub returns : goal.returns
 returns c =
     let l = c.loop-first in
     let pairs = c.args.pairs.now in
     let more = c.args.more.now in
-    c.extend_packed.ensures.items ∙ ap (λ done. done ++ drop l.second more) c.extend_reserved.ensures.items
-    ∙ merged_all pairs more l.merged.items l.first l.second l.invariant.merging (elim c.loop-first-test.branch [ then-loop-first-test+else-second-len w ↦ inr (omega (arith, w.if-second-len.false, w.len.ensures)) | else-loop-first-test w ↦ inl w.loop-first-test.false ])
+    c.extend_reserved-2.ensures.items ∙ ap (λ done. c.extend_reserved.new.pairs.items ++ done) (rest more l.second)
+    ∙ ap (λ done. done ++ drop l.second more) c.extend_reserved.ensures.items
+    ∙ merged_all pairs more l.merged.items l.first l.second l.invariant.merging (elim c.loop-first-test.branch [ then-loop-first-test+else-second-more w ↦ inr w.if-second-more.false | else-loop-first-test w ↦ inl w.loop-first-test.false ])

@@ -3,7 +3,7 @@ use Rattle.cops_session.specs.Kept.{KeptSession}
 use Rattle.cops_session.specs.SessionStands.{SessionStandsFor}
 use Rattle.cops_session.proofs.SessionLaws.{answered, create_refusal-idle, SessionStandsFor-created}
 use Rattle.cops_session.proofs.sessions.Session.create_context.Goals as goal
-use Rattle.cops_session.proofs.sessions.Session.create_context.Goals.{in-Ok, in-Err}
+use Rattle.cops_session.proofs.sessions.Session.create_context.Goals.{in-Ok, in-Err+in-Full-1, in-Err+in-Short-1}
 
 pub returns-clause-created : goal.returns-clause-created
 returns-clause-created c = λ config session stand.
@@ -16,7 +16,8 @@ returns-clause-created c = λ config session stand.
             SessionStandsFor-created config _ session stands _ c.new.result idle (record { all_is = ap (λ l. l.all) c.new.ensures; near_is = ap (λ l. l.near) c.new.ensures })
                 (λ i. record { setting = c.self.inside.setting; moment = c.self.inside.moment; contexts = w.in-Ok.ensures.opened i; next_request = c.self.inside.next_request; running = c.self.inside.running }),
           )
-      | in-Err w ↦ rw w.result-is tt
+      | in-Err+in-Full-1 w ↦ rw w.result-is tt
+      | in-Err+in-Short-1 w ↦ rw w.result-is tt
     ]
 
 pub returns-clause-refused : goal.returns-clause-refused
@@ -26,5 +27,6 @@ returns-clause-refused c = λ config session stand.
     answered _ _ c.match-open.result (create_refusal-idle config _ session stands idle)
     (elim c.match-open.branch [
       | in-Ok w ↦ rw w.result-is w.in-Ok.ensures.refused
-      | in-Err w ↦ rw w.result-is w.in-Err.ensures.refused.1
+      | in-Err+in-Full-1 w ↦ rw w.result-is w.in-Err.ensures.refused.1
+      | in-Err+in-Short-1 w ↦ rw w.result-is w.in-Err.ensures.refused.1
     ])
