@@ -20,7 +20,7 @@ use Rattle.cops_model.specs.declared.calls.NodeReply.{NodeReply}
 use Rattle.cops_model.specs.declared.calls.NodeReply.TheVariants.{Refused}
 use Rattle.cops_node.specs.Clusters.{Cluster, nodes_of, HasTenant, solo_at, turn_at, IsTurnOf, IsCall, IsCluster, id_of, new_shared, new_nodes, shape_of, HoldsNodes}
 use Rattle.cops_node.specs.declared.Home.{Home}
-use Rattle.cops_node.specs.Parts.{Shared, home_of, opening_terms, place_at, place_under, site_in, terms_of, trail_of, solo_of, left_by, has_audit_room, IsTurn, AllFit, AuditFits, IsAudited}
+use Rattle.cops_node.specs.Parts.{Shared, home_of, opening_terms, place_at, place_under, site_in, terms_of, trail_of, solo_of, left_by, has_audit_room, IsSoloTurn, IsTurn, AllFit, AuditFits, IsAudited}
 use Rattle.cops_model.specs.Place.{Place, fits, node_number, place_of}
 use Rattle.cops_node.specs.declared.Shape.{Shape}
 use Rattle.cops_node.specs.Shape.{place_in}
@@ -142,6 +142,11 @@ module _ (shape : Shape) (nodes : List Shared) (id : NodeId) (slot moment : ℕ)
   turn_of : (o : Option Place) → place_at slot node ≡ o → ((reply ≡ Refused OutOfMemory) × (new ≡ old)) ⊎ ((config : TenantConfig) → config.shards ≡ shape.shards → HasTenant config slot old → IsTurnOf config id slot moment call reply old new)
   turn_of None at = inr (λ config same_shards has. absurd (true≢false (sym (ap is_some (sym at ∙ found config has)))))
   turn_of (Some place) at = which place at (turn place at)
+
+  -- a turn of the slot is the turn of his solo node
+  pub turned : ((place : Place) → place_at slot node ≡ Some place → IsSoloTurn slot moment call reply place node next)
+      → (config : TenantConfig) → config.shards ≡ shape.shards → HasTenant config slot old → IsTurnOf config id slot moment call reply old new
+  turned done config same_shards has = let at = found config has in by_tenant (place_of config node.home.id) at (done (place_of config node.home.id) at) config same_shards has
 
   pub call_is : IsCall old id slot moment call reply new
   call_is = record {

@@ -3,6 +3,7 @@ pub mod NewRecords
 pub mod Clusters
 pub mod Effects
 pub mod Slots
+pub mod ToldTurns
 pub mod TrailLemmas
 pub mod Stored
 mod Examples

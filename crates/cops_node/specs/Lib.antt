@@ -18,6 +18,7 @@ pub mod Parts
 pub mod Clusters
 pub mod Lives
 pub mod Taken
+pub mod ToldReplies
 pub mod Trails
 pub use Rattle.cops_outbox.specs.Queues
 pub mod Hosting

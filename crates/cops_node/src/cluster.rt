@@ -4,15 +4,16 @@ ghost use Rattle.cops_types.specs.declared.configs.Tenant.{Tenant};
 ghost use Rattle.cops_types.specs.HeadLines.{are_sizes};
 ghost use Rattle.cops_types.specs.Layout.{NODES};
 ghost use Rattle.cops_types.specs.Refusal.{IsAnswer, refused_if};
-ghost use Rattle.cops_types.specs.TenantConfig.{tenant_config};
+ghost use Rattle.cops_types.specs.TenantConfig.{TenantConfig, tenant_config};
 ghost use Rattle.cops_types.specs.Version.{last_clock};
 ghost use Rattle.cops_types.specs.declared.faults.Fault.TheVariants.{NoSlot};
 ghost use Rattle.cops_model.specs.declared.calls.NodeCall.{NodeCall};
 ghost use Rattle.cops_model.specs.declared.calls.NodeReply.{NodeReply};
-ghost use Rattle.cops_node.specs.Clusters.{IsCall, IsCluster, HasTenant, nodes_of, new_nodes};
+ghost use Rattle.cops_node.specs.Clusters.{IsCall, IsCluster, IsTurnOf, HasTenant, nodes_of, new_nodes};
 ghost use Rattle.cops_node.specs.Lives.{AtEach, IsAdmitted, IsClosed};
 ghost use Rattle.cops_node.specs.Parts.{AuditFits, are_clocks, is_taken};
 ghost use Rattle.cops_node.specs.Shape.{Fits};
+ghost use Rattle.cops_node.specs.ToldReplies.{told_reply};
 ghost use Rattle.cops_model.specs.SoloNode.{new_node};
 ghost use Rattle.std.specs.List.{AllByRecursion, list_any};
 
@@ -116,7 +117,20 @@ impl Nodes for Cluster0 {
 
     ghost Answers = { IsCall };
 
-    fn step(&mut self, id: NodeId, slot: u64, moment: u64, call: NodeCall) -> NodeReply {
+    /// What is answered is the solo node's reply. Where memory is refused no node changes.
+    fn step(
+        &mut self,
+        id: NodeId,
+        slot: u64,
+        moment: u64,
+        call: NodeCall,
+    ) -> Result<NodeReply, AllocError>
+        requires { Fits self.old.shape id call }
+        ensures answers { IsCall self.old id slot moment call (told_reply result) self.new }
+        ensures ok { IfOk result (λ reply. (config : TenantConfig) → config.shards ≡ self.old.shape.shards → HasTenant config slot self.old → IsTurnOf config id slot moment call reply self.old self.new) }
+        ensures err { OnErr result (self.new ≡ self.old) }
+        ensures shape { self.new.shape ≡ self.old.shape }
+    {
         let number = (id.dc * self.shards + id.shard) as usize;
         let node = &mut self.nodes[number];
         node.step(slot, moment, call)

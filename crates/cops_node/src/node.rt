@@ -218,12 +218,14 @@ impl Node {
         Ok(())
     }
 
-    /// Makes a call for the tenant of a slot. Where the audit is full or there is no tenant that is the
-    /// reply, and nothing changes. Nothing changes either where memory is refused.
-    fn try_step(&mut self, slot: u64, moment: u64, call: NodeCall) -> Result<NodeReply, AllocError>
+    /// Makes a call for the tenant of a slot. Where it has none or the audit is full, that is the reply and
+    /// nothing changes; a full audit comes first, whatever memory there is. Nothing changes either where
+    /// memory is refused, which is the error.
+    pub fn step(&mut self, slot: u64, moment: u64, call: NodeCall) -> Result<NodeReply, AllocError>
         requires { IsTrue (fits (place_in self.old.home.shape self.old.home.id) call) }
         ensures turn { IfOk result (λ reply. (place : Place) → place_at slot self.old ≡ Some place → IsSoloTurn slot moment call reply place self.old self.new) }
         ensures noted { IfOk result (λ reply. IsSome (place_at slot self.old) → JoinsTrail slot moment call reply self.old self.new) }
+        ensures full { (place : Place) → place_at slot self.old ≡ Some place → has_audit_room slot place self.old ≡ false → result ≡ Ok (NodeReply.Refused Fault.AuditFull) }
         ensures vacant { place_at slot self.old ≡ None → result ≡ Ok (NodeReply.Refused Fault.UnknownTenant) }
         ensures unchanged { place_at slot self.old ≡ None → self.new ≡ self.old }
         ensures others { (other : ℕ) → other ≢ slot → trail_of other self.new.audit ≡ trail_of other self.old.audit }
@@ -253,25 +255,6 @@ impl Node {
             None => Ok(NodeReply::Refused(Fault::UnknownTenant)),
         }
     }
-
-    /// Makes a call for the tenant of a slot. Where it has none, the audit is full or memory is refused,
-    /// that is the reply and nothing changes; a full audit comes first, whatever memory there is.
-    pub fn step(&mut self, slot: u64, moment: u64, call: NodeCall) -> NodeReply
-        requires { IsTrue (fits (place_in self.old.home.shape self.old.home.id) call) }
-        ensures turn { (place : Place) → place_at slot self.old ≡ Some place → IsTurn slot moment call result place self.old self.new }
-        ensures full { (place : Place) → place_at slot self.old ≡ Some place → has_audit_room slot place self.old ≡ false → result ≡ NodeReply.Refused Fault.AuditFull }
-        ensures vacant { place_at slot self.old ≡ None → result ≡ NodeReply.Refused Fault.UnknownTenant }
-        ensures unchanged { place_at slot self.old ≡ None → self.new ≡ self.old }
-        ensures audited { IsSome (place_at slot self.old) → IsAudited slot moment call result self.old self.new }
-        ensures others { (other : ℕ) → other ≢ slot → trail_of other self.new.audit ≡ trail_of other self.old.audit }
-        ensures home { self.new.home ≡ self.old.home }
-        ensures terms { self.new.terms ≡ self.old.terms }
-    {
-        match self.try_step(slot, moment, call) {
-            Ok(reply) => reply,
-            Err(error) => NodeReply::Refused(Fault::from(error)),
-        }
-    }
 }
 
 impl Machine for Node {
@@ -294,7 +277,7 @@ impl Machine for Node {
     ghost may_lack = { MayLack };
 
     fn turn(&mut self, slot: u64, moment: u64, call: NodeCall) -> Result<NodeReply, Fault> {
-        match self.try_step(slot, moment, call) {
+        match self.step(slot, moment, call) {
             Ok(reply) => Ok(reply),
             Err(error) => Err(Fault::from(error)),
         }

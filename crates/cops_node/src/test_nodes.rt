@@ -110,7 +110,10 @@ pub(crate) fn ask(
     call: NodeCall,
 ) -> NodeReply {
     assert!(rt; node.fits(&call));
-    node.step(slot, moment, call)
+    match node.step(slot, moment, call) {
+        Ok(reply) => reply,
+        Err(error) => NodeReply::Refused(Fault::from(error)),
+    }
 }
 
 pub(crate) fn audit_len(rt: &impl Abort, node: &Node, slot: u64) -> u64 {

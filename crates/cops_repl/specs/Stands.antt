@@ -1,10 +1,13 @@
 -- What a carrier keeps, and which carriers of the definition it stands for.
-use Rattle.std.specs.Prelude.{◌≡◌, ◌≢◌, ℕ, ◌<◌, ◌≤◌, Bool, true, false, List, [], ◌∷◌, ◌++◌, length, replicate, if◌then◌else◌}
+use Rattle.std.specs.Prelude.{◌≡◌, ◌≢◌, ℕ, ◌<◌, ◌≤◌, Bool, true, false, List, [], ◌∷◌, ◌++◌, length, replicate, Result, Ok, Err, if◌then◌else◌}
+use Rattle.std.specs.declared.alloc.AllocError.{AllocError}
+use Rattle.cops_types.specs.declared.faults.Fault.TheVariants.{OutOfMemory}
 use Rattle.cops_types.specs.declared.records.EntryParts.{EntryParts as Entry}
 use Rattle.cops_model.specs.declared.calls.NodeReply.{NodeReply}
 use Rattle.cops_model.specs.declared.calls.NodeReply.TheVariants.{Checked, Pulled, Committed, Already, Acked, NotFront}
 use Rattle.cops_model.specs.Log.{Call, Directed, Ended, LogStep, replies_of}
 use Rattle.cops_node.specs.declared.Shape.{Shape}
+use Rattle.cops_model.specs.declared.deliveries.Delivery.TheVariants.{Refused}
 use Rattle.cops_model.specs.declared.deliveries.Progress.{Progress}
 use Rattle.cops_model.specs.declared.deliveries.Progress.TheVariants.{Working, Done}
 use Rattle.cops_repl.specs.declared.stages.After.{After}
@@ -88,6 +91,11 @@ AsksNext shards stream stage directed =
 -- the stage makes this call, and this follows from its reply
 abbrev pub IsStepFrom : ℕ → Stream → Stage → Directed → NodeReply → After → Type 0
 IsStepFrom shards stream stage directed reply after = AsksNext shards stream stage directed × FollowsReply shards stream stage reply after
+
+-- what follows where the node was refused memory: the end that says so
+abbrev pub told_after : Result After AllocError → After
+told_after (Ok after) = after
+told_after (Err error) = Ends (Refused OutOfMemory)
 
 abbrev pub IsSoundAfter : ℕ → Stream → After → Type 0
 IsSoundAfter shards stream (Goes stage) = IsSound shards stream stage × (stage_is_over stage ≡ false)

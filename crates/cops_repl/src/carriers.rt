@@ -4,10 +4,10 @@ ghost use Rattle.cops_model.specs.Log.{Directed, Replied};
 ghost use Rattle.cops_model.specs.Carrier.{Carrier as Solo, new_carrier};
 ghost use Rattle.cops_repl.specs.Stands.{CarrierStandsFor, IsStepOf, RunsIn, has_ended, is_done};
 
-use crate::Progress;
 use crate::stages::{After, Route, Stage};
+use crate::{Delivery, Progress};
 use cops_node::{NodeId, Nodes};
-use cops_types::Config;
+use cops_types::{Config, Fault};
 use std::marker::Model;
 use std::mem;
 
@@ -78,11 +78,12 @@ impl Carrier {
         self.moment = self.moment.max(moment);
         let stage = mem::replace(&mut self.stage, Stage::Over);
         match self.route.step(nodes, slot, self.moment, stage) {
-            After::Goes(stage) => {
+            Ok(After::Goes(stage)) => {
                 self.stage = stage;
                 Progress::Working
             }
-            After::Ends(ending) => Progress::Done(ending),
+            Ok(After::Ends(ending)) => Progress::Done(ending),
+            Err(error) => Progress::Done(Delivery::Refused(Fault::from(error))),
         }
     }
 }

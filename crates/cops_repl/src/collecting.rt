@@ -1,4 +1,4 @@
-ghost use Rattle.std.specs.Prelude.{◌≡◌, ℕ, ◌+◌, ◌^◌, ◌<◌, MatchResult};
+ghost use Rattle.std.specs.Prelude.{◌≡◌, ℕ, ◌+◌, ◌^◌, ◌<◌, IfOk, MatchResult};
 ghost use Rattle.cops_model.specs.declared.calls.NodeReply.TheVariants.{Removed};
 ghost use Rattle.cops_repl.specs.Collections.{CollectsAll, StopsAt, all_nodes, nodes_of_data_centre};
 
@@ -11,6 +11,7 @@ fn add_removed(total: u64, reply: &NodeReply) -> Result<u64, Fault>
         (λ sum. (count : ℕ) × (reply.now ≡ Removed count) × (sum ≡ total + count))
         (λ fault. StopsAt total reply.now fault) }
     ensures fits { total < 2 ^ 64 }
+    ensures sum_fits { IfOk result (λ sum. sum < 2 ^ 64) }
 {
     match reply {
         NodeReply::Removed(count) => total.checked_add(*count).ok_or(Fault::Torn),
@@ -35,7 +36,7 @@ fn collect_in<N: Nodes>(
 {
     let mut total = start;
     for shard in 0..shards {
-        let reply = nodes.step(NodeId { dc, shard }, slot, moment, NodeCall::Collect);
+        let reply = nodes.step(NodeId { dc, shard }, slot, moment, NodeCall::Collect)?;
         total = add_removed(total, &reply)?;
     }
     Ok(total)

@@ -1,17 +1,18 @@
 //! How far a carrier has come, and the call that each stage makes.
-ghost use Rattle.std.specs.Prelude.{◌≡◌, ℕ, ◌<◌, ◌^◌, ◌==◌, length, false};
+ghost use Rattle.std.specs.Prelude.{◌≡◌, ℕ, ◌<◌, ◌^◌, ◌==◌, length, false, IfOk};
 ghost use Rattle.cops_model.specs.declared.calls.NodeReply.{NodeReply};
 ghost use Rattle.cops_model.specs.declared.calls.NodeCall.TheVariants.{DepCheck};
 ghost use Rattle.cops_model.specs.Log.{Directed};
 ghost use Rattle.cops_model.specs.Place.{node_number};
 ghost use Rattle.cops_types.specs.declared.records.EntryParts.{EntryParts};
 ghost use Rattle.cops_model.specs.Carrier.{Stream, end_of, is_foreign, pair_of_entry};
-ghost use Rattle.cops_repl.specs.Stands.{FollowsReply, IsSound, IsSoundAfter, IsStepFrom, RunsIn, stage_is_over, stream_of};
+ghost use Rattle.cops_repl.specs.Stands.{FollowsReply, IsSound, IsSoundAfter, IsStepFrom, RunsIn, stage_is_over, stream_of, told_after};
 ghost use Rattle.cops_repl.specs.declared.stages.Stage.TheVariants.{Pulling, Carrying, Stored};
 
 use crate::Delivery;
 use cops_node::{NodeCall, NodeId, NodeReply, Nodes};
 use cops_types::{Entry, Fault, Pair};
+use std::alloc::AllocError;
 
 /// How far a carrier has come.
 #[derive(Debug, Drop)]
@@ -45,14 +46,20 @@ pub struct Route {
 
 impl Route {
     /// Makes the call of a stage.
-    pub fn step<N: Nodes>(&self, nodes: &mut N, slot: u64, moment: u64, stage: Stage) -> After
+    pub fn step<N: Nodes>(
+        &self,
+        nodes: &mut N,
+        slot: u64,
+        moment: u64,
+        stage: Stage,
+    ) -> Result<After, AllocError>
         requires goes_on { stage_is_over stage ≡ false }
         requires sound { IsSound self.now.shards (stream_of self.now) stage }
         requires stream { RunsIn (N.shape nodes.old) self.now.shards (stream_of self.now) }
         ensures called { (directed : Directed) × (reply : NodeReply)
             × N.Answers nodes.old directed.node slot moment directed.call reply nodes.new
-            × IsStepFrom self.now.shards (stream_of self.now) stage directed reply result }
-        ensures sound { IsSoundAfter self.now.shards (stream_of self.now) result }
+            × IsStepFrom self.now.shards (stream_of self.now) stage directed reply (told_after result) }
+        ensures sound { IfOk result (IsSoundAfter self.now.shards (stream_of self.now)) }
         ensures shape { N.shape nodes.new ≡ N.shape nodes.old }
     {
         match stage {
@@ -88,16 +95,16 @@ impl Route {
     }
 
     /// Pulls the front of the queue at the origin.
-    fn pull<N: Nodes>(&self, nodes: &mut N, slot: u64, moment: u64) -> After
+    fn pull<N: Nodes>(&self, nodes: &mut N, slot: u64, moment: u64) -> Result<After, AllocError>
         requires stream { RunsIn (N.shape nodes.old) self.now.shards (stream_of self.now) }
         ensures called { (directed : Directed) × (reply : NodeReply)
             × N.Answers nodes.old directed.node slot moment directed.call reply nodes.new
-            × IsStepFrom self.now.shards (stream_of self.now) Pulling directed reply result }
-        ensures sound { IsSoundAfter self.now.shards (stream_of self.now) result }
+            × IsStepFrom self.now.shards (stream_of self.now) Pulling directed reply (told_after result) }
+        ensures sound { IfOk result (IsSoundAfter self.now.shards (stream_of self.now)) }
         ensures shape { N.shape nodes.new ≡ N.shape nodes.old }
     {
-        let reply = nodes.step(self.origin, slot, moment, NodeCall::Pull(self.to_dc));
-        self.after_pull(reply)
+        let reply = nodes.step(self.origin, slot, moment, NodeCall::Pull(self.to_dc))?;
+        Ok(self.after_pull(reply))
     }
 
     fn after_pull(&self, reply: NodeReply) -> After
@@ -127,15 +134,15 @@ impl Route {
         moment: u64,
         entry: Entry,
         checked: usize,
-    ) -> After
+    ) -> Result<After, AllocError>
         requires left { checked < length entry.near }
         requires small { length entry.near < 2 ^ 64 }
         requires own { is_foreign self.now.shards (stream_of self.now) entry ≡ false }
         requires stream { RunsIn (N.shape nodes.old) self.now.shards (stream_of self.now) }
         ensures called { (directed : Directed) × (reply : NodeReply)
             × N.Answers nodes.old directed.node slot moment directed.call reply nodes.new
-            × IsStepFrom self.now.shards (stream_of self.now) (Carrying entry checked) directed reply result }
-        ensures sound { IsSoundAfter self.now.shards (stream_of self.now) result }
+            × IsStepFrom self.now.shards (stream_of self.now) (Carrying entry checked) directed reply (told_after result) }
+        ensures sound { IfOk result (IsSoundAfter self.now.shards (stream_of self.now)) }
         ensures shape { N.shape nodes.new ≡ N.shape nodes.old }
     {
         let pair = entry.near().pair(checked);
@@ -144,24 +151,30 @@ impl Route {
             shard: pair.key.shard(self.shards),
         };
         let call = NodeCall::DepCheck(pair.key, pair.version);
-        let reply = nodes.step(id, slot, moment, call);
+        let reply = nodes.step(id, slot, moment, call)?;
         match end_of_check(pair, &reply) {
-            Some(ending) => After::Ends(ending),
-            None => After::Goes(Stage::Carrying {
+            Some(ending) => Ok(After::Ends(ending)),
+            None => Ok(After::Goes(Stage::Carrying {
                 entry,
                 checked: checked + 1,
-            }),
+            })),
         }
     }
 
     /// Commits the entry at the equivalent node of the destination.
-    fn commit<N: Nodes>(&self, nodes: &mut N, slot: u64, moment: u64, entry: Entry) -> After
+    fn commit<N: Nodes>(
+        &self,
+        nodes: &mut N,
+        slot: u64,
+        moment: u64,
+        entry: Entry,
+    ) -> Result<After, AllocError>
         requires own { is_foreign self.now.shards (stream_of self.now) entry ≡ false }
         requires stream { RunsIn (N.shape nodes.old) self.now.shards (stream_of self.now) }
         ensures called { (directed : Directed) × (reply : NodeReply)
             × N.Answers nodes.old directed.node slot moment directed.call reply nodes.new
-            × IsStepFrom self.now.shards (stream_of self.now) (Carrying entry (length entry.near)) directed reply result }
-        ensures sound { IsSoundAfter self.now.shards (stream_of self.now) result }
+            × IsStepFrom self.now.shards (stream_of self.now) (Carrying entry (length entry.near)) directed reply (told_after result) }
+        ensures sound { IfOk result (IsSoundAfter self.now.shards (stream_of self.now)) }
         ensures shape { N.shape nodes.new ≡ N.shape nodes.old }
     {
         let pair = Pair {
@@ -172,8 +185,8 @@ impl Route {
             dc: self.to_dc,
             shard: self.origin.shard,
         };
-        let reply = nodes.step(id, slot, moment, NodeCall::Commit(entry));
-        after_commit(pair, &reply)
+        let reply = nodes.step(id, slot, moment, NodeCall::Commit(entry))?;
+        Ok(after_commit(pair, &reply))
     }
 
     /// Acknowledges the entry at the origin.
@@ -184,17 +197,17 @@ impl Route {
         moment: u64,
         pair: Pair,
         fresh: bool,
-    ) -> After
+    ) -> Result<After, AllocError>
         requires stream { RunsIn (N.shape nodes.old) self.now.shards (stream_of self.now) }
         ensures called { (directed : Directed) × (reply : NodeReply)
             × N.Answers nodes.old directed.node slot moment directed.call reply nodes.new
-            × IsStepFrom self.now.shards (stream_of self.now) (Stored pair fresh) directed reply result }
-        ensures sound { IsSoundAfter self.now.shards (stream_of self.now) result }
+            × IsStepFrom self.now.shards (stream_of self.now) (Stored pair fresh) directed reply (told_after result) }
+        ensures sound { IfOk result (IsSoundAfter self.now.shards (stream_of self.now)) }
         ensures shape { N.shape nodes.new ≡ N.shape nodes.old }
     {
         let call = NodeCall::Ack(self.to_dc, pair.version);
-        let reply = nodes.step(self.origin, slot, moment, call);
-        after_acknowledge(pair, fresh, &reply)
+        let reply = nodes.step(self.origin, slot, moment, call)?;
+        Ok(after_acknowledge(pair, fresh, &reply))
     }
 }
 

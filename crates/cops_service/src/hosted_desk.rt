@@ -1,5 +1,6 @@
 //! A thread's place before nodes at which tenants come and go.
 ghost use Rattle.std.specs.Prelude.{◌≡◌, ◌<◌};
+ghost use Rattle.cops_node.specs.ToldReplies.{told_reply};
 ghost use Rattle.cops_service.specs.Desks.{AreNodes, shape_in};
 ghost use Rattle.cops_service.specs.Gates.{IsSeatOf};
 ghost use Rattle.cops_service.specs.HostedDesks.{FitsThere, IsOwnCall, IsSlotCall, reply_to_own};
@@ -7,6 +8,7 @@ ghost use Rattle.cops_service.specs.HostedDesks.{FitsThere, IsOwnCall, IsSlotCal
 use crate::cluster::{Cluster, ServiceSeat};
 use cops_node::{HostedNode, NodeCall, NodeId, NodeReply, Nodes, SlotCall, SlotReply};
 use cops_types::Fault;
+use std::alloc::AllocError;
 use std::sync::Wait;
 
 /// A thread's handle and seat, and a cluster at which tenants come and go. A call at it waits for its
@@ -21,14 +23,15 @@ pub struct HostedDesk<'a, R: Wait> {
 }
 
 /// What a session or a carrier is told.
-fn reply_to_own(answer: SlotReply) -> NodeReply
-    ensures { result ≡ reply_to_own answer }
+fn reply_to_own(answer: SlotReply) -> Result<NodeReply, AllocError>
+    ensures { told_reply result ≡ reply_to_own answer }
 {
     match answer {
-        SlotReply::Own(reply) => reply,
-        SlotReply::Refused(fault) => NodeReply::Refused(fault),
-        SlotReply::Admitted => NodeReply::Refused(Fault::Torn),
-        SlotReply::Closed => NodeReply::Refused(Fault::Torn),
+        SlotReply::Own(reply) => Ok(reply),
+        SlotReply::Refused(Fault::OutOfMemory) => Err(AllocError),
+        SlotReply::Refused(fault) => Ok(NodeReply::Refused(fault)),
+        SlotReply::Admitted => Ok(NodeReply::Refused(Fault::Torn)),
+        SlotReply::Closed => Ok(NodeReply::Refused(Fault::Torn)),
     }
 }
 
@@ -72,7 +75,13 @@ impl<R: Wait> Nodes for HostedDesk<'_, R> {
 
     ghost Answers = { λ old id slot moment call reply new. (new.cluster.now ≡ old.cluster.now) × (new.seat.ghost_name ≡ old.seat.ghost_name) × IsOwnCall old.cluster.now old.seat.now id slot moment call reply new.seat.now };
 
-    fn step(&mut self, id: NodeId, slot: u64, moment: u64, call: NodeCall) -> NodeReply {
+    fn step(
+        &mut self,
+        id: NodeId,
+        slot: u64,
+        moment: u64,
+        call: NodeCall,
+    ) -> Result<NodeReply, AllocError> {
         let answer = self.ask(id, slot, moment, SlotCall::Own(call));
         reply_to_own(answer)
     }

@@ -63,7 +63,7 @@ fn put_x<N: Nodes>(alloc: Global, nodes: &mut N, slot: u64) -> Option<u64>
     }
     let value = Value::new(alloc, b"10").ok()?;
     let call = NodeCall::Put(key, value, Deps::empty(alloc), Near::empty(alloc));
-    let reply = nodes.step(FIRST, slot, 0, call);
+    let reply = nodes.step(FIRST, slot, 0, call).ok()?;
     let clock = clock_in(&reply);
     drop(reply);
     clock

@@ -2,6 +2,7 @@ ghost use Rattle.std.specs.Prelude.{◌≡◌, ◌<◌};
 ghost use Rattle.cops_types.specs.Key.{shard_of};
 ghost use Rattle.cops_model.specs.declared.calls.NodeCall.TheVariants.{Put};
 ghost use Rattle.cops_model.specs.declared.calls.NodeReply.{NodeReply};
+ghost use Rattle.cops_node.specs.ToldReplies.{told_reply};
 ghost use Rattle.cops_session.specs.Kept.{IsAmong};
 ghost use Rattle.cops_session.specs.Writing.{answer_to_put};
 
@@ -10,6 +11,7 @@ use crate::ongoing::PendingPut;
 use crate::settings::Setting;
 use cops_node::{NodeCall, NodeId, NodeReply, Nodes};
 use cops_types::{Fault, Key, Pair};
+use std::alloc::AllocError;
 
 /// The answer that a node's reply gives to a put of the key.
 #[inline(always)]
@@ -20,6 +22,17 @@ fn answer_of(key: Key, reply: NodeReply) -> Answer
         NodeReply::Stored(version) => Answer::Stored(Pair { key, version }),
         NodeReply::Refused(fault) => Answer::Refused(fault),
         _ => Answer::Refused(Fault::Torn),
+    }
+}
+
+/// The same of what a node answered, which may have been refused memory.
+#[inline(always)]
+fn answer_told(key: Key, answered: Result<NodeReply, AllocError>) -> Answer
+    ensures { result ≡ answer_to_put key (told_reply answered) }
+{
+    match answered {
+        Ok(reply) => answer_of(key, reply),
+        Err(error) => Answer::Refused(Fault::from(error)),
     }
 }
 
@@ -53,5 +66,5 @@ pub(crate) fn write_step<N: Nodes>(
         moment,
         NodeCall::Put(key, value, deps, near),
     );
-    answer_of(same, reply)
+    answer_told(same, reply)
 }

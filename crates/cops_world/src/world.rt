@@ -14,6 +14,7 @@ ghost use Rattle.cops_types.specs.declared.faults.Fault.TheVariants.{BadKey, Out
 ghost use Rattle.std.specs.List.{AllByRecursion, list_all};
 ghost use Rattle.std.specs.Option.{option_copied};
 ghost use Rattle.cops_model.specs.Cluster.{Actor as Solo, SoloCluster, actor_step, actor_steps, cluster_step, goes_on, has_node, has_stream, most_steps, reply_of_collect};
+ghost use Rattle.cops_node.specs.ToldReplies.{told_reply};
 ghost use Rattle.cops_model.specs.Setups.{config_in, is_open_at, next_slot};
 ghost use Rattle.cops_model.specs.declared.acts.Act.TheVariants as acts;
 ghost use Rattle.cops_model.specs.declared.replies.Reply.TheVariants.{Refused};
@@ -112,13 +113,23 @@ fn goes_on(reply: &Reply) -> bool
 }
 
 /// What a collection answered, as a reply.
-fn reply_of_collect(answered: NodeReply) -> Reply
-    ensures { result ≡ reply_of_collect answered }
+fn reply_of_collected(reply: NodeReply) -> Reply
+    ensures { result ≡ reply_of_collect reply }
 {
-    match answered {
+    match reply {
         NodeReply::Removed(count) => Reply::Removed(count),
         NodeReply::Refused(fault) => Reply::Refused(fault),
         _ => Reply::Refused(Fault::Torn),
+    }
+}
+
+/// The same of a node that may have been refused memory.
+fn reply_of_collect(answered: Result<NodeReply, AllocError>) -> Reply
+    ensures { result ≡ reply_of_collect (told_reply answered) }
+{
+    match answered {
+        Ok(reply) => reply_of_collected(reply),
+        Err(error) => Reply::Refused(Fault::from(error)),
     }
 }
 

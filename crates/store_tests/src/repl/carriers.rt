@@ -6,7 +6,7 @@ use crate::pairs::{near, pair};
 use cops_node::{NodeCall, NodeId, NodeReply, Nodes};
 use cops_repl::{Carrier, Delivery, Progress, collect_all};
 use cops_types::{Config, Deps, Entry, EntryParts, Fault, Pair, Tenants, Version};
-use std::alloc::Global;
+use std::alloc::{AllocError, Global};
 use std::process::Abort;
 
 /// A call that came, with its node and its moment.
@@ -30,13 +30,17 @@ impl Nodes for Script {
 
     ghost Answers = { λ _ _ _ _ _ _ _. Unit {0} };
 
-    fn step(&mut self, id: NodeId, _slot: u64, moment: u64, call: NodeCall) -> NodeReply {
-        if self.asked.push(Asked { id, moment, call }).is_err() {
-            return NodeReply::Refused(Fault::OutOfMemory);
-        }
+    fn step(
+        &mut self,
+        id: NodeId,
+        _slot: u64,
+        moment: u64,
+        call: NodeCall,
+    ) -> Result<NodeReply, AllocError> {
+        self.asked.push(Asked { id, moment, call })?;
         match self.replies.pop() {
-            Some(reply) => reply,
-            None => NodeReply::Refused(Fault::Syntax),
+            Some(reply) => Ok(reply),
+            None => Ok(NodeReply::Refused(Fault::Syntax)),
         }
     }
 }

@@ -8,7 +8,7 @@ use cops_handles::Handle;
 use cops_node::{NodeCall, NodeId, NodeReply, Nodes};
 use cops_session::{Answer, Contexts, Progress, Running, Session};
 use cops_types::{Deps, Fault, Key, Pair, Version};
-use std::alloc::Global;
+use std::alloc::{AllocError, Global};
 use std::process::Abort;
 
 /// Nodes that answer once, and need no memory for it.
@@ -24,10 +24,16 @@ impl Nodes for Once {
 
     ghost Answers = { λ old _ _ _ _ reply new. (old.reply ≡ Some reply) ⊎ (old.reply ≡ None) };
 
-    fn step(&mut self, _id: NodeId, _slot: u64, _moment: u64, _call: NodeCall) -> NodeReply {
+    fn step(
+        &mut self,
+        _id: NodeId,
+        _slot: u64,
+        _moment: u64,
+        _call: NodeCall,
+    ) -> Result<NodeReply, AllocError> {
         match self.reply.take() {
-            Some(reply) => reply,
-            None => NodeReply::Refused(Fault::Torn),
+            Some(reply) => Ok(reply),
+            None => Ok(NodeReply::Refused(Fault::Torn)),
         }
     }
 }

@@ -11,6 +11,7 @@ use Rattle.cops_world.proofs.WorldKeeps.{kept_called, sizes_in}
 use Rattle.cops_world.proofs.WorldCalls.{node_fits, no_node_moves, node_collects}
 use Rattle.cops_world.proofs.WorldLacks.{collect_leaves, same_leaves}
 use Rattle.cops_world.proofs.WorldSteps.{collect_moves}
+use Rattle.cops_node.specs.ToldReplies.{told_reply}
 use Rattle.cops_world.proofs.world.World.collect.Goals as goal
 
 pub returns-then-not-has_node-clause-moves : goal.returns-then-not-has_node-clause-moves
@@ -43,7 +44,7 @@ returns-clause-moves c =
     (node_collects (world_of old) c.args.slot c.args.id c.args.moment
     (subst (λ (k : KeptWorld). has_node (config_in k.setup c.args.slot) c.args.id.dc c.args.id.shard ≡ true) (sym c.self.view_is) there)
     c.reply_of_collect.result (world_of new)
-    (collect_moves (world_of old) c.args.slot c.args.id c.args.moment c.step.result c.step.new.self c.reply_of_collect.result shards c.step.ensures.answers c.reply_of_collect.ensures))
+    (collect_moves (world_of old) c.args.slot c.args.id c.args.moment (told_reply c.step.result) c.step.new.self c.reply_of_collect.result shards c.step.ensures.answers c.reply_of_collect.ensures))
 
 pub returns-then-not-has_node-clause-lack : goal.returns-then-not-has_node-clause-lack
 returns-then-not-has_node-clause-lack c = same_leaves (world_of c.args.self.now) c.args.slot (Refused NoSuchPlace) (world_of c.args.self.now) refl
@@ -55,7 +56,7 @@ returns-clause-lack c =
     let new : KeptWorld = record old { nodes = c.step.new.self } in
     let shards = subst (λ (k : KeptWorld). (config_in k.setup c.args.slot).shards ≡ k.setup.head.shards) (sym c.self.view_is) sizes.shards ∙ sym (ap (λ (s : Shape). s.shards) c.self.invariant.whole.shape_is) in
     subst (λ (kept : KeptWorld). Leaves Stays (world_of kept) c.args.slot c.reply_of_collect.result (world_of new)) c.self.view_is
-    (collect_leaves (world_of old) c.args.slot c.args.id c.args.moment c.step.result c.step.new.self c.reply_of_collect.result shards c.step.ensures.answers c.reply_of_collect.ensures)
+    (collect_leaves (world_of old) c.args.slot c.args.id c.args.moment (told_reply c.step.result) c.step.new.self c.reply_of_collect.result shards c.step.ensures.answers c.reply_of_collect.ensures)
 
 pub invariant_of-self : goal.invariant_of-self
 invariant_of-self c =
