@@ -15,24 +15,27 @@ use std::alloc::AllocError;
 
 /// The answer that a node's reply gives to a put of the key.
 #[inline(always)]
-fn answer_of(key: Key, reply: NodeReply) -> Answer
-    ensures { result ≡ answer_to_put key reply }
+fn answer_of(key: Key, reply: &NodeReply) -> Answer
+    ensures { result ≡ answer_to_put key reply.now }
 {
     match reply {
-        NodeReply::Stored(version) => Answer::Stored(Pair { key, version }),
-        NodeReply::Refused(fault) => Answer::Refused(fault),
+        NodeReply::Stored(version) => Answer::Stored(Pair {
+            key,
+            version: *version,
+        }),
+        NodeReply::Refused(fault) => Answer::Refused(*fault),
         _ => Answer::Refused(Fault::Torn),
     }
 }
 
 /// The same of what a node answered, which may have been refused memory.
 #[inline(always)]
-fn answer_told(key: Key, answered: Result<NodeReply, AllocError>) -> Answer
-    ensures { result ≡ answer_to_put key (told_reply answered) }
+fn answer_told(key: Key, answered: &Result<NodeReply, AllocError>) -> Answer
+    ensures { result ≡ answer_to_put key (told_reply answered.now) }
 {
     match answered {
         Ok(reply) => answer_of(key, reply),
-        Err(error) => Answer::Refused(Fault::from(error)),
+        Err(error) => Answer::Refused(Fault::from(*error)),
     }
 }
 
@@ -66,5 +69,5 @@ pub(crate) fn write_step<N: Nodes>(
         moment,
         NodeCall::Put(key, value, deps, near),
     );
-    answer_told(same, reply)
+    answer_told(same, &reply)
 }
