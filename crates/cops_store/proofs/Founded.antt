@@ -1,5 +1,5 @@
 -- Each note of what is due is of something stale that is there.
-use Rattle.std.proofs.Common.{◌≡◌, ℕ, ◌-◌, ◌≤◌, Bool, true, false, cond, not, ◌&&◌, ◌||◌, List, [], ◌∷◌, ◌++◌, map, refl, sym, ap, ◌∙◌, subst, filter, arith, true≢false, nat_lt, nat_le, min, max, Vec, length, sum_by}
+use Rattle.std.proofs.Common.{◌≡◌, ℕ, ◌-◌, ◌≤◌, Bool, true, false, cond, not, ◌&&◌, ◌||◌, List, [], ◌∷◌, ◌++◌, map, refl, sym, ap, ◌∙◌, subst, filter, arith, true≢false, nat_lt, nat_le, min, max, length, sum_by}
 use Rattle.std.specs.Prelude.{Option, Some, None, if◌then◌else◌, is_none, position}
 use Rattle.std.specs.List.{list_any, fold, AllByRecursion}
 use Rattle.std.specs.Map.{keys_of}
@@ -11,7 +11,7 @@ use Rattle.cops_types.specs.Key.{key_eq}
 use Rattle.cops_store.specs.declared.usage.InUse.{InUse}
 use Rattle.cops_store.specs.declared.table.Due.{Due}
 use Rattle.cops_store.specs.Contents.{is_ripe, size_of, use_of}
-use Rattle.cops_store.specs.Chains.{IsChain, Rises, earlier, fresh_row, is_below, is_covered, oldest_of, placed, stale_row}
+use Rattle.cops_store.specs.Chains.{KeptChain, IsChain, Rises, earlier, fresh_row, is_below, is_covered, oldest_of, placed, stale_row}
 use Rattle.cops_store.specs.Tables.{AreFounded, AreNoted, Chains, IsFreed, IsShelf, IsTable, all_rows, chain_at, chains_of, collect_chains, collect_chains_by, has_since, is_founded, is_hit, is_since, put_off, renewed, staying, with_key, with_record}
 use Rattle.cops_store.proofs.Lists.{each_append, each_both, each_weaker}
 use Rattle.cops_store.proofs.Versions.{and_both, list_any_weaker, list_any-filter, or_left, or_right}
@@ -107,7 +107,7 @@ AreFounded-next due next p n chains is chained there open_yet h = subst (λ d. A
     (each_append _ due (record { key = p; stale = n.at } ∷ []) (AreFounded-with_record due p n chains chained h) (founded_commit p n chains there open_yet, tt))
 
 -- a key that is found is there
-pub key_there : {Z : Type 0} (p : List ℕ) (entries : List (List ℕ × Vec Dated Z)) (i : ℕ) → Some i ≡ position (key_eq p) (keys_of entries) → list_any (λ (e : List ℕ × List Dated). key_eq p e.0) (chains_of entries) ≡ true
+pub key_there : (p : List ℕ) (entries : List (List ℕ × KeptChain)) (i : ℕ) → Some i ≡ position (key_eq p) (keys_of entries) → list_any (λ (e : List ℕ × List Dated). key_eq p e.0) (chains_of entries) ≡ true
 key_there p entries i index =
     let at = at_index p entries i index in
     ap (λ es. list_any (λ (e : List ℕ × List Dated). key_eq p e.0) (chains_of es)) at.is

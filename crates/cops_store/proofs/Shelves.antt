@@ -1,5 +1,5 @@
 -- What the fields of a shelf show.
-use Rattle.std.proofs.Common.{◌≡◌, ◌≢◌, ℕ, suc, ◌+◌, Bool, true, false, ◌||◌, List, [], ◌∷◌, ◌++◌, length, map, refl, sym, ap, ◌∙◌, subst, true≢false, sum_by, Vec}
+use Rattle.std.proofs.Common.{◌≡◌, ◌≢◌, ℕ, suc, ◌+◌, Bool, true, false, ◌||◌, List, [], ◌∷◌, ◌++◌, length, map, refl, sym, ap, ◌∙◌, subst, true≢false, sum_by}
 use Rattle.std.specs.Prelude.{Result, Ok, Err, OnOk, is_err, Option, Some, None, if◌then◌else◌, is_some, IfSome}
 use Rattle.std.specs.List.{list_any, AllByRecursion, IsDistinct}
 use Rattle.std.specs.List.Sorted.{IsPermutation}
@@ -16,7 +16,7 @@ use Rattle.cops_store.specs.Contents.{size_of}
 use Rattle.cops_store.proofs.History.{AreLeft, left_of, kept_among, latest, exact}
 use Rattle.cops_types.specs.Version.{Timestamp}
 use Rattle.cops_store.specs.Contents.{use_of, LacksVersion}
-use Rattle.cops_store.specs.Chains.{ChainLacks, IsChain, find_version, last_commit}
+use Rattle.cops_store.specs.Chains.{KeptChain, ChainLacks, IsChain, find_version, last_commit}
 use Rattle.cops_store.specs.Tables.{Chains, chains_of, all_rows, IsTable, with_key, with_record, AreNoted, AreFounded, IsShelf}
 use Rattle.cops_store.proofs.Lists.{each_append, each_weaker, each_right}
 use Rattle.cops_store.proofs.Versions.{key_eq-refl, key_eq_is, with_next}
@@ -24,12 +24,12 @@ use Rattle.cops_store.proofs.Chains.{missing_version}
 use Rattle.cops_store.proofs.Founded.{AreFounded-with_key}
 use Rattle.cops_store.proofs.Tables.{a_key, found_by_lookup, absent, lack_before, lack_after, lack_chains, chains_of-split, Around, rows_elsewhere, around, latest_of_chain, exact_of_chain, latest_missing, exact_missing, all_rows-with_record, all_rows-with_key, IsTable-with_record, IsTable-with_key, AreNoted-with_key, chain_lacks, use_of-next}
 
-module _ {Z : Type 0} (p : List ℕ) (entries : List (List ℕ × Vec Dated Z)) (table : IsTable (chains_of entries)) (rows : List Dated) (shown : all_rows (chains_of entries) ≡ rows)
+module _ (p : List ℕ) (entries : List (List ℕ × KeptChain)) (table : IsTable (chains_of entries)) (rows : List Dated) (shown : all_rows (chains_of entries) ≡ rows)
     (recs : List Record) (removed : List Bool) (stands : AreLeft rows recs removed) where
   pub stands_here : AreLeft (all_rows (chains_of entries)) recs removed
   stands_here = subst (λ r. AreLeft r recs removed) (sym shown) stands
 
-  module _ (v : Vec Dated Z) (found : Some v ≡ lookup (key_eq p) entries) where
+  module _ (v : KeptChain) (found : Some v ≡ lookup (key_eq p) entries) where
     pub latest_found : last_commit v.items ≡ latest p (left_of recs removed)
     latest_found =
         let there = found_by_lookup p entries v (sym found) in
@@ -43,7 +43,7 @@ module _ {Z : Type 0} (p : List ℕ) (entries : List (List ℕ × Vec Dated Z)) 
         exact_of_chain p version v.items _ a recs removed stands_here
 
   module _ (missing : None ≡ lookup (key_eq p) entries) where
-    lack : AllByRecursion (λ (e : List ℕ × Vec Dated Z). key_eq p e.0 ≡ false) entries
+    lack : AllByRecursion (λ (e : List ℕ × KeptChain). key_eq p e.0 ≡ false) entries
     lack = absent p entries (ap is_some (sym missing))
 
     pub latest_none : None ≡ latest p (left_of recs removed)
@@ -52,7 +52,7 @@ module _ {Z : Type 0} (p : List ℕ) (entries : List (List ℕ × Vec Dated Z)) 
     pub exact_none : (version : Timestamp) → None ≡ exact p version (left_of recs removed)
     exact_none version = exact_missing p version (chains_of entries) table.chained (lack_chains p entries lack) recs removed stands_here
 
-pub chain_found : {Z : Type 0} (p : List ℕ) (entries : List (List ℕ × Vec Dated Z)) (v : Vec Dated Z) → AllByRecursion (λ (e : List ℕ × List Dated). IsChain e.0 e.1) (chains_of entries) → Some v ≡ lookup (key_eq p) entries → IsChain p v.items
+pub chain_found : (p : List ℕ) (entries : List (List ℕ × KeptChain)) (v : KeptChain) → AllByRecursion (λ (e : List ℕ × List Dated). IsChain e.0 e.1) (chains_of entries) → Some v ≡ lookup (key_eq p) entries → IsChain p v.items
 chain_found p entries v all found =
     let there = found_by_lookup p entries v (sym found) in
     (each_right (λ (e : List ℕ × List Dated). IsChain e.0 e.1) (chains_of there.0) ((p, v.items) ∷ chains_of there.1) (subst (AllByRecursion (λ (e : List ℕ × List Dated). IsChain e.0 e.1)) (ap chains_of there.2 ∙ chains_of-split p v there.0 there.1) all)).0
@@ -157,8 +157,8 @@ lacks_around p v c rows a none = subst (LacksVersion p v) (sym a.is)
     other : (k : Dated) → key_eq k.record_of.entry.key p ≡ false → k.record_of.entry.key ≡ p → k.record_of.entry.version ≢ v
     other k no_key is = absurd (true≢false (sym (subst (λ key. key_eq k.record_of.entry.key key ≡ true) is (key_eq-refl k.record_of.entry.key)) ∙ no_key))
 
-module _ {Z : Type 0} (p : List ℕ) (v : Timestamp) (entries : List (List ℕ × Vec Dated Z)) (table : IsTable (chains_of entries)) (rows : List Dated) (shown : all_rows (chains_of entries) ≡ rows) where
-  pub lacks_found : (c : Vec Dated Z) → Some c ≡ lookup (key_eq p) entries → find_version v c.items ≡ None → LacksVersion p v rows
+module _ (p : List ℕ) (v : Timestamp) (entries : List (List ℕ × KeptChain)) (table : IsTable (chains_of entries)) (rows : List Dated) (shown : all_rows (chains_of entries) ≡ rows) where
+  pub lacks_found : (c : KeptChain) → Some c ≡ lookup (key_eq p) entries → find_version v c.items ≡ None → LacksVersion p v rows
   lacks_found c found none =
       let there = found_by_lookup p entries c (sym found) in
       let a = around p c.items (chains_of there.0) (chains_of there.1) (chains_of entries) table (ap chains_of there.2 ∙ chains_of-split p c there.0 there.1) in

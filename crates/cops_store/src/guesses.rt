@@ -1,6 +1,7 @@
 //! Guesses where the keys of a tenant stand in his table.
 
-use cops_types::{Dated, Key, Seeds};
+use crate::chain::Chain;
+use cops_types::{Key, Seeds};
 use indexmap::IndexMap;
 use std::alloc::{AllocError, Global};
 use std::hash::{FoldHasher, Hash, Hasher};
@@ -65,7 +66,7 @@ impl Guesses {
     #[inline(always)]
     pub(crate) fn reserve(
         &mut self,
-        table: &IndexMap<Key, Vec<Dated>, Seeds>,
+        table: &IndexMap<Key, Chain, Seeds>,
     ) -> Result<(), AllocError> {
         if table.len() < self.cells.len() / 2 {
             return Ok(());
@@ -75,7 +76,7 @@ impl Guesses {
 
     // Makes twice as many guesses, or the first, and notes the keys that are there.
     #[inline(never)]
-    fn grow(&mut self, table: &IndexMap<Key, Vec<Dated>, Seeds>) -> Result<(), AllocError> {
+    fn grow(&mut self, table: &IndexMap<Key, Chain, Seeds>) -> Result<(), AllocError> {
         let cells = self.cells.len().saturating_mul(2).max(FEWEST);
         let alloc = *self.cells.allocator();
         self.cells = vec![in alloc; 0; cells]?;

@@ -3,9 +3,10 @@ ghost use Rattle.std.specs.Prelude.{◌≡◌, ◌≤◌, ◌++◌, ◌∷◌, [
 ghost use Rattle.std.specs.List.{AllByRecursion};
 ghost use Rattle.cops_store.specs.Tables.{chains_of, hits, is_hit as may_hit, renewed as renewed_note};
 
+use crate::chain::Chain;
 use crate::guesses::Guesses;
 use crate::table::{self, Due};
-use cops_types::{Dated, Key, Seeds};
+use cops_types::{Key, Seeds};
 use indexmap::IndexMap;
 use std::alloc::{AllocError, Global};
 use std::marker::Model;
@@ -87,7 +88,7 @@ impl DueNotes {
     // Notes anew what is left under the keys that were cleaned, and forgets the rest.
     pub(crate) fn put_off(
         &mut self,
-        table: &IndexMap<Key, Vec<Dated>, Seeds>,
+        table: &IndexMap<Key, Chain, Seeds>,
         guesses: &Guesses,
         now: u64,
         trans_time: u64,

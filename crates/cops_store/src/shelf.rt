@@ -7,11 +7,12 @@ ghost use Rattle.cops_types.specs.Records.{Tracked, StandsFor, latest as latest_
 ghost use Rattle.cops_store.specs.Shelves.{nothing};
 ghost use Rattle.cops_store.specs.Contents.{LacksVersion, NoneLater, use_of, refusal, size_of};
 
+use crate::chain::Chain;
 use crate::guesses::Guesses;
 use crate::notes::DueNotes;
+use crate::table;
 use crate::usage::{InUse, size};
-use crate::{chain, table};
-use cops_types::{Dated, Entry, Fault, Key, OwnedValue, Quota, Record, Seeds, Version};
+use cops_types::{Entry, Fault, Key, OwnedValue, Quota, Record, Seeds, Version};
 use indexmap::IndexMap;
 use std::alloc::Global;
 use std::marker::Model;
@@ -20,7 +21,7 @@ use std::marker::Model;
 #[derive(Drop)]
 pub struct Shelf {
     /// The chain of each key.
-    table: IndexMap<Key, Vec<Dated>, Seeds>,
+    table: IndexMap<Key, Chain, Seeds>,
     /// Where something is stale, and not before when.
     due: DueNotes,
     /// What is kept.
@@ -72,7 +73,7 @@ impl Shelf {
         ensures { (tracked : List Tracked) → StandsFor self.now.rows tracked → option_copied result ≡ latest_record key.now tracked }
     {
         match table::chain_of(&self.table, self.guesses.guess_for(key), key) {
-            Some(chain) => chain::last(chain),
+            Some(chain) => chain.last(),
             None => None,
         }
     }
@@ -83,7 +84,7 @@ impl Shelf {
         ensures absent { result ≡ None → LacksVersion key.now version self.now.rows }
     {
         match table::chain_of(&self.table, self.guesses.guess_for(key), key) {
-            Some(chain) => chain::find(chain, version),
+            Some(chain) => chain.find(version),
             None => None,
         }
     }

@@ -1,4 +1,4 @@
-use Rattle.std.proofs.Common.{◌∙◌, ap, sym, subst, arith, vec_len, vec_capacity, true≢false}
+use Rattle.std.proofs.Common.{◌∙◌, ap, sym, subst, true≢false}
 use Rattle.std.specs.Prelude.{is_some}
 use Rattle.std.specs.List.{IsDistinct}
 use Rattle.cops_types.specs.Key.{key_eq}
@@ -40,7 +40,7 @@ returns-in_err-reserve-clause-succeeds c = λ due ready.
     let roomy = subst (λ es. Roomy due es c.args.key.now) (sym (c.in_ok-i.ensures.there c.if-is_new.false)) (Roomy-from_ready due c.args.table.now.entries c.args.key.now ready) in
     let is = only_value c.args.key.now entries c.in_ok-i.i (sym c.in_ok-i.ensures.index) c.find_or_add.ensures.unique c.index_mut-chain.result.now roomy.chain c.index_mut-chain.ensures.value roomy.among in
     let room = roomy.chain_room in
-    absurd (true≢false (sym (c.in_err-reserve.ensures.succeeds (omega (arith, ap vec_len is, ap vec_capacity is)))))
+    absurd (true≢false (sym (c.in_err-reserve.ensures.succeeds (ap (λ k. k.room) (sym is) ∙ room))))
 
 pub returns-clause-index : goal.returns-clause-index
 returns-clause-index c = index-set c.args.key.now c.find_or_add.new.table.entries c.in_ok-i.i (sym c.in_ok-i.ensures.index) c.reserve.new.self
@@ -55,7 +55,7 @@ returns-clause-chains c =
 pub returns-clause-ready : goal.returns-clause-ready
 returns-clause-ready c = λ due room.
     let entries = c.find_or_add.new.table.entries in
-    ready-from_Roomy due _ c.args.key.now (Roomy-set c.args.key.now entries c.in_ok-i.i (sym c.in_ok-i.ensures.index) due c.reserve.new.self room (omega (arith, c.in_ok-reserve.ensures.ok)))
+    ready-from_Roomy due _ c.args.key.now (Roomy-set c.args.key.now entries c.in_ok-i.i (sym c.in_ok-i.ensures.index) due c.reserve.new.self room c.in_ok-reserve.ensures.room)
 
 pub returns-clause-unique : goal.returns-clause-unique
 returns-clause-unique c =

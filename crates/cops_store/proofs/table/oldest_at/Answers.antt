@@ -4,7 +4,7 @@ use Rattle.cops_store.proofs.Collections.{chain_at_found, chain_at_none}
 use Rattle.cops_store.proofs.table.oldest_at.Goals as goal
 
 pub returns-in-Some : goal.returns-in-Some
-returns-in-Some c = c.oldest.ensures ∙ ap oldest_of (c.deref.ensures.value ∙ chain_at_found c.args.key.now c.args.table.now.entries c.in-Some.chain.now c.in-Some.ensures.value)
+returns-in-Some c = c.oldest.ensures ∙ ap oldest_of (chain_at_found c.args.key.now c.args.table.now.entries c.in-Some.chain.now c.in-Some.ensures.value)
 
 pub returns-in-None : goal.returns-in-None
 returns-in-None c = ap oldest_of (chain_at_none c.args.key.now c.args.table.now.entries c.in-None.ensures.value)

@@ -1,5 +1,4 @@
 use Rattle.std.proofs.Common.{◌∙◌, ap}
-use Rattle.cops_store.specs.Chains.{last_commit}
 use Rattle.cops_types.specs.Records.{ever}
 use Rattle.cops_store.proofs.Meaning.{flags, to_left, latest_is}
 use Rattle.cops_store.proofs.Shelves.{latest_found, latest_none}
@@ -7,7 +6,7 @@ use Rattle.cops_store.proofs.shelf.Shelf.latest.Goals as goal
 
 pub returns-in-Some : goal.returns-in-Some
 returns-in-Some c = λ tracked stands.
-    c.last.ensures ∙ ap last_commit c.deref.ensures.value
+    c.last.ensures
     ∙ latest_found c.args.key.now c.self.inside.table.entries c.self.invariant.table _ (ap (λ v. v.rows) c.self.view_is) (ever tracked) (flags tracked) (to_left _ tracked stands) c.in-Some.chain.now c.in-Some.ensures.value
     ∙ latest_is c.args.key.now tracked
 

@@ -2,7 +2,7 @@ use Rattle.std.proofs.Common.{◌≡◌, take}
 use Rattle.std.specs.Prelude.{None}
 use Rattle.std.specs.List.{fold}
 use Rattle.cops_store.specs.Chains.{earlier}
-use Rattle.cops_store.proofs.chain.oldest.Given as goal
+use Rattle.cops_store.proofs.chain.oldest_in.Given as goal
 
 abbrev pub invariant-loop-kept : goal.invariant-loop-kept
-invariant-loop-kept l = l.oldest ≡ fold (λ o k. earlier o k.stale) None (take l.kept-index l.chain)
+invariant-loop-kept l = l.oldest ≡ fold (λ o k. earlier o k.stale) None (take l.kept-index l.older)
