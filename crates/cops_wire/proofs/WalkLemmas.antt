@@ -8,7 +8,7 @@ use Rattle.cops_wire.specs.declared.walks.AnsweredFrame.{AnsweredFrame}
 use Rattle.cops_wire.specs.Decoding.{IsFed, KeptBytes, kept_of}
 use Rattle.cops_wire.specs.Serving.{Gathers, GathersFront, GathersSome, IsFrameAnswered, IsFrameUngathered, IsSent, IsTakenUp, IsWalked, is_request}
 use Rattle.cops_wire.specs.Spelling.{spelling}
-use Rattle.cops_wire.specs.Streams.{behind, first_frame, split_of}
+use Rattle.cops_wire.specs.Streams.{after_messages, first_frame, split_of}
 use Rattle.cops_wire.proofs.AnsweredRequests.{front_stays, front_then, none_gathered, none_written, one_unkept, some_gathered, some_stays, some_then}
 use Rattle.cops_wire.proofs.AnsweredRequests as answered
 use Rattle.cops_wire.proofs.Decoding.{cut, one_more, parted_broken, parted_partial, split_after_broken, split_after_whole}
@@ -20,7 +20,7 @@ module _ {S : Type 0} (answers : S → Message → Message → S → Type 0) whe
     pub done : List Message
     pub gathers : Gathers answers old new done a b start output
     pub within : taken ≤ length bytes
-    pub so_far : behind done (split_of (drop taken bytes)) ≡ behind [] (split_of bytes)
+    pub so_far : after_messages done (split_of (drop taken bytes)) ≡ after_messages [] (split_of bytes)
 
   pub walk_begins : (bytes : List ℕ) (s : S) (a : Option (List ℕ)) (output : List ℕ) → WalkedSoFar bytes 0 s s a a output output
   walk_begins bytes s a output = record { done = []; gathers = none_gathered answers s a output; within = omega arith; so_far = refl }
@@ -148,10 +148,10 @@ module _ {S : Type 0} (answers : S → Message → Message → S → Type 0) whe
 
   -- the bytes behind the front go on from what it left
   cut_on : (rest piece : List ℕ) (used : ℕ) (kept : KeptBytes) → kept ≡ kept_of (rest ++ take used piece) → kept.broken ≡ false
-      → split_of (rest ++ piece) ≡ behind (split_of (rest ++ take used piece)).messages (split_of (kept.rest ++ drop used piece))
+      → split_of (rest ++ piece) ≡ after_messages (split_of (rest ++ take used piece)).messages (split_of (kept.rest ++ drop used piece))
   cut_on rest piece used kept is whole =
       cut rest piece used ∙ split_after_whole (split_of (rest ++ take used piece)) (drop used piece) (sym (ap (λ k. k.broken) is) ∙ whole)
-      ∙ ap (λ l. behind (split_of (rest ++ take used piece)).messages (split_of (l ++ drop used piece))) (sym (ap (λ k. k.rest) is))
+      ∙ ap (λ l. after_messages (split_of (rest ++ take used piece)).messages (split_of (l ++ drop used piece))) (sym (ap (λ k. k.rest) is))
 
   pub cut_then : (rest piece slice : List ℕ) (used : ℕ) (kept next : KeptBytes) (old mid new : S) (a b c : Option (List ℕ)) (start output later : List ℕ) (all : Bool) → slice ≡ drop used piece
       → (before : Bool) → before ≡ true → IsTakenUp (rest ++ take used piece) kept (λ messages every. GathersFront answers old mid messages a b start output every) before → kept.broken ≡ false
