@@ -1,3 +1,4 @@
+pub mod BehindLemmas
 pub mod ContextRule
 pub mod Examples
 pub mod FaultLemmas

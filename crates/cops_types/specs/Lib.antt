@@ -1,3 +1,4 @@
+pub mod Behind
 pub mod BigEndian
 pub mod BytesForms
 pub mod Context

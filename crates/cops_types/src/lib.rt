@@ -25,6 +25,7 @@ mod packed;
 mod pair_lists;
 mod pairs;
 pub mod placed;
+pub mod prefixes;
 mod quotas;
 mod records;
 mod seeds;
