@@ -1,12 +1,14 @@
 -- What a record line says before the reply, and the text of the reply.
-use Rattle.std.proofs.Common.{◌≡◌, ℕ, Bool, true, false, List, [], ◌∷◌, ◌++◌, refl, sym, subst, ap, ◌∙◌, append-nil, arith}
-use Rattle.std.specs.Prelude.{IsTrue, ◌↔◌, Option, Some, None}
+use Rattle.std.proofs.Common.{◌≡◌, ℕ, Bool, true, false, List, [], ◌∷◌, ◌++◌, length, nat_eq, refl, sym, subst, ap, ◌∙◌, append-nil, arith}
+use Rattle.std.specs.Prelude.{IsTrue, ◌↔◌, Option, Some, None, unwrap_or}
 use Rattle.std.specs.List.{AllByRecursion, join_with_byte}
 use Rattle.std.specs.Option.{option_map}
-use Rattle.std.specs.Str.{bytes_eq}
+use Rattle.std.proofs.lemmas.Bool.{eqb-true}
+use Rattle.cops_types.specs.Behind.{behind}
 use Rattle.cops_types.specs.TenantConfig.{TenantConfig}
 use Rattle.cops_types.specs.Words.{number_of, parts_at, space, spaced}
-use Rattle.cops_types.proofs.WordLemmas.{Lacks, bytes_from_test, same_bytes, parts_back, parts_joined, same_value}
+use Rattle.cops_types.proofs.BehindLemmas.{behind_is, behind_makes}
+use Rattle.cops_types.proofs.WordLemmas.{Lacks, parts_back, parts_joined, same_value}
 use Rattle.cops_model.specs.declared.calls.NodeCall.{NodeCall}
 use Rattle.cops_model.specs.declared.calls.NodeId.{NodeId}
 use Rattle.cops_model.specs.declared.calls.NodeReply.{NodeReply}
@@ -20,7 +22,7 @@ use Rattle.cops_replay.specs.RecordText.{has_form, is_reply, reply_words}
 use Rattle.cops_replay.specs.RecordWords.{Read, done_with, name_of, next_as, node_of, then_read, version_in}
 use Rattle.cops_replay.specs.Replaying.{Agrees}
 use Rattle.cops_replay.specs.Replayings.{IsLineReplayed}
-use Rattle.cops_replay.specs.Replays.{IsReplayed, IsReplied}
+use Rattle.cops_replay.specs.Replays.{IsReplied}
 use Rattle.cops_replay.proofs.LinesBack.{reply_back}
 use Rattle.cops_replay.proofs.LinesSpelled.{reply_is, whole_is}
 use Rattle.cops_replay.proofs.WordsLack.{reply_free}
@@ -132,11 +134,31 @@ formed NotFront h = refl
 formed (Removed count) h = refl
 formed (Refused fault) h = h
 
-pub told_by_text : (spelled text : List ℕ) (reply : NodeReply) (same : Bool) → same ≡ bytes_eq spelled text → spelled ≡ spaced (reply_words reply) → IsTrue (is_reply reply) → IsTrue same ↔ (reply_told text ≡ Some reply)
-told_by_text spelled text reply same test is h = (
-  (λ yes_it_is. ap reply_told (sym (bytes_from_test spelled text (sym test ∙ yes_it_is)) ∙ is) ∙ reply_spelled reply h),
-  (λ says. test ∙ ap (bytes_eq spelled) ((reply_text text reply says).0 ∙ sym is) ∙ same_bytes spelled),
-)
+no_bytes : (bytes : List ℕ) → length bytes ≡ 0 → bytes ≡ []
+no_bytes [] none = refl
+no_bytes (byte ∷ bytes) none = absurd (omega (arith, none))
+
+-- nothing stands behind the reply's text, or something does
+pub told_by_rest : (text rest : List ℕ) (reply : NodeReply) (empty : Bool) → empty ≡ nat_eq (length rest) 0 → Some rest ≡ behind (spaced (reply_words reply)) text → IsTrue (is_reply reply) → IsTrue empty ↔ (reply_told text ≡ Some reply)
+told_by_rest text rest reply empty is_empty behind_is_rest h =
+    let spelled = spaced (reply_words reply) in (
+      (λ yes. ap reply_told (behind_makes spelled text rest (sym behind_is_rest) ∙ ap (λ l. spelled ++ l) (no_bytes rest (eqb-true (length rest) 0 (sym is_empty ∙ yes))) ∙ append-nil spelled) ∙ reply_spelled reply h),
+      (λ says.
+          let all : behind spelled text ≡ Some [] = behind_is spelled text [] ((reply_text text reply says).0 ∙ sym (append-nil spelled)) in
+          let none : Some rest ≡ Some [] = behind_is_rest ∙ all in
+          is_empty ∙ ap (λ r. nat_eq (length (unwrap_or r rest)) 0) none),
+    )
+
+-- the text doesn't begin with that of the reply
+pub told_by_nothing : (text : List ℕ) (reply : NodeReply) → None ≡ behind (spaced (reply_words reply)) text → IsTrue false ↔ (reply_told text ≡ Some reply)
+told_by_nothing text reply none =
+    let spelled = spaced (reply_words reply) in (
+      (λ h. absurd (let no : ⊥ = cc in no)),
+      (λ says.
+          let all : behind spelled text ≡ Some [] = behind_is spelled text [] ((reply_text text reply says).0 ∙ sym (append-nil spelled)) in
+          let clash : None ≡ Some [] = none ∙ all in
+          absurd (let no : ⊥ = cc in no)),
+    )
 
 pub told_by_none : (text : List ℕ) (reply : NodeReply) → has_form reply ≡ false → IsTrue false ↔ (reply_told text ≡ Some reply)
 told_by_none text reply none = ((λ h. absurd (let no : ⊥ = cc in no)), (λ says. sym none ∙ formed reply (reply_text text reply says).1))

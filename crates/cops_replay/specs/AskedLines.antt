@@ -1,5 +1,5 @@
 -- What a record line says before the reply, and the reply that a text says.
-use Rattle.std.specs.Prelude.{◌≡◌, ℕ, List, Option}
+use Rattle.std.specs.Prelude.{ℕ, List, Option}
 use Rattle.std.specs.Option.{option_map}
 use Rattle.cops_types.specs.Words.{number_of, parts_at, space}
 use Rattle.cops_model.specs.declared.calls.NodeReply.{NodeReply}

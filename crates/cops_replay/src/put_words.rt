@@ -13,15 +13,12 @@ use cops_types::{Entry, Name, OwnedDeps, OwnedNear, OwnedValue, Version};
 
 /// The digit of a number below 16.
 #[inline(always)]
-fn digit(number: u8) -> u8
+pub(crate) fn digit(number: u8) -> u8
     requires { number < 16 }
     ensures { result ≡ digit_text number }
 {
-    if number < 10 {
-        b'0' + number
-    } else {
-        87 + number
-    }
+    let above_nine = if number < 10 { 0 } else { 39 };
+    b'0' + number + above_nine
 }
 
 /// Puts two digits for each byte.

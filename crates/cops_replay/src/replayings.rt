@@ -36,8 +36,6 @@ pub struct Replay {
     nodes: Cluster0,
     passed: u64,
     found: Option<u64>,
-    /// Bytes over which replies are put as text.
-    place: Vec<u8>,
 }
 
 impl Model for Replay {
@@ -89,7 +87,6 @@ fn agrees(
     alloc: Global,
     nodes: &mut Cluster0,
     config: &Config,
-    place: &mut Vec<u8>,
     line: &[u8],
 ) -> Result<bool, AllocError>
     requires data_centres { nodes.old.shape.data_centres ≡ config.now.data_centres }
@@ -107,8 +104,7 @@ fn agrees(
     let Some(reply) = ask(nodes, config, asked)? else {
         return Ok(false);
     };
-    let told = is_told(place, &reply, text)?;
-    Ok(told)
+    Ok(is_told(&reply, text))
 }
 
 impl Replay {
@@ -134,7 +130,6 @@ impl Replay {
             nodes,
             passed: 0,
             found: None,
-            place: Vec::new(alloc),
         })
     }
 
@@ -155,7 +150,7 @@ impl Replay {
         ensures passed { self.new.passed ≡ self.old.passed }
         ensures found { self.new.found ≡ self.old.found }
     {
-        agrees(alloc, &mut self.nodes, &self.alone, &mut self.place, line)
+        agrees(alloc, &mut self.nodes, &self.alone, line)
     }
 
     /// Notes whether the next record agreed.

@@ -1,14 +1,16 @@
 //! Whether a text tells a reply.
-ghost use Rattle.std.specs.Prelude.{◌≡◌, ◌↔◌, ◌≤◌, ◌+◌, length, IfOk, IsTrue, Some};
+ghost use Rattle.std.specs.Prelude.{◌≡◌, ◌↔◌, IfSome, IsTrue, Some};
+ghost use Rattle.std.specs.Option.{option_map};
+ghost use Rattle.cops_types.specs.Behind.{behind};
+ghost use Rattle.cops_types.specs.FaultText.{fault_text};
 ghost use Rattle.cops_types.specs.Words.{spaced};
 ghost use Rattle.cops_replay.specs.AskedLines.{reply_told};
-ghost use Rattle.cops_replay.specs.RecordText.{has_form, is_reply, reply_words};
-ghost use Rattle.cops_replay.specs.Room.{reply_room};
+ghost use Rattle.cops_replay.specs.RecordText.{checked_text, has_form, is_reply, reply_words};
 
-use crate::put_exchanges::{make_room, put_reply, room_of_reply};
+use crate::told_words::{behind_entered, behind_found, behind_numbered, behind_versioned};
 use cops_node::NodeReply;
 use cops_types::Fault;
-use std::alloc::AllocError;
+use cops_types::prefixes::behind_bytes;
 
 /// Whether a reply is one that an audit has.
 pub(crate) fn has_form(reply: &NodeReply) -> bool
@@ -23,39 +25,59 @@ pub(crate) fn has_form(reply: &NodeReply) -> bool
     }
 }
 
-/// Whether a text is the same as that of a reply.
-#[inline(always)]
-fn is_text_of(reply: &NodeReply, spelled: &[u8], text: &[u8]) -> bool
-    requires formed { IsTrue (is_reply reply.now) }
-    requires spelled { spelled.now ≡ spaced (reply_words reply.now) }
-    ensures { IsTrue result ↔ (reply_told text.now ≡ Some reply.now) }
+/// What stands behind whether a version has been committed.
+fn behind_checked(text: &[u8], committed: bool) -> Option<&[u8]>
+    ensures { option_map (λ rest. rest.now) result ≡ behind (checked_text committed) text.now }
 {
-    let _reply = reply;
-    spelled == text
+    if committed {
+        behind_bytes(text, b"yes")
+    } else {
+        behind_bytes(text, b"no")
+    }
 }
 
-/// Whether a text tells the reply, which is put over the bytes of the place.
-fn is_told_at(place: &mut [u8], reply: &NodeReply, text: &[u8]) -> bool
-    requires formed { IsTrue (has_form reply.now) }
-    requires room { reply_room reply.now + 165 ≤ length place.old }
-    ensures { IsTrue result ↔ (reply_told text.now ≡ Some reply.now) }
+/// What stands behind a fault.
+fn behind_fault(text: &[u8], fault: Fault) -> Option<&[u8]>
+    ensures { option_map (λ rest. rest.now) result ≡ behind (fault_text fault) text.now }
 {
-    let end = put_reply(place, 0, reply);
-    is_text_of(reply, &place[..end], text)
+    behind_bytes(text, &fault.text())
 }
 
-/// Whether a text tells the reply. It is put over the bytes of the place, which are of no account to
-/// the caller, and compared there, so that nothing is made of the text.
-pub(crate) fn is_told(
-    place: &mut Vec<u8>,
-    reply: &NodeReply,
-    text: &[u8],
-) -> Result<bool, AllocError>
-    ensures { IfOk result (λ told. IsTrue told ↔ (reply_told text.now ≡ Some reply.now)) }
+/// What stands behind a reply, where the text begins with it.
+fn behind_reply<'a>(text: &'a [u8], reply: &NodeReply) -> Option<&'a [u8]>
+    ensures text { option_map (λ rest. rest.now) result ≡ behind (spaced (reply_words reply.now)) text.now }
+    ensures formed { IfSome result (λ _. IsTrue (has_form reply.now) → IsTrue (is_reply reply.now)) }
+{
+    match reply {
+        NodeReply::Found(version, value, deps) => {
+            behind_found(text, b"found", *version, value.owned(), deps.owned())
+        }
+        NodeReply::Absent => behind_bytes(text, b"absent"),
+        NodeReply::Gone(now) => behind_numbered(text, b"gone", *now),
+        NodeReply::NotYet => behind_bytes(text, b"notyet"),
+        NodeReply::Stored(version) => behind_versioned(text, b"stored", *version),
+        NodeReply::Checked(committed) => behind_checked(text, *committed),
+        NodeReply::Pulled(entry) => behind_entered(text, b"entry", entry),
+        NodeReply::Nothing => behind_bytes(text, b"nothing"),
+        NodeReply::Committed => behind_bytes(text, b"committed"),
+        NodeReply::Already => behind_bytes(text, b"already"),
+        NodeReply::OutOfOrder(mark) => behind_versioned(text, b"outoforder", *mark),
+        NodeReply::Acked => behind_bytes(text, b"acked"),
+        NodeReply::NotFront => behind_bytes(text, b"notfront"),
+        NodeReply::Removed(count) => behind_numbered(text, b"removed", *count),
+        NodeReply::Refused(fault) => behind_fault(text, *fault),
+    }
+}
+
+/// Whether a text tells the reply: whether it is the reply's text, and no more.
+pub(crate) fn is_told(reply: &NodeReply, text: &[u8]) -> bool
+    ensures { IsTrue result ↔ (reply_told text.now ≡ Some reply.now) }
 {
     if !has_form(reply) {
-        return Ok(false);
+        return false;
     }
-    make_room(place, room_of_reply(reply).saturating_add(165))?;
-    Ok(is_told_at(place.as_mut_slice(), reply, text))
+    match behind_reply(text, reply) {
+        Some(rest) => rest.is_empty(),
+        None => false,
+    }
 }

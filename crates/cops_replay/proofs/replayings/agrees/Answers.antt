@@ -25,5 +25,5 @@ pub returns-clause-replayed : goal.returns-clause-replayed
 returns-clause-replayed c = λ tenant alone.
     line_replied tenant c.args.line.now c.of-words.result c.args.nodes.now c.ask.new.nodes c.of-words.ensures c.in-Some.asked c.next_asked.new.words
     (subst (λ r. HasRead read_asked c.of-words.result r c.next_asked.new.words) c.in-Some.is c.in_ok-asked.ensures) c.in-Some-rest.text.now c.in-Some-rest.ensures.some
-    c.in-Some-2.reply c.in_ok-told.told
-    (subst (λ r. IsReplied tenant c.in-Some.asked c.args.nodes.now r c.ask.new.nodes) c.in-Some-2.is (c.in_ok-reply.ensures.replied tenant alone)) c.in_ok-told.ensures
+    c.in-Some-2.reply c.is_told.result
+    (subst (λ r. IsReplied tenant c.in-Some.asked c.args.nodes.now r c.ask.new.nodes) c.in-Some-2.is (c.in_ok-reply.ensures.replied tenant alone)) c.is_told.ensures
