@@ -41,6 +41,7 @@ use cops_session::Session;
 use cops_types::{Config, Fault, Key, Name, OpenTenants, Seeds, Tenant, Value};
 use std::alloc::{AllocError, Global};
 use std::marker::Model;
+use std::mem;
 
 /// The most tenants that may be open at once. No slot has this number.
 const MOST_OPEN: u64 = 64;
@@ -343,6 +344,7 @@ impl World {
             if more == 0 {
                 return reply;
             }
+            mem::forget(reply);
             more -= 1;
         }
     }
