@@ -73,6 +73,11 @@ abbrev pub is_done : Progress → Bool
 is_done Working = false
 is_done (Done ending) = true
 
+-- what a step is told to have shown: where the node was refused memory, the end that says so
+abbrev pub told_progress : Result Progress AllocError → Progress
+told_progress (Ok progress) = progress
+told_progress (Err error) = Done (Refused OutOfMemory)
+
 -- what follows these replies: they lead to the carrier_next stage, or they are at an end
 abbrev pub FollowsFrom : ℕ → Stream → List NodeReply → After → Type 0
 FollowsFrom shards stream replies (Goes stage) = LeadTo shards stream replies stage

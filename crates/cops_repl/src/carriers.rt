@@ -1,13 +1,16 @@
-ghost use Rattle.std.specs.Prelude.{◌≡◌, ℕ, ◌<◌, max, false};
+ghost use Rattle.std.specs.Prelude.{◌≡◌, ℕ, ◌<◌, max, true, false, OnErr};
+ghost use Rattle.cops_types.specs.declared.faults.Fault.TheVariants.{OutOfMemory};
 ghost use Rattle.cops_model.specs.declared.calls.NodeReply.{NodeReply};
+ghost use Rattle.cops_model.specs.declared.calls.NodeReply.TheVariants.{Refused};
 ghost use Rattle.cops_model.specs.Log.{Directed, Replied};
 ghost use Rattle.cops_model.specs.Carrier.{Carrier as Solo, new_carrier};
-ghost use Rattle.cops_repl.specs.Stands.{CarrierStandsFor, IsStepOf, RunsIn, has_ended, is_done};
+ghost use Rattle.cops_repl.specs.Stands.{CarrierStandsFor, IsStepOf, RunsIn, has_ended, is_done, told_progress};
 
+use crate::Progress;
 use crate::stages::{After, Route, Stage};
-use crate::{Delivery, Progress};
 use cops_node::{NodeId, Nodes};
-use cops_types::{Config, Fault};
+use cops_types::Config;
+use std::alloc::AllocError;
 use std::marker::Model;
 use std::mem;
 
@@ -58,8 +61,14 @@ impl Carrier {
         matches!(self.stage, Stage::Over)
     }
 
-    /// Takes the next step: one call at a node, for the tenant of a slot. It takes no memory.
-    pub fn step<N: Nodes>(&mut self, nodes: &mut N, slot: u64, moment: u64) -> Progress
+    /// Takes the next step: one call at a node, for the tenant of a slot. It takes no memory itself:
+    /// that the node was refused memory is the error, and ends the carrier.
+    pub fn step<N: Nodes>(
+        &mut self,
+        nodes: &mut N,
+        slot: u64,
+        moment: u64,
+    ) -> Result<Progress, AllocError>
         requires goes_on { has_ended self.old ≡ false }
         requires stream { RunsIn (N.shape nodes.old) self.old.shards self.old.stream }
 
@@ -68,22 +77,26 @@ impl Carrier {
         ensures called { (directed : Directed) × (reply : NodeReply)
             × N.Answers nodes.old directed.node slot (max self.old.moment moment) directed.call reply nodes.new
             × ((shards : ℕ) (solo : Solo) → CarrierStandsFor shards self.old solo →
-            IsStepOf shards solo directed (record { moment = max solo.moment moment; outcome = Replied reply }) result self.new) }
+            IsStepOf shards solo directed (record { moment = max solo.moment moment; outcome = Replied reply }) (told_progress result) self.new) }
         ensures stream { self.new.stream ≡ self.old.stream }
         ensures shards { self.new.shards ≡ self.old.shards }
         ensures moment { self.new.moment ≡ max self.old.moment moment }
-        ensures ended { has_ended self.new ≡ is_done result }
+        ensures ended { has_ended self.new ≡ is_done (told_progress result) }
+
+        // Where memory is refused, the node was refused it, which leaves its nodes as they were.
+        ensures err { OnErr result (has_ended self.new ≡ true) }
+        ensures refused { OnErr result ((directed : Directed) × N.Answers nodes.old directed.node slot (max self.old.moment moment) directed.call (Refused OutOfMemory) nodes.new) }
         ensures shape { N.shape nodes.new ≡ N.shape nodes.old }
     {
         self.moment = self.moment.max(moment);
         let stage = mem::replace(&mut self.stage, Stage::Over);
-        match self.route.step(nodes, slot, self.moment, stage) {
-            Ok(After::Goes(stage)) => {
+        let after = self.route.step(nodes, slot, self.moment, stage)?;
+        match after {
+            After::Goes(stage) => {
                 self.stage = stage;
-                Progress::Working
+                Ok(Progress::Working)
             }
-            Ok(After::Ends(ending)) => Progress::Done(ending),
-            Err(error) => Progress::Done(Delivery::Refused(Fault::from(error))),
+            After::Ends(ending) => Ok(Progress::Done(ending)),
         }
     }
 }

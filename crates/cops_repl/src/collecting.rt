@@ -1,9 +1,10 @@
 ghost use Rattle.std.specs.Prelude.{◌≡◌, ℕ, ◌+◌, ◌^◌, ◌<◌, IfOk, MatchResult};
 ghost use Rattle.cops_model.specs.declared.calls.NodeReply.TheVariants.{Removed};
-ghost use Rattle.cops_repl.specs.Collections.{CollectsAll, StopsAt, all_nodes, nodes_of_data_centre};
+ghost use Rattle.cops_repl.specs.Collections.{CollectsAll, StopsAt, all_nodes, nodes_of_data_centre, told_total};
 
 use cops_node::{NodeCall, NodeId, NodeReply, Nodes};
 use cops_types::{Config, Fault};
+use std::alloc::AllocError;
 
 /// The sum with what a collection removed.
 fn add_removed(total: u64, reply: &NodeReply) -> Result<u64, Fault>
@@ -28,37 +29,44 @@ fn collect_in<N: Nodes>(
     slot: u64,
     moment: u64,
     start: u64,
-) -> Result<u64, Fault>
+) -> Result<Result<u64, Fault>, AllocError>
     requires dc { dc < (N.shape nodes.old).data_centres }
     requires shards { shards ≡ (N.shape nodes.old).shards }
-    ensures collected { CollectsAll N.Answers slot moment start (nodes_of_data_centre shards dc) nodes.old nodes.new result }
+    ensures collected { CollectsAll N.Answers slot moment start (nodes_of_data_centre shards dc) nodes.old nodes.new (told_total result) }
     ensures shape { N.shape nodes.new ≡ N.shape nodes.old }
 {
     let mut total = start;
     for shard in 0..shards {
         let reply = nodes.step(NodeId { dc, shard }, slot, moment, NodeCall::Collect)?;
-        total = add_removed(total, &reply)?;
+        match add_removed(total, &reply) {
+            Ok(sum) => total = sum,
+            Err(fault) => return Ok(Err(fault)),
+        }
     }
-    Ok(total)
+    Ok(Ok(total))
 }
 
 /// Collects for the tenant of a slot on every node, in number order, and answers how many records were
-/// removed. The first refusal ends it. A reply that was not asked for, and a sum past the largest
-/// number, end it with `Torn`. Collections that were made before stand.
+/// removed. The first refusal ends it, and that a node was refused memory is the error. A reply that
+/// was not asked for, and a sum past the largest number, end it with `Torn`. Collections that were made
+/// before stand.
 pub fn collect_all<N: Nodes>(
     nodes: &mut N,
     config: &Config,
     slot: u64,
     moment: u64,
-) -> Result<u64, Fault>
+) -> Result<Result<u64, Fault>, AllocError>
     requires data_centres { config.now.data_centres ≡ (N.shape nodes.old).data_centres }
     requires shards { config.now.shards ≡ (N.shape nodes.old).shards }
-    ensures collected { CollectsAll N.Answers slot moment 0 (all_nodes config.now.data_centres config.now.shards) nodes.old nodes.new result }
+    ensures collected { CollectsAll N.Answers slot moment 0 (all_nodes config.now.data_centres config.now.shards) nodes.old nodes.new (told_total result) }
     ensures shape { N.shape nodes.new ≡ N.shape nodes.old }
 {
     let mut total = 0;
     for dc in 0..config.data_centres {
-        total = collect_in(nodes, dc, config.shards, slot, moment, total)?;
+        match collect_in(nodes, dc, config.shards, slot, moment, total)? {
+            Ok(sum) => total = sum,
+            Err(fault) => return Ok(Err(fault)),
+        }
     }
-    Ok(total)
+    Ok(Ok(total))
 }

@@ -1,6 +1,8 @@
 //! How far a carrier has come, and the call that each stage makes.
-ghost use Rattle.std.specs.Prelude.{◌≡◌, ℕ, ◌<◌, ◌^◌, ◌==◌, length, false, IfOk};
+ghost use Rattle.std.specs.Prelude.{◌≡◌, ℕ, ◌<◌, ◌^◌, ◌==◌, length, false, IfOk, OnErr};
+ghost use Rattle.cops_types.specs.declared.faults.Fault.TheVariants.{OutOfMemory};
 ghost use Rattle.cops_model.specs.declared.calls.NodeReply.{NodeReply};
+ghost use Rattle.cops_model.specs.declared.calls.NodeReply.TheVariants.{Refused};
 ghost use Rattle.cops_model.specs.declared.calls.NodeCall.TheVariants.{DepCheck};
 ghost use Rattle.cops_model.specs.Log.{Directed};
 ghost use Rattle.cops_model.specs.Place.{node_number};
@@ -59,6 +61,7 @@ impl Route {
         ensures called { (directed : Directed) × (reply : NodeReply)
             × N.Answers nodes.old directed.node slot moment directed.call reply nodes.new
             × IsStepFrom self.now.shards (stream_of self.now) stage directed reply (told_after result) }
+        ensures refused { OnErr result ((directed : Directed) × N.Answers nodes.old directed.node slot moment directed.call (Refused OutOfMemory) nodes.new) }
         ensures sound { IfOk result (IsSoundAfter self.now.shards (stream_of self.now)) }
         ensures shape { N.shape nodes.new ≡ N.shape nodes.old }
     {
@@ -100,6 +103,7 @@ impl Route {
         ensures called { (directed : Directed) × (reply : NodeReply)
             × N.Answers nodes.old directed.node slot moment directed.call reply nodes.new
             × IsStepFrom self.now.shards (stream_of self.now) Pulling directed reply (told_after result) }
+        ensures refused { OnErr result ((directed : Directed) × N.Answers nodes.old directed.node slot moment directed.call (Refused OutOfMemory) nodes.new) }
         ensures sound { IfOk result (IsSoundAfter self.now.shards (stream_of self.now)) }
         ensures shape { N.shape nodes.new ≡ N.shape nodes.old }
     {
@@ -142,6 +146,7 @@ impl Route {
         ensures called { (directed : Directed) × (reply : NodeReply)
             × N.Answers nodes.old directed.node slot moment directed.call reply nodes.new
             × IsStepFrom self.now.shards (stream_of self.now) (Carrying entry checked) directed reply (told_after result) }
+        ensures refused { OnErr result ((directed : Directed) × N.Answers nodes.old directed.node slot moment directed.call (Refused OutOfMemory) nodes.new) }
         ensures sound { IfOk result (IsSoundAfter self.now.shards (stream_of self.now)) }
         ensures shape { N.shape nodes.new ≡ N.shape nodes.old }
     {
@@ -174,6 +179,7 @@ impl Route {
         ensures called { (directed : Directed) × (reply : NodeReply)
             × N.Answers nodes.old directed.node slot moment directed.call reply nodes.new
             × IsStepFrom self.now.shards (stream_of self.now) (Carrying entry (length entry.near)) directed reply (told_after result) }
+        ensures refused { OnErr result ((directed : Directed) × N.Answers nodes.old directed.node slot moment directed.call (Refused OutOfMemory) nodes.new) }
         ensures sound { IfOk result (IsSoundAfter self.now.shards (stream_of self.now)) }
         ensures shape { N.shape nodes.new ≡ N.shape nodes.old }
     {
@@ -202,6 +208,7 @@ impl Route {
         ensures called { (directed : Directed) × (reply : NodeReply)
             × N.Answers nodes.old directed.node slot moment directed.call reply nodes.new
             × IsStepFrom self.now.shards (stream_of self.now) (Stored pair fresh) directed reply (told_after result) }
+        ensures refused { OnErr result ((directed : Directed) × N.Answers nodes.old directed.node slot moment directed.call (Refused OutOfMemory) nodes.new) }
         ensures sound { IfOk result (IsSoundAfter self.now.shards (stream_of self.now)) }
         ensures shape { N.shape nodes.new ≡ N.shape nodes.old }
     {

@@ -1,10 +1,12 @@
 //! Sessions and carriers at a desk: a step of theirs is at most one turn of one node's gate.
 ghost use Rattle.std.specs.Prelude.{◌≡◌, ◌<◌, ℕ, Some, max, false, MatchResult, OnErr};
 ghost use Rattle.cops_types.specs.TenantConfig.{TenantConfig};
+ghost use Rattle.cops_types.specs.declared.faults.Fault.TheVariants.{OutOfMemory};
 ghost use Rattle.cops_model.specs.declared.calls.NodeReply.{NodeReply};
+ghost use Rattle.cops_model.specs.declared.calls.NodeReply.TheVariants.{Refused};
 ghost use Rattle.cops_model.specs.Log.{Directed, Replied};
 ghost use Rattle.cops_model.specs.Carrier.{Carrier as SoloCarrier};
-ghost use Rattle.cops_repl.specs.Stands.{CarrierStandsFor, IsStepOf, RunsIn, has_ended, is_done};
+ghost use Rattle.cops_repl.specs.Stands.{CarrierStandsFor, IsStepOf, RunsIn, has_ended, is_done, told_progress};
 ghost use Rattle.cops_model.specs.Request.{next};
 ghost use Rattle.cops_model.specs.Session.{Session as SoloSession, Running as SoloRunning, moment_at, request_of};
 ghost use Rattle.cops_session.specs.SessionStands.{SessionStandsFor};
@@ -16,6 +18,7 @@ use cops_handles::Handle;
 use cops_repl::Carrier;
 use cops_session::{Running, Session};
 use cops_types::Fault;
+use std::alloc::AllocError;
 use std::sync::Wait;
 
 impl<R: Wait> Desk<'_, R> {
@@ -41,22 +44,24 @@ impl<R: Wait> Desk<'_, R> {
         session.step(self, handle, moment)
     }
 
-    /// Takes a step of a carrier: one turn. The reply that the carrier goes on with is the one that the seat was told.
+    /// Takes a step of a carrier: one turn. The reply that the carrier goes on with is the one that the seat was told. That the
+    /// node was refused memory is the error.
     pub fn step_carrier(
         &mut self,
         carrier: &mut Carrier,
         slot: u64,
         moment: u64,
-    ) -> cops_repl::Progress
+    ) -> Result<cops_repl::Progress, AllocError>
         requires goes_on { has_ended carrier.old ≡ false }
         requires stream { RunsIn (shape_in self.old.cluster.now) carrier.old.shards carrier.old.stream }
         ensures cluster { self.new.cluster.now ≡ self.old.cluster.now }
         ensures called { (directed : Directed) × (reply : NodeReply)
             × IsDeskCall self.old.cluster.now self.old.seat.now directed.node slot (max carrier.old.moment moment) directed.call reply self.new.seat.now
             × ((shards : ℕ) (solo : SoloCarrier) → CarrierStandsFor shards carrier.old solo →
-            IsStepOf shards solo directed (record { moment = max solo.moment moment; outcome = Replied reply }) result carrier.new) }
+            IsStepOf shards solo directed (record { moment = max solo.moment moment; outcome = Replied reply }) (told_progress result) carrier.new) }
         ensures stream { (carrier.new.stream ≡ carrier.old.stream) × (carrier.new.shards ≡ carrier.old.shards) }
-        ensures ended { has_ended carrier.new ≡ is_done result }
+        ensures ended { has_ended carrier.new ≡ is_done (told_progress result) }
+        ensures err { OnErr result ((directed : Directed) × IsDeskCall self.old.cluster.now self.old.seat.now directed.node slot (max carrier.old.moment moment) directed.call (Refused OutOfMemory) self.new.seat.now) }
     {
         carrier.step(self, slot, moment)
     }

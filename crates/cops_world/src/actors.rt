@@ -243,8 +243,9 @@ fn step_carrier<N: Nodes>(carrier: &mut Carrier, nodes: &mut N, slot: u64, momen
     ensures shards { carrier.new.shards ≡ carrier.old.shards }
 {
     match carrier.step(nodes, slot, moment) {
-        Carrying::Working => Reply::Working,
-        Carrying::Done(delivery) => reply_of_delivery(delivery),
+        Ok(Carrying::Working) => Reply::Working,
+        Ok(Carrying::Done(delivery)) => reply_of_delivery(delivery),
+        Err(error) => Reply::Refused(Fault::from(error)),
     }
 }
 

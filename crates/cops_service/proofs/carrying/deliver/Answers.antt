@@ -1,5 +1,9 @@
-use Rattle.std.proofs.Common.{◌∙◌}
+use Rattle.std.proofs.Common.{◌≡◌, ◌∙◌, false, refl}
 use Rattle.std.specs.Prelude.{max}
+use Rattle.cops_model.specs.declared.deliveries.Delivery.{Delivery}
+use Rattle.cops_model.specs.declared.deliveries.Progress.{Progress}
+use Rattle.cops_model.specs.declared.deliveries.Progress.TheVariants.{Working, Done}
+use Rattle.cops_repl.specs.Stands.{is_done}
 use Rattle.cops_service.proofs.Calling.{one_more}
 use Rattle.cops_service.proofs.carrying.deliver.Goals as goal
 
@@ -9,12 +13,24 @@ returns-in-Done-clause-slot g c =
     one_more g.N.Nodes.Answers c.args.stream.now.from.slot c.args.nodes.now c.loop.nodes c.step.new.nodes c.loop.invariant.6
     (called.0.node, max c.loop.carrier.moment c.now.result, called.0.call, called.1, called.2)
 
+-- a node was refused memory
+pub returns-in_err-progress-clause-slot : goal.returns-in_err-progress-clause-slot
+returns-in_err-progress-clause-slot g c =
+    let called = c.step.ensures.called in
+    one_more g.N.Nodes.Answers c.args.stream.now.from.slot c.args.nodes.now c.loop.nodes c.step.new.nodes c.loop.invariant.6
+    (called.0.node, max c.loop.carrier.moment c.now.result, called.0.call, called.1, called.2)
+
+-- what is not done works
+works : (progress : Progress) → ((ending : Delivery) → progress ≡ Done ending → ⊥) → is_done progress ≡ false
+works Working not = refl
+works (Done ending) not = absurd (not ending refl)
+
 pub loop-preserved : goal.loop-preserved
 loop-preserved g c =
     let called = c.step.ensures.called in (
       tt,
       tt,
-      c.in_default.ensures.ended,
+      c.in_ok-progress.ensures.ended ∙ works c.in_ok-progress.progress c.in_default.not-Done,
       c.step.ensures.stream ∙ c.loop.invariant.3,
       c.step.ensures.shards ∙ c.loop.invariant.4,
       c.step.ensures.shape ∙ c.loop.invariant.5,

@@ -37,3 +37,9 @@ returns-in_err-reply-clause-called g c =
       c.in_err-reply.ensures.answers,
       (asks_acknowledge route.shards stream pair c.args.fresh, ends_acknowledge route.shards stream pair c.args.fresh (reply.Refused OutOfMemory) (delivery.Refused OutOfMemory) refl),
     )
+
+pub returns-in_err-reply-clause-refused : goal.returns-in_err-reply-clause-refused
+returns-in_err-reply-clause-refused g c =
+    let route = c.args.self.now in
+    let lack = err_from_is_err_and c.from_residual.result c.from_residual.ensures.1 in
+    rw lack.1 (record { node = route.origin; call = Ack route.to_dc c.args.pair.version }, c.in_err-reply.ensures.answers)

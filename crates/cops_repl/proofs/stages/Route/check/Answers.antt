@@ -59,3 +59,9 @@ returns-in_err-reply-clause-called g c =
       rw c.shard.ensures at c.in_err-reply.ensures.answers,
       (asks_check shards stream entry c.args.checked pair place, ends_check shards stream entry c.args.checked pair (reply.Refused OutOfMemory) (delivery.Refused OutOfMemory) place refl),
     )
+
+pub returns-in_err-reply-clause-refused : goal.returns-in_err-reply-clause-refused
+returns-in_err-reply-clause-refused g c =
+    let route = c.args.self.now in
+    let lack = err_from_is_err_and c.from_residual.result c.from_residual.ensures.1 in
+    rw lack.1 (check route.shards (stream_of route) c.pair-pair.result, rw c.shard.ensures at c.in_err-reply.ensures.answers)

@@ -45,3 +45,8 @@ returns-in_err-reply-clause-called g c =
       c.in_err-reply.ensures.answers,
       (asks_commit route.shards stream entry, ends_commit route.shards stream entry (reply.Refused OutOfMemory) (delivery.Refused OutOfMemory) refl),
     )
+
+pub returns-in_err-reply-clause-refused : goal.returns-in_err-reply-clause-refused
+returns-in_err-reply-clause-refused g c =
+    let lack = err_from_is_err_and c.from_residual.result c.from_residual.ensures.1 in
+    rw lack.1 (commit_call (stream_of c.args.self.now) c.args.entry, c.in_err-reply.ensures.answers)

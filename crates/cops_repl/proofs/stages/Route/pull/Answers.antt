@@ -3,7 +3,6 @@ use Rattle.std.proofs.Common.{ap, ◌++◌, ◌∷◌, []}
 use Rattle.std.proofs.lemmas.Result.{err_from_is_err_and}
 use Rattle.cops_types.specs.declared.faults.Fault.TheVariants.{OutOfMemory}
 use Rattle.cops_model.specs.declared.calls.NodeReply.TheVariants as reply
-use Rattle.cops_model.specs.declared.deliveries.Delivery.TheVariants as delivery
 use Rattle.cops_repl.specs.Stands.{stream_of}
 use Rattle.cops_repl.proofs.NextSteps.{asks_pull}
 use Rattle.cops_repl.proofs.stages.Route.pull.Goals as goal
@@ -24,3 +23,8 @@ returns-in_err-reply-clause-called g c =
       c.in_err-reply.ensures.answers,
       (asks_pull route.shards stream, λ replies led. ap (λ rs. next_after route.shards stream (rs ++ reply.Refused OutOfMemory ∷ [])) led),
     )
+
+pub returns-in_err-reply-clause-refused : goal.returns-in_err-reply-clause-refused
+returns-in_err-reply-clause-refused g c =
+    let lack = err_from_is_err_and c.from_residual.result c.from_residual.ensures.1 in
+    rw lack.1 (pull (stream_of c.args.self.now), c.in_err-reply.ensures.answers)
