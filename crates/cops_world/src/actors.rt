@@ -209,7 +209,7 @@ fn reply_of_delivery(delivery: Delivery) -> Reply
 }
 
 /// A step of a session.
-#[inline(never)]
+#[inline(always)]
 fn step_session<N: Nodes>(session: &mut Session, nodes: &mut N, moment: u64) -> Reply
     requires data_centres { session.old.setting.data_centres ≡ (N.shape nodes.old).data_centres }
     requires shards { session.old.setting.shards ≡ (N.shape nodes.old).shards }
@@ -230,7 +230,7 @@ fn step_session<N: Nodes>(session: &mut Session, nodes: &mut N, moment: u64) -> 
 }
 
 /// A step of a carrier.
-#[inline(never)]
+#[inline(always)]
 fn step_carrier<N: Nodes>(carrier: &mut Carrier, nodes: &mut N, slot: u64, moment: u64) -> Reply
     requires goes_on { has_ended carrier.old ≡ false }
     requires stream { RunsIn (N.shape nodes.old) carrier.old.shards carrier.old.stream }
@@ -263,6 +263,7 @@ impl Actor {
     }
 
     /// Takes a step at a moment, for the tenant of a slot.
+    #[inline(never)]
     pub(crate) fn step<N: Nodes>(&mut self, nodes: &mut N, slot: u64, moment: u64) -> Reply
         requires { RunsAt (N.shape nodes.old) slot self.old }
         ensures steps { (config : TenantConfig) (solo : Solo) → ActorStandsFor config self.old solo →

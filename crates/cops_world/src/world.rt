@@ -420,6 +420,7 @@ impl World {
     }
 
     /// One act of the tenant in a slot, if it has one.
+    #[inline(never)]
     pub(crate) fn act_for(&mut self, slot: u64, act: &Act) -> Reply
         ensures moves { Moves (λ config. cluster_step config act.now) (world_of self.old) slot result (world_of self.new) }
         ensures lack { Leaves (λ config. Lacks config act.now) (world_of self.old) slot result (world_of self.new) }
