@@ -1,5 +1,5 @@
 //! Sessions and carriers at a desk: a step of theirs is at most one turn of one node's gate.
-ghost use Rattle.std.specs.Prelude.{◌≡◌, ◌<◌, ℕ, Some, max, false, MatchResult, OnErr};
+ghost use Rattle.std.specs.Prelude.{◌≡◌, ◌<◌, ℕ, Some, None, max, false, MatchResult, OnErr, IfOk};
 ghost use Rattle.cops_types.specs.TenantConfig.{TenantConfig};
 ghost use Rattle.cops_types.specs.declared.faults.Fault.TheVariants.{OutOfMemory};
 ghost use Rattle.cops_model.specs.declared.calls.NodeReply.{NodeReply};
@@ -10,7 +10,7 @@ ghost use Rattle.cops_repl.specs.Stands.{CarrierStandsFor, IsStepOf, RunsIn, has
 ghost use Rattle.cops_model.specs.Request.{next};
 ghost use Rattle.cops_model.specs.Session.{Session as SoloSession, Running as SoloRunning, moment_at, request_of};
 ghost use Rattle.cops_session.specs.SessionStands.{SessionStandsFor};
-ghost use Rattle.cops_session.specs.Stepping.{DoesNext};
+ghost use Rattle.cops_session.specs.Stepping.{TellsNext, told_step};
 ghost use Rattle.cops_service.specs.Desks.{IsDeskCall, MakesOneTurnAtMost, shape_in};
 
 use crate::desk::Desk;
@@ -22,24 +22,26 @@ use std::alloc::AllocError;
 use std::sync::Wait;
 
 impl<R: Wait> Desk<'_, R> {
-    /// Takes a step of a session's request. The reply that the session goes on with is the one that the seat was told.
+    /// Takes a step of a session's request. The reply that the session goes on with is the one that the seat was told. That memory
+    /// was refused, to the node or to the session, is the error.
     pub fn step_session(
         &mut self,
         session: &mut Session,
         handle: Handle<Running>,
         moment: u64,
-    ) -> Result<cops_session::Progress, Fault>
+    ) -> Result<Result<cops_session::Progress, Fault>, AllocError>
         requires data_centres { session.old.setting.data_centres ≡ (shape_in self.old.cluster.now).data_centres }
         requires shards { session.old.setting.shards ≡ (shape_in self.old.cluster.now).shards }
         ensures cluster { self.new.cluster.now ≡ self.old.cluster.now }
         ensures turn { MakesOneTurnAtMost self.old.cluster.now self.old.seat.now session.old.setting.slot self.new.seat.now }
-        ensures stepped { (config : TenantConfig) (solo : SoloSession) → SessionStandsFor config session.old solo → MatchResult result
-            (λ shown. (running : SoloRunning) × (solo.running ≡ Some running) × (running.number ≡ handle)
-            × DoesNext (λ id call reply. IsDeskCall self.old.cluster.now self.old.seat.now id session.old.setting.slot (moment_at moment solo) call reply self.new.seat.now) (self.new.seat.now ≡ self.old.seat.now)
-            config solo running (moment_at moment solo) shown session.new (next config (request_of solo running) running.log (moment_at moment solo)))
+        ensures stepped { (config : TenantConfig) (solo : SoloSession) → SessionStandsFor config session.old solo → MatchResult (told_step result)
+            (λ told. (running : SoloRunning) × (solo.running ≡ Some running) × (running.number ≡ handle)
+            × TellsNext (λ id call reply. IsDeskCall self.old.cluster.now self.old.seat.now id session.old.setting.slot (moment_at moment solo) call reply self.new.seat.now) (self.new.seat.now ≡ self.old.seat.now)
+            config solo running (moment_at moment solo) told session.new (next config (request_of solo running) running.log (moment_at moment solo)))
             (λ fault. fault ≡ Fault.Idle) }
         ensures setting { session.new.setting ≡ session.old.setting }
-        ensures idle { OnErr result ((session.new ≡ session.old) × (self.new.seat.now ≡ self.old.seat.now)) }
+        ensures idle { IfOk result (λ told. OnErr told ((session.new ≡ session.old) × (self.new.seat.now ≡ self.old.seat.now))) }
+        ensures err { OnErr result (session.new ≡ record session.old { moment = session.new.moment; running = None }) }
     {
         session.step(self, handle, moment)
     }

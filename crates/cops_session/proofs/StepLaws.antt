@@ -1,11 +1,11 @@
 -- A session stands for that of the definitions after each step.
 use Rattle.std.proofs.Common.{◌≡◌, ℕ, false, List, [], ◌∷◌, ◌++◌, refl, sym, ◌∙◌, ap, subst, arith, ◌⊎◌, inl, inr}
-use Rattle.std.specs.Prelude.{Option, Some, None, max, nat_lt, if◌then◌else◌}
+use Rattle.std.specs.Prelude.{Option, Some, None, max, nat_lt, Result, Ok, Err, IfOk, if◌then◌else◌}
+use Rattle.std.specs.declared.alloc.AllocError.{AllocError}
 use Rattle.std.proofs.lemmas.Bool.Decides.{nat_tests}
 use Rattle.cops_types.specs.declared.contexts.Read.{Read}
 use Rattle.cops_types.specs.declared.faults.Fault.{Fault}
-use Rattle.cops_types.specs.declared.faults.Fault.TheVariants.{OutOfMemory, Torn}
-use Rattle.cops_types.specs.declared.pairs.Pair.{Pair}
+use Rattle.cops_types.specs.declared.faults.Fault.TheVariants.{OutOfMemory}
 use Rattle.cops_types.specs.Context.{Observation, all_of, near_of}
 use Rattle.cops_types.specs.Key.{shard_of}
 use Rattle.cops_types.specs.TenantConfig.{TenantConfig}
@@ -15,8 +15,6 @@ use Rattle.cops_model.specs.declared.calls.NodeId.{NodeId}
 use Rattle.cops_model.specs.declared.calls.NodeReply.{NodeReply}
 use Rattle.cops_model.specs.declared.calls.NodeReply.TheVariants as reply
 use Rattle.cops_model.specs.Log.{LogStep, Replied, Next, Call, Restart, Ended}
-use Rattle.cops_handles.specs.declared.tables.Open.{Open}
-use Rattle.cops_context.specs.Lists.{Lists}
 use Rattle.cops_model.specs.declared.requests.Answer.{Answer}
 use Rattle.cops_model.specs.declared.requests.Answer.TheVariants as answer
 use Rattle.cops_model.specs.declared.requests.Progress.{Progress}
@@ -34,11 +32,25 @@ use Rattle.cops_session.specs.Reading.{IsReading}
 use Rattle.cops_model.specs.Request.{Fetch, Request, Write, key_home, next, values_or_full}
 use Rattle.cops_model.specs.Session.{OpenContext, Running, Session, context_extended, has_restarted, moment_after, moment_at, obs_of, progress, raised, request_of, seen_in, session_after}
 use Rattle.cops_session.specs.SessionStands.{ContextsStandFor, IsSettingOf, IsWriting, RunningStandsFor, SessionStandsFor, obs_in}
-use Rattle.cops_session.specs.Stepping.{DoesNext, HasStepped}
-use Rattle.cops_session.specs.Turns.{CameOf, HasTurned, TurnsNext}
-use Rattle.cops_session.specs.Wants.{WantsMemory}
+use Rattle.cops_session.specs.Stepping.{DoesNext, HasStepped, HasTold, TellsNext, told_shown}
+use Rattle.cops_session.specs.Turns.{CameOf, HasLacked, HasTurned, HasTurnedSo, TurnsNext}
+use Rattle.cops_session.specs.Wants.{EndsRound, WantsMemory}
 use Rattle.cops_session.specs.Writing.{answer_to_put}
 use Rattle.cops_session.proofs.ContextRows.{context_extended-nothing}
+
+-- ---- what a step is told
+
+-- the step that is told does what comes next
+pub as_told : (called : NodeId → NodeCall → NodeReply → Type 0) (stays : Type 0) (config : TenantConfig) (session : Session) (running : Running) (moment : ℕ) (told : Result Progress AllocError) (after : KeptSession) (n : Next Answer) →
+    TellsNext called stays config session running moment told after n → DoesNext called stays config session running moment (told_shown told) after n
+as_told called stays config session running moment told after (Call directed) tells = (tells.0, tells.1, tells.2.stepped)
+as_told called stays config session running moment told after Restart tells = (tells.0, tells.1.stepped)
+as_told called stays config session running moment told after (Ended answer) tells = tells
+
+-- what is told to be the definition's is so where it is shown
+exactly : (told : Result Progress AllocError) (shown : Progress) → told_shown told ≡ shown → IfOk told (λ s. s ≡ shown)
+exactly (Ok s) shown is = is
+exactly (Err error) shown is = tt
 
 -- ---- the request has ended
 
@@ -89,13 +101,13 @@ module _ (config : TenantConfig) (kept after : KeptSession) (session : Session) 
   abbrev with_get : Reading → KeptSession
   with_get reading = record kept { running = Some (record { number = number; context = context; work = Get reading }) }
 
-  pub put_steps : (called : ℕ → NodeId → NodeCall → NodeReply → Type 0) (stays : Type 0) (writing : PendingPut) (moment now : ℕ) (r : NodeReply) (ended : Answer) →
+  pub put_steps : (called : ℕ → NodeId → NodeCall → NodeReply → Type 0) (stays : Type 0) (writing : PendingPut) (moment now : ℕ) (r : NodeReply) (ended : Answer) (told : Result Progress AllocError) → told_shown told ≡ Done ended →
       SessionStandsFor config (with_put writing) session → session.running ≡ Some running → now ≡ max kept.moment moment →
       called now (record { dc = kept.setting.dc; shard = shard_of writing.key kept.setting.shards }) (call.Put writing.key writing.value writing.deps writing.near) r → ended ≡ answer_to_put writing.key r →
       after.setting ≡ kept.setting → after.moment ≡ now → ContextsStandFor after.contexts.rows (context_extended context (seen_in ended) session.contexts) →
       after.contexts.limit ≡ kept.contexts.limit → after.contexts.next ≡ kept.contexts.next → after.next_request ≡ kept.next_request → after.running ≡ None →
-      DoesNext (called (moment_at moment session)) stays config session running (moment_at moment session) (Done ended) after (next config (request_of session running) running.log (moment_at moment session))
-  put_steps called stays writing moment now r ended stands is now_is answers ended_is setting moment_is contexts limit next_context next_request idle =
+      TellsNext (called (moment_at moment session)) stays config session running (moment_at moment session) told after (next config (request_of session running) running.log (moment_at moment session))
+  put_steps called stays writing moment now r ended told told_is stands is now_is answers ended_is setting moment_is contexts limit next_context next_request idle =
       let at = moment_at moment session in
       let own : (number ≡ running.number) × (context ≡ running.context) × IsWriting (request_of session running) running.log writing =
       subst (λ (b : Option Running). RunningStandsFor config session (Some (record { number = number; context = context; work = Put writing })) b) is stands.running_is in
@@ -123,26 +135,33 @@ module _ (config : TenantConfig) (kept after : KeptSession) (session : Session) 
             done_stands config (with_put writing) after session running step ended stands setting (moment_is ∙ at_is ∙ sym (ap (λ b. if b then raised at (Replied r) else at) same))
             (subst (λ (n : ℕ). ContextsStandFor after.contexts.rows (context_extended n (seen_in ended) session.contexts)) own.1 contexts) limit next_context next_request idle;
       } in
-      subst (λ (n : Next Answer). DoesNext (called at) stays config session running at (Done ended) after n) (sym calls) (r, made, has)
+      subst (λ (n : Next Answer). TellsNext (called at) stays config session running at told after n) (sym calls) (
+        r,
+        made,
+        record {
+          stepped = subst (λ (s : Progress). HasStepped config session running step s after) (sym told_is) has;
+          exact = exactly told (progress config (request_of session running) running.log step) (told_is ∙ ap Done ended_is ∙ sym shows);
+        },
+      )
 
   -- ---- a get transaction
 
-  turns_as : (called : NodeId → NodeCall → NodeReply → Type 0) (stays : Type 0) (keys : List (List ℕ)) (moment : ℕ) (turn : ReadStep) (shown : Progress) (n : Next Answer) →
-      ((step : LogStep) → HasTurned config (request_of session running) keys running.log step turn → HasStepped config session running step shown after) →
-      TurnsNext called stays config (request_of session running) keys running.log moment turn n → DoesNext called stays config session running moment shown after n
-  turns_as called stays keys moment turn shown (Call directed) steps h = (h.0, h.1, steps _ h.2)
-  turns_as called stays keys moment turn shown Restart steps h = (h.0, steps _ h.1)
-  turns_as called stays keys moment turn shown (Ended ended) steps h = h
+  turns_as : (called : NodeId → NodeCall → NodeReply → Type 0) (stays : Type 0) (keys : List (List ℕ)) (moment : ℕ) (turn : Result ReadStep AllocError) (told : Result Progress AllocError) (n : Next Answer) →
+      ((step : LogStep) → step.moment ≡ moment → HasTurnedSo config (request_of session running) keys running.log step turn → HasTold config session running step told after) →
+      TurnsNext called stays config (request_of session running) keys running.log moment turn n → TellsNext called stays config session running moment told after n
+  turns_as called stays keys moment turn told (Call directed) steps h = (h.0, h.1, steps _ refl h.2)
+  turns_as called stays keys moment turn told Restart steps h = (h.0, steps _ refl h.1)
+  turns_as called stays keys moment turn told (Ended ended) steps h = h
 
-  pub get_steps : (called : ℕ → NodeId → NodeCall → NodeReply → Type 0) (stays : Type 0) (reading : Reading) (moment now : ℕ) (turn : ReadStep) (shown : Progress) →
+  pub get_steps : (called : ℕ → NodeId → NodeCall → NodeReply → Type 0) (stays : Type 0) (reading : Reading) (moment now : ℕ) (turn : Result ReadStep AllocError) (told : Result Progress AllocError) →
       SessionStandsFor config (with_get reading) session → session.running ≡ Some running → now ≡ max kept.moment moment →
       ((config : TenantConfig) (obs : List Observation) (keys : List (List ℕ)) (log : List LogStep) → IsSettingOf config kept.setting →
       IsReading config (record { dc = kept.setting.dc; obs = obs; action = Fetch keys }) keys log reading →
       TurnsNext (called now) stays config (record { dc = kept.setting.dc; obs = obs; action = Fetch keys }) keys log now turn (next config (record { dc = kept.setting.dc; obs = obs; action = Fetch keys }) log now)) →
-      ((keys : List (List ℕ)) (step : LogStep) → context ≡ running.context → number ≡ running.number → running.action ≡ Fetch keys → HasTurned config (request_of session running) keys running.log step turn →
-      HasStepped config session running step shown after) →
-      DoesNext (called (moment_at moment session)) stays config session running (moment_at moment session) shown after (next config (request_of session running) running.log (moment_at moment session))
-  get_steps called stays reading moment now turn shown stands is now_is turned steps =
+      ((keys : List (List ℕ)) (step : LogStep) → step.moment ≡ now → context ≡ running.context → number ≡ running.number → running.action ≡ Fetch keys → HasTurnedSo config (request_of session running) keys running.log step turn →
+      HasTold config session running step told after) →
+      TellsNext (called (moment_at moment session)) stays config session running (moment_at moment session) told after (next config (request_of session running) running.log (moment_at moment session))
+  get_steps called stays reading moment now turn told stands is now_is turned steps =
       let own : (number ≡ running.number) × (context ≡ running.context) × ((keys : List (List ℕ)) × (running.action ≡ Fetch keys) × IsReading config (request_of session running) keys running.log reading) =
       subst (λ (b : Option Running). RunningStandsFor config session (Some (record { number = number; context = context; work = Get reading })) b) is stands.running_is in
       let keys = own.2.0 in
@@ -154,7 +173,7 @@ module _ (config : TenantConfig) (kept after : KeptSession) (session : Session) 
       let turns : TurnsNext (called (moment_at moment session)) stays config (request_of session running) keys running.log (moment_at moment session) turn (next config (request_of session running) running.log (moment_at moment session)) =
       subst (λ (t : ℕ). TurnsNext (called t) stays config (request_of session running) keys running.log t turn (next config (request_of session running) running.log t)) at_is
       (subst (λ (r : Request). TurnsNext (called now) stays config r keys running.log now turn (next config r running.log now)) (sym req) (turned config obs keys running.log stands.setting_is read)) in
-      turns_as (called (moment_at moment session)) stays keys (moment_at moment session) turn shown (next config (request_of session running) running.log (moment_at moment session)) (λ step. steps keys step own.1 own.0 action) turns
+      turns_as (called (moment_at moment session)) stays keys (moment_at moment session) turn told (next config (request_of session running) running.log (moment_at moment session)) (λ step timed. steps keys step (timed ∙ sym at_is) own.1 own.0 action) turns
 
   -- the moment after the step
   moment_turned : (keys : List (List ℕ)) (step : LogStep) (turn : ReadStep) → running.action ≡ Fetch keys → HasTurned config (request_of session running) keys running.log step turn → turn.moment ≡ moment_after running step
@@ -179,72 +198,90 @@ module _ (config : TenantConfig) (kept after : KeptSession) (session : Session) 
       })
 
   pub works : (reading next_reading : Reading) (turn : ReadStep) (keys : List (List ℕ)) (step : LogStep) → SessionStandsFor config (with_get reading) session → turn.came ≡ came.Working next_reading → after ≡ record (with_get next_reading) { moment = turn.moment } →
-      context ≡ running.context → number ≡ running.number → running.action ≡ Fetch keys → HasTurned config (request_of session running) keys running.log step turn → HasStepped config session running step Working after
+      context ≡ running.context → number ≡ running.number → running.action ≡ Fetch keys → HasTurned config (request_of session running) keys running.log step turn → HasTold config session running step (Ok Working) after
   works reading next_reading turn keys step stands came_is after_is same_context same_number action has =
       let here = subst (λ (c : Came). CameOf config (request_of session running) keys running.log step c) came_is has.came_is in
-      record { shown_is = inl (sym here.0); wants = λ memory. cc; stands = goes_on reading next_reading keys step turn stands after_is same_context same_number action has here.1 }
+      record {
+        stepped = record { shown_is = inl (sym here.0); wants = λ memory. cc; stands = goes_on reading next_reading keys step turn stands after_is same_context same_number action has here.1 };
+        exact = sym here.0;
+      }
 
   pub restarts : (reading next_reading : Reading) (turn : ReadStep) (keys : List (List ℕ)) (step : LogStep) → SessionStandsFor config (with_get reading) session → turn.came ≡ came.Restarted next_reading → after ≡ record (with_get next_reading) { moment = turn.moment } →
-      context ≡ running.context → number ≡ running.number → running.action ≡ Fetch keys → HasTurned config (request_of session running) keys running.log step turn → HasStepped config session running step (Restarted next_reading.restarts) after
+      context ≡ running.context → number ≡ running.number → running.action ≡ Fetch keys → HasTurned config (request_of session running) keys running.log step turn → HasTold config session running step (Ok (Restarted next_reading.restarts)) after
   restarts reading next_reading turn keys step stands came_is after_is same_context same_number action has =
       let here = subst (λ (c : Came). CameOf config (request_of session running) keys running.log step c) came_is has.came_is in
-      record { shown_is = inl (sym here.0); wants = λ memory. cc; stands = goes_on reading next_reading keys step turn stands after_is same_context same_number action has here.1 }
+      record {
+        stepped = record { shown_is = inl (sym here.0); wants = λ memory. cc; stands = goes_on reading next_reading keys step turn stands after_is same_context same_number action has here.1 };
+        exact = sym here.0;
+      }
+
+  -- the request has ended with a refusal, and its context has seen no more
+  refused_stands : (reading : Reading) (fault : Fault) (moment : ℕ) (step : LogStep) → SessionStandsFor config (with_get reading) session → after ≡ record kept { moment = moment; running = None } →
+      moment ≡ moment_after running step → SessionStandsFor config after (session_after session running step (Done (answer.Refused fault)))
+  refused_stands reading fault moment step stands after_is moment_is =
+      subst (λ (k : KeptSession). SessionStandsFor config k (session_after session running step (Done (answer.Refused fault)))) (sym after_is)
+      (done_stands config (with_get reading) (record kept { moment = moment; running = None }) session running step (answer.Refused fault) stands refl moment_is
+      (subst (λ (cs : List OpenContext). ContextsStandFor kept.contexts.rows cs) (sym (context_extended-nothing running.context session.contexts)) stands.contexts_are) refl refl refl refl)
+
+  lacked : (reading : Reading) (error : AllocError) (moment : ℕ) (keys : List (List ℕ)) (step : LogStep) → SessionStandsFor config (with_get reading) session → after ≡ record kept { moment = moment; running = None } →
+      moment ≡ moment_after running step → running.action ≡ Fetch keys → (step.outcome ≡ Replied (reply.Refused OutOfMemory)) ⊎ EndsRound config (request_of session running) keys running.log step →
+      HasTold config session running step (Err error) after
+  lacked reading error moment keys step stands after_is moment_is action wants =
+      record {
+        stepped = record {
+          shown_is = inr refl;
+          wants = λ memory. subst (WantsMemory config (request_of session running) running.log step) (sym action) wants;
+          stands = refused_stands reading OutOfMemory moment step stands after_is moment_is;
+        };
+        exact = tt;
+      }
 
   pub fails : (reading : Reading) (turn : ReadStep) (fault : Fault) (keys : List (List ℕ)) (step : LogStep) → SessionStandsFor config (with_get reading) session → turn.came ≡ came.Failed fault → after ≡ record kept { moment = turn.moment; running = None } →
-      running.action ≡ Fetch keys → HasTurned config (request_of session running) keys running.log step turn → HasStepped config session running step (Done (answer.Refused fault)) after
+      running.action ≡ Fetch keys → HasTurned config (request_of session running) keys running.log step turn → HasTold config session running step (Ok (Done (answer.Refused fault))) after
   fails reading turn fault keys step stands came_is after_is action has =
       let here = subst (λ (c : Came). CameOf config (request_of session running) keys running.log step c) came_is has.came_is in
       record {
-        shown_is = shows here;
-        wants = λ memory. subst (WantsMemory config (request_of session running) running.log step) (sym action) (wanted here memory);
-        stands =
-            subst (λ (k : KeptSession). SessionStandsFor config k (session_after session running step (Done (answer.Refused fault)))) (sym after_is)
-            (done_stands config (with_get reading) (record kept { moment = turn.moment; running = None }) session running step (answer.Refused fault) stands refl (moment_turned keys step turn action has)
-            (subst (λ (cs : List OpenContext). ContextsStandFor kept.contexts.rows cs) (sym (context_extended-nothing running.context session.contexts)) stands.contexts_are) refl refl refl refl);
+        stepped = record {
+          shown_is = inl (sym here.0);
+          wants = λ memory.
+              let same : fault ≡ OutOfMemory = cc in
+              subst (WantsMemory config (request_of session running) running.log step) (sym action) (inl (here.1 same));
+          stands = refused_stands reading fault turn.moment step stands after_is (moment_turned keys step turn action has);
+        };
+        exact = sym here.0;
       }
-    where
-      Failing : Type 0
-      Failing = CameOf config (request_of session running) keys running.log step (came.Failed fault)
 
-      wanted : Failing → Done (answer.Refused fault) ≡ Done (answer.Refused OutOfMemory) → WantsMemory config (request_of session running) running.log step (Fetch keys)
-      wanted (inl h) memory = let same : fault ≡ OutOfMemory = cc in inl (h.1 same)
-      wanted (inr h) memory = inr h.1
+  -- memory was refused to the step of the round
+  pub lacks : (reading : Reading) (error : AllocError) (moment : ℕ) (keys : List (List ℕ)) (step : LogStep) → SessionStandsFor config (with_get reading) session → after ≡ record kept { moment = moment; running = None } →
+      step.moment ≡ moment → running.action ≡ Fetch keys → HasLacked config (request_of session running) keys running.log step → HasTold config session running step (Err error) after
+  lacks reading error moment keys step stands after_is timed action has =
+      lacked reading error moment keys step stands after_is
+      (sym timed ∙ sym (ap (λ b. if b then raised step.moment step.outcome else step.moment) (ap (λ a. has_restarted a running.log step) action ∙ has.same_attempt))) action has.wants
 
-      shows : Failing → (Done (answer.Refused fault) ≡ progress config (request_of session running) running.log step) ⊎ (Done (answer.Refused fault) ≡ Done (answer.Refused OutOfMemory))
-      shows (inl h) = inl (sym h.0)
-      shows (inr h) = inr (ap (λ f. Done (answer.Refused f)) h.0)
+  -- memory was refused to what keeps the reads
+  pub lacks_reads : (reading : Reading) (error : AllocError) (turn : ReadStep) (reads : List Read) (keys : List (List ℕ)) (step : LogStep) → SessionStandsFor config (with_get reading) session → turn.came ≡ came.Complete reads →
+      after ≡ record kept { moment = turn.moment; running = None } → running.action ≡ Fetch keys → HasTurned config (request_of session running) keys running.log step turn → HasTold config session running step (Err error) after
+  lacks_reads reading error turn reads keys step stands came_is after_is action has =
+      let here = subst (λ (c : Came). CameOf config (request_of session running) keys running.log step c) came_is has.came_is in
+      lacked reading error turn.moment keys step stands after_is (moment_turned keys step turn action has) action (inr (record { same_attempt = here.0; is_read = inr (reads, here.1) }))
 
   pub completes : (reading : Reading) (turn : ReadStep) (reads : List Read) (ended : Answer) (keys : List (List ℕ)) (step : LogStep) → SessionStandsFor config (with_get reading) session → turn.came ≡ came.Complete reads →
-      (ended ≡ values_or_full kept.setting.deps (obs_in context session.contexts) reads) ⊎ (ended ≡ answer.Refused OutOfMemory) →
+      ended ≡ values_or_full kept.setting.deps (obs_in context session.contexts) reads →
       ContextsStandFor after.contexts.rows (context_extended context (seen_in ended) session.contexts) →
       after ≡ record kept { moment = turn.moment; contexts = record kept.contexts { rows = after.contexts.rows }; running = None } → context ≡ running.context →
-      running.action ≡ Fetch keys → HasTurned config (request_of session running) keys running.log step turn → HasStepped config session running step (Done ended) after
+      running.action ≡ Fetch keys → HasTurned config (request_of session running) keys running.log step turn → HasTold config session running step (Ok (Done ended)) after
   completes reading turn reads ended keys step stands came_is ended_is contexts after_is same_context action has =
       let here = subst (λ (c : Came). CameOf config (request_of session running) keys running.log step c) came_is has.came_is in
+      let shows : Done ended ≡ progress config (request_of session running) running.log step =
+      ap Done (ended_is ∙ (λ i. values_or_full (stands.setting_is.deps i) (obs_in (same_context i) session.contexts) reads)) ∙ sym here.1 in
       record {
-        shown_is = shows here.1 ended_is;
-        wants = λ memory. subst (WantsMemory config (request_of session running) running.log step) (sym action) (inr (record { same_attempt = here.0; is_read = inr (reads, here.1) }));
-        stands =
-            done_stands config (with_get reading) after session running step ended stands (ap (λ k. k.setting) after_is) (ap (λ k. k.moment) after_is ∙ moment_turned keys step turn action has)
-            (subst (λ (n : ℕ). ContextsStandFor after.contexts.rows (context_extended n (seen_in ended) session.contexts)) same_context contexts)
-            (ap (λ k. k.contexts.limit) after_is) (ap (λ k. k.contexts.next) after_is) (ap (λ k. k.next_request) after_is) (ap (λ k. k.running) after_is);
+        stepped = record {
+          shown_is = inl shows;
+          wants = λ memory. subst (WantsMemory config (request_of session running) running.log step) (sym action) (inr (record { same_attempt = here.0; is_read = inr (reads, here.1) }));
+          stands =
+              done_stands config (with_get reading) after session running step ended stands (ap (λ k. k.setting) after_is) (ap (λ k. k.moment) after_is ∙ moment_turned keys step turn action has)
+              (subst (λ (n : ℕ). ContextsStandFor after.contexts.rows (context_extended n (seen_in ended) session.contexts)) same_context contexts)
+              (ap (λ k. k.contexts.limit) after_is) (ap (λ k. k.contexts.next) after_is) (ap (λ k. k.next_request) after_is) (ap (λ k. k.running) after_is);
+        };
+        exact = shows;
       }
-    where
-      shows : progress config (request_of session running) running.log step ≡ Done (values_or_full config.quota.deps (obs_of running.context session) reads) →
-          (ended ≡ values_or_full kept.setting.deps (obs_in context session.contexts) reads) ⊎ (ended ≡ answer.Refused OutOfMemory) →
-          (Done ended ≡ progress config (request_of session running) running.log step) ⊎ (Done ended ≡ Done (answer.Refused OutOfMemory))
-      shows h (inl e) = inl (ap Done (e ∙ (λ i. values_or_full (stands.setting_is.deps i) (obs_in (same_context i) session.contexts) reads)) ∙ sym h)
-      shows h (inr e) = inr (ap Done e)
-
--- ---- an answer with nothing to see
-
-as_refused : (fault : Fault) (ended : Answer) (context : ℕ) (rows : List (Open Lists)) (opens : List OpenContext) → ended ≡ answer.Refused fault → ContextsStandFor rows opens →
-    ContextsStandFor rows (context_extended context (seen_in ended) opens)
-as_refused fault ended context rows opens is stand =
-    subst (λ (a : Answer). ContextsStandFor rows (context_extended context (seen_in a) opens)) (sym is) (subst (λ (cs : List OpenContext). ContextsStandFor rows cs) (sym (context_extended-nothing context opens)) stand)
-
-pub unseen : (key : List ℕ) (r : NodeReply) (ended : Answer) (context : ℕ) (rows : List (Open Lists)) (opens : List OpenContext) → ended ≡ answer_to_put key r → ((pair : Pair) → ended ≡ answer.Stored pair → ⊥) →
-    ContextsStandFor rows opens → ContextsStandFor rows (context_extended context (seen_in ended) opens)
-unseen key (reply.Stored version) ended context rows opens is not stand = absurd (not (record { key = key; version = version }) is)
-unseen key (reply.Refused fault) ended context rows opens is not stand = as_refused fault ended context rows opens is stand
-unseen key _ ended context rows opens is not stand = as_refused Torn ended context rows opens is stand

@@ -1,5 +1,7 @@
 -- A step of the running request.
-use Rattle.std.specs.Prelude.{◌≡◌, ◌⊎◌, ℕ, Bool, false, ◌==◌, Option, Some, None}
+use Rattle.std.specs.Prelude.{◌≡◌, ◌⊎◌, ℕ, Bool, false, ◌==◌, Option, Some, None, Result, Ok, Err, IfOk}
+use Rattle.std.specs.declared.alloc.AllocError.{AllocError}
+use Rattle.cops_types.specs.declared.faults.Fault.{Fault}
 use Rattle.cops_types.specs.declared.faults.Fault.TheVariants.{OutOfMemory}
 use Rattle.cops_types.specs.TenantConfig.{TenantConfig}
 use Rattle.cops_model.specs.declared.calls.NodeCall.{NodeCall}
@@ -14,6 +16,17 @@ use Rattle.cops_session.specs.Kept.{KeptSession}
 use Rattle.cops_model.specs.Session.{Running, Session, progress, request_of, session_after}
 use Rattle.cops_session.specs.SessionStands.{SessionStandsFor}
 use Rattle.cops_session.specs.Wants.{WantsMemory}
+
+-- what a step is told to have shown: where memory was refused, the end that says so
+abbrev pub told_shown : Result Progress AllocError → Progress
+told_shown (Ok shown) = shown
+told_shown (Err error) = Done (Refused OutOfMemory)
+
+-- what a step that was taken answers, where the request runs; or why none was taken
+abbrev pub told_step : Result (Result Progress Fault) AllocError → Result (Result Progress AllocError) Fault
+told_step (Ok (Ok shown)) = Ok (Ok shown)
+told_step (Ok (Err fault)) = Err fault
+told_step (Err error) = Ok (Err error)
 
 -- what the step shows is the definition's, or that there was no memory, which ends the request and is so only where memory was wanted; the session
 -- stands for the one after that
@@ -30,6 +43,18 @@ DoesNext called stays config session running moment shown after (Call directed) 
 DoesNext called stays config session running moment shown after Restart =
     stays × HasStepped config session running (record { moment = moment; outcome = Late }) shown after
 DoesNext called stays config session running moment shown after (Ended answer) = ⊥
+
+-- the same of what a step answers: that memory was refused is the error, and what is shown without it is the definition's
+pub record HasTold (config : TenantConfig) (session : Session) (running : Running) (step : LogStep) (told : Result Progress AllocError) (after : KeptSession) : Type 0 where
+  pub stepped : HasStepped config session running step (told_shown told) after
+  pub exact : IfOk told (λ shown. shown ≡ progress config (request_of session running) running.log step)
+
+abbrev pub TellsNext : (NodeId → NodeCall → NodeReply → Type 0) → Type 0 → TenantConfig → Session → Running → ℕ → Result Progress AllocError → KeptSession → Next Answer → Type 0
+TellsNext called stays config session running moment told after (Call directed) =
+    (reply : NodeReply) × called directed.node directed.call reply × HasTold config session running (record { moment = moment; outcome = Replied reply }) told after
+TellsNext called stays config session running moment told after Restart =
+    stays × HasTold config session running (record { moment = moment; outcome = Late }) told after
+TellsNext called stays config session running moment told after (Ended answer) = ⊥
 
 -- the request of this number runs
 abbrev pub runs : ℕ → Session → Bool

@@ -1,5 +1,7 @@
 -- A step of a get transaction that runs.
-use Rattle.std.specs.Prelude.{◌≡◌, ◌⊎◌, ℕ, false, List, [], ◌∷◌, ◌++◌, if◌then◌else◌}
+use Rattle.std.specs.Prelude.{◌≡◌, ◌⊎◌, ℕ, false, List, [], ◌∷◌, ◌++◌, Result, Ok, Err, if◌then◌else◌}
+use Rattle.std.specs.declared.alloc.AllocError.{AllocError}
+use Rattle.cops_types.specs.declared.faults.Fault.{Fault}
 use Rattle.cops_types.specs.declared.faults.Fault.TheVariants.{OutOfMemory}
 use Rattle.cops_types.specs.TenantConfig.{TenantConfig}
 use Rattle.cops_model.specs.declared.calls.NodeCall.{NodeCall}
@@ -10,6 +12,7 @@ use Rattle.cops_model.specs.Log.{LogStep, Late, Replied, Next, Call, Restart, En
 use Rattle.cops_model.specs.declared.requests.Answer.{Answer}
 use Rattle.cops_model.specs.declared.requests.Answer.TheVariants as answer
 use Rattle.cops_model.specs.declared.requests.Progress.TheVariants as progress
+use Rattle.cops_session.specs.declared.ongoing.Reading.{Reading}
 use Rattle.cops_session.specs.declared.reading.Came.{Came}
 use Rattle.cops_session.specs.declared.reading.Came.TheVariants.{Working, Restarted, Complete, Failed}
 use Rattle.cops_session.specs.declared.reading.ReadStep.{ReadStep}
@@ -27,16 +30,30 @@ CameOf config request keys log step (Restarted reading) =
 CameOf config request keys log step (Complete reads) =
     (has_restarted (Fetch keys) log step ≡ false) × (session.progress config request log step ≡ progress.Done (values_or_full config.quota.deps request.obs reads))
 CameOf config request keys log step (Failed fault) =
-    ((session.progress config request log step ≡ progress.Done (answer.Refused fault)) × (fault ≡ OutOfMemory → step.outcome ≡ Replied (RefusedAt OutOfMemory)))
-    ⊎ ((fault ≡ OutOfMemory) × EndsRound config request keys log step)
+    (session.progress config request log step ≡ progress.Done (answer.Refused fault)) × (fault ≡ OutOfMemory → step.outcome ≡ Replied (RefusedAt OutOfMemory))
 
 pub record HasTurned (config : TenantConfig) (request : Request) (keys : List (List ℕ)) (log : List LogStep) (step : LogStep) (turn : ReadStep) : Type 0 where
   pub moment_is : turn.moment ≡ (if has_restarted (Fetch keys) log step then raised step.moment step.outcome else step.moment)
   pub came_is : CameOf config request keys log step turn.came
 
+-- memory was refused: to the node, or at the end of a round, whose reads were to be kept
+pub record HasLacked (config : TenantConfig) (request : Request) (keys : List (List ℕ)) (log : List LogStep) (step : LogStep) : Type 0 where
+  pub same_attempt : has_restarted (Fetch keys) log step ≡ false
+  pub wants : (step.outcome ≡ Replied (RefusedAt OutOfMemory)) ⊎ EndsRound config request keys log step
+
+abbrev pub HasTurnedSo : TenantConfig → Request → List (List ℕ) → List LogStep → LogStep → Result ReadStep AllocError → Type 0
+HasTurnedSo config request keys log step (Ok turn) = HasTurned config request keys log step turn
+HasTurnedSo config request keys log step (Err error) = HasLacked config request keys log step
+
+-- what came of a step at a moment in a transaction that stands where it stood, and stands so after it
+abbrev pub turned_in_place : {A : Type 0} → ℕ → Reading → Result (Result A Fault) AllocError → Result ReadStep AllocError
+turned_in_place moment reading (Ok (Ok added)) = Ok (record { moment = moment; came = Working reading })
+turned_in_place moment reading (Ok (Err fault)) = Ok (record { moment = moment; came = Failed fault })
+turned_in_place moment reading (Err error) = Err error
+
 -- the step does what comes next
-abbrev pub TurnsNext : (NodeId → NodeCall → NodeReply → Type 0) → Type 0 → TenantConfig → Request → List (List ℕ) → List LogStep → ℕ → ReadStep → Next Answer → Type 0
+abbrev pub TurnsNext : (NodeId → NodeCall → NodeReply → Type 0) → Type 0 → TenantConfig → Request → List (List ℕ) → List LogStep → ℕ → Result ReadStep AllocError → Next Answer → Type 0
 TurnsNext called stays config request keys log moment turn (Call directed) =
-    (reply : NodeReply) × called directed.node directed.call reply × HasTurned config request keys log (record { moment = moment; outcome = Replied reply }) turn
-TurnsNext called stays config request keys log moment turn Restart = stays × HasTurned config request keys log (record { moment = moment; outcome = Late }) turn
+    (reply : NodeReply) × called directed.node directed.call reply × HasTurnedSo config request keys log (record { moment = moment; outcome = Replied reply }) turn
+TurnsNext called stays config request keys log moment turn Restart = stays × HasTurnedSo config request keys log (record { moment = moment; outcome = Late }) turn
 TurnsNext called stays config request keys log moment turn (Ended answer) = ⊥

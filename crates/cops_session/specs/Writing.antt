@@ -1,10 +1,24 @@
 -- The one step of a put.
-use Rattle.std.specs.Prelude.{ℕ, List}
-use Rattle.cops_types.specs.declared.faults.Fault.TheVariants.{Torn}
+use Rattle.std.specs.Prelude.{ℕ, List, Result, Ok, Err}
+use Rattle.std.specs.declared.alloc.AllocError.{AllocError}
+use Rattle.cops_types.specs.declared.faults.Fault.{Fault}
+use Rattle.cops_types.specs.declared.faults.Fault.TheVariants.{OutOfMemory, Torn}
+use Rattle.cops_types.specs.declared.pairs.Pair.{Pair}
 use Rattle.cops_model.specs.declared.calls.NodeReply.{NodeReply}
 use Rattle.cops_model.specs.declared.calls.NodeReply.TheVariants.{Stored as StoredAt, Refused as RefusedAt}
 use Rattle.cops_model.specs.declared.requests.Answer.{Answer}
 use Rattle.cops_model.specs.declared.requests.Answer.TheVariants.{Stored, Refused}
+
+-- what a request is told: where memory was refused, that it was
+abbrev pub told_answer : Result Answer AllocError → Answer
+told_answer (Ok answer) = answer
+told_answer (Err error) = Refused OutOfMemory
+
+-- the same where the request is a put
+abbrev pub told_put : Result (Result Pair Fault) AllocError → Answer
+told_put (Ok (Ok pair)) = Stored pair
+told_put (Ok (Err fault)) = Refused fault
+told_put (Err error) = Refused OutOfMemory
 
 -- what the reply to a put of the key answers
 abbrev pub answer_to_put : List ℕ → NodeReply → Answer

@@ -1,4 +1,4 @@
-ghost use Rattle.std.specs.Prelude.{◌≡◌, ◌⊎◌, ◌+◌, ◌<◌, ℕ, false, List, [], Some, None, IsTrue, MatchResult, nat_lt, unwrap_or, if◌then◌else◌};
+ghost use Rattle.std.specs.Prelude.{◌≡◌, ◌⊎◌, ◌+◌, ◌<◌, ℕ, false, List, [], Some, None, IsTrue, nat_lt, unwrap_or, if◌then◌else◌};
 ghost use Rattle.cops_types.specs.Context.{Observation};
 ghost use Rattle.cops_types.specs.TenantConfig.{TenantConfig};
 ghost use Rattle.cops_types.specs.declared.faults.Fault.TheVariants.{Overrun};
@@ -11,9 +11,9 @@ ghost use Rattle.cops_session.specs.Reading.{GetReadsOn, IsReading, RoundStandsF
 ghost use Rattle.cops_session.specs.Stands.{IsFirstOf};
 ghost use Rattle.cops_model.specs.Request.{Fetch, next};
 ghost use Rattle.cops_session.specs.SessionStands.{IsSettingOf};
-ghost use Rattle.cops_session.specs.Turns.{TurnsNext};
+ghost use Rattle.cops_session.specs.Turns.{TurnsNext, turned_in_place};
 ghost use Rattle.cops_session.specs.declared.ongoing.Round.TheVariants.{First, Second};
-ghost use Rattle.cops_session.specs.declared.reading.Came.TheVariants.{Working, Restarted, Failed};
+ghost use Rattle.cops_session.specs.declared.reading.Came.TheVariants.{Restarted, Failed};
 
 use crate::asking::{FirstAnswer, SecondAnswer, ask_first, ask_next, ask_second};
 use crate::ongoing::{Reading, Round};
@@ -21,9 +21,9 @@ use crate::rounds::{AfterFirst, AfterSecond, FirstRound, SecondRound};
 use crate::settings::Setting;
 use cops_node::Nodes;
 use cops_types::{Fault, Reads};
-use std::alloc::Global;
+use std::alloc::{AllocError, Global};
 
-/// What came of a step of a get transaction.
+/// What came of a step of a get transaction, where there was memory.
 #[derive(Drop)]
 pub enum Came {
     /// It goes on.
@@ -77,7 +77,7 @@ fn read_first<N: Nodes>(
     restarts: u64,
     start: Option<u64>,
     moment: u64,
-) -> ReadStep
+) -> Result<ReadStep, AllocError>
     requires among { IsAmong (N.shape nodes.old) setting }
     requires in_time { is_past setting.trans_time start moment ≡ false }
     ensures turned { (config : TenantConfig) (obs : List Observation) (keys : List (List ℕ)) (log : List LogStep) → IsSettingOf config setting →
@@ -89,30 +89,31 @@ fn read_first<N: Nodes>(
 {
     let started = Some(start.unwrap_or(moment));
     match ask_first(alloc, nodes, round, setting, moment) {
-        FirstAnswer::Went(AfterFirst::More(round)) => ReadStep {
+        Ok(FirstAnswer::Went(AfterFirst::More(round))) => Ok(ReadStep {
             moment,
             came: Came::Working(Reading {
                 restarts,
                 start: started,
                 round: Round::First(round),
             }),
-        },
-        FirstAnswer::Went(AfterFirst::Second(round)) => ReadStep {
+        }),
+        Ok(FirstAnswer::Went(AfterFirst::Second(round))) => Ok(ReadStep {
             moment,
             came: Came::Working(Reading {
                 restarts,
                 start: started,
                 round: Round::Second(round),
             }),
-        },
-        FirstAnswer::Went(AfterFirst::Complete(reads)) => ReadStep {
+        }),
+        Ok(FirstAnswer::Went(AfterFirst::Complete(reads))) => Ok(ReadStep {
             moment,
             came: Came::Complete(reads),
-        },
-        FirstAnswer::Failed(fault) => ReadStep {
+        }),
+        Ok(FirstAnswer::Failed(fault)) => Ok(ReadStep {
             moment,
             came: Came::Failed(fault),
-        },
+        }),
+        Err(error) => Err(error),
     }
 }
 
@@ -124,7 +125,7 @@ fn read_second<N: Nodes>(
     restarts: u64,
     start: Option<u64>,
     moment: u64,
-) -> ReadStep
+) -> Result<ReadStep, AllocError>
     requires among { IsAmong (N.shape nodes.old) setting }
     requires in_time { is_past setting.trans_time start moment ≡ false }
     ensures turned { (config : TenantConfig) (obs : List Observation) (keys : List (List ℕ)) (log : List LogStep) → IsSettingOf config setting →
@@ -136,26 +137,27 @@ fn read_second<N: Nodes>(
 {
     let started = Some(start.unwrap_or(moment));
     match ask_second(nodes, round, setting, moment) {
-        SecondAnswer::Went(AfterSecond::More(round)) => ReadStep {
+        Ok(SecondAnswer::Went(AfterSecond::More(round))) => Ok(ReadStep {
             moment,
             came: Came::Working(Reading {
                 restarts,
                 start: started,
                 round: Round::Second(round),
             }),
-        },
-        SecondAnswer::Went(AfterSecond::Complete(reads)) => ReadStep {
+        }),
+        Ok(SecondAnswer::Went(AfterSecond::Complete(reads))) => Ok(ReadStep {
             moment,
             came: Came::Complete(reads),
-        },
-        SecondAnswer::Gone(round, now) => ReadStep {
+        }),
+        Ok(SecondAnswer::Gone(round, now)) => Ok(ReadStep {
             moment: moment.max(now),
             came: begin_again(round, restarts, setting.restarts),
-        },
-        SecondAnswer::Failed(fault) => ReadStep {
+        }),
+        Ok(SecondAnswer::Failed(fault)) => Ok(ReadStep {
             moment,
             came: Came::Failed(fault),
-        },
+        }),
+        Err(error) => Err(error),
     }
 }
 
@@ -172,33 +174,33 @@ impl Reading {
     }
 }
 
-/// Takes such a step: what is read joins the round where it stands.
+/// Takes such a step: what is read joins the round where it stands. That the node was refused
+/// memory is the error.
 pub(crate) fn read_next<N: Nodes>(
     alloc: Global,
     nodes: &mut N,
     setting: Setting,
     reading: &mut Reading,
     moment: u64,
-) -> Result<(), Fault>
+) -> Result<Result<(), Fault>, AllocError>
     requires among { IsAmong (N.shape nodes.old) setting }
     requires reads_on { GetReadsOn setting.trans_time moment reading.old }
     ensures turned { (config : TenantConfig) (obs : List Observation) (keys : List (List ℕ)) (log : List LogStep) → IsSettingOf config setting →
-        IsReading config (record { dc = setting.dc; obs = obs; action = Fetch keys }) keys log reading.old → MatchResult result
-        (λ _. TurnsNext (λ id call reply. N.Answers nodes.old id setting.slot moment call reply nodes.new) (nodes.new ≡ nodes.old)
-        config (record { dc = setting.dc; obs = obs; action = Fetch keys }) keys log moment (record { moment = moment; came = Working reading.new }) (next config (record { dc = setting.dc; obs = obs; action = Fetch keys }) log moment))
-        (λ fault. TurnsNext (λ id call reply. N.Answers nodes.old id setting.slot moment call reply nodes.new) (nodes.new ≡ nodes.old)
-        config (record { dc = setting.dc; obs = obs; action = Fetch keys }) keys log moment (record { moment = moment; came = Failed fault }) (next config (record { dc = setting.dc; obs = obs; action = Fetch keys }) log moment)) }
+        IsReading config (record { dc = setting.dc; obs = obs; action = Fetch keys }) keys log reading.old →
+        TurnsNext (λ id call reply. N.Answers nodes.old id setting.slot moment call reply nodes.new) (nodes.new ≡ nodes.old)
+        config (record { dc = setting.dc; obs = obs; action = Fetch keys }) keys log moment (turned_in_place moment reading.new result) (next config (record { dc = setting.dc; obs = obs; action = Fetch keys }) log moment) }
     ensures once { (id : NodeId) × (call : NodeCall) × (reply : NodeReply) × N.Answers nodes.old id setting.slot moment call reply nodes.new }
     ensures shape { N.shape nodes.new ≡ N.shape nodes.old }
 {
     let started = Some(reading.start.unwrap_or(moment));
     match &mut reading.round {
         Round::First(round) => match ask_next(alloc, nodes, round, setting, moment) {
-            Ok(()) => {
+            Ok(Ok(())) => {
                 reading.start = started;
-                Ok(())
+                Ok(Ok(()))
             }
-            Err(fault) => Err(fault),
+            Ok(Err(fault)) => Ok(Err(fault)),
+            Err(error) => Err(error),
         },
         Round::Second(_) => unreachable!(),
     }
@@ -216,14 +218,15 @@ impl Round {
     }
 }
 
-/// A step of a get transaction: a late one makes no call.
+/// A step of a get transaction: a late one makes no call. The error: the node was refused memory, or
+/// there was none for what the second round wants.
 pub(crate) fn read_step<N: Nodes>(
     alloc: Global,
     nodes: &mut N,
     setting: Setting,
     reading: Reading,
     moment: u64,
-) -> ReadStep
+) -> Result<ReadStep, AllocError>
     requires among { IsAmong (N.shape nodes.old) setting }
     ensures turned { (config : TenantConfig) (obs : List Observation) (keys : List (List ℕ)) (log : List LogStep) → IsSettingOf config setting →
         IsReading config (record { dc = setting.dc; obs = obs; action = Fetch keys }) keys log reading →
@@ -238,10 +241,10 @@ pub(crate) fn read_step<N: Nodes>(
         round,
     } = reading;
     if is_late(start, moment, setting.trans_time) {
-        return ReadStep {
+        return Ok(ReadStep {
             moment,
             came: begin_again(round.restart(), restarts, setting.restarts),
-        };
+        });
     }
     match round {
         Round::First(round) => read_first(alloc, nodes, setting, round, restarts, start, moment),

@@ -1,16 +1,13 @@
 ghost use Rattle.std.specs.Prelude.{◌≡◌, ◌⊎◌, ◌<◌, ◌+◌, ◌-◌, ◌^◌, ℕ, List, [], false, length, max, Some, None, IfOk, IsTrue, OnOk, OnErr, MatchResult, slice_get};
 ghost use Rattle.std.specs.Option.{option_map};
-ghost use Rattle.cops_types.specs.Refusal.{IsAnswer};
 ghost use Rattle.cops_types.specs.TenantConfig.{TenantConfig, tenant_config};
 ghost use Rattle.cops_model.specs.declared.calls.NodeCall.{NodeCall};
 ghost use Rattle.cops_model.specs.declared.calls.NodeId.{NodeId};
 ghost use Rattle.cops_model.specs.declared.calls.NodeReply.{NodeReply};
 ghost use Rattle.cops_context.specs.Lists.{ListsStandFor};
-ghost use Rattle.cops_types.specs.declared.faults.Fault.TheVariants.{OutOfMemory};
-ghost use Rattle.cops_model.specs.declared.requests.Answer.TheVariants as answer;
 ghost use Rattle.cops_session.specs.declared.ongoing.Work.TheVariants as work;
 
-use crate::contexts::{prepare_put, see_put, see_reads};
+use crate::contexts::{other_fault, prepare_put, see_put, see_reads};
 use crate::kinds::{Contexts, Running};
 use crate::ongoing::{Ongoing, PendingPut, Reading, Round, Work};
 use crate::reading::{Came, ReadStep, read_next, read_step};
@@ -23,7 +20,7 @@ use cops_context::Context;
 use cops_handles::{Handle, Table};
 use cops_node::Nodes;
 use cops_types::{Config, Fault, Key, Reads, Tenant, Value};
-use std::alloc::Global;
+use std::alloc::{AllocError, Global};
 use std::marker::Model;
 
 /// A client's session: its contexts, and the request that it runs, as steps of at most one node
@@ -54,7 +51,9 @@ impl Session {
     ghost use Rattle.cops_model.specs.Session.{OpenContext, Running as SoloRunning, Session as SoloSession, context_created, context_deleted, context_extended, context_refusal, create_refusal, get_refusal, moment_at, new_session, obs_of, request_begun, request_of, seen_in, session_put_refusal, is_spent};
     ghost use Rattle.cops_session.specs.SessionStands.{SessionStandsFor, ContextsStandFor, obs_in};
     ghost use Rattle.cops_session.specs.Reading.{ReadsOn};
-    ghost use Rattle.cops_session.specs.Stepping.{DoesNext, runs};
+    ghost use Rattle.cops_session.specs.Refusals.{told_refusal};
+    ghost use Rattle.cops_session.specs.Stepping.{TellsNext, runs, told_step};
+    ghost use Rattle.cops_session.specs.Writing.{told_answer};
 
     /// A session of a tenant of the configuration in a data centre, with no contexts. Its first
     /// numbers are 1.
@@ -136,20 +135,21 @@ impl Session {
         }
     }
 
-    /// Opens a context that has seen nothing.
-    pub fn create_context(&mut self) -> Result<Handle<Contexts>, Fault>
+    /// Opens a context that has seen nothing. That there was no memory for it is the error.
+    pub fn create_context(&mut self) -> Result<Result<Handle<Contexts>, Fault>, AllocError>
         ensures created { (config : TenantConfig) (session : SoloSession) → SessionStandsFor config self.old session →
-            IfOk result (λ handle. (handle ≡ session.next_context) × SessionStandsFor config self.new (context_created session)) }
-        ensures refused { (config : TenantConfig) (session : SoloSession) → SessionStandsFor config self.old session → IsAnswer (create_refusal config session) result }
+            IfOk result (λ told. IfOk told (λ handle. (handle ≡ session.next_context) × SessionStandsFor config self.new (context_created session))) }
+        ensures told { (config : TenantConfig) (session : SoloSession) → SessionStandsFor config self.old session → create_refusal config session ≡ told_refusal result }
         ensures setting { self.new.setting ≡ self.old.setting }
+        ensures refused { IfOk result (λ told. OnErr told (self.new ≡ self.old)) }
         ensures err { OnErr result (self.new ≡ self.old) }
     {
         if self.running.is_some() {
-            return Err(Fault::Busy);
+            return Ok(Err(Fault::Busy));
         }
         match self.contexts.open(Context::new(self.alloc)) {
-            Ok(handle) => Ok(handle),
-            Err(back) => Err(back.fault),
+            Ok(handle) => Ok(Ok(handle)),
+            Err(back) => Ok(Err(other_fault(back.fault)?)),
         }
     }
 
@@ -194,77 +194,89 @@ impl Session {
         }
     }
 
-    /// Begins a put of a value under a key, which then takes one step.
+    /// Begins a put of a value under a key, which then takes one step. That there was no memory for
+    /// its lists is the error.
     pub fn begin_put(
         &mut self,
         handle: Handle<Contexts>,
         key: Key,
         value: Value,
-    ) -> Result<Handle<Running>, Fault>
+    ) -> Result<Result<Handle<Running>, Fault>, AllocError>
         ensures begun { (config : TenantConfig) (session : SoloSession) → SessionStandsFor config self.old session →
-            IfOk result (λ number. (number ≡ session.next_request) × SessionStandsFor config self.new (request_begun handle (Write key value) session)) }
-        ensures refused { (config : TenantConfig) (session : SoloSession) → SessionStandsFor config self.old session → IsAnswer (session_put_refusal config handle key session) result }
+            IfOk result (λ told. IfOk told (λ number. (number ≡ session.next_request) × SessionStandsFor config self.new (request_begun handle (Write key value) session))) }
+        ensures told { (config : TenantConfig) (session : SoloSession) → SessionStandsFor config self.old session → session_put_refusal config handle key session ≡ told_refusal result }
         ensures setting { self.new.setting ≡ self.old.setting }
+        ensures refused { IfOk result (λ told. OnErr told (self.new ≡ self.old)) }
         ensures err { OnErr result (self.new ≡ self.old) }
     {
         let same = handle;
         let again = handle;
         if self.running.is_some() {
-            return Err(Fault::Busy);
+            return Ok(Err(Fault::Busy));
         }
-        let seen = self.contexts.get(handle)?;
+        let seen = match self.contexts.get(handle) {
+            Ok(seen) => seen,
+            Err(fault) => return Ok(Err(fault)),
+        };
         // Whether the put is within the limit is told by what prepares it, if there is a number.
         if self.next_request == u64::MAX {
             if seen.can_put(&key, self.setting.deps) {
-                return Err(Fault::IdsSpent);
+                return Ok(Err(Fault::IdsSpent));
             }
-            return Err(Fault::DependenciesFull);
+            return Ok(Err(Fault::DependenciesFull));
         }
-        let (deps, near) = prepare_put(&mut self.contexts, same, &key, self.setting.deps)?;
-        let writing = PendingPut {
-            key,
-            value,
-            deps,
-            near,
-        };
-        Ok(self.begin(again, Work::Put(writing)))
+        match prepare_put(&mut self.contexts, same, &key, self.setting.deps)? {
+            Ok((deps, near)) => {
+                let writing = PendingPut {
+                    key,
+                    value,
+                    deps,
+                    near,
+                };
+                Ok(Ok(self.begin(again, Work::Put(writing))))
+            }
+            Err(fault) => Ok(Err(fault)),
+        }
     }
 
-    /// Begins a get transaction over keys.
+    /// Begins a get transaction over keys. That there was no memory for its first round is the error.
     pub fn begin_get_trans(
         &mut self,
         handle: Handle<Contexts>,
         keys: &[Key],
-    ) -> Result<Handle<Running>, Fault>
+    ) -> Result<Result<Handle<Running>, Fault>, AllocError>
         ensures begun { (config : TenantConfig) (session : SoloSession) → SessionStandsFor config self.old session →
-            IfOk result (λ number. (number ≡ session.next_request) × SessionStandsFor config self.new (request_begun handle (Fetch keys.now) session)) }
-        ensures refused { (config : TenantConfig) (session : SoloSession) → SessionStandsFor config self.old session → IsAnswer (get_refusal config handle keys.now session) result }
+            IfOk result (λ told. IfOk told (λ number. (number ≡ session.next_request) × SessionStandsFor config self.new (request_begun handle (Fetch keys.now) session))) }
+        ensures told { (config : TenantConfig) (session : SoloSession) → SessionStandsFor config self.old session → get_refusal config handle keys.now session ≡ told_refusal result }
         ensures setting { self.new.setting ≡ self.old.setting }
+        ensures refused { IfOk result (λ told. OnErr told (self.new ≡ self.old)) }
         ensures err { OnErr result (self.new ≡ self.old) }
     {
         let same = handle;
         if keys.is_empty() {
-            return Err(Fault::Syntax);
+            return Ok(Err(Fault::Syntax));
         }
         if self.running.is_some() {
-            return Err(Fault::Busy);
+            return Ok(Err(Fault::Busy));
         }
-        let _ = self.contexts.get(handle)?;
+        if let Err(fault) = self.contexts.get(handle) {
+            return Ok(Err(fault));
+        }
         if keys.len() > 32 {
-            return Err(Fault::TooManyKeys);
+            return Ok(Err(Fault::TooManyKeys));
         }
         if has_repeats(keys) {
-            return Err(Fault::RepeatedKey);
+            return Ok(Err(Fault::RepeatedKey));
         }
         if self.next_request == u64::MAX {
-            return Err(Fault::IdsSpent);
+            return Ok(Err(Fault::IdsSpent));
         }
         let reading = Reading {
             restarts: 0,
             start: None,
             round: Round::First(FirstRound::begin(self.alloc, keys)?),
         };
-        Ok(self.begin(same, Work::Get(reading)))
+        Ok(Ok(self.begin(same, Work::Get(reading))))
     }
 
     /// Runs a request, under the next number.
@@ -286,32 +298,34 @@ impl Session {
         Handle::of_number(number)
     }
 
-    /// Takes a step of the running request, at the greatest moment so far.
+    /// Takes a step of the running request, at the greatest moment so far. The error: the node was
+    /// refused memory, or there was none to keep what a round read. The request has then ended.
     pub fn step<N: Nodes>(
         &mut self,
         nodes: &mut N,
         handle: Handle<Running>,
         moment: u64,
-    ) -> Result<Progress, Fault>
+    ) -> Result<Result<Progress, Fault>, AllocError>
         requires data_centres { self.old.setting.data_centres ≡ (N.shape nodes.old).data_centres }
         requires shards { self.old.setting.shards ≡ (N.shape nodes.old).shards }
-        ensures stepped { (config : TenantConfig) (session : SoloSession) → SessionStandsFor config self.old session → MatchResult result
-            (λ shown. (running : SoloRunning) × (session.running ≡ Some running) × (running.number ≡ handle)
-            × DoesNext (λ id call reply. N.Answers nodes.old id self.old.setting.slot (moment_at moment session) call reply nodes.new) (nodes.new ≡ nodes.old)
-            config session running (moment_at moment session) shown self.new (next config (request_of session running) running.log (moment_at moment session)))
+        ensures stepped { (config : TenantConfig) (session : SoloSession) → SessionStandsFor config self.old session → MatchResult (told_step result)
+            (λ told. (running : SoloRunning) × (session.running ≡ Some running) × (running.number ≡ handle)
+            × TellsNext (λ id call reply. N.Answers nodes.old id self.old.setting.slot (moment_at moment session) call reply nodes.new) (nodes.new ≡ nodes.old)
+            config session running (moment_at moment session) told self.new (next config (request_of session running) running.log (moment_at moment session)))
             (λ fault. (fault ≡ Fault.Idle) × (runs handle session ≡ false)) }
         ensures once { (nodes.new ≡ nodes.old)
             ⊎ ((id : NodeId) × (at : ℕ) × (call : NodeCall) × (reply : NodeReply) × N.Answers nodes.old id self.old.setting.slot at call reply nodes.new) }
         ensures shape { N.shape nodes.new ≡ N.shape nodes.old }
         ensures setting { self.new.setting ≡ self.old.setting }
-        ensures err { OnErr result (self.new ≡ self.old) }
-        ensures err_nodes { OnErr result (nodes.new ≡ nodes.old) }
+        ensures idle { IfOk result (λ told. OnErr told (self.new ≡ self.old)) }
+        ensures idle_nodes { IfOk result (λ told. OnErr told (nodes.new ≡ nodes.old)) }
+        ensures err { OnErr result (self.new ≡ record self.old { moment = self.new.moment; running = None }) }
     {
         if !self.runs(handle) {
-            return Err(Fault::Idle);
+            return Ok(Err(Fault::Idle));
         }
         if self.reads_on(moment) {
-            return Ok(self.read_on(nodes, moment));
+            return self.read_on(nodes, moment);
         }
         match self.running.take() {
             Some(ongoing) => {
@@ -321,11 +335,11 @@ impl Session {
                     work,
                 } = ongoing;
                 match work {
-                    Work::Put(writing) => Ok(self.put(nodes, context, writing, moment)),
-                    Work::Get(reading) => Ok(self.get(nodes, number, context, reading, moment)),
+                    Work::Put(writing) => self.put(nodes, context, writing, moment),
+                    Work::Get(reading) => self.get(nodes, number, context, reading, moment),
                 }
             }
-            None => Err(Fault::Idle),
+            None => Ok(Err(Fault::Idle)),
         }
     }
 
@@ -356,14 +370,22 @@ impl Session {
     }
 
     /// Takes such a step. The transaction changes where it stands: it is large, and most steps of
-    /// transactions are these.
-    fn read_on<N: Nodes>(&mut self, nodes: &mut N, moment: u64) -> Progress
+    /// transactions are these. Its answer is the one of `step`, which hands it on where it stands.
+    fn read_on<N: Nodes>(
+        &mut self,
+        nodes: &mut N,
+        moment: u64,
+    ) -> Result<Result<Progress, Fault>, AllocError>
         requires data_centres { self.old.setting.data_centres ≡ (N.shape nodes.old).data_centres }
         requires shards { self.old.setting.shards ≡ (N.shape nodes.old).shards }
         requires reads_on { ReadsOn self.old.setting.trans_time (max self.old.moment moment) self.old.running }
         ensures stepped { (config : TenantConfig) (session : SoloSession) (running : SoloRunning) → SessionStandsFor config self.old session → session.running ≡ Some running →
-            DoesNext (λ id call reply. N.Answers nodes.old id self.old.setting.slot (moment_at moment session) call reply nodes.new) (nodes.new ≡ nodes.old)
-            config session running (moment_at moment session) result self.new (next config (request_of session running) running.log (moment_at moment session)) }
+            MatchResult (told_step result)
+            (λ told. TellsNext (λ id call reply. N.Answers nodes.old id self.old.setting.slot (moment_at moment session) call reply nodes.new) (nodes.new ≡ nodes.old)
+            config session running (moment_at moment session) told self.new (next config (request_of session running) running.log (moment_at moment session)))
+            (λ _. ⊥) }
+        ensures taken { IfOk result (λ told. OnErr told ⊥) }
+        ensures err { OnErr result (self.new ≡ record self.old { moment = self.new.moment; running = None }) }
         ensures once { (id : NodeId) × (at : ℕ) × (call : NodeCall) × (reply : NodeReply) × N.Answers nodes.old id self.old.setting.slot at call reply nodes.new }
         ensures shape { N.shape nodes.new ≡ N.shape nodes.old }
         ensures setting { self.new.setting ≡ self.old.setting }
@@ -374,10 +396,14 @@ impl Session {
             Some(ongoing) => match &mut ongoing.work {
                 Work::Get(reading) => {
                     match read_next(self.alloc, nodes, self.setting, reading, now) {
-                        Ok(()) => Progress::Working,
-                        Err(fault) => {
+                        Ok(Ok(())) => Ok(Ok(Progress::Working)),
+                        Ok(Err(fault)) => {
                             self.end();
-                            Progress::Done(Answer::Refused(fault))
+                            Ok(Ok(Progress::Done(Answer::Refused(fault))))
+                        }
+                        Err(error) => {
+                            self.end();
+                            Err(error)
                         }
                     }
                 }
@@ -394,38 +420,43 @@ impl Session {
         self.running = None;
     }
 
-    /// The one step of a put, with which it ends.
+    /// The one step of a put, with which it ends. Its answer is the one of `step`.
     fn put<N: Nodes>(
         &mut self,
         nodes: &mut N,
         context: Handle<Contexts>,
         writing: PendingPut,
         moment: u64,
-    ) -> Progress
+    ) -> Result<Result<Progress, Fault>, AllocError>
         requires data_centres { self.old.setting.data_centres ≡ (N.shape nodes.old).data_centres }
         requires shards { self.old.setting.shards ≡ (N.shape nodes.old).shards }
         requires idle { self.old.running ≡ None }
         requires ready { HasRoomInContext context writing.key self.old.contexts.rows }
         ensures stepped { (config : TenantConfig) (session : SoloSession) (running : SoloRunning) (number : ℕ) →
             SessionStandsFor config (record self.old { running = Some (record { number = number; context = context; work = work.Put writing }) }) session → session.running ≡ Some running →
-            DoesNext (λ id call reply. N.Answers nodes.old id self.old.setting.slot (moment_at moment session) call reply nodes.new) (nodes.new ≡ nodes.old)
-            config session running (moment_at moment session) result self.new (next config (request_of session running) running.log (moment_at moment session)) }
+            MatchResult (told_step result)
+            (λ told. TellsNext (λ id call reply. N.Answers nodes.old id self.old.setting.slot (moment_at moment session) call reply nodes.new) (nodes.new ≡ nodes.old)
+            config session running (moment_at moment session) told self.new (next config (request_of session running) running.log (moment_at moment session)))
+            (λ _. ⊥) }
+        ensures taken { IfOk result (λ told. OnErr told ⊥) }
+        ensures err { OnErr result (self.new ≡ record self.old { moment = self.new.moment; running = None }) }
         ensures once { (id : NodeId) × (at : ℕ) × (call : NodeCall) × (reply : NodeReply) × N.Answers nodes.old id self.old.setting.slot at call reply nodes.new }
         ensures shape { N.shape nodes.new ≡ N.shape nodes.old }
         ensures setting { self.new.setting ≡ self.old.setting }
     {
         self.moment = self.moment.max(moment);
         match write_step(nodes, self.setting, writing, self.moment) {
-            Answer::Stored(pair) => {
+            Ok(Ok(pair)) => {
                 let stored = pair;
                 see_put(&mut self.contexts, context, pair);
-                Progress::Done(Answer::Stored(stored))
+                Ok(Ok(Progress::Done(Answer::Stored(stored))))
             }
-            answer => Progress::Done(answer),
+            Ok(Err(fault)) => Ok(Ok(Progress::Done(Answer::Refused(fault)))),
+            Err(error) => Err(error),
         }
     }
 
-    /// A step of a get transaction.
+    /// A step of a get transaction. Its answer is the one of `step`.
     #[inline(never)]
     fn get<N: Nodes>(
         &mut self,
@@ -434,53 +465,71 @@ impl Session {
         context: Handle<Contexts>,
         reading: Reading,
         moment: u64,
-    ) -> Progress
+    ) -> Result<Result<Progress, Fault>, AllocError>
         requires data_centres { self.old.setting.data_centres ≡ (N.shape nodes.old).data_centres }
         requires shards { self.old.setting.shards ≡ (N.shape nodes.old).shards }
         requires idle { self.old.running ≡ None }
         requires ready { IsOpen context self.old.contexts.rows }
         ensures stepped { (config : TenantConfig) (session : SoloSession) (running : SoloRunning) →
             SessionStandsFor config (record self.old { running = Some (record { number = number; context = context; work = work.Get reading }) }) session → session.running ≡ Some running →
-            DoesNext (λ id call reply. N.Answers nodes.old id self.old.setting.slot (moment_at moment session) call reply nodes.new) (nodes.new ≡ nodes.old)
-            config session running (moment_at moment session) result self.new (next config (request_of session running) running.log (moment_at moment session)) }
+            MatchResult (told_step result)
+            (λ told. TellsNext (λ id call reply. N.Answers nodes.old id self.old.setting.slot (moment_at moment session) call reply nodes.new) (nodes.new ≡ nodes.old)
+            config session running (moment_at moment session) told self.new (next config (request_of session running) running.log (moment_at moment session)))
+            (λ _. ⊥) }
+        ensures taken { IfOk result (λ told. OnErr told ⊥) }
+        ensures err { OnErr result (self.new ≡ record self.old { moment = self.new.moment; running = None }) }
         ensures once { (nodes.new ≡ nodes.old)
             ⊎ ((id : NodeId) × (at : ℕ) × (call : NodeCall) × (reply : NodeReply) × N.Answers nodes.old id self.old.setting.slot at call reply nodes.new) }
         ensures shape { N.shape nodes.new ≡ N.shape nodes.old }
         ensures setting { self.new.setting ≡ self.old.setting }
     {
         let now = self.moment.max(moment);
-        let ReadStep { moment, came } = read_step(self.alloc, nodes, self.setting, reading, now);
-        self.moment = moment;
-        match came {
-            Came::Working(reading) => {
-                self.running = Some(Ongoing {
-                    number,
-                    context,
-                    work: Work::Get(reading),
-                });
-                Progress::Working
+        match read_step(self.alloc, nodes, self.setting, reading, now) {
+            Ok(ReadStep { moment, came }) => {
+                self.moment = moment;
+                match came {
+                    Came::Working(reading) => {
+                        self.running = Some(Ongoing {
+                            number,
+                            context,
+                            work: Work::Get(reading),
+                        });
+                        Ok(Ok(Progress::Working))
+                    }
+                    Came::Restarted(reading) => {
+                        let times = reading.restarts;
+                        self.running = Some(Ongoing {
+                            number,
+                            context,
+                            work: Work::Get(reading),
+                        });
+                        Ok(Ok(Progress::Restarted(times)))
+                    }
+                    Came::Complete(reads) => match self.values(context, reads) {
+                        Ok(answer) => Ok(Ok(Progress::Done(answer))),
+                        Err(error) => Err(error),
+                    },
+                    Came::Failed(fault) => Ok(Ok(Progress::Done(Answer::Refused(fault)))),
+                }
             }
-            Came::Restarted(reading) => {
-                let times = reading.restarts;
-                self.running = Some(Ongoing {
-                    number,
-                    context,
-                    work: Work::Get(reading),
-                });
-                Progress::Restarted(times)
+            Err(error) => {
+                self.moment = now;
+                Err(error)
             }
-            Came::Complete(reads) => Progress::Done(self.values(context, reads)),
-            Came::Failed(fault) => Progress::Done(Answer::Refused(fault)),
         }
     }
 
-    /// The answer to a transaction that read all its keys: the context sees it, or has no room.
-    fn values(&mut self, context: Handle<Contexts>, reads: Reads) -> Answer
+    /// The answer to a transaction that read all its keys: the context sees it, or has no room. That
+    /// there was no memory for it is the error.
+    #[inline(always)]
+    fn values(&mut self, context: Handle<Contexts>, reads: Reads) -> Result<Answer, AllocError>
         requires idle { self.old.running ≡ None }
         requires ready { IsOpen context self.old.contexts.rows }
-        ensures stands { (opens : List OpenContext) → ContextsStandFor self.old.contexts.rows opens → ContextsStandFor self.new.contexts.rows (context_extended context (seen_in result) opens) }
+        ensures stands { (opens : List OpenContext) → ContextsStandFor self.old.contexts.rows opens →
+            ContextsStandFor self.new.contexts.rows (context_extended context (seen_in (told_answer result)) opens) }
         ensures answer { (opens : List OpenContext) → ContextsStandFor self.old.contexts.rows opens →
-            (result ≡ values_or_full self.old.setting.deps (obs_in context opens) reads) ⊎ (result ≡ answer.Refused OutOfMemory) }
+            IfOk result (λ answer. answer ≡ values_or_full self.old.setting.deps (obs_in context opens) reads) }
+        ensures err { OnErr result (self.new ≡ self.old) }
         ensures others { self.new ≡ record self.old { contexts = record self.old.contexts { rows = self.new.contexts.rows } } }
     {
         match see_reads(
@@ -489,8 +538,9 @@ impl Session {
             reads.as_slice(),
             self.setting.deps,
         ) {
-            Ok(()) => Answer::Values(reads),
-            Err(fault) => Answer::Refused(fault),
+            Ok(Ok(())) => Ok(Answer::Values(reads)),
+            Ok(Err(fault)) => Ok(Answer::Refused(fault)),
+            Err(error) => Err(error),
         }
     }
 }

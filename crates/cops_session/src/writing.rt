@@ -1,55 +1,58 @@
-ghost use Rattle.std.specs.Prelude.{◌≡◌, ◌<◌};
+ghost use Rattle.std.specs.Prelude.{◌≡◌, ◌<◌, Ok};
 ghost use Rattle.cops_types.specs.Key.{shard_of};
 ghost use Rattle.cops_model.specs.declared.calls.NodeCall.TheVariants.{Put};
 ghost use Rattle.cops_model.specs.declared.calls.NodeReply.{NodeReply};
 ghost use Rattle.cops_node.specs.ToldReplies.{told_reply};
 ghost use Rattle.cops_session.specs.Kept.{IsAmong};
-ghost use Rattle.cops_session.specs.Writing.{answer_to_put};
+ghost use Rattle.cops_session.specs.Writing.{answer_to_put, told_put};
 
-use crate::Answer;
 use crate::ongoing::PendingPut;
 use crate::settings::Setting;
 use cops_node::{NodeCall, NodeId, NodeReply, Nodes};
 use cops_types::{Fault, Key, Pair};
 use std::alloc::AllocError;
 
-/// The answer that a node's reply gives to a put of the key.
+/// The pair that was stored by a put of the key, to which a node replied so, or why it was refused.
 #[inline(always)]
-fn answer_of(key: Key, reply: &NodeReply) -> Answer
-    ensures { result ≡ answer_to_put key reply.now }
+fn stored_by(key: Key, reply: &NodeReply) -> Result<Pair, Fault>
+    ensures { told_put (Ok result) ≡ answer_to_put key reply.now }
 {
     match reply {
-        NodeReply::Stored(version) => Answer::Stored(Pair {
+        NodeReply::Stored(version) => Ok(Pair {
             key,
             version: *version,
         }),
-        NodeReply::Refused(fault) => Answer::Refused(*fault),
-        _ => Answer::Refused(Fault::Torn),
+        NodeReply::Refused(fault) => Err(*fault),
+        _ => Err(Fault::Torn),
     }
 }
 
 /// The same of what a node answered, which may have been refused memory.
 #[inline(always)]
-fn answer_told(key: Key, answered: &Result<NodeReply, AllocError>) -> Answer
-    ensures { result ≡ answer_to_put key (told_reply answered.now) }
+fn stored_told(
+    key: Key,
+    answered: &Result<NodeReply, AllocError>,
+) -> Result<Result<Pair, Fault>, AllocError>
+    ensures { told_put result ≡ answer_to_put key (told_reply answered.now) }
 {
     match answered {
-        Ok(reply) => answer_of(key, reply),
-        Err(error) => Answer::Refused(Fault::from(*error)),
+        Ok(reply) => Ok(stored_by(key, reply)),
+        Err(error) => Err(*error),
     }
 }
 
-/// The one step of a put: one call, at the node of the data centre where the key is placed.
+/// The one step of a put: one call, at the node of the data centre where the key is placed. That the
+/// node was refused memory is the error.
 pub(crate) fn write_step<N: Nodes>(
     nodes: &mut N,
     setting: Setting,
     writing: PendingPut,
     moment: u64,
-) -> Answer
+) -> Result<Result<Pair, Fault>, AllocError>
     requires among { IsAmong (N.shape nodes.old) setting }
     ensures called { (reply : NodeReply)
         × N.Answers nodes.old (record { dc = setting.dc; shard = shard_of writing.key setting.shards }) setting.slot moment (Put writing.key writing.value writing.deps writing.near) reply nodes.new
-        × (result ≡ answer_to_put writing.key reply) }
+        × (told_put result ≡ answer_to_put writing.key reply) }
     ensures shape { N.shape nodes.new ≡ N.shape nodes.old }
 {
     let PendingPut {
@@ -69,5 +72,5 @@ pub(crate) fn write_step<N: Nodes>(
         moment,
         NodeCall::Put(key, value, deps, near),
     );
-    answer_told(same, &reply)
+    stored_told(same, &reply)
 }

@@ -28,6 +28,8 @@ use Rattle.cops_session.specs.Rounds.{wishes_of}
 use Rattle.cops_model.specs.Session.{Running, Session, moment_at, request_of, session_after}
 use Rattle.cops_session.specs.SessionStands.{RunningStandsFor, SessionStandsFor, WorkStandsFor}
 use Rattle.cops_session.specs.Stepping as stepping
+use Rattle.cops_session.specs.Stepping.{TellsNext, told_shown}
+use Rattle.cops_session.proofs.StepLaws.{as_told}
 use Rattle.cops_model.specs.Transaction.{outdated, reads_of, wanted_version}
 use Rattle.cops_wire.specs.Requests.{Backend, DoesNext, Ends, HasFewRestarts, KeepsShape, RequestGoesOn, Steps, backend, message_of_answer}
 use Rattle.cops_wire.specs.Running.{ShowsAnswer, HasEnded, HasFewKeys, HasStepped, PutsAnswer, PutsFrame}
@@ -45,16 +47,19 @@ module _ {N M : Type 0} (Calls : N → NodeId → ℕ → ℕ → NodeCall → N
       (session_after session running (record { moment = moment; outcome = Late }) shown, d.1.stands, (d.0, record { shown_is = d.1.shown_is; after_is = refl }))
   does_next Keeps session running moment old new shown kept (Ended answer) keeps d = absurd d
 
-  pub stepped : (shape : N → Shape) (session : Session) (running : Running) (old new : N) (old_moments new_moments : M) (given : ℕ) (shown : Progress) (kept : KeptSession) (answer : Option Answer)
+  -- whatever the step is told to have shown
+  pub stepped : (shape : N → Shape) (session : Session) (running : Running) (old new : N) (old_moments new_moments : M) (given : ℕ) (told : Result Progress AllocError) (kept : KeptSession) (answer : Option Answer)
       → session.running ≡ Some running → GivesMoment old_moments given new_moments → shape new ≡ shape old
-      → stepping.DoesNext (λ id call reply. Calls old id slot (moment_at given session) call reply new) (new ≡ old) config session running (moment_at given session) shown kept (next config (request_of session running) running.log (moment_at given session))
-      → ShowsAnswer shown answer → HasStepped (KeepsShape shape Calls) GivesMoment config slot (backend session old old_moments) kept new new_moments answer
-  stepped shape session running old new old_moments new_moments given shown kept answer runs gives same does is =
-      let d = does_next (KeepsShape shape Calls) session running (moment_at given session) old new shown kept (next config (request_of session running) running.log (moment_at given session)) (λ id call reply called. (called, same)) does in
+      → TellsNext (λ id call reply. Calls old id slot (moment_at given session) call reply new) (new ≡ old) config session running (moment_at given session) told kept (next config (request_of session running) running.log (moment_at given session))
+      → ShowsAnswer (told_shown told) answer → HasStepped (KeepsShape shape Calls) GivesMoment config slot (backend session old old_moments) kept new new_moments answer
+  stepped shape session running old new old_moments new_moments given told kept answer runs gives same tells is =
+      let at = moment_at given session in
+      let does = as_told (λ id call reply. Calls old id slot at call reply new) (new ≡ old) config session running at told kept (next config (request_of session running) running.log at) tells in
+      let d = does_next (KeepsShape shape Calls) session running at old new (told_shown told) kept (next config (request_of session running) running.log at) (λ id call reply called. (called, same)) does in
       record {
         after = d.0;
         stands = d.1;
-        shown = shown;
+        shown = told_shown told;
         steps = record { running = running; runs = runs; given = given; gives = gives; does = d.2 };
         gives = is;
       }

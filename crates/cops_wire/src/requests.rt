@@ -47,8 +47,9 @@ fn create(session: &mut Session) -> Message
     ensures fits { CanBeWritten result }
 {
     match session.create_context() {
-        Ok(context) => Message::Created(context.to_wire()),
-        Err(fault) => Message::Refused(fault),
+        Ok(Ok(context)) => Message::Created(context.to_wire()),
+        Ok(Err(fault)) => Message::Refused(fault),
+        Err(error) => Message::Refused(Fault::from(error)),
     }
 }
 
@@ -96,8 +97,9 @@ fn begin_put(
     let value = Value::new(alloc, value)?;
     let context = context_of(session, handle)?;
     match session.begin_put(context, key, value) {
-        Ok(_) => Ok(()),
-        Err(fault) => Err(fault),
+        Ok(Ok(_)) => Ok(()),
+        Ok(Err(fault)) => Err(fault),
+        Err(error) => Err(Fault::from(error)),
     }
 }
 
@@ -160,8 +162,11 @@ fn begin_get(
 {
     made?;
     let context = context_of(session, handle)?;
-    let _ = session.begin_get_trans(context, keys)?;
-    Ok(())
+    match session.begin_get_trans(context, keys) {
+        Ok(Ok(_)) => Ok(()),
+        Ok(Err(fault)) => Err(fault),
+        Err(error) => Err(Fault::from(error)),
+    }
 }
 
 /// Takes the steps of a request that was begun, and puts its reply, or that it was refused, at the end.

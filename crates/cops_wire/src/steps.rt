@@ -38,12 +38,15 @@ fn step_once<N: Nodes, M: Moments>(
     };
     let stepped = session.step(nodes, request, moment);
     match &stepped {
-        Ok(shown) => match shown {
-            Progress::Done(answer) => Some(push_reply(out, answer)),
-            Progress::Working => None,
-            Progress::Restarted(_) => None,
+        Ok(told) => match told {
+            Ok(shown) => match shown {
+                Progress::Done(answer) => Some(push_reply(out, answer)),
+                Progress::Working => None,
+                Progress::Restarted(_) => None,
+            },
+            Err(fault) => Some(push_refusal(out, *fault)),
         },
-        Err(fault) => Some(push_refusal(out, *fault)),
+        Err(error) => Some(push_refusal(out, Fault::from(*error))),
     }
 }
 

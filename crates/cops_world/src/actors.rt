@@ -92,8 +92,9 @@ fn create(session: &mut Session) -> Reply
     ensures lack { IsTrue (is_out_of_memory result) → session.new ≡ session.old }
 {
     match session.create_context() {
-        Ok(handle) => Reply::Created(handle.number()),
-        Err(fault) => Reply::Refused(fault),
+        Ok(Ok(handle)) => Reply::Created(handle.number()),
+        Ok(Err(fault)) => Reply::Refused(fault),
+        Err(error) => Reply::Refused(Fault::from(error)),
     }
 }
 
@@ -116,8 +117,9 @@ fn begin_put(session: &mut Session, number: u64, key: Key, value: Value) -> Repl
     ensures lack { IsTrue (is_out_of_memory result) → session.new ≡ session.old }
 {
     match session.begin_put(Handle::of_number(number), key, value) {
-        Ok(_) => Reply::Started,
-        Err(fault) => Reply::Refused(fault),
+        Ok(Ok(_)) => Reply::Started,
+        Ok(Err(fault)) => Reply::Refused(fault),
+        Err(error) => Reply::Refused(Fault::from(error)),
     }
 }
 
@@ -128,8 +130,9 @@ fn begin_get(session: &mut Session, number: u64, keys: &Keys) -> Reply
     ensures lack { IsTrue (is_out_of_memory result) → session.new ≡ session.old }
 {
     match session.begin_get_trans(Handle::of_number(number), keys.as_slice()) {
-        Ok(_) => Reply::Started,
-        Err(fault) => Reply::Refused(fault),
+        Ok(Ok(_)) => Reply::Started,
+        Ok(Err(fault)) => Reply::Refused(fault),
+        Err(error) => Reply::Refused(Fault::from(error)),
     }
 }
 
@@ -222,8 +225,9 @@ fn step_session<N: Nodes>(session: &mut Session, nodes: &mut N, moment: u64) -> 
 {
     match session.running() {
         Some(handle) => match session.step(nodes, handle, moment) {
-            Ok(progress) => reply_of_progress(progress),
-            Err(fault) => Reply::Refused(fault),
+            Ok(Ok(progress)) => reply_of_progress(progress),
+            Ok(Err(fault)) => Reply::Refused(fault),
+            Err(error) => Reply::Refused(Fault::from(error)),
         },
         None => Reply::Refused(Fault::Idle),
     }

@@ -2,13 +2,13 @@
 //! if it had not been. Run with the Nth request refused, for each N.
 ghost use Rattle.cops_session.specs.Kept.{IsOfSizes};
 
-use super::sessions::{assert_lists, context, found, get, put, session, step};
+use super::sessions::{assert_lists, context, found, get, put, session, step, try_step};
 use crate::entries::key;
 use crate::pairs::pair;
 use cops_handles::Handle;
 use cops_node::NodeReply;
 use cops_session::{Answer, Contexts, Progress, Session};
-use cops_types::{Deps, Fault, Version};
+use cops_types::{Deps, Version};
 use std::alloc::Global;
 use std::process::Abort;
 
@@ -24,19 +24,19 @@ fn reads_both(
 {
     let request = get(rt, session, context, &[key(rt, b"x"), key(rt, b"y")]);
     let x = found(rt, alloc, Version::of(1, 0), Deps::empty(alloc));
-    match step(rt, session, request, 0, x) {
-        Progress::Working => {}
-        Progress::Done(Answer::Refused(Fault::OutOfMemory)) => return false,
-        _ => panic!(rt; "one key is left"),
+    match try_step(rt, session, request, 0, x) {
+        Ok(Progress::Working) => {}
+        Ok(_) => panic!(rt; "one key is left"),
+        Err(_) => return false,
     }
     let y = found(rt, alloc, Version::of(2, 0), Deps::empty(alloc));
-    match step(rt, session, request, 0, y) {
-        Progress::Done(Answer::Values(reads)) => {
+    match try_step(rt, session, request, 0, y) {
+        Ok(Progress::Done(Answer::Values(reads))) => {
             assert_eq!(rt; reads.len(), 2);
             true
         }
-        Progress::Done(Answer::Refused(Fault::OutOfMemory)) => false,
-        _ => panic!(rt; "both keys are read"),
+        Ok(_) => panic!(rt; "both keys are read"),
+        Err(_) => false,
     }
 }
 

@@ -51,8 +51,11 @@ pub(crate) fn context(rt: &impl Abort, session: &mut Session) -> Handle<Contexts
     ensures { IsOfSizes 1 1 session.new.setting }
 {
     match session.create_context() {
-        Ok(handle) => handle,
-        Err(_) => session.create_context().expect(rt, "a context"),
+        Ok(created) => created.expect(rt, "a context"),
+        Err(_) => {
+            let again = session.create_context().expect(rt, "memory");
+            again.expect(rt, "a context")
+        }
     }
 }
 
@@ -68,10 +71,11 @@ pub(crate) fn put(
     ensures { IsOfSizes 1 1 session.new.setting }
 {
     match session.begin_put(context, key(rt, bytes), value(rt, alloc)) {
-        Ok(handle) => handle,
-        Err(_) => session
-            .begin_put(context, key(rt, bytes), value(rt, alloc))
-            .expect(rt, "a put"),
+        Ok(begun) => begun.expect(rt, "a put"),
+        Err(_) => {
+            let again = session.begin_put(context, key(rt, bytes), value(rt, alloc));
+            again.expect(rt, "memory").expect(rt, "a put")
+        }
     }
 }
 
@@ -86,12 +90,37 @@ pub(crate) fn get(
     ensures { IsOfSizes 1 1 session.new.setting }
 {
     match session.begin_get_trans(context, keys) {
-        Ok(handle) => handle,
-        Err(_) => session.begin_get_trans(context, keys).expect(rt, "a get"),
+        Ok(begun) => begun.expect(rt, "a get"),
+        Err(_) => {
+            let again = session.begin_get_trans(context, keys).expect(rt, "memory");
+            again.expect(rt, "a get")
+        }
     }
 }
 
-/// A step in which the node answers this.
+/// A step in which the node answers this, unless memory was refused.
+pub(crate) fn try_step(
+    rt: &impl Abort,
+    session: &mut Session,
+    handle: Handle<Running>,
+    moment: u64,
+    reply: NodeReply,
+) -> Result<Progress, AllocError>
+    requires { IsOfSizes 1 1 session.old.setting }
+    ensures { IsOfSizes 1 1 session.new.setting }
+{
+    let mut nodes = Once { reply: Some(reply) };
+    match session.step(&mut nodes, handle, moment) {
+        Ok(Ok(shown)) => {
+            assert!(rt; nodes.reply.is_none());
+            Ok(shown)
+        }
+        Ok(Err(_)) => panic!(rt; "the request runs"),
+        Err(error) => Err(error),
+    }
+}
+
+/// The same where there is memory.
 pub(crate) fn step(
     rt: &impl Abort,
     session: &mut Session,
@@ -102,14 +131,7 @@ pub(crate) fn step(
     requires { IsOfSizes 1 1 session.old.setting }
     ensures { IsOfSizes 1 1 session.new.setting }
 {
-    let mut nodes = Once { reply: Some(reply) };
-    match session.step(&mut nodes, handle, moment) {
-        Ok(shown) => {
-            assert!(rt; nodes.reply.is_none());
-            shown
-        }
-        Err(_) => panic!(rt; "the request runs"),
-    }
+    try_step(rt, session, handle, moment, reply).expect(rt, "memory")
 }
 
 /// No request of this number runs.
@@ -118,7 +140,7 @@ fn assert_idle(rt: &impl Abort, session: &mut Session, handle: Handle<Running>)
     ensures { IsOfSizes 1 1 session.new.setting }
 {
     let mut nodes = Once { reply: None };
-    assert!(rt; matches!(session.step(&mut nodes, handle, 0), Err(Fault::Idle)));
+    assert!(rt; matches!(session.step(&mut nodes, handle, 0), Ok(Err(Fault::Idle))));
 }
 
 pub(crate) fn found(rt: &impl Abort, alloc: Global, version: Version, deps: Deps) -> NodeReply {
@@ -235,8 +257,8 @@ fn assert_no_get(
     fault: Fault,
 ) {
     match session.begin_get_trans(handle, keys) {
-        Ok(_) => panic!(rt; "a refusal"),
-        Err(given) => assert_eq!(rt; given, fault),
+        Ok(Err(given)) => assert_eq!(rt; given, fault),
+        _ => panic!(rt; "a refusal"),
     }
 }
 
@@ -249,8 +271,8 @@ fn assert_no_put(
     fault: Fault,
 ) {
     match session.begin_put(handle, key(rt, b"y"), value(rt, alloc)) {
-        Ok(_) => panic!(rt; "a refusal"),
-        Err(given) => assert_eq!(rt; given, fault),
+        Ok(Err(given)) => assert_eq!(rt; given, fault),
+        _ => panic!(rt; "a refusal"),
     }
 }
 
@@ -259,7 +281,7 @@ fn the_last_context(rt: HostRuntime) {
     let mut session = session(&rt, rt.alloc(), 18446744073709551614);
     let handle = context(&rt, &mut session);
     assert_eq!(rt; handle.number(), 18446744073709551614);
-    assert!(rt; matches!(session.create_context(), Err(Fault::IdsSpent)));
+    assert!(rt; matches!(session.create_context(), Ok(Err(Fault::IdsSpent))));
 }
 
 #[test]

@@ -1,5 +1,5 @@
 use Rattle.std.proofs.Common.{◌≡◌, ◌∙◌, ap, sym, refl, subst}
-use Rattle.std.specs.Prelude.{Option, Some}
+use Rattle.std.specs.Prelude.{Option, Some, Ok, Err}
 use Rattle.cops_model.specs.declared.requests.Progress.TheVariants.{Working, Done}
 use Rattle.cops_model.specs.declared.requests.Answer.TheVariants as answer
 use Rattle.cops_session.specs.declared.ongoing.Ongoing.{Ongoing}
@@ -10,12 +10,12 @@ use Rattle.cops_session.specs.Kept.{KeptSession}
 use Rattle.cops_model.specs.Request.{next}
 use Rattle.cops_model.specs.Session.{moment_at, request_of}
 use Rattle.cops_session.specs.SessionStands.{SessionStandsFor}
-use Rattle.cops_session.specs.Stepping.{DoesNext}
-use Rattle.cops_session.proofs.StepLaws.{fails, get_steps, works}
+use Rattle.cops_session.specs.Stepping.{TellsNext}
+use Rattle.cops_session.proofs.StepLaws.{fails, get_steps, lacks, works}
 use Rattle.cops_session.proofs.sessions.Session.read_on.Goals as goal
 
-pub returns-in-Ok-clause-stepped : goal.returns-in-Ok-clause-stepped
-returns-in-Ok-clause-stepped g c = λ config session running stand is.
+pub returns-in-Ok-Ok-clause-stepped : goal.returns-in-Ok-Ok-clause-stepped
+returns-in-Ok-Ok-clause-stepped g c = λ config session running stand is.
     let inside = c.self.inside in
     let ongoing = c.in-Some.ongoing in
     let reading = c.in-Get.reading in
@@ -25,27 +25,44 @@ returns-in-Ok-clause-stepped g c = λ config session running stand is.
     let runs = c.in-Some.is ∙ ap (λ w. Some (record { number = ongoing.number; context = ongoing.context; work = w })) c.in-Get.is in
     let stands = subst (λ (r : Option Ongoing). SessionStandsFor config (record kept { running = r }) session) runs (subst (λ (k : KeptSession). SessionStandsFor config k session) (sym c.self.view_is) stand) in
     subst
-    (λ (k : KeptSession). DoesNext (λ id call reply. g.N.Nodes.Answers c.args.nodes.now id k.setting.slot (moment_at c.args.moment session) call reply c.read_next.new.nodes) (c.read_next.new.nodes ≡ c.args.nodes.now)
-    config session running (moment_at c.args.moment session) Working after (next config (request_of session running) running.log (moment_at c.args.moment session)))
+    (λ (k : KeptSession). TellsNext (λ id call reply. g.N.Nodes.Answers c.args.nodes.now id k.setting.slot (moment_at c.args.moment session) call reply c.read_next.new.nodes) (c.read_next.new.nodes ≡ c.args.nodes.now)
+    config session running (moment_at c.args.moment session) (Ok Working) after (next config (request_of session running) running.log (moment_at c.args.moment session)))
     c.self.view_is
     (get_steps config kept after session running ongoing.number ongoing.context (λ t id call reply. g.N.Nodes.Answers c.args.nodes.now id inside.setting.slot t call reply c.read_next.new.nodes)
-    (c.read_next.new.nodes ≡ c.args.nodes.now) reading c.args.moment c.max-now.result turn Working stands is c.max-now.ensures c.in-Ok.ensures.turned
-    (λ keys step same number action has. works config kept after session running ongoing.number ongoing.context reading c.read_next.new.reading turn keys step stands refl refl same number action has))
+    (c.read_next.new.nodes ≡ c.args.nodes.now) reading c.args.moment c.max-now.result (Ok turn) (Ok Working) stands is c.max-now.ensures (rw c.in-Ok-Ok.field-0-is at c.in-Ok-Ok.ensures.turned)
+    (λ keys step timed same number action has. works config kept after session running ongoing.number ongoing.context reading c.read_next.new.reading turn keys step stands refl refl same number action has))
+
+pub returns-in-Ok-Err-clause-stepped : goal.returns-in-Ok-Err-clause-stepped
+returns-in-Ok-Err-clause-stepped g c = λ config session running stand is.
+    let inside = c.self.inside in
+    let ongoing = c.in-Some.ongoing in
+    let reading = c.in-Get.reading in
+    let turn : ReadStep = record { moment = c.max-now.result; came = came.Failed c.in-Ok-Err.fault } in
+    let kept : KeptSession = record { setting = inside.setting; moment = inside.moment; contexts = inside.contexts; next_request = inside.next_request; running = inside.running } in
+    let after : KeptSession = c.end.new.self in
+    let runs = c.in-Some.is ∙ ap (λ w. Some (record { number = ongoing.number; context = ongoing.context; work = w })) c.in-Get.is in
+    let stands = subst (λ (r : Option Ongoing). SessionStandsFor config (record kept { running = r }) session) runs (subst (λ (k : KeptSession). SessionStandsFor config k session) (sym c.self.view_is) stand) in
+    subst
+    (λ (k : KeptSession). TellsNext (λ id call reply. g.N.Nodes.Answers c.args.nodes.now id k.setting.slot (moment_at c.args.moment session) call reply c.read_next.new.nodes) (c.read_next.new.nodes ≡ c.args.nodes.now)
+    config session running (moment_at c.args.moment session) (Ok (Done (answer.Refused c.in-Ok-Err.fault))) after (next config (request_of session running) running.log (moment_at c.args.moment session)))
+    c.self.view_is
+    (get_steps config kept after session running ongoing.number ongoing.context (λ t id call reply. g.N.Nodes.Answers c.args.nodes.now id inside.setting.slot t call reply c.read_next.new.nodes)
+    (c.read_next.new.nodes ≡ c.args.nodes.now) reading c.args.moment c.max-now.result (Ok turn) (Ok (Done (answer.Refused c.in-Ok-Err.fault))) stands is c.max-now.ensures (rw c.in-Ok-Err.field-0-is at c.in-Ok-Err.ensures.turned)
+    (λ keys step timed same number action has. fails config kept after session running ongoing.number ongoing.context reading turn c.in-Ok-Err.fault keys step stands refl c.end.ensures action has))
 
 pub returns-in-Err-clause-stepped : goal.returns-in-Err-clause-stepped
 returns-in-Err-clause-stepped g c = λ config session running stand is.
     let inside = c.self.inside in
     let ongoing = c.in-Some.ongoing in
     let reading = c.in-Get.reading in
-    let turn : ReadStep = record { moment = c.max-now.result; came = came.Failed c.in-Err.fault } in
     let kept : KeptSession = record { setting = inside.setting; moment = inside.moment; contexts = inside.contexts; next_request = inside.next_request; running = inside.running } in
-    let after : KeptSession = c.end.new.self in
+    let after : KeptSession = c.end-in-Err.new.self in
     let runs = c.in-Some.is ∙ ap (λ w. Some (record { number = ongoing.number; context = ongoing.context; work = w })) c.in-Get.is in
     let stands = subst (λ (r : Option Ongoing). SessionStandsFor config (record kept { running = r }) session) runs (subst (λ (k : KeptSession). SessionStandsFor config k session) (sym c.self.view_is) stand) in
     subst
-    (λ (k : KeptSession). DoesNext (λ id call reply. g.N.Nodes.Answers c.args.nodes.now id k.setting.slot (moment_at c.args.moment session) call reply c.read_next.new.nodes) (c.read_next.new.nodes ≡ c.args.nodes.now)
-    config session running (moment_at c.args.moment session) (Done (answer.Refused c.in-Err.fault)) after (next config (request_of session running) running.log (moment_at c.args.moment session)))
+    (λ (k : KeptSession). TellsNext (λ id call reply. g.N.Nodes.Answers c.args.nodes.now id k.setting.slot (moment_at c.args.moment session) call reply c.read_next.new.nodes) (c.read_next.new.nodes ≡ c.args.nodes.now)
+    config session running (moment_at c.args.moment session) (Err c.in-Err.error) after (next config (request_of session running) running.log (moment_at c.args.moment session)))
     c.self.view_is
     (get_steps config kept after session running ongoing.number ongoing.context (λ t id call reply. g.N.Nodes.Answers c.args.nodes.now id inside.setting.slot t call reply c.read_next.new.nodes)
-    (c.read_next.new.nodes ≡ c.args.nodes.now) reading c.args.moment c.max-now.result turn (Done (answer.Refused c.in-Err.fault)) stands is c.max-now.ensures c.in-Err.ensures.turned
-    (λ keys step same number action has. fails config kept after session running ongoing.number ongoing.context reading turn c.in-Err.fault keys step stands refl c.end.ensures action has))
+    (c.read_next.new.nodes ≡ c.args.nodes.now) reading c.args.moment c.max-now.result (Err c.in-Err.error) (Err c.in-Err.error) stands is c.max-now.ensures c.in-Err.ensures.turned
+    (λ keys step timed same number action has. lacks config kept after session running ongoing.number ongoing.context reading c.in-Err.error c.max-now.result keys step stands c.end-in-Err.ensures timed action has))
