@@ -4,6 +4,7 @@ pub mod LineEndLemmas
 pub mod LineLemmas
 pub mod LineRunLemmas
 pub mod RunLaws
+pub mod ToldActs
 mod Words
 mod Rows
 mod LineExamples

@@ -12,6 +12,7 @@ use Rattle.cops_model.specs.Cluster.{SoloCluster}
 use Rattle.cops_script.specs.Lives.{Lives}
 use Rattle.cops_script.specs.Said.{HostDeed, Admits, Closes, Refuses, Said, OfHost, Unformed, Acts}
 use Rattle.cops_model.specs.Setups.{Setup}
+use Rattle.cops_script.specs.Acting.{told_act}
 use Rattle.cops_script.specs.Answers.{Answer, ToHost, ToTenant, answer_line, is_lack, name_at, reply_line, slot_line}
 use Rattle.cops_script.specs.Doing.{IsDone, IsHosted}
 use Rattle.cops_script.specs.ScriptRuns.{heard}
@@ -76,7 +77,7 @@ module _ {W : Type 0} (setup : W → Setup) (StandsFor : W → ℕ → SoloClust
   pub done_setup : (said : Said) (answer : Answer) → IsDone setup StandsFor old said answer mid → IsAfter said (answer_of lives answer)
   done_setup (OfHost deed) answer done = hosted_setup deed answer done
   done_setup (Unformed slot) answer (is, stayed) = stayed.same
-  done_setup (Acts event) answer (reply, is, acted) = acted.same
+  done_setup (Acts event) answer (answered, is, acted) = acted.same
 
   -- ---- what was written
 
@@ -92,4 +93,4 @@ module _ {W : Type 0} (setup : W → Setup) (StandsFor : W → ℕ → SoloClust
   pub line_of_life : (said : Said) (answer : Answer) (config : Config) → IsDone setup StandsFor old said answer mid → IsPlaced (setup old).tenants said → AreNumbered config (setup old).tenants lives → IsLine config answer
   line_of_life (OfHost deed) answer config done placed numbered = hosted_line deed answer config done
   line_of_life (Unformed slot) answer config (is, stayed) placed numbered = subst (IsLine config) (sym is) (slot_line_is config (setup old).tenants lives slot (Refused Syntax) numbered placed)
-  line_of_life (Acts event) answer config (reply, is, acted) placed numbered = subst (IsLine config) (sym is) (slot_line_is config (setup old).tenants lives event.slot reply numbered placed)
+  line_of_life (Acts event) answer config (answered, is, acted) placed numbered = subst (IsLine config) (sym is) (slot_line_is config (setup old).tenants lives event.slot (told_act answered) numbered placed)

@@ -18,7 +18,7 @@ use Rattle.cops_model.specs.Events.{IsFrontOf, before_lack, cluster_after, confi
 use Rattle.cops_script.specs.Lives.{Lives, lives_after, lives_past, of_lives_from, with_life}
 use Rattle.cops_script.specs.Said.{HostDeed, Admits, Closes, Refuses, Said, OfHost, Unformed, Acts, tenants_after, tenants_past}
 use Rattle.cops_model.specs.Setups.{Setup, config_in, config_of, is_open_at}
-use Rattle.cops_script.specs.Acting.{HasActed, HasAdmitted, HasClosed, HasStayed, OthersStay}
+use Rattle.cops_script.specs.Acting.{HasAdmitted, HasClosed, HasStayed, OthersStay, told_act}
 use Rattle.cops_script.specs.Answers.{Answer, ToHost, ToTenant, addressee, is_lack, reply_to_host}
 use Rattle.cops_script.specs.Doing.{IsDone, IsHosted}
 use Rattle.cops_script.specs.Script.{events_in}
@@ -29,6 +29,7 @@ use Rattle.cops_script.proofs.Numbered.{AreNumbered, AreOf, ArePlaced, HasTenant
 use Rattle.cops_script.proofs.OpenSets.{closed_set, open_set_other}
 use Rattle.cops_script.proofs.Sequence.{answers_from}
 use Rattle.cops_script.proofs.TenantConfigs.{quota_at, tenant_in}
+use Rattle.cops_script.proofs.ToldActs.{ActsAsTold, as_told_act}
 
 by_test : {C : Type 0} (b : Bool) → (b ≡ true → C) → (b ≡ false → C) → C
 by_test {C} true holds fails = holds refl
@@ -241,7 +242,7 @@ module _ {W : Type 0} (setup : W → Setup) (StandsFor : W → ℕ → SoloClust
   with_same : (slot other : ℕ) (after : SoloCluster) (clusters : ℕ → SoloCluster) → slot ≡ other → with_cluster slot after clusters other ≡ after
   with_same slot other after clusters same = rw ((Decides-eqb slot other).1 same) refl
 
-  module _ (old mid new : W) (lives : Lives) (said : List Said) (told : List Answer) (event : Event) (reply : Reply) (acted : HasActed setup StandsFor old event reply mid) (p : AreGiven mid lives said told new) where
+  module _ (old mid new : W) (lives : Lives) (said : List Said) (told : List Answer) (event : Event) (reply : Reply) (acted : ActsAsTold setup StandsFor old event reply mid) (p : AreGiven mid lives said told new) where
     abbrev life : ℕ
     life = lives.last_at event.slot
 
@@ -368,6 +369,6 @@ module _ {W : Type 0} (setup : W → Setup) (StandsFor : W → ℕ → SoloClust
         let p' : AreGiven mid lives said told new = subst (λ a. GivenAfter (Unformed slot) (answer_of lives a)) is p in
         subst (λ a. GivenWith (Unformed slot) (answer_of lives a)) (sym is)
         (given_unformed old mid new lives said told slot stayed.same (λ config clusters for standing. stand_stayed config old mid lives clusters stayed standing) p')
-    given_one (Acts event) answer (reply, is, acted) p =
+    given_one (Acts event) answer (answered, is, acted) p =
         let p' : AreGiven mid lives said told new = subst (λ a. GivenAfter (Acts event) (answer_of lives a)) is p in
-        subst (λ a. GivenWith (Acts event) (answer_of lives a)) (sym is) (given_act old mid new lives said told event reply acted p')
+        subst (λ a. GivenWith (Acts event) (answer_of lives a)) (sym is) (given_act old mid new lives said told event (told_act answered) (as_told_act setup StandsFor old event answered mid acted) p')

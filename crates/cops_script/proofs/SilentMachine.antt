@@ -1,6 +1,7 @@
 -- What is done by a line whose reply is not written keeps to the rules.
 use Rattle.std.proofs.Common.{◌≡◌, ℕ, Bool, true, false, not, List, refl, sym, subst, ◌∙◌}
-use Rattle.std.specs.Prelude.{IsTrue, Option, Some, None}
+use Rattle.std.specs.Prelude.{IsTrue, Option, Some, None, Result}
+use Rattle.std.specs.declared.alloc.AllocError.{AllocError}
 use Rattle.cops_types.specs.declared.configs.Tenant.{Tenant}
 use Rattle.cops_types.specs.declared.faults.Fault.TheVariants.{Syntax, UnknownTenant}
 use Rattle.cops_types.specs.OpenSlots.{open_slot_of_name}
@@ -15,7 +16,7 @@ use Rattle.cops_model.specs.Cluster.{SoloCluster}
 use Rattle.cops_model.specs.Events.{is_out_of_memory}
 use Rattle.cops_script.specs.Said.{Said, said_found, said_by}
 use Rattle.cops_model.specs.Setups.{Setup}
-use Rattle.cops_script.specs.Acting.{HasActed}
+use Rattle.cops_script.specs.Acting.{HasActed, told_act}
 use Rattle.cops_script.specs.Answers.{ToHost, ToTenant, is_lack}
 use Rattle.cops_script.specs.Doing.{IsDone}
 use Rattle.cops_script.specs.SilentRules.{IsDoneWhole}
@@ -45,10 +46,10 @@ module _ {W : Type 0} (setup : W → Setup) (StandsFor : W → ℕ → SoloClust
   done_unformed old slot line e = subst (λ o. IsDoneWhole setup StandsFor old (said_by slot o) old) (sym e) (ToTenant slot (Refused Syntax), (refl, stays_as_it_is setup StandsFor old), refl)
 
   -- the tenant acted, unless memory was refused
-  pub done_act : (old new : W) (slot : ℕ) (line : List ℕ) (act : Act) (reply : Reply) (lacking : Bool) → act_in (first_word line) line ≡ Some act → HasActed setup StandsFor old (record { slot = slot; act = act }) reply new →
-      lacking ≡ is_out_of_memory reply → IsTrue (not lacking) → IsDoneWhole setup StandsFor old (said_by slot (act_in (first_word line) line)) new
-  done_act old new slot line act reply lacking e acted is_lacking spared =
-      subst (λ o. IsDoneWhole setup StandsFor old (said_by slot o) new) (sym e) (ToTenant slot reply, (reply, refl, acted), sym is_lacking ∙ not_true lacking spared)
+  pub done_act : (old new : W) (slot : ℕ) (line : List ℕ) (act : Act) (answered : Result Reply AllocError) (lacking : Bool) → act_in (first_word line) line ≡ Some act → HasActed setup StandsFor old (record { slot = slot; act = act }) answered new →
+      lacking ≡ is_out_of_memory (told_act answered) → IsTrue (not lacking) → IsDoneWhole setup StandsFor old (said_by slot (act_in (first_word line) line)) new
+  done_act old new slot line act answered lacking e acted is_lacking spared =
+      subst (λ o. IsDoneWhole setup StandsFor old (said_by slot o) new) (sym e) (ToTenant slot (told_act answered), (answered, refl, acted), sym is_lacking ∙ not_true lacking spared)
 
   -- the host's line was done, unless memory was refused
   pub done_for_host : (old new : W) (one said : Said) (reply : HostReply) (lacking : Bool) → said ≡ one → IsDone setup StandsFor old one (ToHost reply) new → lacking ≡ is_lack (ToHost reply) → IsTrue (not lacking) →

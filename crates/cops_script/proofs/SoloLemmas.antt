@@ -39,7 +39,7 @@ use Rattle.cops_script.specs.declared.head_machine.ScriptMachine.{ScriptMachine}
 use Rattle.cops_script.specs.declared.solo_machine.LinesOf.{LinesOf}
 use Rattle.cops_script.specs.declared.solo_machine.SoloRefusal.{SoloRefusal}
 use Rattle.cops_script.specs.declared.solo_scripts.SoloRun.{SoloRun}
-use Rattle.cops_script.specs.Acting.{HasStayed, IsNew}
+use Rattle.cops_script.specs.Acting.{HasStayed, IsNew, told_act}
 use Rattle.cops_script.specs.Answers.{Answer, ToHost, ToTenant, answer_line}
 use Rattle.cops_script.specs.Doing.{IsDone, IsHosted}
 use Rattle.cops_script.specs.HeadRules.{IsHeadAt}
@@ -190,7 +190,7 @@ module _ {W : Type 0} (setup : W → Setup) (StandsFor : W → ℕ → SoloClust
     first_line : (said : Said) (answer : Answer) → IsOfNamed old.tenants name said → IsDone solo_setup Stands old said answer mid → IsFirst answer
     first_line (OfHost deed) answer of done = to_host deed answer done
     first_line (Unformed slot) answer of (is, stayed) = subst IsFirst (sym is) (to_named slot (Refused Syntax) of)
-    first_line (Acts event) answer of (reply, is, acted) = subst IsFirst (sym is) (to_named event.slot reply of)
+    first_line (Acts event) answer of (answered, is, acted) = subst IsFirst (sym is) (to_named event.slot (told_act answered) of)
 
   -- ---- lines after the head
 

@@ -3,6 +3,7 @@ use Rattle.std.proofs.Common.{◌≡◌, ◌≢◌, ℕ, Bool, true, false, cond
 use Rattle.std.specs.Prelude.{IsFalse, IfSome, IsOk, OnOk, Option, Some, None, Result, Ok, Err}
 use Rattle.std.specs.Option.{option_map_or}
 use Rattle.std.specs.Str.{bytes_eq}
+use Rattle.std.proofs.lemmas.Result.{IfOk-weaker}
 use Rattle.cops_types.specs.declared.configs.Config.{Config}
 use Rattle.cops_types.specs.declared.configs.Tenant.{Tenant}
 use Rattle.cops_types.specs.declared.faults.Fault.{Fault}
@@ -23,7 +24,7 @@ use Rattle.cops_model.specs.MainTheorem.{with_tenant_alone}
 use Rattle.cops_script.specs.Said.{Admits, Closes, Refuses, Said, OfHost, admission_of, admission_unless, closing_at, closing_of, is_host_line, said_found, said_by, said_in}
 use Rattle.cops_model.specs.Setups.{Setup, config_in, config_of, new_setup, next_slot, with_slot}
 use Rattle.cops_script.specs.declared.solo_scripts.SoloRun.{SoloRun}
-use Rattle.cops_script.specs.Acting.{HasStayed, IsNew}
+use Rattle.cops_script.specs.Acting.{HasStayed, IsNew, told_act}
 use Rattle.cops_script.specs.Answers.{Answer, ToHost, ToTenant, reply_line, slot_line}
 use Rattle.cops_script.specs.Doing.{IsDone}
 use Rattle.cops_script.specs.Lacks.{Lacks}
@@ -327,17 +328,17 @@ module _ {W : Type 0} (setup : W → Setup) (StandsFor : W → ℕ → SoloClust
         kept = kept_then stayed.same;
         was = was_is ∙ sym (or_false old.was_open);
       }
-      told (Some act) answer (reply, is, acted) text_is = record {
-        answer = ToTenant slot reply;
+      told (Some act) answer (answered, is, acted) text_is = record {
+        answer = ToTenant slot (told_act answered);
         done = (
-          reply,
+          answered,
           refl,
           record {
             same = setup_stays;
-            own = λ spared cluster h.
-                let turned = acted.own spared cluster (his cluster h) in
+            own = IfOk-weaker answered _ _ (λ reply own exact cluster h.
+                let turned = own exact cluster (his cluster h) in
                 let turn : (config : TenantConfig) → record { reply : Reply; after : SoloCluster } = λ config. cluster_step config act cluster in
-                (turned.0 ∙ ap (λ c. (turn c).reply) (sym config_is), λ e. (after, after_is, subst (λ c. StandsFor after 0 (turn c).after) (sym config_is) turned.1));
+                (turned.0 ∙ ap (λ c. (turn c).reply) (sym config_is), λ e. (after, after_is, subst (λ c. StandsFor after 0 (turn c).after) (sym config_is) turned.1))) acted.own;
             lack = λ lacks cluster h.
                 let turned = acted.lack lacks cluster (his cluster h) in
                 (turned.0, subst (λ c. Lacks c act cluster turned.0) (sym config_is) turned.1, λ e. (after, after_is, turned.2));
@@ -345,7 +346,7 @@ module _ {W : Type 0} (setup : W → Setup) (StandsFor : W → ℕ → SoloClust
           },
         );
         heard_whole = refl;
-        text_is = text_is ∙ ap (slot_line (setup world).tenants) is ∙ line_is reply;
+        text_is = text_is ∙ ap (slot_line (setup world).tenants) is ∙ line_is (told_act answered);
         kept = kept_then acted.same;
         was = was_is ∙ sym (or_false old.was_open);
       }

@@ -1,17 +1,36 @@
 -- What a world of many tenants does, however it is kept.
-use Rattle.std.specs.Prelude.{◌≡◌, ◌≢◌, ◌⊎◌, ℕ, ◌<◌, IsFalse, IsTrue, length, Some, None, Result, Ok, Err}
+use Rattle.std.specs.Prelude.{◌≡◌, ◌≢◌, ◌⊎◌, ℕ, ◌<◌, IfOk, IsFalse, IsTrue, length, Some, None, Result, Ok, Err}
+use Rattle.std.specs.declared.alloc.AllocError.{AllocError}
 use Rattle.cops_types.specs.declared.configs.Config.{Config}
 use Rattle.cops_types.specs.declared.configs.Tenant.{Tenant}
 use Rattle.cops_types.specs.declared.faults.Fault.{Fault}
 use Rattle.cops_types.specs.declared.faults.Fault.TheVariants.{OutOfMemory}
 use Rattle.cops_types.specs.OpenSlots.{admission_refusal}
 use Rattle.cops_types.specs.TenantConfig.{tenant_config}
+use Rattle.cops_model.specs.declared.acts.Act.{Act}
+use Rattle.cops_model.specs.declared.acts.Act.TheVariants.{Done, Step}
 use Rattle.cops_model.specs.declared.acts.Event.{Event}
 use Rattle.cops_model.specs.declared.replies.Reply.{Reply}
+use Rattle.cops_model.specs.declared.replies.Reply.TheVariants.{Refused}
 use Rattle.cops_model.specs.Cluster.{SoloCluster, cluster_step, new_cluster}
 use Rattle.cops_model.specs.Events.{config_at, is_out_of_memory}
 use Rattle.cops_model.specs.Setups.{Setup, config_in, new_setup, next_slot, with_slot}
 use Rattle.cops_script.specs.Lacks.{Lacks}
+
+-- what a tenant is told of an act: the reply, or that memory was refused
+abbrev pub told_act : Result Reply AllocError → Reply
+told_act (Ok reply) = reply
+told_act (Err error) = Refused OutOfMemory
+
+-- a reply that doesn't say so
+abbrev pub IsSparedReply : Reply → Type 0
+IsSparedReply reply = IsFalse (is_out_of_memory reply)
+
+-- where a reply to the act is the definition's: always, but that a step shows what a node answered, whatever that was
+abbrev pub TellsExactly : Act → Reply → Type 0
+TellsExactly (Step name moment) reply = IsSparedReply reply
+TellsExactly (Done name moment) reply = IsSparedReply reply
+TellsExactly act reply = Unit {0}
 
 module _ {W : Type 0} (setup : W → Setup) (StandsFor : W → ℕ → SoloCluster → Type 0) where
   -- a new world of the configuration
@@ -23,12 +42,12 @@ module _ {W : Type 0} (setup : W → Setup) (StandsFor : W → ℕ → SoloClust
   abbrev pub OthersStay : ℕ → W → W → Type 0
   OthersStay slot old new = (other : ℕ) → slot ≢ other → (cluster : SoloCluster) → StandsFor old other cluster → StandsFor new other cluster
 
-  -- an event acted on its own tenant's cluster, or memory was refused and it left that cluster as such an act may; and it acted on no other
-  pub record HasActed (old : W) (event : Event) (reply : Reply) (new : W) : Type 0 where
+  -- an event acted on its own tenant's cluster, or memory was refused, which is the error, and it left that cluster as such an act may; and it acted on no other
+  pub record HasActed (old : W) (event : Event) (answered : Result Reply AllocError) (new : W) : Type 0 where
     pub same : setup new ≡ setup old
-    pub own : IsFalse (is_out_of_memory reply) → (cluster : SoloCluster) → StandsFor old event.slot cluster →
-        let turn = cluster_step (config_in (setup old) event.slot) event.act cluster in (reply ≡ turn.reply) × StandsFor new event.slot turn.after
-    pub lack : IsTrue (is_out_of_memory reply) → (cluster : SoloCluster) → StandsFor old event.slot cluster →
+    pub own : IfOk answered (λ reply. TellsExactly event.act reply → (cluster : SoloCluster) → StandsFor old event.slot cluster →
+        let turn = cluster_step (config_in (setup old) event.slot) event.act cluster in (reply ≡ turn.reply) × StandsFor new event.slot turn.after)
+    pub lack : IsTrue (is_out_of_memory (told_act answered)) → (cluster : SoloCluster) → StandsFor old event.slot cluster →
         (after : SoloCluster) × Lacks (config_in (setup old) event.slot) event.act cluster after × StandsFor new event.slot after
     pub others : OthersStay event.slot old new
 

@@ -1,5 +1,6 @@
 -- What is done by what a line says, and what is answered, however a world is kept.
-use Rattle.std.specs.Prelude.{◌≡◌, ◌⊎◌, ℕ}
+use Rattle.std.specs.Prelude.{◌≡◌, ◌⊎◌, ℕ, Result}
+use Rattle.std.specs.declared.alloc.AllocError.{AllocError}
 use Rattle.cops_types.specs.declared.faults.Fault.TheVariants.{OutOfMemory, Syntax}
 use Rattle.cops_model.specs.declared.replies.HostReply.TheVariants.{Admitted, Closed, Denied}
 use Rattle.cops_model.specs.declared.replies.Reply.{Reply}
@@ -7,7 +8,7 @@ use Rattle.cops_model.specs.declared.replies.Reply.TheVariants.{Refused}
 use Rattle.cops_model.specs.Cluster.{SoloCluster}
 use Rattle.cops_script.specs.Said.{HostDeed, Admits, Closes, Refuses, Said, OfHost, Unformed, Acts}
 use Rattle.cops_model.specs.Setups.{Setup}
-use Rattle.cops_script.specs.Acting.{HasActed, HasAdmitted, HasClosed, HasStayed}
+use Rattle.cops_script.specs.Acting.{HasActed, HasAdmitted, HasClosed, HasStayed, told_act}
 use Rattle.cops_script.specs.Answers.{Answer, ToHost, ToTenant}
 
 module _ {W : Type 0} (setup : W → Setup) (StandsFor : W → ℕ → SoloCluster → Type 0) where
@@ -23,4 +24,5 @@ module _ {W : Type 0} (setup : W → Setup) (StandsFor : W → ℕ → SoloClust
   abbrev pub IsDone : W → Said → Answer → W → Type 0
   IsDone old (OfHost deed) answer new = IsHosted old deed answer new
   IsDone old (Unformed slot) answer new = (answer ≡ ToTenant slot (Refused Syntax)) × HasStayed setup StandsFor old new
-  IsDone old (Acts event) answer new = (reply : Reply) × (answer ≡ ToTenant event.slot reply) × HasActed setup StandsFor old event reply new
+  IsDone old (Acts event) answer new =
+      (answered : Result Reply AllocError) × (answer ≡ ToTenant event.slot (told_act answered)) × HasActed setup StandsFor old event answered new

@@ -26,7 +26,7 @@ pub use laws::{line_is_one_act, long_line_may_be_cut, tenants_lines_are_those_al
 pub use line_runs::{LineMachine, RunFault, Stop, run_lines};
 pub use lines::parse_act;
 pub use lone_tenants::with_tenant_alone;
-pub use runs::{Tenancy, run_all};
+pub use runs::{Tenancy, as_reply, run_all};
 pub use script_runs::{LONGEST_LINE, TURNS, run_script_in};
 pub use script_worlds::script_world_in;
 pub use scripts::{BadConfig, HeadSoFar, read_head};

@@ -1,9 +1,11 @@
 ghost use Rattle.std.specs.Prelude.{◌≡◌, ℕ, All, IfOk, IsTrue, length};
 ghost use Rattle.cops_types.specs.HeadLines.{is_tenant};
+ghost use Rattle.cops_types.specs.declared.faults.Fault.TheVariants.{OutOfMemory};
 ghost use Rattle.cops_model.specs.Cluster.{SoloCluster};
 ghost use Rattle.cops_model.specs.Events.{own, replies, replies_from, before_lack, IsFrontOf, IsSpared, ToldAlone};
 ghost use Rattle.cops_model.specs.Setups.{Setup, config_in, is_open_at};
-ghost use Rattle.cops_script.specs.Acting.{HasActed, HasClosed, IsAdmission, IsNew};
+ghost use Rattle.cops_model.specs.declared.replies.Reply.TheVariants.{Refused};
+ghost use Rattle.cops_script.specs.Acting.{HasActed, HasClosed, IsAdmission, IsNew, told_act};
 ghost use Rattle.cops_script.specs.GoodHeads.{is_good};
 
 use cops_model::{Event, Reply};
@@ -26,10 +28,10 @@ pub trait Tenancy {
     fn tenants(&self) -> &OpenTenants
         ensures { result.now ≡ (setup self.now).tenants };
 
-    /// One event: it acts on its own tenant's cluster and on no other. Where memory was refused
-    /// nothing changed, unless a step was taken: its request or its carrier is then over, and what
-    /// the calls did stands.
-    fn apply(&mut self, event: &Event) -> Reply
+    /// One event: it acts on its own tenant's cluster and on no other. The error: memory was refused.
+    /// Nothing changed then, unless a step was taken: its request or its carrier is over, and what the
+    /// calls did stands.
+    fn apply(&mut self, event: &Event) -> Result<Reply, AllocError>
         requires { IsTrue (is_open_at (setup self.old) event.now.slot) }
         ensures { HasActed setup StandsFor self.old event.now result self.new };
 
@@ -42,6 +44,24 @@ pub trait Tenancy {
     fn close(&mut self, slot: u64)
         requires { IsTrue (is_open_at (setup self.old) slot) }
         ensures { HasClosed setup StandsFor slot self.old self.new };
+}
+
+/// The reply to whom memory was refused for an act.
+pub(crate) fn memory_refused(error: AllocError) -> Reply
+    ensures { result ≡ Refused OutOfMemory }
+{
+    Reply::Refused(Fault::from(error))
+}
+
+/// What a tenant is told of an act.
+#[inline(always)]
+pub fn as_reply(answered: Result<Reply, AllocError>) -> Reply
+    ensures { result ≡ told_act answered }
+{
+    match answered {
+        Ok(reply) => reply,
+        Err(error) => memory_refused(error),
+    }
 }
 
 /// The replies to events in a row. Each tenant that no refusal of memory met is told what he is
@@ -61,7 +81,7 @@ pub fn run_all<W: Tenancy>(
 {
     let mut told = Vec::with_capacity(alloc, events.len())?;
     for event in events {
-        let reply = world.apply(event);
+        let reply = as_reply(world.apply(event));
         told.push(reply)?;
     }
     Ok(told)

@@ -6,6 +6,7 @@ ghost use Rattle.cops_script.specs.ActLines.{act_in};
 ghost use Rattle.cops_types.specs.OpenSlots.{open_at, open_slot_of_name};
 ghost use Rattle.cops_script.specs.Said.{said_found, said_by, said_in};
 ghost use Rattle.cops_model.specs.Setups.{is_open_at};
+ghost use Rattle.cops_script.specs.Acting.{told_act};
 ghost use Rattle.cops_script.specs.Answers.{ToTenant, open_name};
 ghost use Rattle.cops_script.specs.Doing.{IsDone};
 ghost use Rattle.cops_script.specs.AllRules.{IsAnswered};
@@ -14,20 +15,21 @@ use crate::bodies::Body;
 use crate::host_machine::{admit, close};
 use crate::lines::parse_act;
 use crate::scripts::BadConfig;
-use crate::texts::{push_answer, push_host, push_nobody};
+use crate::texts::{push_host, push_nobody, push_told};
 use crate::{Stop, Tenancy};
 use cops_model::{Event, Reply};
 use cops_types::words::split_word;
 use cops_types::{Config, Fault, Name, OpenTenants};
 use std::alloc::{AllocError, Global};
 
-/// What the tenant who is open at the slot is told of the act that the line writes.
-fn reply_to<W: Tenancy>(world: &mut W, slot: u64, line: &[u8]) -> Reply
+/// What the tenant who is open at the slot is answered to the act that the line writes. The error:
+/// memory was refused.
+fn answer_to<W: Tenancy>(world: &mut W, slot: u64, line: &[u8]) -> Result<Reply, AllocError>
     requires { IsTrue (is_open_at (W.setup world.old) slot) }
-    ensures { IsDone W.setup W.StandsFor world.old (said_by slot (act_in (first_word line.now) line.now)) (ToTenant slot result) world.new }
+    ensures { IsDone W.setup W.StandsFor world.old (said_by slot (act_in (first_word line.now) line.now)) (ToTenant slot (told_act result)) world.new }
 {
     let Some(act) = parse_act(line) else {
-        return Reply::Refused(Fault::Syntax);
+        return Ok(Reply::Refused(Fault::Syntax));
     };
     world.apply(&Event { slot, act })
 }
@@ -58,8 +60,8 @@ pub(crate) fn answer_tenant<W: Tenancy>(
         return push_nobody(out);
     };
     let name = name_at(tenants, slot);
-    let reply = reply_to(world, slot, line);
-    push_answer(out, &name, &reply)
+    let answered = answer_to(world, slot, line);
+    push_told(out, &name, &answered)
 }
 
 /// Answers a line after the head at the end of the output.

@@ -6,6 +6,7 @@ ghost use Rattle.cops_script.specs.ActLines.{act_in};
 ghost use Rattle.cops_model.specs.Events.{is_out_of_memory};
 ghost use Rattle.cops_script.specs.Said.{said_found, said_by, said_in};
 ghost use Rattle.cops_model.specs.Setups.{is_open_at};
+ghost use Rattle.cops_script.specs.Acting.{told_act};
 ghost use Rattle.cops_script.specs.Answers.{ToHost, is_lack};
 ghost use Rattle.cops_script.specs.SilentRules.{IsDoneWhole};
 
@@ -17,19 +18,20 @@ use crate::{Stop, Tenancy};
 use cops_model::{Event, HostReply, Reply};
 use cops_types::words::split_word;
 use cops_types::{Config, Fault};
-use std::alloc::Global;
+use std::alloc::{AllocError, Global};
 
 /// What each line says is done, in one world of all tenants, and no reply is written.
 #[derive(Clone, Copy)]
 pub struct SilentLines;
 
-/// Whether a reply says that memory was refused.
-fn is_out_of_memory(reply: &Reply) -> bool
-    ensures { result ≡ is_out_of_memory reply.now }
+/// Whether memory was refused for an act. A step shows what a node answered, whatever that was.
+fn is_out_of_memory(answered: &Result<Reply, AllocError>) -> bool
+    ensures { result ≡ is_out_of_memory (told_act answered.now) }
 {
-    match reply {
-        Reply::Refused(fault) => *fault == Fault::OutOfMemory,
-        _ => false,
+    match answered {
+        Ok(Reply::Refused(fault)) => *fault == Fault::OutOfMemory,
+        Ok(_) => false,
+        Err(_) => true,
     }
 }
 
@@ -51,8 +53,8 @@ fn act_for<W: Tenancy>(world: &mut W, slot: u64, line: &[u8]) -> bool
     let Some(act) = parse_act(line) else {
         return true;
     };
-    let reply = world.apply(&Event { slot, act });
-    !is_out_of_memory(&reply)
+    let answered = world.apply(&Event { slot, act });
+    !is_out_of_memory(&answered)
 }
 
 /// Has the tenant whom a line names do what it says. Whether memory was there for it.

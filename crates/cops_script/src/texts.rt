@@ -5,9 +5,11 @@ ghost use Rattle.cops_model.specs.declared.replies.Reply.TheVariants.{Carried, L
 ghost use Rattle.cops_model.specs.declared.replies.HostReply.TheVariants.{Denied};
 ghost use Rattle.cops_script.specs.ReplyText.{pair_words, read_text, text_of_reply, value_text};
 ghost use Rattle.cops_script.specs.ReplyWords.{later_texts};
+ghost use Rattle.cops_script.specs.Acting.{told_act};
 ghost use Rattle.cops_script.specs.Answers.{host_line, reply_line};
 ghost use Rattle.cops_types.specs.declared.faults.Fault.TheVariants.{UnknownTenant};
 
+use crate::runs::memory_refused;
 use cops_model::{HostReply, Reply};
 use cops_types::texts::{push_deps, push_fault, push_near, push_number, push_version};
 use cops_types::{Deps, Name, Near, Pair, Read, Value, Version};
@@ -36,9 +38,24 @@ pub fn push_reply(out: &mut Vec<u8>, reply: &Reply) -> Result<(), AllocError>
     }
 }
 
+/// Puts what a tenant is told of an act at the end, as an answer. After an `Err` a front of it may be
+/// there.
+pub(crate) fn push_told(
+    out: &mut Vec<u8>,
+    name: &Name,
+    answered: &Result<Reply, AllocError>,
+) -> Result<(), AllocError>
+    ensures { OnOk result (out.new.items ≡ out.old.items ++ reply_line name.now (told_act answered.now)) }
+{
+    match answered {
+        Ok(reply) => push_answer(out, name, reply),
+        Err(error) => push_answer(out, name, &memory_refused(*error)),
+    }
+}
+
 /// Puts a tenant's name, a space, the text of a reply and a newline at the end. After an `Err` a
 /// front of it may be there.
-pub(crate) fn push_answer(out: &mut Vec<u8>, name: &Name, reply: &Reply) -> Result<(), AllocError>
+fn push_answer(out: &mut Vec<u8>, name: &Name, reply: &Reply) -> Result<(), AllocError>
     ensures { OnOk result (out.new.items ≡ out.old.items ++ reply_line name.now reply.now) }
 {
     push_word(out, name.bytes())?;

@@ -1,7 +1,6 @@
 -- The tables of actors: what is found, and what follows when one is put in another's place.
 use Rattle.std.proofs.Common.{◌≡◌, ◌≢◌, inl, inr, ℕ, zero, suc, ◌+◌, ◌<◌, nat_lt, lt-ltb, not, unwrap_or, Bool, true, false, cond, ◌&&◌, List, [], ◌∷◌, length, get_or, set, nat_eq, refl, sym, subst, ap, ◌∙◌, true≢false, arith}
-use Rattle.std.specs.Prelude.{IfOk, IfSome, IsTrue, OnOk, Option, Some, None, is_some, Result, Ok, Err, slice_get, position}
-use Rattle.std.specs.Result.{is_ok}
+use Rattle.std.specs.Prelude.{IfSome, OnOk, Option, Some, None, is_some, Result, Ok, Err, slice_get, position}
 use Rattle.std.specs.Cmp.Lexicographic.{nat_list_eq_equiv}
 use Rattle.std.specs.List.{AllByRecursion, IsDistinct, position_or_len}
 use Rattle.std.specs.Map.{keys_of, lookup, values_of}
@@ -115,15 +114,10 @@ module _ {V Z : Type 0} (name : List ℕ) (table : IndexMap (List ℕ) V Z) (uni
 pub stays_unique : {V Z : Type 0} (table : IndexMap (List ℕ) V Z) (i : ℕ) (after : V) → IsDistinct key_eq (keys table) → IsDistinct key_eq (keys (with_value_at table i after))
 stays_unique table i after unique = subst (IsDistinct key_eq) (sym (keys-with_value_at table i after)) unique
 
--- what holds on success holds where there was success
-pub ok_is : {A E : Type 0} {P : Type 0} (r : Result A E) {said : Bool} → IsTrue said → said ≡ is_ok r → OnOk r P → P
-ok_is (Ok a) holds same h = h
-ok_is (Err e) holds same h = absurd (true≢false (sym holds ∙ same))
-
--- one more where there was none
-pub ok_more : {A E : Type 0} (r : Result (Option A) E) {said : Bool} (new old : ℕ) (found : Option A) → IsTrue said → said ≡ is_ok r → IfOk r (λ was. new ≡ old + cond (is_some was) 0 1) → IfOk r (λ was. was ≡ found) → new ≡ old + cond (is_some found) 0 1
-ok_more (Ok was) new old found holds same more is = more ∙ ap (λ (o : Option _). old + cond (is_some o) 0 1) is
-ok_more (Err e) new old found holds same more is = absurd (true≢false (sym holds ∙ same))
+-- both hold on success
+pub on_ok_both : {T E P Q R : Type 0} (r : Result T E) → (P → Q → R) → OnOk r P → OnOk r Q → OnOk r R
+on_ok_both (Ok done) both one other = both one other
+on_ok_both (Err error) both one other = tt
 
 -- where nobody is found there is nobody
 pub nobody : (table : Table) → ((name : List ℕ) → lookup (key_eq name) table ≡ None) → table ≡ []

@@ -1,30 +1,30 @@
 -- What tenants who come and go are told, one event after another.
-use Rattle.std.proofs.Common.{◌≡◌, ℕ, ◌+◌, ◌<◌, Bool, true, false, inl, inr, List, [], ◌∷◌, ◌++◌, length, map, refl, sym, subst, ap, ◌∙◌, append_assoc, append-nil, length-append, Bor}
+use Rattle.std.proofs.Common.{◌≡◌, ℕ, ◌+◌, ◌<◌, true, inl, List, [], ◌∷◌, ◌++◌, length, map, refl, sym, subst, ap, ◌∙◌, append_assoc, append-nil, length-append, Bor}
 use Rattle.std.specs.Prelude.{is_some, IfSome, Option, Some, None, Result, Ok, Err}
 use Rattle.std.specs.Option.{option_copied}
 use Rattle.std.proofs.lemmas.List.{map-append}
 use Rattle.cops_types.specs.declared.configs.Config.{Config}
 use Rattle.cops_types.specs.declared.configs.Tenant.{Tenant}
 use Rattle.cops_types.specs.declared.faults.Fault.{Fault}
-use Rattle.cops_types.specs.declared.faults.Fault.TheVariants.{OutOfMemory, UnknownTenant}
 use Rattle.cops_types.specs.OpenSlots.{admission_refusal, begun_with, open_at}
 use Rattle.cops_model.specs.declared.acts.Act.{Act}
-use Rattle.cops_model.specs.declared.replies.HostReply.TheVariants.{Admitted, Closed, Denied}
+use Rattle.cops_model.specs.declared.replies.HostReply.TheVariants.{Admitted}
 use Rattle.cops_model.specs.declared.replies.Reply.{Reply}
 use Rattle.cops_model.specs.Cluster.{SoloCluster, cluster_step}
 use Rattle.cops_script.specs.Lives.{Lives, first_lives, lives_after}
-use Rattle.cops_script.specs.Said.{HostDeed, Admits, Closes, Refuses, Said, OfHost, Acts, tenants_after}
+use Rattle.cops_script.specs.Said.{OfHost, tenants_after}
 use Rattle.cops_model.specs.Setups.{Setup}
 use Rattle.cops_world.specs.declared.host_runs.Doing.{Doing}
 use Rattle.cops_world.specs.declared.host_runs.Doing.TheVariants.{Own, Admit, Close}
 use Rattle.cops_world.specs.declared.host_runs.HostEvent.{HostEvent}
 use Rattle.cops_world.specs.declared.host_runs.LifeReply.{LifeReply}
 use Rattle.cops_world.specs.declared.host_runs.LifeReply.TheVariants as reply
-use Rattle.cops_script.specs.Acting.{IsNew}
+use Rattle.std.specs.declared.alloc.AllocError.{AllocError}
+use Rattle.cops_script.specs.Acting.{IsNew, TellsExactly, told_act}
 use Rattle.cops_script.specs.Answers.{Answer, ToHost, ToTenant}
 use Rattle.cops_script.specs.Doing.{IsDone, IsHosted}
-use Rattle.cops_world.specs.HostRuns.{IsWithinLimits, TellsLives, acts_at, admits_at, admits_unless, answer_at, closes_at, reply_of, said_after_head, said_heard, said_of}
-use Rattle.cops_script.specs.ScriptRuns.{AreSpared, heard}
+use Rattle.cops_world.specs.HostRuns.{TellsLives, acts_at, admits_at, admits_unless, answer_at, closes_at, reply_of, said_after_head, said_heard, said_of}
+use Rattle.cops_script.specs.ScriptRuns.{heard}
 use Rattle.cops_script.specs.Lacks.{Lacks}
 use Rattle.cops_world.specs.Worlds.{Admits as IsAdmitted, HasOpenCluster, KeptWorld, Leaves, Moves, open_setup, world_of}
 use Rattle.cops_script.proofs.LifeAnswers.{answered_said, told_said}
@@ -60,14 +60,14 @@ module _ (tenants : List (Option Tenant)) where
 -- ---- one event of a world
 
 -- the tenant of a slot acted
-pub acted_at : (old new : KeptWorld) (slot : ℕ) (act : Act) (reply : Reply) → is_some (open_at slot old.setup.tenants) ≡ true →
-    Moves (λ config. cluster_step config act) (world_of old) slot reply (world_of new) → Leaves (λ config. Lacks config act) (world_of old) slot reply (world_of new) →
+pub acted_at : (old new : KeptWorld) (slot : ℕ) (act : Act) (answered : Result Reply AllocError) (reply : Reply) → reply ≡ told_act answered → is_some (open_at slot old.setup.tenants) ≡ true →
+    Moves (TellsExactly act) (λ config. cluster_step config act) (world_of old) slot answered (world_of new) → Leaves (λ config. Lacks config act) (world_of old) slot answered (world_of new) →
     IsDone open_setup HasOpenCluster old (acts_at slot act (open_at slot old.setup.tenants)) (ToTenant slot reply) new
-acted_at old new slot act reply there moves leaves = by (open_at slot old.setup.tenants) there
+acted_at old new slot act answered reply is there moves leaves = by (open_at slot old.setup.tenants) there
   where
     by : (found : Option Tenant) → is_some found ≡ true → IsDone open_setup HasOpenCluster old (acts_at slot act found) (ToTenant slot reply) new
     by None e = absurd cc
-    by (Some tenant) e = (reply, refl, has_acted old (record { slot = slot; act = act }) reply new moves leaves)
+    by (Some tenant) e = (answered, ap (ToTenant slot) is, has_acted old (record { slot = slot; act = act }) answered new moves leaves)
 
 pub some_copied : {A : Type 0} (o : Option (Bor A)) → is_some (option_copied o) ≡ is_some o
 some_copied None = refl

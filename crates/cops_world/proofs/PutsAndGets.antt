@@ -1,6 +1,7 @@
 -- Puts and gets whose keys and values are some, and those that are refused for them.
 use Rattle.std.proofs.Common.{◌≡◌, ◌⊎◌, inl, inr, ℕ, Bool, true, false, not, cond, ◌&&◌, List, [], ◌∷◌, ◌++◌, length, refl, sym, subst, ap, ◌∙◌, append_assoc, append-nil, true≢false, arith}
-use Rattle.std.specs.Prelude.{Some, None, Result, Ok, Err, nat_lt}
+use Rattle.std.specs.Prelude.{◌≢◌, IfOk, Some, None, Result, Ok, Err, nat_lt}
+use Rattle.std.specs.declared.alloc.AllocError.{AllocError}
 use Rattle.std.specs.List.{list_all}
 use Rattle.std.proofs.lemmas.List.Folds.{list_all-append}
 use Rattle.std.proofs.lemmas.Bool.{leb-false, lt-leb, lt-ltb, ltb-true}
@@ -21,7 +22,7 @@ use Rattle.cops_model.specs.Cluster.{ActEffect, OfSession, SoloCluster, cluster_
 use Rattle.cops_model.specs.Setups.{config_in}
 use Rattle.cops_world.specs.declared.actors.Deed.TheVariants as deeds
 use Rattle.cops_world.specs.Deeds.{deed_step}
-use Rattle.cops_world.specs.Worlds.{World, Moves}
+use Rattle.cops_world.specs.Worlds.{AnyReply, World, Moves}
 use Rattle.cops_world.proofs.WorldJoins.{lack_moves, refused_moves, same_moves}
 
 -- ---- keys
@@ -54,12 +55,10 @@ keys_so_far slices made left more later slice key are first good e =
       ap (list_all is_key) e ∙ list_all-append is_key made (key ∷ []) ∙ (λ i. are.1 i && (is_key (is.0 i) && true)) ∙ ap (λ t. t && true) is.1,
     )
 
-pub keys_fail : (slices made left later : List (List ℕ)) (slice : List ℕ) (fault : Fault) → AreKeysOf slices made left → left ≡ slice ∷ later → Err fault ≡ key_or_fault slice → (fault ≡ OutOfMemory) ⊎ (refused_if (not (list_all is_key slices)) BadKey ≡ Some fault)
+pub keys_fail : (slices made left later : List (List ℕ)) (slice : List ℕ) (fault : Fault) → AreKeysOf slices made left → left ≡ slice ∷ later → Err fault ≡ key_or_fault slice → (fault ≡ BadKey) × (list_all is_key slices ≡ false)
 keys_fail slices made left later slice fault are first bad =
     let is = bad_key slice fault bad in
-    let fails : list_all is_key slices ≡ false =
-    ap (list_all is_key) (are.0 ∙ ap (λ ls. made ++ ls) first) ∙ list_all-append is_key made (slice ∷ later) ∙ (λ i. are.1 i && (is.1 i && list_all is_key later)) in
-    inr (rw fails (ap Some (sym is.0)))
+    (is.0, ap (list_all is_key) (are.0 ∙ ap (λ ls. made ++ ls) first) ∙ list_all-append is_key made (slice ∷ later) ∙ (λ i. are.1 i && (is.1 i && list_all is_key later)))
 
 pub keys_end : (slices made left : List (List ℕ)) → AreKeysOf slices made left → left ≡ [] → (made ≡ slices) × (list_all is_key slices ≡ true)
 keys_end slices made left are none =
@@ -94,21 +93,27 @@ module _ (old : World) (slot : ℕ) (name : List ℕ) (number : ℕ) (key value 
       unless_refused (session_put_refusal config number key s) cluster
       (reply_with Started (with_actor name (OfSession (request_begun number (Write key value) s)) cluster)))
 
-  pub bad_key_moves : is_key key ≡ false → Moves (λ config. cluster_step config (acts.Put name number key value)) old slot (Refused BadKey) old
-  bad_key_moves bad = refused_moves (λ config. cluster_step config (acts.Put name number key value)) old slot BadKey (λ cluster h. ap (λ b. put_if b (is_value value) cluster) bad)
+  pub bad_key_moves : is_key key ≡ false → Moves AnyReply (λ config. cluster_step config (acts.Put name number key value)) old slot (Ok (Refused BadKey)) old
+  bad_key_moves bad = refused_moves AnyReply (λ config. cluster_step config (acts.Put name number key value)) old slot BadKey (λ cluster h. ap (λ b. put_if b (is_value value) cluster) bad)
 
-  pub bad_value_moves : (fault : Fault) → is_key key ≡ true → (fault ≡ OutOfMemory) ⊎ (refused_if (is_too_long value) ValueTooLong ≡ Some fault) → Moves (λ config. cluster_step config (acts.Put name number key value)) old slot (Refused fault) old
-  bad_value_moves fault good (inl lack) = subst (λ f. Moves (λ config. cluster_step config (acts.Put name number key value)) old slot (Refused f) old) (sym lack) (lack_moves (λ config. cluster_step config (acts.Put name number key value)) old slot)
-  bad_value_moves fault good (inr is) = by (is_too_long value) refl is
+  pub bad_value_moves : (fault : Fault) → is_key key ≡ true → refused_if (is_too_long value) ValueTooLong ≡ Some fault → Moves AnyReply (λ config. cluster_step config (acts.Put name number key value)) old slot (Ok (Refused fault)) old
+  bad_value_moves fault good is = by (is_too_long value) refl is
     where
-      by : (t : Bool) → is_too_long value ≡ t → cond t (Some ValueTooLong) None ≡ Some fault → Moves (λ config. cluster_step config (acts.Put name number key value)) old slot (Refused fault) old
-      by true e h = refused_moves (λ config. cluster_step config (acts.Put name number key value)) old slot fault
+      by : (t : Bool) → is_too_long value ≡ t → cond t (Some ValueTooLong) None ≡ Some fault → Moves AnyReply (λ config. cluster_step config (acts.Put name number key value)) old slot (Ok (Refused fault)) old
+      by true e h = refused_moves AnyReply (λ config. cluster_step config (acts.Put name number key value)) old slot fault
           (λ cluster stands. (λ i. put_if (good i) (too_long value true e i) cluster) ∙ ap (λ f. reply_with (Refused f) cluster) cc)
       by false e h = cc
 
-  pub put_moves : is_key key ≡ true → is_value value ≡ true → (reply : Reply) (new : World) → Moves (λ config. deed_step config name (deeds.Put number key value)) old slot reply new →
-      Moves (λ config. cluster_step config (acts.Put name number key value)) old slot reply new
-  put_moves good short reply new = same_moves (λ config. deed_step config name (deeds.Put number key value)) (λ config. cluster_step config (acts.Put name number key value)) old slot reply new
+  -- what a value was refused with is told, or was that memory was refused
+  pub no_value_moves : (fault : Fault) (answered : Result Reply AllocError) → is_key key ≡ true → (fault ≡ OutOfMemory) ⊎ (refused_if (is_too_long value) ValueTooLong ≡ Some fault) →
+      IfOk answered (λ reply. reply ≡ Refused fault) → IfOk answered (λ _. fault ≢ OutOfMemory) → Moves AnyReply (λ config. cluster_step config (acts.Put name number key value)) old slot answered old
+  no_value_moves fault (Ok reply) good (inl lack) is spared = absurd (spared lack)
+  no_value_moves fault (Ok reply) good (inr refused) is spared = subst (λ r. Moves AnyReply (λ config. cluster_step config (acts.Put name number key value)) old slot (Ok r) old) (sym is) (bad_value_moves fault good refused)
+  no_value_moves fault (Err error) good refused is spared = lack_moves AnyReply (λ config. cluster_step config (acts.Put name number key value)) old slot error old refl
+
+  pub put_moves : is_key key ≡ true → is_value value ≡ true → (answered : Result Reply AllocError) (new : World) → Moves AnyReply (λ config. deed_step config name (deeds.Put number key value)) old slot answered new →
+      Moves AnyReply (λ config. cluster_step config (acts.Put name number key value)) old slot answered new
+  put_moves good short answered new = same_moves AnyReply (λ config. deed_step config name (deeds.Put number key value)) (λ config. cluster_step config (acts.Put name number key value)) old slot answered new
       (λ cluster i. put_if (sym good i) (sym short i) cluster)
 
 -- ---- gets
@@ -129,19 +134,14 @@ module _ (old : World) (slot : ℕ) (name : List ℕ) (number : ℕ) (keys : Lis
       unless_refused (get_refusal config number keys s) cluster
       (reply_with Started (with_actor name (OfSession (request_begun number (Fetch keys) s)) cluster)))
 
-  pub no_key_moves : nat_lt (length keys) 1 ≡ true → Moves (λ config. cluster_step config (acts.Get name number keys)) old slot (Refused Syntax) old
-  no_key_moves none = refused_moves (λ config. cluster_step config (acts.Get name number keys)) old slot Syntax (λ cluster h. ap (λ b. get_if b (list_all is_key keys) cluster) none)
+  pub no_key_moves : nat_lt (length keys) 1 ≡ true → Moves AnyReply (λ config. cluster_step config (acts.Get name number keys)) old slot (Ok (Refused Syntax)) old
+  no_key_moves none = refused_moves AnyReply (λ config. cluster_step config (acts.Get name number keys)) old slot Syntax (λ cluster h. ap (λ b. get_if b (list_all is_key keys) cluster) none)
 
-  pub bad_keys_moves : (fault : Fault) → nat_lt (length keys) 1 ≡ false → (fault ≡ OutOfMemory) ⊎ (refused_if (not (list_all is_key keys)) BadKey ≡ Some fault) → Moves (λ config. cluster_step config (acts.Get name number keys)) old slot (Refused fault) old
-  bad_keys_moves fault some (inl lack) = subst (λ f. Moves (λ config. cluster_step config (acts.Get name number keys)) old slot (Refused f) old) (sym lack) (lack_moves (λ config. cluster_step config (acts.Get name number keys)) old slot)
-  bad_keys_moves fault some (inr is) = by (list_all is_key keys) refl is
-    where
-      by : (t : Bool) → list_all is_key keys ≡ t → cond (not t) (Some BadKey) None ≡ Some fault → Moves (λ config. cluster_step config (acts.Get name number keys)) old slot (Refused fault) old
-      by false e h = refused_moves (λ config. cluster_step config (acts.Get name number keys)) old slot fault
-          (λ cluster stands. (λ i. get_if (some i) (e i) cluster) ∙ ap (λ f. reply_with (Refused f) cluster) cc)
-      by true e h = cc
+  pub bad_keys_moves : (fault : Fault) → nat_lt (length keys) 1 ≡ false → fault ≡ BadKey → list_all is_key keys ≡ false → Moves AnyReply (λ config. cluster_step config (acts.Get name number keys)) old slot (Ok (Refused fault)) old
+  bad_keys_moves fault some is bad = refused_moves AnyReply (λ config. cluster_step config (acts.Get name number keys)) old slot fault
+      (λ cluster stands. (λ i. get_if (some i) (bad i) cluster) ∙ ap (λ f. reply_with (Refused f) cluster) (sym is))
 
-  pub get_moves : nat_lt (length keys) 1 ≡ false → list_all is_key keys ≡ true → (reply : Reply) (new : World) → Moves (λ config. deed_step config name (deeds.Get number keys)) old slot reply new →
-      Moves (λ config. cluster_step config (acts.Get name number keys)) old slot reply new
-  get_moves some all reply new = same_moves (λ config. deed_step config name (deeds.Get number keys)) (λ config. cluster_step config (acts.Get name number keys)) old slot reply new
+  pub get_moves : nat_lt (length keys) 1 ≡ false → list_all is_key keys ≡ true → (answered : Result Reply AllocError) (new : World) → Moves AnyReply (λ config. deed_step config name (deeds.Get number keys)) old slot answered new →
+      Moves AnyReply (λ config. cluster_step config (acts.Get name number keys)) old slot answered new
+  get_moves some all answered new = same_moves AnyReply (λ config. deed_step config name (deeds.Get number keys)) (λ config. cluster_step config (acts.Get name number keys)) old slot answered new
       (λ cluster i. get_if (sym some i) (sym all i) cluster)

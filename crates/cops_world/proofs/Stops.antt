@@ -1,6 +1,7 @@
 -- A step for which there was no memory: what it leaves of the cluster.
 use Rattle.std.proofs.Common.{◌≡◌, ◌⊎◌, ◌++◌, ℕ, Bool, true, false, cond, inl, inr, List, [], ◌∷◌, append-nil, refl, sym, ◌∙◌, ap, subst, max, true≢false}
-use Rattle.std.specs.Prelude.{Option, Some, None, ◌==◌, slice_index_or}
+use Rattle.std.specs.Prelude.{Option, Some, None, Result, ◌==◌, slice_index_or}
+use Rattle.std.specs.declared.alloc.AllocError.{AllocError}
 use Rattle.cops_types.specs.declared.faults.Fault.{Fault}
 use Rattle.cops_types.specs.declared.faults.Fault.TheVariants.{OutOfMemory}
 use Rattle.cops_types.specs.TenantConfig.{TenantConfig}
@@ -19,12 +20,13 @@ use Rattle.cops_session.specs.Kept.{KeptSession}
 use Rattle.cops_model.specs.Request.{Action, Fetch, Write, next}
 use Rattle.cops_model.specs.Session.{OpenContext, Running, Session, context_extended, has_restarted, moment_after, moment_at, raised, request_of, session_after}
 use Rattle.cops_session.specs.SessionStands.{SessionStandsFor}
-use Rattle.cops_session.specs.Stepping.{DoesNext, HasStepped}
+use Rattle.cops_session.specs.Stepping.{DoesNext, HasStepped, told_shown}
+use Rattle.cops_session.proofs.StepLaws.{as_told}
 use Rattle.cops_session.specs.Wants.{EndsRound, WantsMemory}
 use Rattle.cops_model.specs.declared.deliveries.Progress.{Progress as CarrierProgress}
 use Rattle.cops_model.specs.declared.deliveries.Progress.TheVariants as carrying
 use Rattle.cops_model.specs.Carrier.{Carrier}
-use Rattle.cops_repl.specs.Stands.{KeptCarrier, is_done}
+use Rattle.cops_repl.specs.Stands.{KeptCarrier, is_done, told_progress}
 use Rattle.cops_model.specs.declared.replies.Reply.{Reply}
 use Rattle.cops_model.specs.declared.replies.Reply.TheVariants.{Refused}
 use Rattle.cops_model.specs.Cluster.{Actor, OfCarrier, OfSession, SoloCluster, call_node, find_actor, reply_of_progress, without_actor}
@@ -32,7 +34,9 @@ use Rattle.cops_model.specs.Events.{is_out_of_memory}
 use Rattle.cops_world.specs.declared.actors.Actor.{Actor as Kept}
 use Rattle.cops_world.specs.declared.actors.Actor.TheVariants as kept
 use Rattle.cops_world.specs.ActorsStand.{ActorSteps, CarrierSteps, SessionSteps, NodesTurn, IsAfter, StepsCluster, reply_of_carrying, Stepped}
+use Rattle.cops_script.specs.Acting.{told_act}
 use Rattle.cops_script.specs.Lacks.{ActorStops, IsLastRead, SessionStops, StepStops, without_request}
+use Rattle.cops_world.proofs.ClusterSteps.{told_of_carried, told_of_shown}
 use Rattle.cops_world.proofs.SparedCalls.{carrier_spared, lacks, node_spared}
 
 -- ---- what shows that memory was refused
@@ -75,12 +79,12 @@ module _ (config : TenantConfig) (name : List ℕ) (before : SoloCluster) (nodes
 
   -- ---- sessions
 
-  module _ (s : Session) (running : Running) (kept_after : KeptSession) (reply : Reply) (runs : s.running ≡ Some running) (lack : is_out_of_memory reply ≡ true) where
+  module _ (s : Session) (running : Running) (kept_after : KeptSession) (answered : Result Reply AllocError) (runs : s.running ≡ Some running) (lack : is_out_of_memory (told_act answered) ≡ true) where
     abbrev at : ℕ
     at = moment_at moment s
 
     abbrev step : NodeReply → LogStep
-    step answered = record { moment = at; outcome = Replied answered }
+    step replied = record { moment = at; outcome = Replied replied }
 
     abbrev Wants : LogStep → Action → Type 0
     Wants = WantsMemory config (request_of s running) running.log
@@ -91,7 +95,7 @@ module _ (config : TenantConfig) (name : List ℕ) (before : SoloCluster) (nodes
 
     abbrev Stopped : Type 0
     Stopped = (after : SoloCluster) × SessionStops config name moment s before after
-        × StepsCluster config name before nodes (record { reply = reply; after = after }) (record { reply = reply; is_over = false }) (kept.OfSession kept_after)
+        × StepsCluster config name before nodes (record { reply = told_act answered; after = after }) (record { answered = answered; is_over = false }) (kept.OfSession kept_after)
 
     ended_is : (step : LogStep) → moment_after running step ≡ at → session_after s running step (session_progress.Done (answer.Refused OutOfMemory)) ≡ record s { moment = at; running = None }
     ended_is step is = λ i. record s { moment = is i; contexts = unextended running.context s.contexts i; running = None }
@@ -100,10 +104,10 @@ module _ (config : TenantConfig) (name : List ℕ) (before : SoloCluster) (nodes
     turn d = call_node config d.node at d.call before
 
     -- the session has ended so in its cluster
-    stops : (d : Directed) (shown : Progress) (answered : NodeReply) → next config (request_of s running) running.log at ≡ Call d → shown ≡ session_progress.Done (answer.Refused OutOfMemory) →
-        HasStepped config s running (step answered) shown kept_after → moment_after running (step answered) ≡ at →
+    stops : (d : Directed) (shown : Progress) (replied : NodeReply) → next config (request_of s running) running.log at ≡ Call d → shown ≡ session_progress.Done (answer.Refused OutOfMemory) →
+        HasStepped config s running (step replied) shown kept_after → moment_after running (step replied) ≡ at →
         (left ≡ without_request name moment s before) ⊎ (IsLastRead config s running (step (turn d).reply) × (left ≡ without_request name moment s (turn d).after)) → Stopped
-    stops d shown answered calls ends stepped same_moment is_left = (
+    stops d shown replied calls ends stepped same_moment is_left = (
       left,
       record { running = running; directed = d; runs = runs; calls = calls; left = is_left },
       record {
@@ -112,64 +116,67 @@ module _ (config : TenantConfig) (name : List ℕ) (before : SoloCluster) (nodes
         actors_are = (
           OfSession (record s { moment = at; running = None }),
           refl,
-          subst (SessionStandsFor config kept_after) (ap (session_after s running (step answered)) ends ∙ ended_is (step answered) same_moment) stepped.stands,
+          subst (SessionStandsFor config kept_after) (ap (session_after s running (step replied)) ends ∙ ended_is (step replied) same_moment) stepped.stands,
         );
       },
     )
 
     -- a refused call leaves the moment
-    unmoved : (answered : NodeReply) → answered ≡ node_reply.Refused OutOfMemory → moment_after running (step answered) ≡ at
-    unmoved answered is = ap (λ r. moment_after running (step r)) is ∙ either_same (has_restarted running.action running.log (step (node_reply.Refused OutOfMemory))) at
+    unmoved : (replied : NodeReply) → replied ≡ node_reply.Refused OutOfMemory → moment_after running (step replied) ≡ at
+    unmoved replied is = ap (λ r. moment_after running (step r)) is ∙ either_same (has_restarted running.action running.log (step (node_reply.Refused OutOfMemory))) at
 
     -- a last read leaves it too
-    unraised : (keys : List (List ℕ)) (answered : NodeReply) → running.action ≡ Fetch keys → EndsRound config (request_of s running) keys running.log (step answered) → moment_after running (step answered) ≡ at
-    unraised keys answered is ends =
-        ap (λ a. cond (has_restarted a running.log (step answered)) (raised at (Replied answered)) at) is ∙ ap (λ b. cond b (raised at (Replied answered)) at) ends.same_attempt
+    unraised : (keys : List (List ℕ)) (replied : NodeReply) → running.action ≡ Fetch keys → EndsRound config (request_of s running) keys running.log (step replied) → moment_after running (step replied) ≡ at
+    unraised keys replied is ends =
+        ap (λ a. cond (has_restarted a running.log (step replied)) (raised at (Replied replied)) at) is ∙ ap (λ b. cond b (raised at (Replied replied)) at) ends.same_attempt
 
-    -- the node answered, so that it is a last read
-    last_read : (action : Action) (answered : NodeReply) → running.action ≡ action → lacks answered ≡ false → Wants (step answered) action →
-        (keys : List (List ℕ)) × (running.action ≡ Fetch keys) × EndsRound config (request_of s running) keys running.log (step answered)
-    last_read (Write key value) answered is spared wanted = absurd (true≢false (sym (ap lacks (replied_is answered wanted)) ∙ spared))
-    last_read (Fetch keys) answered is spared (inl wanted) = absurd (true≢false (sym (ap lacks (replied_is answered wanted)) ∙ spared))
-    last_read (Fetch keys) answered is spared (inr ends) = (keys, is, ends)
+    -- the node replied, so that it is a last read
+    last_read : (action : Action) (replied : NodeReply) → running.action ≡ action → lacks replied ≡ false → Wants (step replied) action →
+        (keys : List (List ℕ)) × (running.action ≡ Fetch keys) × EndsRound config (request_of s running) keys running.log (step replied)
+    last_read (Write key value) replied is spared wanted = absurd (true≢false (sym (ap lacks (replied_is replied wanted)) ∙ spared))
+    last_read (Fetch keys) replied is spared (inl wanted) = absurd (true≢false (sym (ap lacks (replied_is replied wanted)) ∙ spared))
+    last_read (Fetch keys) replied is spared (inr ends) = (keys, is, ends)
 
     late_stops : (action : Action) → Wants (record { moment = at; outcome = Late }) action → ⊥
     late_stops (Write key value) wanted = let never : Late ≡ Replied (node_reply.Refused OutOfMemory) = wanted in cc
     late_stops (Fetch keys) (inl wanted) = let never : Late ≡ Replied (node_reply.Refused OutOfMemory) = wanted in cc
     late_stops (Fetch keys) (inr ends) = true≢false ends.same_attempt
 
-    request_stops : (shown : Progress) → reply ≡ reply_of_progress shown → (n : Next Answer) → next config (request_of s running) running.log at ≡ n →
+    request_stops : (shown : Progress) → told_act answered ≡ reply_of_progress shown → (n : Next Answer) → next config (request_of s running) running.log at ≡ n →
         DoesNext (AtNodes at) (nodes ≡ before.nodes) config s running at shown kept_after n → Stopped
-    request_stops shown is (Call d) calls (answered, made, stepped) = by_turn made
+    request_stops shown is (Call d) calls (replied, made, stepped) = by_turn made
       where
         ends : shown ≡ session_progress.Done (answer.Refused OutOfMemory)
         ends = shown_of_lack shown (ap is_out_of_memory (sym is) ∙ lack)
 
-        by_turn : AtNodes at d.node d.call answered → Stopped
-        by_turn (inl (refused, stays)) = stops d shown answered calls ends stepped (unmoved answered refused) (inl (ap (λ (ns : List SoloNode). without_request name moment s (record before { nodes = ns })) stays))
+        by_turn : AtNodes at d.node d.call replied → Stopped
+        by_turn (inl (refused, stays)) = stops d shown replied calls ends stepped (unmoved replied refused) (inl (ap (λ (ns : List SoloNode). without_request name moment s (record before { nodes = ns })) stays))
         by_turn (inr (turned, changed)) =
-            let spared : lacks answered ≡ false = ap lacks turned ∙ node_spared (place_of config d.node) at d.call (slice_index_or before.nodes (node_number config.shards d.node) (new_node config.data_centres)) in
-            let read = last_read running.action answered refl spared (stepped.wants ends) in
-            stops d shown answered calls ends stepped (unraised read.0 answered read.1 read.2)
+            let spared : lacks replied ≡ false = ap lacks turned ∙ node_spared (place_of config d.node) at d.call (slice_index_or before.nodes (node_number config.shards d.node) (new_node config.data_centres)) in
+            let read = last_read running.action replied refl spared (stepped.wants ends) in
+            stops d shown replied calls ends stepped (unraised read.0 replied read.1 read.2)
             (inr (subst (λ r. IsLastRead config s running (step r)) turned read, ap (λ (ns : List SoloNode). without_request name moment s (record before { nodes = ns })) changed))
     request_stops shown is Restart calls (stays, stepped) = absurd (late_stops running.action (stepped.wants (shown_of_lack shown (ap is_out_of_memory (sym is) ∙ lack))))
     request_stops shown is (Ended a) calls none = absurd none
 
-  running_stops : (s : Session) (kept_after : KeptSession) (reply : Reply) → is_out_of_memory reply ≡ true → (running : Option Running) → s.running ≡ running →
-      SessionSteps AtNodes (nodes ≡ before.nodes) config s moment reply kept_after running →
+  running_stops : (s : Session) (kept_after : KeptSession) (answered : Result Reply AllocError) → is_out_of_memory (told_act answered) ≡ true → (running : Option Running) → s.running ≡ running →
+      SessionSteps AtNodes (nodes ≡ before.nodes) config s moment answered kept_after running →
       (after : SoloCluster) × SessionStops config name moment s before after
-      × StepsCluster config name before nodes (record { reply = reply; after = after }) (record { reply = reply; is_over = false }) (kept.OfSession kept_after)
-  running_stops s kept_after reply lack None runs (is, stays, stands) = absurd (true≢false (sym lack ∙ ap is_out_of_memory is))
-  running_stops s kept_after reply lack (Some running) runs (shown, is, does) =
-      request_stops s running kept_after reply runs lack shown is (next config (request_of s running) running.log (moment_at moment s)) refl does
+      × StepsCluster config name before nodes (record { reply = told_act answered; after = after }) (record { answered = answered; is_over = false }) (kept.OfSession kept_after)
+  running_stops s kept_after answered lack None runs (is, stays, stands) = absurd (true≢false (sym lack ∙ ap (λ a. is_out_of_memory (told_act a)) is))
+  running_stops s kept_after answered lack (Some running) runs (told, is, tells) =
+      let at = moment_at moment s in
+      let comes = next config (request_of s running) running.log at in
+      request_stops s running kept_after answered runs lack (told_shown told) (ap told_act is ∙ told_of_shown told) comes refl
+      (as_told (AtNodes at) (nodes ≡ before.nodes) config s running at told kept_after comes tells)
 
   -- ---- carriers
 
-  carrier_stops : (c : Carrier) (kept_after : KeptCarrier) (stepped : Stepped) → is_out_of_memory stepped.reply ≡ true → CarrierSteps AtNodes config c moment stepped kept_after →
+  carrier_stops : (c : Carrier) (kept_after : KeptCarrier) (stepped : Stepped) → is_out_of_memory (told_act stepped.answered) ≡ true → CarrierSteps AtNodes config c moment stepped kept_after →
       (after : SoloCluster) × (after ≡ without_actor name before)
-      × StepsCluster config name before nodes (record { reply = stepped.reply; after = after }) stepped (kept.OfCarrier kept_after)
+      × StepsCluster config name before nodes (record { reply = told_act stepped.answered; after = after }) stepped (kept.OfCarrier kept_after)
   carrier_stops c kept_after stepped lack p =
-      let over : stepped.is_over ≡ true = p.over_is ∙ carrying_of_lack p.shown (ap is_out_of_memory (sym p.reply_is) ∙ lack) in
+      let over : stepped.is_over ≡ true = p.over_is ∙ carrying_of_lack (told_progress p.told) (ap is_out_of_memory (sym reply_told) ∙ lack) in
       let after : SoloCluster = record { nodes = nodes; actors = (without_actor name before).actors } in (
         after,
         ap (λ (ns : List SoloNode). record { nodes = ns; actors = (without_actor name before).actors }) (by_turn p.made),
@@ -179,6 +186,9 @@ module _ (config : TenantConfig) (name : List ℕ) (before : SoloCluster) (nodes
       at : ℕ
       at = max c.moment moment
 
+      reply_told : told_act stepped.answered ≡ reply_of_carrying (told_progress p.told)
+      reply_told = ap told_act p.answer_is ∙ told_of_carried p.told
+
       d : Directed
       d = p.directed
 
@@ -186,25 +196,25 @@ module _ (config : TenantConfig) (name : List ℕ) (before : SoloCluster) (nodes
       by_turn (inl (refused, stays)) = stays
       by_turn (inr (turned, changed)) =
           let spared : lacks p.reply ≡ false = ap lacks turned ∙ node_spared (place_of config d.node) at d.call (slice_index_or before.nodes (node_number config.shards d.node) (new_node config.data_centres)) in
-          absurd (true≢false (sym lack ∙ ap is_out_of_memory p.reply_is ∙ ap (λ shown. is_out_of_memory (reply_of_carrying shown)) p.step_of.shown
+          absurd (true≢false (sym lack ∙ ap is_out_of_memory reply_told ∙ ap (λ shown. is_out_of_memory (reply_of_carrying shown)) p.step_of.shown
           ∙ carrier_spared config.shards c.stream c.log d at p.reply p.step_of.asked spared))
 
   -- ---- any actor
 
-  pub actor_stops : (solo : Actor) (kept_after : Kept) (stepped : Stepped) → find_actor name before ≡ Some solo → is_out_of_memory stepped.reply ≡ true →
+  pub actor_stops : (solo : Actor) (kept_after : Kept) (stepped : Stepped) → find_actor name before ≡ Some solo → is_out_of_memory (told_act stepped.answered) ≡ true →
       ActorSteps AtNodes (nodes ≡ before.nodes) config moment stepped solo kept_after →
-      (after : SoloCluster) × StepStops config name moment before after × StepsCluster config name before nodes (record { reply = stepped.reply; after = after }) stepped kept_after
+      (after : SoloCluster) × StepStops config name moment before after × StepsCluster config name before nodes (record { reply = told_act stepped.answered; after = after }) stepped kept_after
   actor_stops solo kept_after stepped found lack steps =
       subst (λ o. (after : SoloCluster) × ActorStops config name moment o before after
-      × StepsCluster config name before nodes (record { reply = stepped.reply; after = after }) stepped kept_after) (sym found) (by_actor solo kept_after steps)
+      × StepsCluster config name before nodes (record { reply = told_act stepped.answered; after = after }) stepped kept_after) (sym found) (by_actor solo kept_after steps)
     where
       by_actor : (solo : Actor) (kept_after : Kept) → ActorSteps AtNodes (nodes ≡ before.nodes) config moment stepped solo kept_after →
           (after : SoloCluster) × ActorStops config name moment (Some solo) before after
-          × StepsCluster config name before nodes (record { reply = stepped.reply; after = after }) stepped kept_after
+          × StepsCluster config name before nodes (record { reply = told_act stepped.answered; after = after }) stepped kept_after
       by_actor (OfSession s) (kept.OfSession after) (steps, lasts) =
           subst (λ over. (left : SoloCluster) × SessionStops config name moment s before left
-          × StepsCluster config name before nodes (record { reply = stepped.reply; after = left }) (record { reply = stepped.reply; is_over = over }) (kept.OfSession after)) (sym lasts)
-          (running_stops s after stepped.reply lack s.running refl steps)
+          × StepsCluster config name before nodes (record { reply = told_act stepped.answered; after = left }) (record { answered = stepped.answered; is_over = over }) (kept.OfSession after)) (sym lasts)
+          (running_stops s after stepped.answered lack s.running refl steps)
       by_actor (OfCarrier c) (kept.OfCarrier after) steps = carrier_stops c after stepped lack steps
       by_actor (OfSession s) (kept.OfCarrier after) steps = absurd steps
       by_actor (OfCarrier c) (kept.OfSession after) steps = absurd steps

@@ -1,6 +1,7 @@
 -- Calls at the nodes of a world, and the acts that name a node which isn't there.
 use Rattle.std.proofs.Common.{◌≡◌, ℕ, ◌<◌, Bool, true, false, not, ◌&&◌, List, [], ◌∷◌, refl, sym, subst, ap, ◌∙◌, true≢false}
-use Rattle.std.specs.Prelude.{IsTrue, Option, Some, None, is_some, nat_lt, ◌==◌}
+use Rattle.std.specs.Prelude.{IsTrue, Option, Some, None, Result, Ok, is_some, nat_lt, ◌==◌}
+use Rattle.std.specs.declared.alloc.AllocError.{AllocError}
 use Rattle.std.proofs.lemmas.Bool.{ltb-true}
 use Rattle.std.proofs.lemmas.Bool.Decides.{Decides-eqb}
 use Rattle.cops_types.specs.declared.faults.Fault.TheVariants.{NoSuchPlace, NameTaken}
@@ -21,7 +22,8 @@ use Rattle.cops_model.specs.Cluster.{ActEffect, Actor, SoloCluster, actor_refusa
 use Rattle.cops_model.specs.Setups.{config_in, is_open_at}
 use Rattle.cops_world.specs.declared.actors.Actor.{Actor as Kept}
 use Rattle.cops_world.specs.declared.actors.ActorId.{ActorId}
-use Rattle.cops_world.specs.Worlds.{World, IsWorld, Moves, join_step}
+use Rattle.cops_script.specs.Acting.{IsSparedReply, TellsExactly}
+use Rattle.cops_world.specs.Worlds.{AnyReply, World, IsWorld, Moves, join_step}
 use Rattle.cops_script.specs.Sizes.{HasSizes}
 use Rattle.cops_world.specs.ActorsStand.{Stepped}
 use Rattle.cops_world.proofs.WorldJoins.{refused_moves, same_moves, taken_moves}
@@ -47,22 +49,22 @@ node_fits shape config id data_centres shards there = record {
 }
 
 module _ (old : World) (slot : ℕ) (id : NodeId) (moment : ℕ) where
-  pub no_node_moves : has_node (config_in old.setup slot) id.dc id.shard ≡ false → Moves (λ config. cluster_step config (acts.Collect id.dc id.shard moment)) old slot (Refused NoSuchPlace) old
-  no_node_moves none = refused_moves (λ config. cluster_step config (acts.Collect id.dc id.shard moment)) old slot NoSuchPlace
+  pub no_node_moves : has_node (config_in old.setup slot) id.dc id.shard ≡ false → Moves AnyReply (λ config. cluster_step config (acts.Collect id.dc id.shard moment)) old slot (Ok (Refused NoSuchPlace)) old
+  no_node_moves none = refused_moves AnyReply (λ config. cluster_step config (acts.Collect id.dc id.shard moment)) old slot NoSuchPlace
       (λ cluster h. ap (λ b. unless_refused (first_refusal ((not b, NoSuchPlace) ∷ [])) cluster (collect_at (config_in old.setup slot) id moment cluster)) none)
 
-  pub node_collects : has_node (config_in old.setup slot) id.dc id.shard ≡ true → (reply : Reply) (new : World) → Moves (λ config. collect_at config id moment) old slot reply new →
-      Moves (λ config. cluster_step config (acts.Collect id.dc id.shard moment)) old slot reply new
-  node_collects there reply new = same_moves (λ config. collect_at config id moment) (λ config. cluster_step config (acts.Collect id.dc id.shard moment)) old slot reply new
+  pub node_collects : has_node (config_in old.setup slot) id.dc id.shard ≡ true → (answered : Result Reply AllocError) (new : World) → Moves AnyReply (λ config. collect_at config id moment) old slot answered new →
+      Moves AnyReply (λ config. cluster_step config (acts.Collect id.dc id.shard moment)) old slot answered new
+  node_collects there answered new = same_moves AnyReply (λ config. collect_at config id moment) (λ config. cluster_step config (acts.Collect id.dc id.shard moment)) old slot answered new
       (λ cluster. sym (ap (λ b. unless_refused (first_refusal ((not b, NoSuchPlace) ∷ [])) cluster (collect_at (config_in old.setup slot) id moment cluster)) there))
 
 -- ---- new actors
 
 -- the name is taken
-pub name_taken : (old : World) (id : ActorId) → is_some (old.actors id) ≡ true → (solo : Actor) (reply : Reply) → Moves (join_step id.name solo reply) old id.slot (Refused NameTaken) old
+pub name_taken : (old : World) (id : ActorId) → is_some (old.actors id) ≡ true → (solo : Actor) (reply : Reply) → Moves AnyReply (join_step id.name solo reply) old id.slot (Ok (Refused NameTaken)) old
 name_taken old id there solo reply = by (old.actors id) refl
   where
-    by : (o : Option Kept) → old.actors id ≡ o → Moves (join_step id.name solo reply) old id.slot (Refused NameTaken) old
+    by : (o : Option Kept) → old.actors id ≡ o → Moves AnyReply (join_step id.name solo reply) old id.slot (Ok (Refused NameTaken)) old
     by (Some kept) e = taken_moves old id.slot id.name solo reply kept e
     by None e = absurd (true≢false (sym there ∙ ap is_some e))
 
@@ -71,12 +73,12 @@ abbrev pub join_where : (TenantConfig → Bool) → List ℕ → Actor → Reply
 join_where exists name solo told config cluster = unless_refused (actor_refusal config (exists config) name cluster) cluster (reply_with told (with_new_actor name solo cluster))
 
 module _ (old : World) (slot : ℕ) (name : List ℕ) (exists : TenantConfig → Bool) (solo : Actor) (told : Reply) where
-  pub joins_there : exists (config_in old.setup slot) ≡ true → (reply : Reply) (new : World) → Moves (join_step name solo told) old slot reply new → Moves (join_where exists name solo told) old slot reply new
-  joins_there there reply new = same_moves (join_step name solo told) (join_where exists name solo told) old slot reply new
+  pub joins_there : exists (config_in old.setup slot) ≡ true → (answered : Result Reply AllocError) (new : World) → Moves AnyReply (join_step name solo told) old slot answered new → Moves AnyReply (join_where exists name solo told) old slot answered new
+  joins_there there answered new = same_moves AnyReply (join_step name solo told) (join_where exists name solo told) old slot answered new
       (λ cluster. let config = config_in old.setup slot in sym (ap (λ b. unless_refused (actor_refusal config b name cluster) cluster (reply_with told (with_new_actor name solo cluster))) there))
 
-  pub no_place_moves : exists (config_in old.setup slot) ≡ false → Moves (join_where exists name solo told) old slot (Refused NoSuchPlace) old
-  no_place_moves none = refused_moves (join_where exists name solo told) old slot NoSuchPlace
+  pub no_place_moves : exists (config_in old.setup slot) ≡ false → Moves AnyReply (join_where exists name solo told) old slot (Ok (Refused NoSuchPlace)) old
+  no_place_moves none = refused_moves AnyReply (join_where exists name solo told) old slot NoSuchPlace
       (λ cluster h. let config = config_in old.setup slot in ap (λ b. unless_refused (actor_refusal config b name cluster) cluster (reply_with told (with_new_actor name solo cluster))) none)
 
 -- a stream that is there may be carried
@@ -107,14 +109,15 @@ id_of slot name = record { slot = slot; name = name }
 -- the world after a step
 pub steps_world : (old : World) → IsWorld old → (slot : ℕ) (name : List ℕ) (moment : ℕ) (stepped : Stepped) (nodes : Cluster) (before after : Kept) → HasSteppedAt old slot name moment stepped nodes before after →
     (new : World) → ((q : ActorId) → new.actors q ≡ table_after stepped.is_over old.actors (id_of slot name) after q) → new.setup ≡ old.setup → new.nodes ≡ nodes → CountsAfter stepped.is_over old.count slot new.count →
-    IsTrue (is_open_at old.setup slot) → Moves (λ config. actor_step config name moment) old slot stepped.reply new
+    IsTrue (is_open_at old.setup slot) → Moves IsSparedReply (λ config. actor_step config name moment) old slot stepped.answered new
 steps_world old whole slot name moment stepped nodes before after h new actors setup_is nodes_are counts within =
     let sizes = sizes_in old.setup slot within in
-    subst (Moves (λ config. actor_step config name moment) old slot stepped.reply) (λ i. record { setup = sym setup_is i; nodes = sym nodes_are i; actors = new.actors; count = new.count })
+    subst (Moves IsSparedReply (λ config. actor_step config name moment) old slot stepped.answered) (λ i. record { setup = sym setup_is i; nodes = sym nodes_are i; actors = new.actors; count = new.count })
     (step_moves old whole slot name moment stepped nodes before after h new.actors actors new.count counts (sizes.shards ∙ sym (ap (λ (s : Shape). s.shards) whole.shape_is)))
 
 -- ---- acts
 
 -- the same act by another name
-pub acted : (old : World) (slot : ℕ) (act other : Act) → act ≡ other → (reply : Reply) (new : World) → Moves (λ config. cluster_step config other) old slot reply new → Moves (λ config. cluster_step config act) old slot reply new
-acted old slot act other same reply new = subst (λ (a : Act). Moves (λ config. cluster_step config a) old slot reply new) (sym same)
+pub acted : (old : World) (slot : ℕ) (act other : Act) → act ≡ other → (answered : Result Reply AllocError) (new : World) → Moves (TellsExactly other) (λ config. cluster_step config other) old slot answered new →
+    Moves (TellsExactly act) (λ config. cluster_step config act) old slot answered new
+acted old slot act other same answered new = subst (λ (a : Act). Moves (TellsExactly a) (λ config. cluster_step config a) old slot answered new) (sym same)

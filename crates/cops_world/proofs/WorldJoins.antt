@@ -1,8 +1,10 @@
 -- A new actor in the world, and a refusal.
-use Rattle.std.proofs.Common.{◌≡◌, ◌≢◌, ℕ, ◌+◌, true, false, cond, not, List, [], ◌∷◌, length, refl, sym, subst, ap, ◌∙◌, true≢false}
-use Rattle.std.specs.Prelude.{Option, Some, None, is_some, nat_le}
+use Rattle.std.proofs.Common.{◌≡◌, ◌≢◌, ℕ, ◌+◌, true, false, cond, not, List, [], ◌∷◌, length, refl, sym, subst, ap, ◌∙◌}
+use Rattle.std.specs.Prelude.{Option, Some, None, Result, Ok, Err, is_some, nat_le}
+use Rattle.std.specs.declared.alloc.AllocError.{AllocError}
+use Rattle.std.proofs.lemmas.Result.{IfOk-weaker}
 use Rattle.cops_types.specs.declared.faults.Fault.{Fault}
-use Rattle.cops_types.specs.declared.faults.Fault.TheVariants.{NoSuchPlace, NameTaken, ActorsFull, OutOfMemory}
+use Rattle.cops_types.specs.declared.faults.Fault.TheVariants.{NoSuchPlace, NameTaken, ActorsFull}
 use Rattle.cops_types.specs.Search.{first_refusal}
 use Rattle.cops_types.specs.TenantConfig.{TenantConfig}
 use Rattle.cops_model.specs.declared.replies.Reply.{Reply}
@@ -13,7 +15,7 @@ use Rattle.cops_world.specs.declared.actors.Actor.{Actor as Kept}
 use Rattle.cops_world.specs.declared.actors.ActorId.{ActorId}
 use Rattle.cops_world.specs.ActorsStand.{ActorStandsFor}
 use Rattle.cops_world.specs.ActorTables.{same_actor}
-use Rattle.cops_world.specs.Worlds.{ClusterStandsAt, Moves, World, join_step}
+use Rattle.cops_world.specs.Worlds.{AnyReply, ClusterStandsAt, Moves, World, join_step}
 use Rattle.cops_world.proofs.ActorMoves.{absent_too, found_too, joins, count-joined}
 use Rattle.cops_world.proofs.ActorTableLemmas.{same_actor-refl, other_slot, other_name}
 use Rattle.cops_world.proofs.WorldMoves.{others_stay}
@@ -24,27 +26,27 @@ id_of slot name = record { slot = slot; name = name }
 -- ---- refusals
 
 -- an act that is refused leaves the world
-pub refused_moves : (turn_of : TenantConfig → SoloCluster → ActEffect) (old : World) (slot : ℕ) (fault : Fault) →
-    ((cluster : SoloCluster) → ClusterStandsAt old slot cluster → turn_of (config_in old.setup slot) cluster ≡ reply_with (Refused fault) cluster) → Moves turn_of old slot (Refused fault) old
-refused_moves turn_of old slot fault refuses = record {
+pub refused_moves : (Exact : Reply → Type 0) (turn_of : TenantConfig → SoloCluster → ActEffect) (old : World) (slot : ℕ) (fault : Fault) →
+    ((cluster : SoloCluster) → ClusterStandsAt old slot cluster → turn_of (config_in old.setup slot) cluster ≡ reply_with (Refused fault) cluster) → Moves Exact turn_of old slot (Ok (Refused fault)) old
+refused_moves Exact turn_of old slot fault refuses = record {
   same = refl;
-  own = λ spared cluster h.
+  own = λ exact cluster h.
       let is = refuses cluster h in
       (ap (λ (t : ActEffect). t.reply) (sym is), subst (λ (t : ActEffect). ClusterStandsAt old slot t.after) (sym is) h);
   others = λ other differ cluster h. h;
 }
 
 -- want of memory may leave the world in place of any act
-pub lack_moves : (turn_of : TenantConfig → SoloCluster → ActEffect) (old : World) (slot : ℕ) → Moves turn_of old slot (Refused OutOfMemory) old
-lack_moves turn_of old slot = record { same = refl; own = λ spared. absurd (true≢false spared); others = λ other differ cluster h. h }
+pub lack_moves : (Exact : Reply → Type 0) (turn_of : TenantConfig → SoloCluster → ActEffect) (old : World) (slot : ℕ) (error : AllocError) (new : World) → new ≡ old → Moves Exact turn_of old slot (Err error) new
+lack_moves Exact turn_of old slot error new same = subst (Moves Exact turn_of old slot (Err error)) (sym same) (record { same = refl; own = tt; others = λ other differ cluster h. h })
 
 -- the same turns by another name
-pub same_moves : (one other : TenantConfig → SoloCluster → ActEffect) (old : World) (slot : ℕ) (reply : Reply) (new : World) → ((cluster : SoloCluster) → one (config_in old.setup slot) cluster ≡ other (config_in old.setup slot) cluster) →
-    Moves one old slot reply new → Moves other old slot reply new
-same_moves one other old slot reply new same h = record {
+pub same_moves : (Exact : Reply → Type 0) (one other : TenantConfig → SoloCluster → ActEffect) (old : World) (slot : ℕ) (answered : Result Reply AllocError) (new : World) →
+    ((cluster : SoloCluster) → one (config_in old.setup slot) cluster ≡ other (config_in old.setup slot) cluster) → Moves Exact one old slot answered new → Moves Exact other old slot answered new
+same_moves Exact one other old slot answered new same h = record {
   same = h.same;
-  own = λ spared cluster stands.
-      subst (λ (t : ActEffect). (reply ≡ t.reply) × ClusterStandsAt new slot t.after) (same cluster) (h.own spared cluster stands);
+  own = IfOk-weaker answered _ _ (λ reply own exact cluster stands.
+      subst (λ (t : ActEffect). (reply ≡ t.reply) × ClusterStandsAt new slot t.after) (same cluster) (own exact cluster stands)) h.own;
   others = h.others;
 }
 
@@ -70,19 +72,19 @@ module _ (old : World) (slot : ℕ) (name : List ℕ) (solo : Actor) (reply : Re
       (λ i. unless_refused (first_refusal ((not true, NoSuchPlace) ∷ (is_some (gone i), NameTaken) ∷ (nat_le (config_in old.setup slot).quota.actors (sym h.count_is i), ActorsFull) ∷ [])) cluster (reply_with reply (with_new_actor name solo cluster)))
       ∙ ap (λ b. unless_refused (first_refusal ((not true, NoSuchPlace) ∷ (false, NameTaken) ∷ (b, ActorsFull) ∷ [])) cluster (reply_with reply (with_new_actor name solo cluster))) room
 
-  pub taken_moves : (kept : Kept) → old.actors (id_of slot name) ≡ Some kept → Moves (join_step name solo reply) old slot (Refused NameTaken) old
-  taken_moves kept there = refused_moves (join_step name solo reply) old slot NameTaken (taken_refuses kept there)
+  pub taken_moves : (kept : Kept) → old.actors (id_of slot name) ≡ Some kept → Moves AnyReply (join_step name solo reply) old slot (Ok (Refused NameTaken)) old
+  taken_moves kept there = refused_moves AnyReply (join_step name solo reply) old slot NameTaken (taken_refuses kept there)
 
-  pub full_moves : old.actors (id_of slot name) ≡ None → nat_le (config_in old.setup slot).quota.actors (old.count slot) ≡ true → Moves (join_step name solo reply) old slot (Refused ActorsFull) old
-  full_moves none full = refused_moves (join_step name solo reply) old slot ActorsFull (full_refuses none full)
+  pub full_moves : old.actors (id_of slot name) ≡ None → nat_le (config_in old.setup slot).quota.actors (old.count slot) ≡ true → Moves AnyReply (join_step name solo reply) old slot (Ok (Refused ActorsFull)) old
+  full_moves none full = refused_moves AnyReply (join_step name solo reply) old slot ActorsFull (full_refuses none full)
 
   pub join_moves : (kept : Kept) (actors : ActorId → Option Kept) (count : ℕ → ℕ) → ActorStandsFor (config_in old.setup slot) kept solo → old.actors (id_of slot name) ≡ None →
       nat_le (config_in old.setup slot).quota.actors (old.count slot) ≡ false → count slot ≡ old.count slot + 1 → ((other : ℕ) → slot ≢ other → count other ≡ old.count other) →
       ((q : ActorId) → actors q ≡ cond (same_actor (id_of slot name) q) (Some kept) (old.actors q)) →
-      Moves (join_step name solo reply) old slot reply (record old { actors = actors; count = count })
+      Moves AnyReply (join_step name solo reply) old slot (Ok reply) (record old { actors = actors; count = count })
   join_moves kept actors count stands none room more others_count updates = record {
     same = refl;
-    own = λ spared cluster h.
+    own = λ exact cluster h.
         let is = room_joins none room cluster h in
         let here : actors (id_of slot name) ≡ Some kept = updates (id_of slot name) ∙ rw (same_actor-refl (id_of slot name)) refl in
         let joined = joins (ActorStandsFor (config_in old.setup slot)) name (λ n. old.actors (id_of slot n)) (λ n. actors (id_of slot n)) cluster h.actors_are kept solo none here

@@ -1,6 +1,7 @@
 -- What a world keeps whatever its tenants do: its actors run at its nodes, and its tenants have its sizes.
 use Rattle.std.proofs.Common.{◌≡◌, ℕ, zero, suc, ◌+◌, ◌-◌, ◌*◌, ◌<◌, ◌≤◌, Bool, true, false, true≢false, ◌&&◌, cond, List, [], ◌∷◌, ◌++◌, length, map, ◌⊎◌, inl, inr, refl, sym, subst, ap, ◌∙◌, arith}
-use Rattle.std.specs.Prelude.{Option, Some, None, IsFalse, IsTrue, is_some, replicate, slice_get, slice_index_or}
+use Rattle.std.specs.Prelude.{OnErr, OnOk, Option, Some, None, Result, Ok, Err, IsTrue, is_some, replicate, slice_get, slice_index_or}
+use Rattle.std.specs.declared.alloc.AllocError.{AllocError}
 use Rattle.std.specs.Option.{option_map}
 use Rattle.std.specs.List.{AllByRecursion, list_all, range_with_len}
 use Rattle.std.specs.Map.{lookup}
@@ -169,10 +170,10 @@ kept_placed old kept id after tables places own =
     }
 
 -- one was put in, or there was no memory for it
-pub kept_joined : (old : KeptWorld) → IsKeptWorld old → (id : ActorId) (actor : Kept) (tables : List Table) (done : Bool) → (IsTrue done → Places old.tables id (Some actor) tables) → (IsFalse done → tables ≡ old.tables) →
+pub kept_joined : (old : KeptWorld) → IsKeptWorld old → (id : ActorId) (actor : Kept) (tables : List Table) (done : Result (Unit {0}) AllocError) → OnOk done (Places old.tables id (Some actor) tables) → OnErr done (tables ≡ old.tables) →
     RunsAt (shape_of old.setup.head) id.slot actor → IsTrue (is_open_at old.setup id.slot) → IsKeptWorld (record { setup = old.setup; nodes = old.nodes; tables = tables })
-kept_joined old kept id actor tables true places lack runs there = kept_placed old kept id (Some actor) tables (places refl) (λ other is. (subst (RunsAt (shape_of old.setup.head) id.slot) (same_value actor other is) runs, there))
-kept_joined old kept id actor tables false places lack runs there = subst (λ ts. IsKeptWorld (record { setup = old.setup; nodes = old.nodes; tables = ts })) (sym (lack refl)) kept
+kept_joined old kept id actor tables (Ok done) places lack runs there = kept_placed old kept id (Some actor) tables places (λ other is. (subst (RunsAt (shape_of old.setup.head) id.slot) (same_value actor other is) runs, there))
+kept_joined old kept id actor tables (Err error) places lack runs there = subst (λ ts. IsKeptWorld (record { setup = old.setup; nodes = old.nodes; tables = ts })) (sym lack) kept
 
 -- a call was made at the nodes
 pub kept_called : (old : KeptWorld) → IsKeptWorld old → (nodes : Cluster) → nodes.shape ≡ old.nodes.shape → map site_in nodes.nodes ≡ map site_in old.nodes.nodes → IsKeptWorld (record { setup = old.setup; nodes = nodes; tables = old.tables })

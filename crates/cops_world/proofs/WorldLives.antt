@@ -1,6 +1,7 @@
 -- A tenant comes to a world, or goes from it.
 use Rattle.std.proofs.Common.{◌≡◌, ◌≢◌, ◌⊎◌, inl, inr, ℕ, zero, suc, ◌<◌, ◌≤◌, Bool, true, false, true≢false, ◌&&◌, ◌||◌, List, [], ◌∷◌, length, map, set, refl, sym, subst, ap, ◌∙◌, arith}
 use Rattle.std.specs.Prelude.{Option, Some, None, IsTrue, IfErr, IfNone, IfOk, IfSome, is_ok, is_some, nat_le, replicate, Result, Ok, Err, IsOk, OnErr, OnOk}
+use Rattle.std.specs.declared.alloc.AllocError.{AllocError}
 use Rattle.std.specs.List.{AllByRecursion, list_any}
 use Rattle.std.specs.Option.{option_map}
 use Rattle.std.proofs.Math.ListN.{length-set}
@@ -28,7 +29,7 @@ use Rattle.cops_model.specs.Cluster.{ActEffect, SoloCluster, cluster_step, new_c
 use Rattle.cops_model.specs.Setups.{Setup, config_in, config_of, is_open_at, next_slot}
 use Rattle.cops_world.specs.declared.actors.Actor.{Actor as Kept}
 use Rattle.cops_world.specs.declared.actors.ActorId.{ActorId}
-use Rattle.cops_script.specs.Acting.{HasActed, HasClosed, IsAdmission}
+use Rattle.cops_script.specs.Acting.{HasActed, HasClosed, IsAdmission, TellsExactly}
 use Rattle.cops_world.specs.Actors.{ActorsStandFor, AreSame}
 use Rattle.cops_world.specs.ActorTables.{Table, table_of}
 use Rattle.cops_world.specs.ActorsStand.{ActorStandsFor}
@@ -43,13 +44,13 @@ use Rattle.cops_world.proofs.WorldMoves.{kept_alike}
 -- ---- while no tenant comes or goes
 
 -- an act of a tenant
-pub has_acted : (old : KeptWorld) (event : Event) (reply : Reply) (new : KeptWorld) → Moves (λ config. cluster_step config event.act) (world_of old) event.slot reply (world_of new) →
-    Leaves (λ config. Lacks config event.act) (world_of old) event.slot reply (world_of new) → HasActed open_setup HasOpenCluster old event reply new
-has_acted old event reply new moves leaves = record { same = moves.same; own = moves.own; lack = leaves; others = moves.others }
+pub has_acted : (old : KeptWorld) (event : Event) (answered : Result Reply AllocError) (new : KeptWorld) → Moves (TellsExactly event.act) (λ config. cluster_step config event.act) (world_of old) event.slot answered (world_of new) →
+    Leaves (λ config. Lacks config event.act) (world_of old) event.slot answered (world_of new) → HasActed open_setup HasOpenCluster old event answered new
+has_acted old event answered new moves leaves = record { same = moves.same; own = moves.own; lack = leaves; others = moves.others }
 
 -- at a slot without a tenant nothing is done
-pub vacant_moves : (turn_of : TenantConfig → SoloCluster → ActEffect) (old : World) (slot : ℕ) (fault : Fault) → is_open_at old.setup slot ≡ false → Moves turn_of old slot (Refused fault) old
-vacant_moves turn_of old slot fault vacant = refused_moves turn_of old slot fault (λ cluster h. absurd (true≢false (sym h.open_there ∙ vacant)))
+pub vacant_moves : (Exact : Reply → Type 0) (turn_of : TenantConfig → SoloCluster → ActEffect) (old : World) (slot : ℕ) (fault : Fault) → is_open_at old.setup slot ≡ false → Moves Exact turn_of old slot (Ok (Refused fault)) old
+vacant_moves Exact turn_of old slot fault vacant = refused_moves Exact turn_of old slot fault (λ cluster h. absurd (true≢false (sym h.open_there ∙ vacant)))
 
 -- ---- slots
 

@@ -1,6 +1,8 @@
 -- What a deed, a new actor, a step or a collection does to each tenant's part of the world.
 use Rattle.std.proofs.Common.{◌≡◌, ◌≢◌, ℕ, cond, List, length, refl, sym, subst, ap, ◌∙◌}
-use Rattle.std.specs.Prelude.{IsFalse, Option, Some, None, find}
+use Rattle.std.specs.Prelude.{Option, Some, None, Result, Ok, find}
+use Rattle.std.specs.declared.alloc.AllocError.{AllocError}
+use Rattle.std.proofs.lemmas.Result.{IfOk-at_ok}
 use Rattle.std.specs.Option.{option_map, option_and_then}
 use Rattle.cops_types.specs.declared.faults.Fault.{Fault}
 use Rattle.cops_types.specs.declared.faults.Fault.TheVariants.{UnknownName}
@@ -13,7 +15,6 @@ use Rattle.cops_model.specs.Session.{Session, context_created, context_deleted, 
 use Rattle.cops_model.specs.declared.replies.Reply.{Reply}
 use Rattle.cops_model.specs.declared.replies.Reply.TheVariants.{Created, Deleted, Started, Lists, Refused}
 use Rattle.cops_model.specs.Cluster.{ActEffect, Actor, NamedActor, OfCarrier, OfSession, SoloCluster, find_actor, on_found, reply_with, session_in, unless_refused, with_actor}
-use Rattle.cops_model.specs.Events.{is_out_of_memory}
 use Rattle.cops_model.specs.Setups.{config_in}
 use Rattle.cops_world.specs.declared.actors.Actor.{Actor as Kept}
 use Rattle.cops_world.specs.declared.actors.ActorId.{ActorId}
@@ -24,7 +25,8 @@ use Rattle.cops_world.specs.ActorsStand.{ActorStandsFor, HasDone}
 use Rattle.cops_world.specs.ActorTables.{same_actor}
 use Rattle.cops_world.specs.ActorTurns.{ActorTurn, actor_turn, unless_actor_refused, actor_does, session_does}
 use Rattle.cops_world.specs.Deeds.{deed_step, session_deed}
-use Rattle.cops_world.specs.Worlds.{ClusterStandsAt, Moves, World}
+use Rattle.cops_world.specs.Worlds.{AnyReply, ClusterStandsAt, Moves, World}
+use Rattle.cops_script.proofs.ToldActs.{if_answered}
 use Rattle.cops_world.proofs.ActorMoves.{absent_too, found_too, put_in_place, with_actor-same, count-with_actor}
 use Rattle.cops_world.proofs.ActorTableLemmas.{same_actor-refl, other_slot, other_name}
 
@@ -100,20 +102,23 @@ others_stay old nodes actors count slot other differ same_nodes keeps same_actor
 abbrev id_of : ℕ → List ℕ → ActorId
 id_of slot name = record { slot = slot; name = name }
 
+same_answer : (answered : Result Reply AllocError) (one other : Reply) → answered ≡ Ok one → answered ≡ Ok other → one ≡ other
+same_answer answered one other is too = cc
+
 -- what was done in the tables
-pub record DoneAt (old : World) (id : ActorId) (actors : ActorId → Option Kept) (count : ℕ → ℕ) (deed : Deed) (reply : Reply) : Type 0 where
+pub record DoneAt (old : World) (id : ActorId) (actors : ActorId → Option Kept) (count : ℕ → ℕ) (deed : Deed) (answered : Result Reply AllocError) : Type 0 where
   pub found : (before : Kept) → old.actors id ≡ Some before → (after : Kept) × (((q : ActorId) → actors q ≡ cond (same_actor id q) (Some after) (old.actors q))
-      × ((config : TenantConfig) (solo : Actor) → ActorStandsFor config before solo → HasDone config solo (actor_does config deed solo) reply after))
-  pub absent : old.actors id ≡ None → (reply ≡ Refused UnknownName) × (actors ≡ old.actors)
+      × ((config : TenantConfig) (solo : Actor) → ActorStandsFor config before solo → HasDone config (actor_does config deed solo) answered after))
+  pub absent : old.actors id ≡ None → (answered ≡ Ok (Refused UnknownName)) × (actors ≡ old.actors)
   pub counts : (slot : ℕ) → count slot ≡ old.count slot
 
-module _ (old : World) (slot : ℕ) (name : List ℕ) (actors : ActorId → Option Kept) (count : ℕ → ℕ) (deed : Deed) (reply : Reply) (done : DoneAt old (id_of slot name) actors count deed reply) where
+module _ (old : World) (slot : ℕ) (name : List ℕ) (actors : ActorId → Option Kept) (count : ℕ → ℕ) (deed : Deed) (answered : Result Reply AllocError) (done : DoneAt old (id_of slot name) actors count deed answered) where
   abbrev new_world : World
   new_world = record old { actors = actors; count = count }
 
-  deed_own : IsFalse (is_out_of_memory reply) → (cluster : SoloCluster) → ClusterStandsAt old slot cluster →
+  deed_own : (reply : Reply) → answered ≡ Ok reply → (cluster : SoloCluster) → ClusterStandsAt old slot cluster →
       (reply ≡ (deed_step (config_in old.setup slot) name deed cluster).reply) × ClusterStandsAt new_world slot (deed_step (config_in old.setup slot) name deed cluster).after
-  deed_own spared cluster h = by_actor (old.actors (id_of slot name)) refl
+  deed_own reply is cluster h = by_actor (old.actors (id_of slot name)) refl
     where
       config : TenantConfig
       config = config_in old.setup slot
@@ -126,7 +131,7 @@ module _ (old : World) (slot : ℕ) (name : List ℕ) (actors : ActorId → Opti
           let gone = absent_too (ActorStandsFor config) name (λ n. old.actors (id_of slot n)) (λ n. actors (id_of slot n)) cluster h.actors_are none in
           let same = done.absent none in
           subst Own (sym (deed_absent config name deed cluster gone)) (
-            same.0,
+            same_answer answered reply (Refused UnknownName) is same.0,
             record {
               open_there = h.open_there;
               has = h.has;
@@ -139,7 +144,7 @@ module _ (old : World) (slot : ℕ) (name : List ℕ) (actors : ActorId → Opti
           let solo = found_too (ActorStandsFor config) name (λ n. old.actors (id_of slot n)) (λ n. actors (id_of slot n)) cluster h.actors_are before there in
           let did = done.found before there in
           let turn = deed_found config name deed cluster solo.0 h.actors_are.distinct solo.1 in
-          let own = did.1.1 config solo.0 solo.2 spared in
+          let own = IfOk-at_ok (λ reply. (reply ≡ (actor_does config deed solo.0).reply) × ActorStandsFor config did.0 (actor_does config deed solo.0).after) is (did.1.1 config solo.0 solo.2) in
           let here : actors (id_of slot name) ≡ Some did.0 = did.1.0 (id_of slot name) ∙ rw (same_actor-refl (id_of slot name)) refl in
           let placed = put_in_place (ActorStandsFor config) name (λ n. old.actors (id_of slot n)) (λ n. actors (id_of slot n)) cluster h.actors_are did.0 (actor_does config deed solo.0).after solo.0 solo.1 here
           (λ other apart. did.1.0 (id_of slot other) ∙ rw (other_name slot name other apart) refl) own.1 in (
@@ -160,9 +165,11 @@ module _ (old : World) (slot : ℕ) (name : List ℕ) (actors : ActorId → Opti
       by_actor None none = ap (λ f. f q) (done.absent none).1
       by_actor (Some before) there = (done.found before there).1.0 q ∙ rw (other_slot (id_of slot name) q differ) refl
 
-  pub deed_moves : Moves (λ config. deed_step config name deed) old slot reply new_world
+  pub deed_moves : Moves AnyReply (λ config. deed_step config name deed) old slot answered new_world
   deed_moves = record {
     same = refl;
-    own = deed_own;
+    own = if_answered (λ reply. AnyReply reply → (cluster : SoloCluster) → ClusterStandsAt old slot cluster →
+        (reply ≡ (deed_step (config_in old.setup slot) name deed cluster).reply) × ClusterStandsAt new_world slot (deed_step (config_in old.setup slot) name deed cluster).after) answered
+        (λ reply is exact. deed_own reply is);
     others = λ other differ. others_stay old old.nodes actors count slot other differ (λ config. refl) (λ config has. has) deed_actors (done.counts other);
   }

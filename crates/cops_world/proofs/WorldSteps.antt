@@ -1,20 +1,25 @@
 -- A step of an actor, steps in a row, and a collection, in the world.
-use Rattle.std.proofs.Common.{◌≡◌, ◌≢◌, ◌⊎◌, inl, inr, ℕ, zero, suc, ◌+◌, Bool, true, false, cond, List, length, refl, sym, subst, ap, ◌∙◌, true≢false, arith}
-use Rattle.std.specs.Prelude.{IsFalse, Option, Some, None}
+use Rattle.std.proofs.Common.{◌≡◌, ◌≢◌, ◌⊎◌, inl, inr, ℕ, zero, suc, ◌+◌, Bool, true, false, cond, List, length, refl, sym, subst, ap, ◌∙◌, arith}
+use Rattle.std.specs.Prelude.{Option, Some, None, Result, Ok, slice_index_or, slice_set}
+use Rattle.std.specs.declared.alloc.AllocError.{AllocError}
+use Rattle.std.proofs.lemmas.Result.{IfOk-at_ok, IfOk-weaker}
 use Rattle.cops_types.specs.declared.faults.Fault.TheVariants.{UnknownName}
 use Rattle.cops_types.specs.TenantConfig.{TenantConfig}
 use Rattle.cops_model.specs.declared.calls.NodeCall.{NodeCall}
 use Rattle.cops_model.specs.declared.calls.NodeCall.TheVariants as node_call
 use Rattle.cops_model.specs.declared.calls.NodeId.{NodeId}
 use Rattle.cops_model.specs.declared.calls.NodeReply.{NodeReply}
-use Rattle.cops_node.specs.Clusters.{Cluster, HasTenant, nodes_of, IsCall}
+use Rattle.cops_node.specs.Clusters.{Cluster, HasTenant, nodes_of, IsCall, IsTurnOf}
 use Rattle.cops_model.specs.Log.{Next, Call, Restart, Ended}
+use Rattle.cops_model.specs.Place.{node_number, place_of}
+use Rattle.cops_model.specs.SoloNode.{SoloNode, new_node}
+use Rattle.cops_model.specs.Step.{node_step}
 use Rattle.cops_model.specs.declared.requests.Answer.{Answer}
 use Rattle.cops_model.specs.declared.requests.Progress.{Progress}
 use Rattle.cops_session.specs.Kept.{KeptSession}
 use Rattle.cops_model.specs.Request.{next}
 use Rattle.cops_model.specs.Session.{Session, Running, request_of, moment_at}
-use Rattle.cops_session.specs.Stepping.{DoesNext}
+use Rattle.cops_session.specs.Stepping.{TellsNext}
 use Rattle.cops_model.specs.declared.replies.Reply.{Reply}
 use Rattle.cops_model.specs.declared.replies.Reply.TheVariants.{Refused}
 use Rattle.cops_model.specs.Cluster.{ActEffect, Actor, OfCarrier, OfSession, SoloCluster, actor_step, actor_steps, collect_at, find_actor, goes_on, reply_of_collect, step_of, with_actor, without_actor}
@@ -26,7 +31,9 @@ use Rattle.cops_world.specs.declared.actors.ActorId.{ActorId}
 use Rattle.cops_world.specs.Actors.{ActorsStandFor}
 use Rattle.cops_world.specs.ActorsStand.{ActorStandsFor, ActorSteps, SessionSteps, NodesTurn, IsAfter, StepsCluster, Stepped}
 use Rattle.cops_world.specs.ActorTables.{same_actor}
-use Rattle.cops_world.specs.Worlds.{ClusterStandsAt, IsWorld, Moves, World}
+use Rattle.cops_script.specs.Acting.{IsSparedReply, told_act}
+use Rattle.cops_script.proofs.ToldActs.{if_answered, if_told, of_told}
+use Rattle.cops_world.specs.Worlds.{AnyReply, ClusterStandsAt, IsWorld, Moves, World}
 use Rattle.cops_world.proofs.ActorMoves.{absent_too, found_too, put_in_place, leaves, count-with_actor, count-without}
 use Rattle.cops_world.proofs.ActorTableLemmas.{same_actor-refl, other_slot, other_name}
 use Rattle.cops_world.proofs.ClusterSteps.{actor_turn}
@@ -48,27 +55,27 @@ call_turns config old new slot at id call reply shards has h = elim h.turn [
 
 -- a weaker word for what was called serves a step as well
 module _ (called weaker : ℕ → NodeId → NodeCall → NodeReply → Type 0) (stays lasts : Type 0) (weakens : (at : ℕ) (id : NodeId) (call : NodeCall) (reply : NodeReply) → called at id call reply → weaker at id call reply) (outlasts : stays → lasts) where
-  does_weaker : (config : TenantConfig) (session : Session) (running : Running) (at : ℕ) (shown : Progress) (after : KeptSession) (n : Next Answer) →
-      DoesNext (called at) stays config session running at shown after n → DoesNext (weaker at) lasts config session running at shown after n
-  does_weaker config session running at shown after (Call d) (reply, made, stepped) = (reply, weakens at d.node d.call reply made, stepped)
-  does_weaker config session running at shown after Restart (stood, stepped) = (outlasts stood, stepped)
-  does_weaker config session running at shown after (Ended a) none = absurd none
+  tells_weaker : (config : TenantConfig) (session : Session) (running : Running) (at : ℕ) (told : Result Progress AllocError) (after : KeptSession) (n : Next Answer) →
+      TellsNext (called at) stays config session running at told after n → TellsNext (weaker at) lasts config session running at told after n
+  tells_weaker config session running at told after (Call d) (reply, made, stepped) = (reply, weakens at d.node d.call reply made, stepped)
+  tells_weaker config session running at told after Restart (stood, stepped) = (outlasts stood, stepped)
+  tells_weaker config session running at told after (Ended a) none = absurd none
 
-  session_weaker : (config : TenantConfig) (session : Session) (moment : ℕ) (reply : Reply) (after : KeptSession) (running : Option Running) →
-      SessionSteps called stays config session moment reply after running → SessionSteps weaker lasts config session moment reply after running
-  session_weaker config session moment reply after None (is, stood, stands) = (is, outlasts stood, stands)
-  session_weaker config session moment reply after (Some running) (shown, is, does) =
-      (shown, is, does_weaker config session running (moment_at moment session) shown after (next config (request_of session running) running.log (moment_at moment session)) does)
+  session_weaker : (config : TenantConfig) (session : Session) (moment : ℕ) (answered : Result Reply AllocError) (after : KeptSession) (running : Option Running) →
+      SessionSteps called stays config session moment answered after running → SessionSteps weaker lasts config session moment answered after running
+  session_weaker config session moment answered after None (is, stood, stands) = (is, outlasts stood, stands)
+  session_weaker config session moment answered after (Some running) (told, is, tells) =
+      (told, is, tells_weaker config session running (moment_at moment session) told after (next config (request_of session running) running.log (moment_at moment session)) tells)
 
   steps_weaker : (config : TenantConfig) (moment : ℕ) (stepped : Stepped) (solo : Actor) (after : Kept) → ActorSteps called stays config moment stepped solo after → ActorSteps weaker lasts config moment stepped solo after
-  steps_weaker config moment stepped (OfSession session) (kept.OfSession after) (steps, is) = (session_weaker config session moment stepped.reply after session.running steps, is)
+  steps_weaker config moment stepped (OfSession session) (kept.OfSession after) (steps, is) = (session_weaker config session moment stepped.answered after session.running steps, is)
   steps_weaker config moment stepped (OfCarrier carrier) (kept.OfCarrier after) p = record {
     directed = p.directed;
     reply = p.reply;
-    shown = p.shown;
+    told = p.told;
     made = weakens _ p.directed.node p.directed.call p.reply p.made;
     step_of = p.step_of;
-    reply_is = p.reply_is;
+    answer_is = p.answer_is;
     over_is = p.over_is;
   }
   steps_weaker config moment stepped (OfSession session) (kept.OfCarrier after) none = absurd none
@@ -181,21 +188,23 @@ module _ (old : World) (whole : IsWorld old) (slot : ℕ) (name : List ℕ) (mom
             config_of_slot moment stepped solo.0 after (h.steps config_of_slot solo.0 solo.2),
       )
 
-  pub step_moves : (config_in old.setup slot).shards ≡ old.nodes.shape.shards → Moves (λ config. actor_step config name moment) old slot stepped.reply stepped_world
+  pub step_moves : (config_in old.setup slot).shards ≡ old.nodes.shape.shards → Moves IsSparedReply (λ config. actor_step config name moment) old slot stepped.answered stepped_world
   step_moves shards = record {
     same = refl;
-    own = λ spared cluster stood.
+    own = if_told (λ reply. (cluster : SoloCluster) → ClusterStandsAt old slot cluster →
+        let turn = actor_step config_of_slot name moment cluster in (reply ≡ turn.reply) × ClusterStandsAt stepped_world slot turn.after) stepped.answered
+        (λ spared cluster stood.
         let solo = solo_steps shards cluster stood in
         let took = actor_turn config_of_slot name cluster (nodes_of config_of_slot slot nodes) moment solo.0 after stepped stood.actors_are.distinct solo.1 spared solo.2 in
-        (took.reply_is, stands_after cluster solo.0 (actor_step config_of_slot name moment cluster) stood solo.1 took);
+        (took.reply_is, stands_after cluster solo.0 (actor_step config_of_slot name moment cluster) stood solo.1 took));
     others = λ other differ. others_stay old nodes actors count slot other differ
         (once_nodes old.nodes nodes slot other differ h.once) (once_tenants old.nodes nodes slot other h.once)
         (λ q apart. updates q ∙ table_elsewhere stepped.is_over q (other_slot (id_of slot name) q apart)) (counts.others other differ);
   }
 
 -- nobody of the name is there
-pub absent_step : (old : World) (slot : ℕ) (name : List ℕ) (moment : ℕ) → old.actors (id_of slot name) ≡ None → Moves (λ config. actor_step config name moment) old slot (Refused UnknownName) old
-absent_step old slot name moment none = refused_moves (λ config. actor_step config name moment) old slot UnknownName (λ cluster h.
+pub absent_step : (old : World) (slot : ℕ) (name : List ℕ) (moment : ℕ) → old.actors (id_of slot name) ≡ None → Moves IsSparedReply (λ config. actor_step config name moment) old slot (Ok (Refused UnknownName)) old
+absent_step old slot name moment none = refused_moves IsSparedReply (λ config. actor_step config name moment) old slot UnknownName (λ cluster h.
     let gone = absent_too (ActorStandsFor (config_in old.setup slot)) name (λ n. old.actors (id_of slot n)) (λ n. old.actors (id_of slot n)) cluster h.actors_are none in
     ap (step_of (config_in old.setup slot) name moment cluster) gone)
 
@@ -212,59 +221,80 @@ goes_on-spared reply e = by (is_out_of_memory reply) refl
         lack (Refused fault) is e = sym e
         lack r is e = sym is
 
+-- a step after which the actor goes on is the definition's
+pub stepped_on : (name : List ℕ) (moment : ℕ) (old : World) (slot : ℕ) (first : Result Reply AllocError) (mid : World) → goes_on (told_act first) ≡ true → Moves IsSparedReply (λ config. actor_step config name moment) old slot first mid →
+    (cluster : SoloCluster) → ClusterStandsAt old slot cluster → let turn = actor_step (config_in old.setup slot) name moment cluster in (told_act first ≡ turn.reply) × ClusterStandsAt mid slot turn.after
+stepped_on name moment old slot first mid goes h =
+    of_told IsSparedReply (λ reply. (cluster : SoloCluster) → ClusterStandsAt old slot cluster → let turn = actor_step (config_in old.setup slot) name moment cluster in (reply ≡ turn.reply) × ClusterStandsAt mid slot turn.after)
+    first (λ reply spared. spared) h.own (goes_on-spared (told_act first) goes)
+
 -- the first step was the last
-pub steps_end : (more : ℕ) (name : List ℕ) (moment : ℕ) (old : World) (slot : ℕ) (reply : Reply) (new : World) → goes_on reply ≡ false → Moves (λ config. actor_step config name moment) old slot reply new →
-    Moves (λ config. actor_steps more config name moment) old slot reply new
-steps_end zero name moment old slot reply new ends h = h
-steps_end (suc more) name moment old slot reply new ends h = record {
+pub steps_end : (more : ℕ) (name : List ℕ) (moment : ℕ) (old : World) (slot : ℕ) (answered : Result Reply AllocError) (new : World) → goes_on (told_act answered) ≡ false → Moves IsSparedReply (λ config. actor_step config name moment) old slot answered new →
+    Moves IsSparedReply (λ config. actor_steps more config name moment) old slot answered new
+steps_end zero name moment old slot answered new ends h = h
+steps_end (suc more) name moment old slot answered new ends h = record {
   same = h.same;
-  own = λ spared cluster stands.
-      let one = h.own spared cluster stands in
+  own = if_answered (λ reply. IsSparedReply reply → (cluster : SoloCluster) → ClusterStandsAt old slot cluster →
+      let turn = actor_steps (suc more) (config_in old.setup slot) name moment cluster in (reply ≡ turn.reply) × ClusterStandsAt new slot turn.after) answered
+      (λ reply is spared cluster stands.
       let turn = actor_step (config_in old.setup slot) name moment cluster in
-      let last : goes_on turn.reply ≡ false = ap goes_on (sym one.0) ∙ ends in
+      let one = IfOk-at_ok (λ reply. IsSparedReply reply → (cluster : SoloCluster) → ClusterStandsAt old slot cluster →
+      let turn = actor_step (config_in old.setup slot) name moment cluster in (reply ≡ turn.reply) × ClusterStandsAt new slot turn.after) is h.own spared cluster stands in
+      let last : goes_on turn.reply ≡ false = ap goes_on (sym one.0) ∙ ap (λ a. goes_on (told_act a)) (sym is) ∙ ends in
       subst (λ (t : ActEffect). (reply ≡ t.reply) × ClusterStandsAt new slot t.after)
-      (sym (ap (λ b. elim b [ true ↦ actor_steps more (config_in old.setup slot) name moment turn.after | false ↦ turn ]) last)) one;
+      (sym (ap (λ b. elim b [ true ↦ actor_steps more (config_in old.setup slot) name moment turn.after | false ↦ turn ]) last)) one);
   others = h.others;
 }
 
 -- the first step goes on, and the others follow it
-pub steps_on : (more : ℕ) (name : List ℕ) (moment : ℕ) (old : World) (slot : ℕ) (first : Reply) (mid : World) (reply : Reply) (new : World) → goes_on first ≡ true →
-    Moves (λ config. actor_step config name moment) old slot first mid → Moves (λ config. actor_steps more config name moment) mid slot reply new →
-    Moves (λ config. actor_steps (suc more) config name moment) old slot reply new
-steps_on more name moment old slot first mid reply new goes h later = record {
+pub steps_on : (more : ℕ) (name : List ℕ) (moment : ℕ) (old : World) (slot : ℕ) (first : Result Reply AllocError) (mid : World) (answered : Result Reply AllocError) (new : World) → goes_on (told_act first) ≡ true →
+    Moves IsSparedReply (λ config. actor_step config name moment) old slot first mid → Moves IsSparedReply (λ config. actor_steps more config name moment) mid slot answered new →
+    Moves IsSparedReply (λ config. actor_steps (suc more) config name moment) old slot answered new
+steps_on more name moment old slot first mid answered new goes h later = record {
   same = later.same ∙ h.same;
-  own = λ spared cluster stands.
-      let one = h.own (goes_on-spared first goes) cluster stands in
+  own = IfOk-weaker answered _ _ (λ reply later_own spared cluster stands.
+      let one = stepped_on name moment old slot first mid goes h cluster stands in
       let turn = actor_step (config_in old.setup slot) name moment cluster in
       let on : goes_on turn.reply ≡ true = ap goes_on (sym one.0) ∙ goes in
-      let rest = later.own spared turn.after one.1 in
+      let rest = later_own spared turn.after one.1 in
       subst (λ (t : ActEffect). (reply ≡ t.reply) × ClusterStandsAt new slot t.after)
       (ap (λ (c : Setup). actor_steps more (config_in c slot) name moment turn.after) h.same
-      ∙ sym (ap (λ b. elim b [ true ↦ actor_steps more (config_in old.setup slot) name moment turn.after | false ↦ turn ]) on)) rest;
+      ∙ sym (ap (λ b. elim b [ true ↦ actor_steps more (config_in old.setup slot) name moment turn.after | false ↦ turn ]) on)) rest) later.own;
   others = λ other differ cluster stands. later.others other differ cluster (h.others other differ cluster stands);
 }
 
 -- ---- a collection
 
 pub collect_moves : (old : World) (slot : ℕ) (id : NodeId) (moment : ℕ) (answered : NodeReply) (nodes : Cluster) (reply : Reply) → (config_in old.setup slot).shards ≡ old.nodes.shape.shards →
-    IsCall old.nodes id slot moment node_call.Collect answered nodes → reply ≡ reply_of_collect answered → Moves (λ config. collect_at config id moment) old slot reply (record old { nodes = nodes })
-collect_moves old slot id moment answered nodes reply shards made is = record {
+    IsCall old.nodes id slot moment node_call.Collect answered nodes →
+    ((config : TenantConfig) → config.shards ≡ old.nodes.shape.shards → HasTenant config slot old.nodes → IsTurnOf config id slot moment node_call.Collect answered old.nodes nodes) →
+    reply ≡ reply_of_collect answered → Moves AnyReply (λ config. collect_at config id moment) old slot (Ok reply) (record old { nodes = nodes })
+collect_moves old slot id moment answered nodes reply shards made turns is = record {
   same = refl;
-  own = λ spared cluster stood. by_turn spared cluster stood (subst (λ ns. NodesTurn (config_in old.setup slot) ns (nodes_of (config_in old.setup slot) slot nodes) moment id node_call.Collect answered) stood.nodes_are
-      (call_turns (config_in old.setup slot) old.nodes nodes slot moment id node_call.Collect answered shards stood.has made));
+  own = λ exact cluster stood. by_turn cluster stood (subst (λ ns. SoloTurn ns) stood.nodes_are (turns_at (turns (config_in old.setup slot) shards stood.has)));
   others = λ other differ. others_stay old nodes old.actors old.count slot other differ (λ config. made.others config other (λ same. differ (sym same))) (λ config. made.tenants config other) (λ q apart. refl) refl;
 }
   where
-    by_turn : IsFalse (is_out_of_memory reply) → (cluster : SoloCluster) → ClusterStandsAt old slot cluster → NodesTurn (config_in old.setup slot) cluster.nodes (nodes_of (config_in old.setup slot) slot nodes) moment id node_call.Collect answered →
-        (reply ≡ (collect_at (config_in old.setup slot) id moment cluster).reply) × ClusterStandsAt (record old { nodes = nodes }) slot (collect_at (config_in old.setup slot) id moment cluster).after
-    by_turn spared cluster stood (inl (lack, stays)) = absurd (true≢false (ap is_out_of_memory (sym (is ∙ ap reply_of_collect lack)) ∙ spared))
-    by_turn spared cluster stood (inr (reply_is, moved)) = (
+    config : TenantConfig
+    config = config_in old.setup slot
+
+    SoloTurn : List SoloNode → Type 0
+    SoloTurn before =
+        let turn = node_step (place_of config id) moment node_call.Collect (slice_index_or before (node_number config.shards id) (new_node config.data_centres)) in
+        (answered ≡ turn.reply) × (nodes_of config slot nodes ≡ slice_set before (node_number config.shards id) turn.after)
+
+    turns_at : IsTurnOf config id slot moment node_call.Collect answered old.nodes nodes → SoloTurn (nodes_of config slot old.nodes)
+    turns_at turn = (turn.reply_is, turn.after)
+
+    by_turn : (cluster : SoloCluster) → ClusterStandsAt old slot cluster → SoloTurn cluster.nodes →
+        (reply ≡ (collect_at config id moment cluster).reply) × ClusterStandsAt (record old { nodes = nodes }) slot (collect_at config id moment cluster).after
+    by_turn cluster stood (reply_is, moved) = (
       is ∙ ap reply_of_collect reply_is,
       record {
         open_there = stood.open_there;
-        has = made.tenants (config_in old.setup slot) slot stood.has;
+        has = made.tenants config slot stood.has;
         nodes_are = moved;
-        actors_are = actors_alone (ActorStandsFor (config_in old.setup slot)) (λ n. old.actors (id_of slot n)) cluster (collect_at (config_in old.setup slot) id moment cluster).after refl stood.actors_are;
+        actors_are = actors_alone (ActorStandsFor config) (λ n. old.actors (id_of slot n)) cluster (collect_at config id moment cluster).after refl stood.actors_are;
         count_is = stood.count_is;
       },
     )

@@ -1,5 +1,6 @@
 -- A world as contracts see it, and the cluster that a tenant's part of it stands for.
-use Rattle.std.specs.Prelude.{◌≡◌, ◌≢◌, ℕ, ◌*◌, ◌≤◌, true, IsFalse, IsTrue, List, [], length, map, slice_index_or, slice_set, Option, Some, None}
+use Rattle.std.specs.Prelude.{◌≡◌, ◌≢◌, ℕ, ◌*◌, ◌≤◌, true, IfOk, IsTrue, List, [], length, map, slice_index_or, slice_set, Option, Some, None, Result}
+use Rattle.std.specs.declared.alloc.AllocError.{AllocError}
 use Rattle.std.specs.List.{AllByRecursion}
 use Rattle.std.specs.Option.{option_map}
 use Rattle.cops_types.specs.declared.configs.Tenant.{Tenant}
@@ -18,6 +19,7 @@ use Rattle.cops_world.specs.declared.actors.ActorId.{ActorId}
 use Rattle.cops_world.specs.Actors.{ActorsStandFor}
 use Rattle.cops_world.specs.ActorTables.{Table, actor_at, count_at}
 use Rattle.cops_world.specs.ActorsStand.{ActorStandsFor, RunsAt}
+use Rattle.cops_script.specs.Acting.{told_act}
 use Rattle.cops_script.specs.GoodHeads.{is_good}
 
 -- the configuration with the tenants that are open, the nodes, the actors by slot and name, and how many actors each slot has
@@ -77,17 +79,21 @@ open_setup kept = kept.setup
 abbrev pub HasOpenCluster : KeptWorld → ℕ → SoloCluster → Type 0
 HasOpenCluster kept slot cluster = ClusterStandsAt (world_of kept) slot cluster
 
--- the tenant's cluster took this turn, unless memory was refused, and no other tenant's changed
-pub record Moves (turn_of : TenantConfig → SoloCluster → ActEffect) (old : World) (slot : ℕ) (reply : Reply) (new : World) : Type 0 where
+-- any reply at all
+abbrev pub AnyReply : Reply → Type 0
+AnyReply reply = Unit {0}
+
+-- the tenant's cluster took this turn where there is such a reply, and no other tenant's changed; that memory was refused is the error
+pub record Moves (Exact : Reply → Type 0) (turn_of : TenantConfig → SoloCluster → ActEffect) (old : World) (slot : ℕ) (answered : Result Reply AllocError) (new : World) : Type 0 where
   pub same : new.setup ≡ old.setup
-  pub own : IsFalse (is_out_of_memory reply) → (cluster : SoloCluster) → ClusterStandsAt old slot cluster →
-      (reply ≡ (turn_of (config_in old.setup slot) cluster).reply) × ClusterStandsAt new slot (turn_of (config_in old.setup slot) cluster).after
+  pub own : IfOk answered (λ reply. Exact reply → (cluster : SoloCluster) → ClusterStandsAt old slot cluster →
+      (reply ≡ (turn_of (config_in old.setup slot) cluster).reply) × ClusterStandsAt new slot (turn_of (config_in old.setup slot) cluster).after)
   pub others : (other : ℕ) → slot ≢ other → (cluster : SoloCluster) → ClusterStandsAt old other cluster → ClusterStandsAt new other cluster
 
 -- where memory was refused, this holds of what is left of the tenant's cluster
-abbrev pub Leaves : (TenantConfig → SoloCluster → SoloCluster → Type 0) → World → ℕ → Reply → World → Type 0
-Leaves Left old slot reply new =
-    IsTrue (is_out_of_memory reply) → (cluster : SoloCluster) → ClusterStandsAt old slot cluster → (after : SoloCluster) × Left (config_in old.setup slot) cluster after × ClusterStandsAt new slot after
+abbrev pub Leaves : (TenantConfig → SoloCluster → SoloCluster → Type 0) → World → ℕ → Result Reply AllocError → World → Type 0
+Leaves Left old slot answered new =
+    IsTrue (is_out_of_memory (told_act answered)) → (cluster : SoloCluster) → ClusterStandsAt old slot cluster → (after : SoloCluster) × Left (config_in old.setup slot) cluster after × ClusterStandsAt new slot after
 
 -- a new actor joins, where its place exists, unless its name is taken or the tenant has as many as he may
 abbrev pub join_step : List ℕ → Actor → Reply → TenantConfig → SoloCluster → ActEffect

@@ -1,5 +1,5 @@
 //! The actors of all tenants: a table for each slot, by name.
-ghost use Rattle.std.specs.Prelude.{◌≡◌, ◌<◌, ◌+◌, ◌⊎◌, ℕ, [], length, replicate, if◌then◌else◌, true, false, IsTrue, IsFalse, IfOk, IfSome, is_some, position, Some, None};
+ghost use Rattle.std.specs.Prelude.{◌≡◌, ◌<◌, ◌+◌, ◌⊎◌, ℕ, [], length, replicate, if◌then◌else◌, true, false, IsTrue, IfOk, IfSome, OnErr, OnOk, is_some, position, Ok, Some, None};
 ghost use Rattle.std.specs.Map.{keys_of, lookup};
 ghost use Rattle.cops_types.specs.Key.{key_eq};
 ghost use Rattle.cops_types.specs.TenantConfig.{TenantConfig};
@@ -11,6 +11,7 @@ ghost use Rattle.cops_model.specs.declared.calls.NodeReply.{NodeReply};
 ghost use Rattle.cops_model.specs.Cluster.{Actor as Solo, goes_on};
 ghost use Rattle.cops_model.specs.Events.{is_out_of_memory};
 ghost use Rattle.cops_model.specs.declared.replies.Reply.TheVariants.{Refused};
+ghost use Rattle.cops_script.specs.Acting.{told_act};
 ghost use Rattle.cops_world.specs.ActorTables.{AllRun, Places, PlacesIn, PutsBack, actor_at, count_at, names_at};
 ghost use Rattle.cops_world.specs.ActorTurns.{actor_does};
 ghost use Rattle.cops_world.specs.ActorsStand.{ActorStandsFor, ActorSteps, HasDone, RunsAt, actor_ended, stepped_to};
@@ -83,12 +84,18 @@ impl ActorTable {
     }
 
     /// Has the actor at a place do what is asked.
-    fn act(&mut self, place: usize, name: &Name, alloc: Global, deed: Deed) -> Reply
+    fn act(
+        &mut self,
+        place: usize,
+        name: &Name,
+        alloc: Global,
+        deed: Deed,
+    ) -> Result<Reply, AllocError>
         requires { Some place ≡ position (key_eq name.now) (keys_of self.old) }
         ensures found { (before : Kept) → lookup (key_eq name.now) self.old ≡ Some before → (after : Kept) × PlacesIn self.old name.now (Some after) self.new
-            × ((config : TenantConfig) (solo : Solo) → ActorStandsFor config before solo → HasDone config solo (actor_does config deed solo) result after)
+            × ((config : TenantConfig) (solo : Solo) → ActorStandsFor config before solo → HasDone config (actor_does config deed solo) result after)
             × ((shape : Shape) (slot : ℕ) → RunsAt shape slot before → RunsAt shape slot after)
-            × (IsTrue (is_out_of_memory result) → after ≡ before) }
+            × (IsTrue (is_out_of_memory (told_act result)) → after ≡ before) }
         ensures len { length self.new ≡ length self.old }
     {
         let actor = &mut self.actors[place];
@@ -96,14 +103,20 @@ impl ActorTable {
     }
 
     /// Takes a step of the actor at a place.
-    fn step<N: Nodes>(&mut self, place: usize, id: &ActorId, nodes: &mut N, moment: u64) -> Reply
+    fn step<N: Nodes>(
+        &mut self,
+        place: usize,
+        id: &ActorId,
+        nodes: &mut N,
+        moment: u64,
+    ) -> Result<Reply, AllocError>
         requires place { Some place ≡ position (key_eq id.now.name) (keys_of self.old) }
         requires runs { (actor : Kept) → lookup (key_eq id.now.name) self.old ≡ Some actor → RunsAt (N.shape nodes.old) id.now.slot actor }
         ensures stepped { (before : Kept) → lookup (key_eq id.now.name) self.old ≡ Some before → (after : Kept) × PlacesIn self.old id.now.name (Some after) self.new
             × ((config : TenantConfig) (solo : Solo) → ActorStandsFor config before solo →
             ActorSteps (λ at node call reply. N.Answers nodes.old node id.now.slot at call reply nodes.new) (nodes.new ≡ nodes.old) config moment (stepped_to result after) solo after)
             × ((shape : Shape) → RunsAt shape id.now.slot before → RunsAt shape id.now.slot after) }
-        ensures last { (after : Kept) → lookup (key_eq id.now.name) self.new ≡ Some after → actor_ended after ≡ true → goes_on result ≡ false }
+        ensures last { (after : Kept) → lookup (key_eq id.now.name) self.new ≡ Some after → actor_ended after ≡ true → goes_on (told_act result) ≡ false }
         ensures keys { keys_of self.new ≡ keys_of self.old }
         ensures there { (before : Kept) × (lookup (key_eq id.now.name) self.old ≡ Some before) }
         ensures once { (nodes.new ≡ nodes.old)
@@ -115,13 +128,14 @@ impl ActorTable {
         actor.step(nodes, id.slot, moment)
     }
 
-    /// Puts in an actor. Whether there was memory for it.
-    fn put(&mut self, name: Name, actor: Actor) -> bool
-        ensures ok { IsTrue result → PlacesIn self.old name (Some actor) self.new }
-        ensures len { IsTrue result → length self.new ≡ length self.old + (if is_some (lookup (key_eq name) self.old) then 0 else 1) }
-        ensures lack { IsFalse result → self.new ≡ self.old }
+    /// Puts in an actor.
+    fn put(&mut self, name: Name, actor: Actor) -> Result<(), AllocError>
+        ensures ok { OnOk result (PlacesIn self.old name (Some actor) self.new) }
+        ensures len { OnOk result (length self.new ≡ length self.old + (if is_some (lookup (key_eq name) self.old) then 0 else 1)) }
+        ensures err { OnErr result (self.new ≡ self.old) }
     {
-        self.actors.insert(name, actor).is_ok()
+        self.actors.insert(name, actor)?;
+        Ok(())
     }
 
     /// Whether the actor at a place is a carrier that has ended.
@@ -178,12 +192,12 @@ pub(crate) fn act_at(
     id: ActorId,
     alloc: Global,
     deed: Deed,
-) -> Reply
+) -> Result<Reply, AllocError>
     ensures found { (before : Kept) → actor_at actors.old.items id ≡ Some before → (after : Kept) × PutsBack actors.old.items id after actors.new.items
-        × ((config : TenantConfig) (solo : Solo) → ActorStandsFor config before solo → HasDone config solo (actor_does config deed solo) result after)
+        × ((config : TenantConfig) (solo : Solo) → ActorStandsFor config before solo → HasDone config (actor_does config deed solo) result after)
         × ((shape : Shape) → RunsAt shape id.slot before → RunsAt shape id.slot after) }
-    ensures absent { actor_at actors.old.items id ≡ None → (result ≡ Refused UnknownName) × (actors.new.items ≡ actors.old.items) }
-    ensures lack { IsTrue (is_out_of_memory result) → (q : Id) → actor_at actors.new.items q ≡ actor_at actors.old.items q }
+    ensures absent { actor_at actors.old.items id ≡ None → (result ≡ Ok (Refused UnknownName)) × (actors.new.items ≡ actors.old.items) }
+    ensures lack { IsTrue (is_out_of_memory (told_act result)) → (q : Id) → actor_at actors.new.items q ≡ actor_at actors.old.items q }
     ensures counts { (slot : ℕ) → count_at actors.new.items slot ≡ count_at actors.old.items slot }
     ensures tables { length actors.new.items ≡ length actors.old.items }
 {
@@ -194,7 +208,7 @@ pub(crate) fn act_at(
             let table = &mut actors[id.slot as usize];
             table.act(place, &id.name, alloc, deed)
         }
-        None => Reply::Refused(Fault::UnknownName),
+        None => Ok(Reply::Refused(Fault::UnknownName)),
     }
 }
 
@@ -205,7 +219,7 @@ pub(crate) fn step_at<N: Nodes>(
     id: &ActorId,
     nodes: &mut N,
     moment: u64,
-) -> Reply
+) -> Result<Reply, AllocError>
     requires within { id.now.slot < length actors.old.items }
     requires place { Some place ≡ position (key_eq id.now.name) (names_at id.now.slot actors.old.items) }
     requires runs { AllRun (N.shape nodes.old) actors.old.items }
@@ -213,7 +227,7 @@ pub(crate) fn step_at<N: Nodes>(
         × ((config : TenantConfig) (solo : Solo) → ActorStandsFor config before solo →
         ActorSteps (λ at node call reply. N.Answers nodes.old node id.now.slot at call reply nodes.new) (nodes.new ≡ nodes.old) config moment (stepped_to result after) solo after)
         × ((shape : Shape) → RunsAt shape id.now.slot before → RunsAt shape id.now.slot after) }
-    ensures last { (after : Kept) → actor_at actors.new.items id.now ≡ Some after → actor_ended after ≡ true → goes_on result ≡ false }
+    ensures last { (after : Kept) → actor_at actors.new.items id.now ≡ Some after → actor_ended after ≡ true → goes_on (told_act result) ≡ false }
     ensures place { Some place ≡ position (key_eq id.now.name) (names_at id.now.slot actors.new.items) }
     ensures there { (before : Kept) × (actor_at actors.old.items id.now ≡ Some before) }
     ensures once { (nodes.new ≡ nodes.old)
@@ -224,17 +238,17 @@ pub(crate) fn step_at<N: Nodes>(
     table.step(place, id, nodes, moment)
 }
 
-/// Puts in an actor. Whether there was memory for it. Its place, behind the others, is noted.
+/// Puts in an actor. Its place, behind the others, is noted.
 pub(crate) fn put_new(
     actors: &mut Vec<ActorTable>,
     guesses: &mut Guesses,
     id: ActorId,
     actor: Actor,
-) -> bool
+) -> Result<(), AllocError>
     requires { id.slot < length actors.old.items }
-    ensures ok { IsTrue result → Places actors.old.items id (Some actor) actors.new.items }
-    ensures count { IsTrue result → actor_at actors.old.items id ≡ None → count_at actors.new.items id.slot ≡ count_at actors.old.items id.slot + 1 }
-    ensures lack { IsFalse result → actors.new.items ≡ actors.old.items }
+    ensures ok { OnOk result (Places actors.old.items id (Some actor) actors.new.items) }
+    ensures count { OnOk result (actor_at actors.old.items id ≡ None → count_at actors.new.items id.slot ≡ count_at actors.old.items id.slot + 1) }
+    ensures err { OnErr result (actors.new.items ≡ actors.old.items) }
 {
     let table = &mut actors[id.slot as usize];
     guesses.note(Guesses::cell_of(&id), table.len());

@@ -1,5 +1,5 @@
 //! The actors of tenants: sessions and carriers.
-ghost use Rattle.std.specs.Prelude.{◌≡◌, ◌<◌, ◌⊎◌, ℕ, true, false, IfOk, IsTrue};
+ghost use Rattle.std.specs.Prelude.{◌≡◌, ◌<◌, ◌⊎◌, ℕ, true, false, IfOk, IsTrue, Ok};
 ghost use Rattle.cops_types.specs.TenantConfig.{TenantConfig};
 ghost use Rattle.cops_node.specs.declared.Shape.{Shape};
 ghost use Rattle.cops_model.specs.Session.{Session as SoloSession};
@@ -11,6 +11,7 @@ ghost use Rattle.cops_model.specs.Carrier.{Carrier as SoloCarrier};
 ghost use Rattle.cops_repl.specs.Stands.{CarrierStandsFor, RunsIn, has_ended};
 ghost use Rattle.cops_model.specs.Cluster.{Actor as Solo, goes_on, reply_of_answer, reply_of_delivery, reply_of_progress};
 ghost use Rattle.cops_model.specs.Events.{is_out_of_memory};
+ghost use Rattle.cops_script.specs.Acting.{told_act};
 ghost use Rattle.cops_world.specs.ActorsStand.{ActorStandsFor, ActorSteps, CarrierSteps, SessionSteps, RunsAt, HasDone, actor_ended, stepped_to};
 ghost use Rattle.cops_world.specs.ActorTurns.{actor_does, session_does};
 ghost use Rattle.cops_world.specs.declared.actors.Actor.TheVariants.{OfCarrier as KeptCarrier, OfSession as KeptSession};
@@ -85,22 +86,22 @@ pub enum Deed {
     Show(u64),
 }
 
-fn create(session: &mut Session) -> Reply
+fn create(session: &mut Session) -> Result<Reply, AllocError>
     ensures own { (config : TenantConfig) (solo : SoloSession) → SessionStandsFor config session.old solo →
-        HasDone config (Solo.OfSession solo) (session_does config solo deeds.Create) result (KeptSession session.new) }
+        HasDone config (session_does config solo deeds.Create) result (KeptSession session.new) }
     ensures setting { session.new.setting ≡ session.old.setting }
-    ensures lack { IsTrue (is_out_of_memory result) → session.new ≡ session.old }
+    ensures lack { IsTrue (is_out_of_memory (told_act result)) → session.new ≡ session.old }
 {
     match session.create_context() {
-        Ok(Ok(handle)) => Reply::Created(handle.number()),
-        Ok(Err(fault)) => Reply::Refused(fault),
-        Err(error) => Reply::Refused(Fault::from(error)),
+        Ok(Ok(handle)) => Ok(Reply::Created(handle.number())),
+        Ok(Err(fault)) => Ok(Reply::Refused(fault)),
+        Err(error) => Err(error),
     }
 }
 
 fn delete(session: &mut Session, number: u64) -> Reply
     ensures own { (config : TenantConfig) (solo : SoloSession) → SessionStandsFor config session.old solo →
-        HasDone config (Solo.OfSession solo) (session_does config solo (deeds.Delete number)) result (KeptSession session.new) }
+        HasDone config (session_does config solo (deeds.Delete number)) (Ok result) (KeptSession session.new) }
     ensures setting { session.new.setting ≡ session.old.setting }
     ensures lack { IsTrue (is_out_of_memory result) → session.new ≡ session.old }
 {
@@ -110,29 +111,34 @@ fn delete(session: &mut Session, number: u64) -> Reply
     }
 }
 
-fn begin_put(session: &mut Session, number: u64, key: Key, value: Value) -> Reply
+fn begin_put(
+    session: &mut Session,
+    number: u64,
+    key: Key,
+    value: Value,
+) -> Result<Reply, AllocError>
     ensures own { (config : TenantConfig) (solo : SoloSession) → SessionStandsFor config session.old solo →
-        HasDone config (Solo.OfSession solo) (session_does config solo (deeds.Put number key value)) result (KeptSession session.new) }
+        HasDone config (session_does config solo (deeds.Put number key value)) result (KeptSession session.new) }
     ensures setting { session.new.setting ≡ session.old.setting }
-    ensures lack { IsTrue (is_out_of_memory result) → session.new ≡ session.old }
+    ensures lack { IsTrue (is_out_of_memory (told_act result)) → session.new ≡ session.old }
 {
     match session.begin_put(Handle::of_number(number), key, value) {
-        Ok(Ok(_)) => Reply::Started,
-        Ok(Err(fault)) => Reply::Refused(fault),
-        Err(error) => Reply::Refused(Fault::from(error)),
+        Ok(Ok(_)) => Ok(Reply::Started),
+        Ok(Err(fault)) => Ok(Reply::Refused(fault)),
+        Err(error) => Err(error),
     }
 }
 
-fn begin_get(session: &mut Session, number: u64, keys: &Keys) -> Reply
+fn begin_get(session: &mut Session, number: u64, keys: &Keys) -> Result<Reply, AllocError>
     ensures own { (config : TenantConfig) (solo : SoloSession) → SessionStandsFor config session.old solo →
-        HasDone config (Solo.OfSession solo) (session_does config solo (deeds.Get number keys.now)) result (KeptSession session.new) }
+        HasDone config (session_does config solo (deeds.Get number keys.now)) result (KeptSession session.new) }
     ensures setting { session.new.setting ≡ session.old.setting }
-    ensures lack { IsTrue (is_out_of_memory result) → session.new ≡ session.old }
+    ensures lack { IsTrue (is_out_of_memory (told_act result)) → session.new ≡ session.old }
 {
     match session.begin_get_trans(Handle::of_number(number), keys.as_slice()) {
-        Ok(Ok(_)) => Reply::Started,
-        Ok(Err(fault)) => Reply::Refused(fault),
-        Err(error) => Reply::Refused(Fault::from(error)),
+        Ok(Ok(_)) => Ok(Reply::Started),
+        Ok(Err(fault)) => Ok(Reply::Refused(fault)),
+        Err(error) => Err(error),
     }
 }
 
@@ -146,29 +152,29 @@ fn lists_of(alloc: Global, context: &Context) -> Result<(Deps, Near), AllocError
     Ok((all, near))
 }
 
-fn show(alloc: Global, session: &Session, number: u64) -> Reply
+fn show(alloc: Global, session: &Session, number: u64) -> Result<Reply, AllocError>
     ensures { (config : TenantConfig) (solo : SoloSession) → SessionStandsFor config session.now solo →
-        HasDone config (Solo.OfSession solo) (session_does config solo (deeds.Show number)) result (KeptSession session.now) }
+        HasDone config (session_does config solo (deeds.Show number)) result (KeptSession session.now) }
 {
     match session.context(Handle::of_number(number)) {
         Ok(context) => match lists_of(alloc, context) {
-            Ok((all, near)) => Reply::Lists(all, near),
-            Err(error) => Reply::Refused(Fault::from(error)),
+            Ok((all, near)) => Ok(Reply::Lists(all, near)),
+            Err(error) => Err(error),
         },
-        Err(fault) => Reply::Refused(fault),
+        Err(fault) => Ok(Reply::Refused(fault)),
     }
 }
 
-/// Does what a session is asked to do.
-fn act_in(alloc: Global, session: &mut Session, deed: Deed) -> Reply
+/// Does what a session is asked to do. That memory was refused is the error, and changes nothing.
+fn act_in(alloc: Global, session: &mut Session, deed: Deed) -> Result<Reply, AllocError>
     ensures own { (config : TenantConfig) (solo : SoloSession) → SessionStandsFor config session.old solo →
-        HasDone config (Solo.OfSession solo) (session_does config solo deed) result (KeptSession session.new) }
+        HasDone config (session_does config solo deed) result (KeptSession session.new) }
     ensures setting { session.new.setting ≡ session.old.setting }
-    ensures lack { IsTrue (is_out_of_memory result) → session.new ≡ session.old }
+    ensures lack { IsTrue (is_out_of_memory (told_act result)) → session.new ≡ session.old }
 {
     match deed {
         Deed::Create => create(session),
-        Deed::Delete(number) => delete(session, number),
+        Deed::Delete(number) => Ok(delete(session, number)),
         Deed::Put(number, key, value) => begin_put(session, number, key, value),
         Deed::Get(number, keys) => begin_get(session, number, &keys),
         Deed::Show(number) => show(alloc, session, number),
@@ -211,9 +217,13 @@ fn reply_of_delivery(delivery: Delivery) -> Reply
     }
 }
 
-/// A step of a session.
+/// A step of a session. Where memory was refused the request has ended.
 #[inline(always)]
-fn step_session<N: Nodes>(session: &mut Session, nodes: &mut N, moment: u64) -> Reply
+fn step_session<N: Nodes>(
+    session: &mut Session,
+    nodes: &mut N,
+    moment: u64,
+) -> Result<Reply, AllocError>
     requires data_centres { session.old.setting.data_centres ≡ (N.shape nodes.old).data_centres }
     requires shards { session.old.setting.shards ≡ (N.shape nodes.old).shards }
     ensures steps { (config : TenantConfig) (solo : SoloSession) → SessionStandsFor config session.old solo →
@@ -225,54 +235,66 @@ fn step_session<N: Nodes>(session: &mut Session, nodes: &mut N, moment: u64) -> 
 {
     match session.running() {
         Some(handle) => match session.step(nodes, handle, moment) {
-            Ok(Ok(progress)) => reply_of_progress(progress),
-            Ok(Err(fault)) => Reply::Refused(fault),
-            Err(error) => Reply::Refused(Fault::from(error)),
+            Ok(Ok(progress)) => Ok(reply_of_progress(progress)),
+            Ok(Err(fault)) => Ok(Reply::Refused(fault)),
+            Err(error) => Err(error),
         },
-        None => Reply::Refused(Fault::Idle),
+        None => Ok(Reply::Refused(Fault::Idle)),
     }
 }
 
-/// A step of a carrier.
+/// A step of a carrier, which has ended where memory was refused.
 #[inline(always)]
-fn step_carrier<N: Nodes>(carrier: &mut Carrier, nodes: &mut N, slot: u64, moment: u64) -> Reply
+fn step_carrier<N: Nodes>(
+    carrier: &mut Carrier,
+    nodes: &mut N,
+    slot: u64,
+    moment: u64,
+) -> Result<Reply, AllocError>
     requires goes_on { has_ended carrier.old ≡ false }
     requires stream { RunsIn (N.shape nodes.old) carrier.old.shards carrier.old.stream }
     ensures steps { (config : TenantConfig) (solo : SoloCarrier) → CarrierStandsFor config.shards carrier.old solo →
         CarrierSteps (λ at id call reply. N.Answers nodes.old id slot at call reply nodes.new) config solo moment (stepped_to result (KeptCarrier carrier.new)) carrier.new }
     ensures once { (id : NodeId) × (at : ℕ) × (call : NodeCall) × (reply : NodeReply) × N.Answers nodes.old id slot at call reply nodes.new }
     ensures shape { N.shape nodes.new ≡ N.shape nodes.old }
-    ensures last { has_ended carrier.new ≡ true → goes_on result ≡ false }
+    ensures last { has_ended carrier.new ≡ true → goes_on (told_act result) ≡ false }
     ensures stream { carrier.new.stream ≡ carrier.old.stream }
     ensures shards { carrier.new.shards ≡ carrier.old.shards }
 {
     match carrier.step(nodes, slot, moment) {
-        Ok(Carrying::Working) => Reply::Working,
-        Ok(Carrying::Done(delivery)) => reply_of_delivery(delivery),
-        Err(error) => Reply::Refused(Fault::from(error)),
+        Ok(Carrying::Working) => Ok(Reply::Working),
+        Ok(Carrying::Done(delivery)) => Ok(reply_of_delivery(delivery)),
+        Err(error) => Err(error),
     }
 }
 
 impl Actor {
-    /// Does what it is asked to do, where it is a session.
-    pub(crate) fn act(&mut self, alloc: Global, deed: Deed) -> Reply
-        ensures own { (config : TenantConfig) (solo : Solo) → ActorStandsFor config self.old solo → HasDone config solo (actor_does config deed solo) result self.new }
+    /// Does what it is asked to do, where it is a session. That memory was refused is the error, and
+    /// changes nothing.
+    pub(crate) fn act(&mut self, alloc: Global, deed: Deed) -> Result<Reply, AllocError>
+        ensures own { (config : TenantConfig) (solo : Solo) → ActorStandsFor config self.old solo → HasDone config (actor_does config deed solo) result self.new }
         ensures runs { (shape : Shape) (slot : ℕ) → RunsAt shape slot self.old → RunsAt shape slot self.new }
-        ensures lack { IsTrue (is_out_of_memory result) → self.new ≡ self.old }
+        ensures lack { IsTrue (is_out_of_memory (told_act result)) → self.new ≡ self.old }
     {
         match self {
             Actor::OfSession(session) => act_in(alloc, session, deed),
-            Actor::OfCarrier(_) => Reply::Refused(Fault::UnknownName),
+            Actor::OfCarrier(_) => Ok(Reply::Refused(Fault::UnknownName)),
         }
     }
 
-    /// Takes a step at a moment, for the tenant of a slot.
+    /// Takes a step at a moment, for the tenant of a slot. Where memory was refused a session's request
+    /// or a carrier has ended.
     #[inline(never)]
-    pub(crate) fn step<N: Nodes>(&mut self, nodes: &mut N, slot: u64, moment: u64) -> Reply
+    pub(crate) fn step<N: Nodes>(
+        &mut self,
+        nodes: &mut N,
+        slot: u64,
+        moment: u64,
+    ) -> Result<Reply, AllocError>
         requires { RunsAt (N.shape nodes.old) slot self.old }
         ensures steps { (config : TenantConfig) (solo : Solo) → ActorStandsFor config self.old solo →
             ActorSteps (λ at id call reply. N.Answers nodes.old id slot at call reply nodes.new) (nodes.new ≡ nodes.old) config moment (stepped_to result self.new) solo self.new }
-        ensures last { actor_ended self.new ≡ true → goes_on result ≡ false }
+        ensures last { actor_ended self.new ≡ true → goes_on (told_act result) ≡ false }
         ensures once { (nodes.new ≡ nodes.old)
             ⊎ ((id : NodeId) × (at : ℕ) × (call : NodeCall) × (reply : NodeReply) × N.Answers nodes.old id slot at call reply nodes.new) }
         ensures shape { N.shape nodes.new ≡ N.shape nodes.old }
@@ -282,7 +304,7 @@ impl Actor {
             Actor::OfSession(session) => step_session(session, nodes, moment),
             Actor::OfCarrier(carrier) => {
                 if carrier.ended() {
-                    return Reply::Refused(Fault::Torn);
+                    return Ok(Reply::Refused(Fault::Torn));
                 }
                 step_carrier(carrier, nodes, slot, moment)
             }

@@ -95,12 +95,13 @@ pub(crate) fn row<'a>(rt: &impl Abort, row: &'a str) -> (&'a str, &'a str) {
 
 /// Applies an event. Whether memory was not refused; then the reply has one of these texts.
 fn is_told(rt: &impl Abort, alloc: Global, world: &mut World, event: &Event, texts: &str) -> bool {
-    let reply = world.apply(event);
-    if matches!(reply, Reply::Refused(Fault::OutOfMemory)) {
-        return false;
+    match world.apply(event) {
+        Ok(reply) => {
+            assert!(rt; says(rt, alloc, &reply, texts), "{texts}");
+            true
+        }
+        Err(_) => false,
     }
-    assert!(rt; says(rt, alloc, &reply, texts), "{texts}");
-    true
 }
 
 /// Applies the events of these rows. Whether memory was never refused.

@@ -1,5 +1,5 @@
 //! All tenants of a cluster in one process.
-ghost use Rattle.std.specs.Prelude.{◌≡◌, ◌<◌, ◌⊎◌, ℕ, true, false, not, is_some, position, Err, IfErr, IfOk, IfSome, IfNone, IsOk, IsTrue, IsFalse, None, OnErr, OnOk, Some, length, map, nat_le};
+ghost use Rattle.std.specs.Prelude.{◌≡◌, ◌≢◌, ◌<◌, ◌⊎◌, ℕ, true, false, is_some, position, Err, IfErr, IfOk, IfSome, IfNone, IsOk, IsTrue, IsFalse, None, Ok, OnErr, OnOk, Some, length, map, nat_le};
 ghost use Rattle.cops_types.specs.TenantConfig.{TenantConfig, tenant_config};
 ghost use Rattle.cops_node.specs.Clusters.{IsCluster, shape_of};
 ghost use Rattle.cops_node.specs.Parts.{AuditFits, site_in};
@@ -9,23 +9,21 @@ ghost use Rattle.cops_repl.specs.Stands.{RunsIn};
 ghost use Rattle.cops_types.specs.HeadLines.{is_tenant};
 ghost use Rattle.cops_types.specs.Key.{is_key, key_eq};
 ghost use Rattle.cops_types.specs.OpenSlots.{admission_refusal, open_at};
-ghost use Rattle.cops_types.specs.Refusal.{IsAnswer, refused_if};
 ghost use Rattle.cops_types.specs.declared.faults.Fault.TheVariants.{BadKey, OutOfMemory, UnknownTenant};
 ghost use Rattle.std.specs.List.{AllByRecursion, list_all};
 ghost use Rattle.std.specs.Option.{option_copied};
 ghost use Rattle.cops_model.specs.Cluster.{Actor as Solo, SoloCluster, actor_step, actor_steps, cluster_step, goes_on, has_node, has_stream, most_steps, reply_of_collect};
-ghost use Rattle.cops_node.specs.ToldReplies.{told_reply};
 ghost use Rattle.cops_model.specs.Setups.{config_in, is_open_at, next_slot};
 ghost use Rattle.cops_model.specs.declared.acts.Act.TheVariants as acts;
 ghost use Rattle.cops_model.specs.declared.replies.Reply.TheVariants.{Refused};
-ghost use Rattle.cops_script.specs.Acting.{HasActed, IsNew};
+ghost use Rattle.cops_script.specs.Acting.{HasActed, IsNew, IsSparedReply, TellsExactly, told_act};
 ghost use Rattle.cops_script.specs.GoodHeads.{is_good};
 ghost use Rattle.cops_world.specs.ActorTables.{names_at};
 ghost use Rattle.cops_world.specs.ActorsStand.{ActorStandsFor, RunsAt};
 ghost use Rattle.cops_world.specs.Deeds.{deed_step};
 ghost use Rattle.cops_script.specs.Lacks.{Lacks, Stays, StepStops, StepsStop};
 ghost use Rattle.cops_world.specs.Trails.{audited_at};
-ghost use Rattle.cops_world.specs.Worlds.{Admits, AreSitesIn, ClusterStandsAt, Closes, HasOpenCluster, Leaves, Moves, StaysOpen, open_setup, join_step, world_of};
+ghost use Rattle.cops_world.specs.Worlds.{Admits, AnyReply, AreSitesIn, ClusterStandsAt, Closes, HasOpenCluster, Leaves, Moves, StaysOpen, open_setup, join_step, world_of};
 ghost use Rattle.cops_script.specs.Sizes.{HasSizes};
 
 use crate::actor_table::{
@@ -71,19 +69,34 @@ impl Model for World {
 }
 
 /// The keys, where each is one.
-fn keys_of(alloc: Global, slices: &ByteSlices) -> Result<Keys, Fault>
-    ensures ok { IfOk result (λ keys. keys ≡ slices.now) }
-    ensures refused { IsAnswer (refused_if (not (list_all is_key slices.now)) BadKey) result }
+fn keys_of(alloc: Global, slices: &ByteSlices) -> Result<Result<Keys, Fault>, AllocError>
+    ensures keys { IfOk result (λ told. IfOk told (λ keys. keys ≡ slices.now)) }
+    ensures good { IfOk result (λ told. OnOk told (list_all is_key slices.now ≡ true)) }
+    ensures bad { IfOk result (λ told. OnErr told (list_all is_key slices.now ≡ false)) }
+    ensures fault { IfOk result (λ told. IfErr told (λ fault. fault ≡ BadKey)) }
 {
     let mut keys = Vec::new(alloc);
     let mut left = slices.again();
     while let Some(slice) = left.next_slice() {
-        let key = Key::new(slice)?;
-        if keys.push(key).is_err() {
-            return Err(Fault::OutOfMemory);
-        }
+        let key = match Key::new(slice) {
+            Ok(key) => key,
+            Err(fault) => return Ok(Err(fault)),
+        };
+        keys.push(key)?;
     }
-    Ok(Keys::of(keys))
+    Ok(Ok(Keys::of(keys)))
+}
+
+/// The answer to an act that is refused with this fault, which may be that memory was refused.
+fn refused_with(fault: Fault) -> Result<Reply, AllocError>
+    ensures reply { IfOk result (λ reply. reply ≡ Refused fault) }
+    ensures spared { IfOk result (λ _. fault ≢ OutOfMemory) }
+    ensures err { OnErr result (fault ≡ OutOfMemory) }
+{
+    match fault {
+        Fault::OutOfMemory => Err(AllocError),
+        _ => Ok(Reply::Refused(fault)),
+    }
 }
 
 /// A session of a tenant at a data centre, as an actor.
@@ -106,15 +119,15 @@ fn new_carrier(config: &Config, origin: NodeId, to_dc: u64) -> Actor
     Actor::OfCarrier(Carrier::new(config, origin, to_dc))
 }
 
-/// Whether the actor goes on after the reply.
-fn goes_on(reply: &Reply) -> bool
-    ensures { result ≡ goes_on reply.now }
+/// Whether the actor goes on after a step that was answered so.
+fn goes_on(answered: &Result<Reply, AllocError>) -> bool
+    ensures { result ≡ goes_on (told_act answered.now) }
 {
-    matches!(reply, Reply::Working | Reply::Restarted(_))
+    matches!(answered, Ok(Reply::Working | Reply::Restarted(_)))
 }
 
 /// What a collection answered, as a reply.
-fn reply_of_collected(reply: NodeReply) -> Reply
+fn reply_of_collect(reply: NodeReply) -> Reply
     ensures { result ≡ reply_of_collect reply }
 {
     match reply {
@@ -124,20 +137,10 @@ fn reply_of_collected(reply: NodeReply) -> Reply
     }
 }
 
-/// The same of a node that may have been refused memory.
-fn reply_of_collect(answered: Result<NodeReply, AllocError>) -> Reply
-    ensures { result ≡ reply_of_collect (told_reply answered) }
-{
-    match answered {
-        Ok(reply) => reply_of_collected(reply),
-        Err(error) => Reply::Refused(Fault::from(error)),
-    }
-}
-
 impl World {
     /// Has a session of a tenant do what is asked.
-    fn act(&mut self, slot: u64, name: &Name, deed: Deed) -> Reply
-        ensures moves { Moves (λ config. deed_step config name.now deed) (world_of self.old) slot result (world_of self.new) }
+    fn act(&mut self, slot: u64, name: &Name, deed: Deed) -> Result<Reply, AllocError>
+        ensures moves { Moves AnyReply (λ config. deed_step config name.now deed) (world_of self.old) slot result (world_of self.new) }
         ensures lack { Leaves Stays (world_of self.old) slot result (world_of self.new) }
     {
         let id = ActorId { slot, name: *name };
@@ -146,8 +149,8 @@ impl World {
 
     /// Creates a context of a session.
     #[inline(never)]
-    fn create(&mut self, slot: u64, name: &Name) -> Reply
-        ensures moves { Moves (λ config. cluster_step config (acts.Create name.now)) (world_of self.old) slot result (world_of self.new) }
+    fn create(&mut self, slot: u64, name: &Name) -> Result<Reply, AllocError>
+        ensures moves { Moves AnyReply (λ config. cluster_step config (acts.Create name.now)) (world_of self.old) slot result (world_of self.new) }
         ensures lack { Leaves Stays (world_of self.old) slot result (world_of self.new) }
     {
         self.act(slot, name, Deed::Create)
@@ -155,8 +158,8 @@ impl World {
 
     /// Deletes a context of a session.
     #[inline(never)]
-    fn delete(&mut self, slot: u64, name: &Name, number: u64) -> Reply
-        ensures moves { Moves (λ config. cluster_step config (acts.Delete name.now number)) (world_of self.old) slot result (world_of self.new) }
+    fn delete(&mut self, slot: u64, name: &Name, number: u64) -> Result<Reply, AllocError>
+        ensures moves { Moves AnyReply (λ config. cluster_step config (acts.Delete name.now number)) (world_of self.old) slot result (world_of self.new) }
         ensures lack { Leaves Stays (world_of self.old) slot result (world_of self.new) }
     {
         self.act(slot, name, Deed::Delete(number))
@@ -164,8 +167,8 @@ impl World {
 
     /// Shows the two lists of a context of a session.
     #[inline(never)]
-    fn show(&mut self, slot: u64, name: &Name, number: u64) -> Reply
-        ensures moves { Moves (λ config. cluster_step config (acts.Show name.now number)) (world_of self.old) slot result (world_of self.new) }
+    fn show(&mut self, slot: u64, name: &Name, number: u64) -> Result<Reply, AllocError>
+        ensures moves { Moves AnyReply (λ config. cluster_step config (acts.Show name.now number)) (world_of self.old) slot result (world_of self.new) }
         ensures lack { Leaves Stays (world_of self.old) slot result (world_of self.new) }
     {
         self.act(slot, name, Deed::Show(number))
@@ -213,7 +216,7 @@ impl World {
     /// Why a new actor may not join: its name is taken, or its tenant has as many as he may.
     fn refuses(&self, id: ActorId) -> Option<Fault>
         requires { IsTrue (is_open_at self.now.setup id.slot) }
-        ensures refused { IfSome result (λ fault. (solo : Solo) (reply : Reply) → Moves (join_step id.name solo reply) (world_of self.now) id.slot (Refused fault) (world_of self.now)) }
+        ensures refused { IfSome result (λ fault. (solo : Solo) (reply : Reply) → Moves AnyReply (join_step id.name solo reply) (world_of self.now) id.slot (Ok (Refused fault)) (world_of self.now)) }
         ensures free { IfNone result ((world_of self.now).actors id ≡ None) }
         ensures room { IfNone result (nat_le (config_in self.now.setup id.slot).quota.actors ((world_of self.now).count id.slot) ≡ false) }
     {
@@ -226,39 +229,37 @@ impl World {
         None
     }
 
-    /// Takes in a new actor, whose name is free and whose tenant may have one more. Whether there
-    /// was memory for it.
-    fn join(&mut self, id: ActorId, actor: Actor) -> bool
+    /// Takes in a new actor, whose name is free and whose tenant may have one more.
+    fn join(&mut self, id: ActorId, actor: Actor) -> Result<(), AllocError>
         requires slot { IsTrue (is_open_at self.old.setup id.slot) }
         requires runs { RunsAt (shape_of self.old.setup.head) id.slot actor }
         requires free { (world_of self.old).actors id ≡ None }
         requires room { nat_le (config_in self.old.setup id.slot).quota.actors ((world_of self.old).count id.slot) ≡ false }
-        ensures joined { IsTrue result → (solo : Solo) (reply : Reply) → ActorStandsFor (config_in self.old.setup id.slot) actor solo →
-            Moves (join_step id.name solo reply) (world_of self.old) id.slot reply (world_of self.new) }
-        ensures lack { IsFalse result → world_of self.new ≡ world_of self.old }
+        ensures joined { OnOk result ((solo : Solo) (reply : Reply) → ActorStandsFor (config_in self.old.setup id.slot) actor solo →
+            Moves AnyReply (join_step id.name solo reply) (world_of self.old) id.slot (Ok reply) (world_of self.new)) }
+        ensures err { OnErr result (world_of self.new ≡ world_of self.old) }
     {
         put_new(&mut self.actors, &mut self.guesses, id, actor)
     }
 
     /// Opens a session of a tenant at a data centre.
     #[inline(never)]
-    fn open(&mut self, slot: u64, name: &Name, dc: u64) -> Reply
+    fn open(&mut self, slot: u64, name: &Name, dc: u64) -> Result<Reply, AllocError>
         requires { IsTrue (is_open_at self.old.setup slot) }
-        ensures moves { Moves (λ config. cluster_step config (acts.Open name.now dc)) (world_of self.old) slot result (world_of self.new) }
+        ensures moves { Moves AnyReply (λ config. cluster_step config (acts.Open name.now dc)) (world_of self.old) slot result (world_of self.new) }
         ensures lack { Leaves Stays (world_of self.old) slot result (world_of self.new) }
     {
         if dc >= self.config.data_centres {
-            return Reply::Refused(Fault::NoSuchPlace);
+            return Ok(Reply::Refused(Fault::NoSuchPlace));
         }
         if let Some(fault) = self.refuses(ActorId { slot, name: *name }) {
-            return Reply::Refused(fault);
+            return Ok(Reply::Refused(fault));
         }
         let tenant = self.tenant(slot);
         let session = new_session(self.alloc, &self.config, tenant, slot, dc);
-        if self.join(ActorId { slot, name: *name }, session) {
-            Reply::Opened
-        } else {
-            Reply::Refused(Fault::OutOfMemory)
+        match self.join(ActorId { slot, name: *name }, session) {
+            Ok(()) => Ok(Reply::Opened),
+            Err(error) => Err(error),
         }
     }
 
@@ -280,22 +281,27 @@ impl World {
 
     /// Begins a carrier of a tenant from a node to another data centre.
     #[inline(never)]
-    fn carry(&mut self, slot: u64, name: &Name, origin: NodeId, to_dc: u64) -> Reply
+    fn carry(
+        &mut self,
+        slot: u64,
+        name: &Name,
+        origin: NodeId,
+        to_dc: u64,
+    ) -> Result<Reply, AllocError>
         requires { IsTrue (is_open_at self.old.setup slot) }
-        ensures moves { Moves (λ config. cluster_step config (acts.Carry name.now origin.dc origin.shard to_dc)) (world_of self.old) slot result (world_of self.new) }
+        ensures moves { Moves AnyReply (λ config. cluster_step config (acts.Carry name.now origin.dc origin.shard to_dc)) (world_of self.old) slot result (world_of self.new) }
         ensures lack { Leaves Stays (world_of self.old) slot result (world_of self.new) }
     {
         if !self.has_stream(origin, to_dc) {
-            return Reply::Refused(Fault::NoSuchPlace);
+            return Ok(Reply::Refused(Fault::NoSuchPlace));
         }
         if let Some(fault) = self.refuses(ActorId { slot, name: *name }) {
-            return Reply::Refused(fault);
+            return Ok(Reply::Refused(fault));
         }
         let carrier = new_carrier(&self.config, origin, to_dc);
-        if self.join(ActorId { slot, name: *name }, carrier) {
-            Reply::Started
-        } else {
-            Reply::Refused(Fault::OutOfMemory)
+        match self.join(ActorId { slot, name: *name }, carrier) {
+            Ok(()) => Ok(Reply::Started),
+            Err(error) => Err(error),
         }
     }
 
@@ -312,54 +318,63 @@ impl World {
     }
 
     /// Takes a step of the actor at a place of its table. It stays there if it goes on.
-    fn step_at(&mut self, place: usize, id: &ActorId, moment: u64) -> Reply
+    fn step_at(&mut self, place: usize, id: &ActorId, moment: u64) -> Result<Reply, AllocError>
         requires slot { IsTrue (is_open_at self.old.setup id.now.slot) }
         requires place { Some place ≡ position (key_eq id.now.name) (names_at id.now.slot self.old.tables) }
-        ensures moves { Moves (λ config. actor_step config id.now.name moment) (world_of self.old) id.now.slot result (world_of self.new) }
+        ensures moves { Moves IsSparedReply (λ config. actor_step config id.now.name moment) (world_of self.old) id.now.slot result (world_of self.new) }
         ensures lack { Leaves (λ config. StepStops config id.now.name moment) (world_of self.old) id.now.slot result (world_of self.new) }
-        ensures place { goes_on result ≡ true → Some place ≡ position (key_eq id.now.name) (names_at id.now.slot self.new.tables) }
+        ensures place { goes_on (told_act result) ≡ true → Some place ≡ position (key_eq id.now.name) (names_at id.now.slot self.new.tables) }
     {
-        let reply = step_at(&mut self.actors, place, id, &mut self.nodes, moment);
+        let answered = step_at(&mut self.actors, place, id, &mut self.nodes, moment);
         if has_ended(&self.actors, place, id) {
             take_out(&mut self.actors, place, id);
         }
-        reply
+        answered
     }
 
     /// Takes steps of an actor at one moment until it has answered, at most `more` after the first.
-    fn steps(&mut self, slot: u64, name: &Name, moment: u64, mut more: u64) -> Reply
+    fn steps(
+        &mut self,
+        slot: u64,
+        name: &Name,
+        moment: u64,
+        mut more: u64,
+    ) -> Result<Reply, AllocError>
         requires { IsTrue (is_open_at self.old.setup slot) }
-        ensures moves { Moves (λ config. actor_steps more config name.now moment) (world_of self.old) slot result (world_of self.new) }
+        ensures moves { Moves IsSparedReply (λ config. actor_steps more config name.now moment) (world_of self.old) slot result (world_of self.new) }
         ensures lack { Leaves (λ config. StepsStop more config name.now moment) (world_of self.old) slot result (world_of self.new) }
     {
         let id = ActorId { slot, name: *name };
         let Some(place) = self.place_of(&id) else {
-            return Reply::Refused(Fault::UnknownName);
+            return Ok(Reply::Refused(Fault::UnknownName));
         };
         loop {
-            let reply = self.step_at(place, &id, moment);
-            if !goes_on(&reply) {
-                return reply;
+            let answered = self.step_at(place, &id, moment);
+            if !goes_on(&answered) {
+                return answered;
             }
             if more == 0 {
-                return reply;
+                return answered;
             }
-            mem::forget(reply);
+            mem::forget(answered);
             more -= 1;
         }
     }
 
     /// Collects at a node.
     #[inline(never)]
-    fn collect(&mut self, slot: u64, id: NodeId, moment: u64) -> Reply
+    fn collect(&mut self, slot: u64, id: NodeId, moment: u64) -> Result<Reply, AllocError>
         requires { IsTrue (is_open_at self.old.setup slot) }
-        ensures moves { Moves (λ config. cluster_step config (acts.Collect id.dc id.shard moment)) (world_of self.old) slot result (world_of self.new) }
+        ensures moves { Moves AnyReply (λ config. cluster_step config (acts.Collect id.dc id.shard moment)) (world_of self.old) slot result (world_of self.new) }
         ensures lack { Leaves Stays (world_of self.old) slot result (world_of self.new) }
     {
         if !self.has_node(id.dc, id.shard) {
-            return Reply::Refused(Fault::NoSuchPlace);
+            return Ok(Reply::Refused(Fault::NoSuchPlace));
         }
-        reply_of_collect(self.nodes.step(id, slot, moment, NodeCall::Collect))
+        match self.nodes.step(id, slot, moment, NodeCall::Collect) {
+            Ok(reply) => Ok(reply_of_collect(reply)),
+            Err(error) => Err(error),
+        }
     }
 
     /// Begins a put of a session, where the key and the value are some.
@@ -370,31 +385,38 @@ impl World {
         number: u64,
         key: &ByteSlice,
         value: &ByteSlice,
-    ) -> Reply
-        ensures moves { Moves (λ config. cluster_step config (acts.Put name.now number key.now value.now)) (world_of self.old) slot result (world_of self.new) }
+    ) -> Result<Reply, AllocError>
+        ensures moves { Moves AnyReply (λ config. cluster_step config (acts.Put name.now number key.now value.now)) (world_of self.old) slot result (world_of self.new) }
         ensures lack { Leaves Stays (world_of self.old) slot result (world_of self.new) }
     {
         let key = match Key::new(key.as_slice()) {
             Ok(key) => key,
-            Err(fault) => return Reply::Refused(fault),
+            Err(fault) => return Ok(Reply::Refused(fault)),
         };
         match Value::new(self.alloc, value.as_slice()) {
             Ok(value) => self.act(slot, name, Deed::Put(number, key, value)),
-            Err(fault) => Reply::Refused(fault),
+            Err(fault) => refused_with(fault),
         }
     }
 
     /// Begins a get transaction of a session, where there are keys and each is one.
-    fn get(&mut self, slot: u64, name: &Name, number: u64, keys: &ByteSlices) -> Reply
-        ensures moves { Moves (λ config. cluster_step config (acts.Get name.now number keys.now)) (world_of self.old) slot result (world_of self.new) }
+    fn get(
+        &mut self,
+        slot: u64,
+        name: &Name,
+        number: u64,
+        keys: &ByteSlices,
+    ) -> Result<Reply, AllocError>
+        ensures moves { Moves AnyReply (λ config. cluster_step config (acts.Get name.now number keys.now)) (world_of self.old) slot result (world_of self.new) }
         ensures lack { Leaves Stays (world_of self.old) slot result (world_of self.new) }
     {
         if keys.is_empty() {
-            return Reply::Refused(Fault::Syntax);
+            return Ok(Reply::Refused(Fault::Syntax));
         }
         match keys_of(self.alloc, keys) {
-            Ok(keys) => self.act(slot, name, Deed::Get(number, keys)),
-            Err(fault) => Reply::Refused(fault),
+            Ok(Ok(keys)) => self.act(slot, name, Deed::Get(number, keys)),
+            Ok(Err(fault)) => Ok(Reply::Refused(fault)),
+            Err(error) => Err(error),
         }
     }
 
@@ -407,27 +429,27 @@ impl World {
         (self.config.restarts + 1) * (2 * 32 + 1) + deps + 3
     }
 
-    /// One event: it acts on its own tenant's cluster and on no other. Where memory was refused
-    /// nothing changed, unless a step was taken: its request or its carrier is then over, and what
-    /// the calls did stands.
+    /// One event: it acts on its own tenant's cluster and on no other. The error: memory was refused.
+    /// Nothing changed then, unless a step was taken: its request or its carrier is over, and what the
+    /// calls did stands.
     ///
     /// On a slot without a tenant it is `UnknownTenant`, and nothing changes.
-    pub fn apply(&mut self, event: &Event) -> Reply
+    pub fn apply(&mut self, event: &Event) -> Result<Reply, AllocError>
         ensures acted { HasActed open_setup HasOpenCluster self.old event.now result self.new }
-        ensures vacant { IsFalse (is_open_at self.old.setup event.now.slot) → (result ≡ Refused UnknownTenant) × (self.new ≡ self.old) }
+        ensures vacant { IsFalse (is_open_at self.old.setup event.now.slot) → (result ≡ Ok (Refused UnknownTenant)) × (self.new ≡ self.old) }
     {
         self.act_for(event.slot, &event.act)
     }
 
     /// One act of the tenant in a slot, if it has one.
     #[inline(never)]
-    pub(crate) fn act_for(&mut self, slot: u64, act: &Act) -> Reply
-        ensures moves { Moves (λ config. cluster_step config act.now) (world_of self.old) slot result (world_of self.new) }
+    pub(crate) fn act_for(&mut self, slot: u64, act: &Act) -> Result<Reply, AllocError>
+        ensures moves { Moves (TellsExactly act.now) (λ config. cluster_step config act.now) (world_of self.old) slot result (world_of self.new) }
         ensures lack { Leaves (λ config. Lacks config act.now) (world_of self.old) slot result (world_of self.new) }
-        ensures vacant { IsFalse (is_open_at self.old.setup slot) → (result ≡ Refused UnknownTenant) × (self.new ≡ self.old) }
+        ensures vacant { IsFalse (is_open_at self.old.setup slot) → (result ≡ Ok (Refused UnknownTenant)) × (self.new ≡ self.old) }
     {
         if !self.has_tenant(slot) {
-            return Reply::Refused(Fault::UnknownTenant);
+            return Ok(Reply::Refused(Fault::UnknownTenant));
         }
         match act {
             Act::Open(name, dc) => self.open(slot, name, *dc),
@@ -591,7 +613,7 @@ impl Tenancy for World {
     }
 
     // Not by way of `World::apply`: a reply is large, and each call hands it up by a copy.
-    fn apply(&mut self, event: &Event) -> Reply {
+    fn apply(&mut self, event: &Event) -> Result<Reply, AllocError> {
         self.act_for(event.slot, &event.act)
     }
 

@@ -6,6 +6,7 @@ use Rattle.cops_model.specs.Cluster.{SoloCluster, cluster_step}
 use Rattle.cops_model.specs.Events.{own, replies, replies_from, before_lack, IsFrontOf, IsSpared, ToldAlone}
 use Rattle.cops_model.specs.Setups.{Setup, config_in}
 use Rattle.cops_script.proofs.RunLaws.{front_step, told_step}
+use Rattle.cops_script.proofs.ToldActs.{ActsAsTold, as_told_act}
 use Rattle.cops_script.proofs.runs.run_all.Goals as goal
 
 pub loop-event-preserved : goal.loop-event-preserved
@@ -13,12 +14,13 @@ loop-event-preserved g c =
     let i = c.loop-event.event-index in
     let xs = c.args.events.now in
     let e = c.event-item.result in
-    let reply = c.apply-reply.result in
+    let reply = c.as_reply-reply.result in
     let told = c.loop-event.told.items in
     let setup = g.W.Tenancy.setup in
-    let acted = c.apply-reply.ensures in
+    let acted = subst (λ r. ActsAsTold g.W.Tenancy.setup g.W.Tenancy.StandsFor c.loop-event.world e r c.apply.new.self) (sym c.as_reply-reply.ensures)
+    (as_told_act g.W.Tenancy.setup g.W.Tenancy.StandsFor c.loop-event.world e c.apply.result c.apply.new.self c.apply.ensures) in
     let Before = g.W.Tenancy.StandsFor c.loop-event.world in
-    let After = g.W.Tenancy.StandsFor c.apply-reply.new.self in
+    let After = g.W.Tenancy.StandsFor c.apply.new.self in
     let invariant = c.loop-event.invariant in
     let takes : take (i + 1) xs ≡ take i xs ++ e ∷ [] = take_more xs i e c.loop-event-test.true ∙ ap (λ d. take i xs ++ d ∷ []) (sym c.event-item.is) in
     let items : c.push.new.self.items ≡ told ++ reply ∷ [] = c.in_ok-push.ensures.items in

@@ -1,5 +1,6 @@
 use Rattle.std.proofs.Common.{◌∙◌, sym}
 use Rattle.std.proofs.lemmas.Result.{on_ok_weaker}
+use Rattle.cops_script.specs.Acting.{told_act}
 use Rattle.cops_script.proofs.MachineLemmas.{answers_nobody, answers_told, open_found}
 use Rattle.cops_script.proofs.script_machine.answer_tenant.Goals as goal
 
@@ -15,8 +16,8 @@ name_at-name-requires g c = open_found c.tenants-tenants.result.now c.args.word.
 
 pub returns : goal.returns
 returns g c =
-    on_ok_weaker c.push_answer.result
-    (λ appended. answers_told g.W.Tenancy.setup g.W.Tenancy.StandsFor c.args.world.now c.reply_to-reply.new.world c.args.line.now c.args.word.now c.tenants-tenants.result.now c.slot_of_name.result c.in-Some.slot
-    c.name_at-name.result c.reply_to-reply.result c.args.out.now.items c.push_answer.new.out.items
-    c.tenants-tenants.ensures c.requires c.slot_of_name.ensures c.in-Some.is c.name_at-name.ensures c.reply_to-reply.ensures appended)
-    c.push_answer.ensures
+    on_ok_weaker c.push_told.result
+    (λ appended. answers_told g.W.Tenancy.setup g.W.Tenancy.StandsFor c.args.world.now c.answer_to-answered.new.world c.args.line.now c.args.word.now c.tenants-tenants.result.now c.slot_of_name.result c.in-Some.slot
+    c.name_at-name.result (told_act c.answer_to-answered.result) c.args.out.now.items c.push_told.new.out.items
+    c.tenants-tenants.ensures c.requires c.slot_of_name.ensures c.in-Some.is c.name_at-name.ensures c.answer_to-answered.ensures appended)
+    c.push_told.ensures

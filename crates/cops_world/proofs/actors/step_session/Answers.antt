@@ -1,17 +1,16 @@
-use Rattle.std.proofs.Common.{◌≡◌, ap}
+use Rattle.std.proofs.Common.{◌≡◌, ap, refl}
 use Rattle.std.specs.Prelude.{Ok, Err}
-use Rattle.cops_model.specs.declared.replies.Reply.TheVariants.{Refused}
 use Rattle.cops_world.proofs.ActorSteps.{session_told}
 use Rattle.cops_world.proofs.actors.step_session.Goals as goal
 
 pub returns-in-Ok-Ok-clause-steps : goal.returns-in-Ok-Ok-clause-steps
 returns-in-Ok-Ok-clause-steps g c = λ config solo stands.
     session_told (λ at id call reply. g.N.Nodes.Answers c.args.nodes.now id c.args.session.now.setting.slot at call reply c.step.new.nodes) (c.step.new.nodes ≡ c.args.nodes.now)
-    config solo c.args.moment c.in-Some.handle (Ok c.in-Ok-Ok.progress) c.reply_of_progress.result c.step.new.self c.reply_of_progress.ensures
+    config solo c.args.moment c.in-Some.handle (Ok c.in-Ok-Ok.progress) (Ok c.reply_of_progress.result) c.step.new.self (ap Ok c.reply_of_progress.ensures)
     ((rw c.in-Ok-Ok.field-0-is at c.in-Ok-Ok.ensures.stepped) config solo stands)
 
 pub returns-in-Err-clause-steps : goal.returns-in-Err-clause-steps
 returns-in-Err-clause-steps g c = λ config solo stands.
     session_told (λ at id call reply. g.N.Nodes.Answers c.args.nodes.now id c.args.session.now.setting.slot at call reply c.step.new.nodes) (c.step.new.nodes ≡ c.args.nodes.now)
-    config solo c.args.moment c.in-Some.handle (Err c.in-Err.error) (Refused c.from.result) c.step.new.self (ap Refused c.from.ensures)
+    config solo c.args.moment c.in-Some.handle (Err c.in-Err.error) (Err c.in-Err.error) c.step.new.self refl
     (c.in-Err.ensures.stepped config solo stands)

@@ -10,10 +10,11 @@ use Rattle.cops_model.specs.Cluster.{SoloCluster, cluster_step, new_cluster}
 use Rattle.cops_model.specs.Events.{own, config_at, solo_replies, before_lack, IsFrontOf, IsSpared, ToldAlone}
 use Rattle.cops_model.specs.Setups.{Setup, config_in}
 use Rattle.cops_script.specs.GoodHeads.{is_good}
-use Rattle.cops_world.specs.Worlds.{HasOpenCluster, KeptWorld}
+use Rattle.cops_world.specs.Worlds.{HasOpenCluster, KeptWorld, open_setup}
 use Rattle.cops_script.proofs.BegunSetups.{config_begun}
 use Rattle.cops_script.proofs.MainLemmas.{alone_config, alone_good}
 use Rattle.cops_script.proofs.RunLaws.{taken_whole, own_stays, own_too, solo_front, solo_step}
+use Rattle.cops_script.proofs.ToldActs.{ActsAsTold, as_told_act}
 use Rattle.cops_world.proofs.WorldLives.{has_acted}
 use Rattle.cops_world.proofs.whole_runs.solo.Goals as goal
 use Rattle.cops_world.proofs.whole_runs.solo.Goals.{then-event-slot+in_ok-push, else-event-slot}
@@ -52,8 +53,10 @@ loop-event-preserved c =
     let takes : take (i + 1) xs ≡ take i xs ++ e ∷ [] = take_more xs i e c.loop-event-test.true ∙ ap (λ d. take i xs ++ d ∷ []) (sym c.event-item.is) in
     elim c.if-event-slot.branch [
       | then-event-slot+in_ok-push w ↦
-          let reply = w.act_for.result in
-          let moves = has_acted l.world (record { slot = 0; act = e.act }) reply w.act_for.new.self w.act_for.ensures.moves w.act_for.ensures.lack in
+          let reply = w.as_reply.result in
+          let event : Event = record { slot = 0; act = e.act } in
+          let moves = subst (λ r. ActsAsTold open_setup HasOpenCluster l.world event r w.act_for.new.self) (sym w.as_reply.ensures)
+          (as_told_act open_setup HasOpenCluster l.world event w.act_for.result w.act_for.new.self (has_acted l.world event w.act_for.result w.act_for.new.self w.act_for.ensures.moves w.act_for.ensures.lack)) in
           let items = ap (λ t. t.items) w.told-is ∙ w.in_ok-push.ensures.items in
           let After = HasOpenCluster w.act_for.new.self 0 in
           let Told : List Event → List Reply → (SoloCluster → Type 0) → Type 0 = λ es rs Stands. IsSpared rs → ToldAlone config (new_cluster config) (own slot es) rs Stands in

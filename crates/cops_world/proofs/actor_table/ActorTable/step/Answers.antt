@@ -6,6 +6,7 @@ use Rattle.cops_types.proofs.KeyTests.{key_eq-refl}
 use Rattle.cops_types.proofs.WordLemmas.{same_value}
 use Rattle.cops_types.specs.Key.{key_eq}
 use Rattle.cops_model.specs.Cluster.{goes_on}
+use Rattle.cops_script.specs.Acting.{told_act}
 use Rattle.cops_world.specs.declared.actors.Actor.{Actor}
 use Rattle.cops_world.specs.ActorsStand.{ActorStandsFor, RunsAt, actor_ended}
 use Rattle.cops_world.specs.ActorTables.{Table}
@@ -57,4 +58,4 @@ returns-clause-last g c = λ after is.
     let index = subst (λ (es : Table). Some c.args.place ≡ position (key_eq name) (keys_of es)) (sym c.self.view_is) c.requires.place in
     let put = puts name table c.self.invariant c.args.place index c.step.new.self in
     let same : c.step.new.self ≡ after = same_value c.step.new.self after (sym (put.0 name ∙ ap (λ b. cond b (Some c.step.new.self) (lookup (key_eq name) table.entries)) (key_eq-refl name)) ∙ is) in
-    subst (λ (a : Actor). actor_ended a ≡ true → goes_on c.step.result ≡ false) same c.step.ensures.last
+    subst (λ (a : Actor). actor_ended a ≡ true → goes_on (told_act c.step.result) ≡ false) same c.step.ensures.last

@@ -3,7 +3,7 @@ use Rattle.cops_node.specs.Clusters.{shape_of}
 use Rattle.cops_world.specs.ActorTables.{actor_at, count_at}
 use Rattle.cops_world.specs.Deeds.{deed_step}
 use Rattle.cops_script.specs.Lacks.{Stays}
-use Rattle.cops_world.specs.Worlds.{KeptWorld, Leaves, Moves, world_of}
+use Rattle.cops_world.specs.Worlds.{AnyReply, KeptWorld, Leaves, Moves, world_of}
 use Rattle.cops_world.proofs.WorldKeeps.{hosted_after_act, runs_after_act}
 use Rattle.cops_world.proofs.WorldLacks.{deed_leaves}
 use Rattle.cops_world.proofs.WorldMoves.{deed_moves}
@@ -34,7 +34,7 @@ pub returns-clause-moves : goal.returns-clause-moves
 returns-clause-moves c =
     let new = c.act_at.new.actors.items in
     let old : KeptWorld = record { setup = record { head = c.self.inside.config; tenants = c.self.inside.tenants }; nodes = c.self.inside.nodes; tables = c.self.inside.actors.items } in
-    subst (λ (kept : KeptWorld). Moves (λ config. deed_step config c.args.name.now c.args.deed) (world_of kept) c.args.slot c.act_at.result (record (world_of old) { actors = actor_at new; count = count_at new })) c.self.view_is
+    subst (λ (kept : KeptWorld). Moves AnyReply (λ config. deed_step config c.args.name.now c.args.deed) (world_of kept) c.args.slot c.act_at.result (record (world_of old) { actors = actor_at new; count = count_at new })) c.self.view_is
     (deed_moves (world_of old) c.args.slot c.args.name.now (actor_at new) (count_at new) c.args.deed c.act_at.result (record {
       found = λ before e. let f = c.act_at.ensures.found before e in (f.0, (f.1.0.at, f.2));
       absent = λ e. let a = c.act_at.ensures.absent e in (a.0, ap actor_at a.1);

@@ -1,9 +1,11 @@
 use Rattle.std.proofs.Common.{ap, subst, refl, sym, ◌∙◌}
+use Rattle.std.specs.Prelude.{Ok}
 use Rattle.cops_types.specs.declared.faults.Fault.TheVariants.{UnknownTenant}
 use Rattle.cops_model.specs.declared.acts.Act.TheVariants as acts
 use Rattle.cops_model.specs.declared.replies.Reply.TheVariants.{Refused}
 use Rattle.cops_model.specs.Cluster.{actor_steps, cluster_step}
 use Rattle.cops_model.specs.Setups.{config_in}
+use Rattle.cops_script.specs.Acting.{IsSparedReply, TellsExactly}
 use Rattle.cops_script.specs.Lacks.{Lacks, StepsStop}
 use Rattle.cops_world.specs.Worlds.{world_of}
 use Rattle.cops_world.proofs.WorldJoins.{same_moves}
@@ -14,10 +16,10 @@ use Rattle.cops_world.proofs.world.World.act_for.Goals as goal
 
 pub returns-then-not-has_tenant-clause-moves : goal.returns-then-not-has_tenant-clause-moves
 returns-then-not-has_tenant-clause-moves c =
-    vacant_moves (λ config. cluster_step config c.args.act.now) (world_of c.args.self.now) c.args.slot UnknownTenant (sym c.has_tenant.ensures ∙ c.if-not-has_tenant.true)
+    vacant_moves (TellsExactly c.args.act.now) (λ config. cluster_step config c.args.act.now) (world_of c.args.self.now) c.args.slot UnknownTenant (sym c.has_tenant.ensures ∙ c.if-not-has_tenant.true)
 
 pub returns-then-not-has_tenant-clause-lack : goal.returns-then-not-has_tenant-clause-lack
-returns-then-not-has_tenant-clause-lack c = spared_leaves (λ config. Lacks config c.args.act.now) (world_of c.args.self.now) c.args.slot (Refused UnknownTenant) (world_of c.args.self.now) refl
+returns-then-not-has_tenant-clause-lack c = spared_leaves (λ config. Lacks config c.args.act.now) (world_of c.args.self.now) c.args.slot (Ok (Refused UnknownTenant)) (world_of c.args.self.now) refl
 
 pub returns-in-Open-clause-moves : goal.returns-in-Open-clause-moves
 returns-in-Open-clause-moves c = acted (world_of c.args.self.now) c.args.slot c.args.act.now _ c.in-Open.is c.open.result (world_of c.open.new.self) c.open.ensures.moves
@@ -45,7 +47,7 @@ returns-in-Step-clause-moves c = acted (world_of c.args.self.now) c.args.slot c.
 
 pub returns-in-Done-clause-moves : goal.returns-in-Done-clause-moves
 returns-in-Done-clause-moves c = acted (world_of c.args.self.now) c.args.slot c.args.act.now _ c.in-Done.is c.steps-in-Done.result (world_of c.steps-in-Done.new.self)
-    (same_moves (λ config. actor_steps c.most_steps-more.result config c.in-Done.name c.in-Done.moment) (λ config. cluster_step config (acts.Done c.in-Done.name c.in-Done.moment)) (world_of c.args.self.now) c.args.slot
+    (same_moves IsSparedReply (λ config. actor_steps c.most_steps-more.result config c.in-Done.name c.in-Done.moment) (λ config. cluster_step config (acts.Done c.in-Done.name c.in-Done.moment)) (world_of c.args.self.now) c.args.slot
     c.steps-in-Done.result (world_of c.steps-in-Done.new.self)
     (λ cluster. ap (λ n. actor_steps n (config_in c.args.self.now.setup c.args.slot) c.in-Done.name c.in-Done.moment cluster) c.most_steps-more.ensures) c.steps-in-Done.ensures.moves)
 

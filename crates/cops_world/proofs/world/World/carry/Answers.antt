@@ -1,6 +1,6 @@
-use Rattle.std.specs.Prelude.{IsTrue}
+use Rattle.std.specs.Prelude.{IsTrue, Ok, Err}
 use Rattle.std.proofs.Common.{◌≡◌, refl, sym, subst, ap, ◌∙◌}
-use Rattle.cops_types.specs.declared.faults.Fault.TheVariants.{NoSuchPlace, OutOfMemory}
+use Rattle.cops_types.specs.declared.faults.Fault.TheVariants.{NoSuchPlace}
 use Rattle.cops_node.specs.Clusters.{shape_of}
 use Rattle.cops_model.specs.Carrier.{new_carrier}
 use Rattle.cops_model.specs.declared.replies.Reply.TheVariants.{Started, Refused}
@@ -8,8 +8,9 @@ use Rattle.cops_model.specs.Cluster.{OfCarrier, has_stream}
 use Rattle.cops_model.specs.Setups.{Setup, config_in, is_open_at}
 use Rattle.cops_world.specs.ActorsStand.{RunsAt}
 use Rattle.cops_script.specs.Lacks.{Stays}
-use Rattle.cops_world.specs.Worlds.{KeptWorld, world_of}
+use Rattle.cops_world.specs.Worlds.{AnyReply, KeptWorld, world_of}
 use Rattle.cops_world.proofs.WorldCalls.{joins_there, no_place_moves, stream_runs}
+use Rattle.cops_world.proofs.WorldJoins.{lack_moves}
 use Rattle.cops_world.proofs.WorldKeeps.{sizes_in}
 use Rattle.cops_world.proofs.WorldLacks.{same_leaves, spared_leaves}
 use Rattle.cops_world.proofs.world.World.carry.Goals as goal
@@ -28,7 +29,7 @@ returns-in-Some-clause-moves c =
     let config = config_in setup c.args.slot in
     let solo = OfCarrier (new_carrier (record { origin = c.args.origin; to_dc = c.args.to_dc })) in
     joins_there (world_of c.args.self.now) c.args.slot c.args.name.now (λ config. has_stream config c.args.origin.dc c.args.origin.shard c.args.to_dc) solo Started
-    (sym (c.has_stream.ensures config (sizes_in setup c.args.slot c.requires)) ∙ c.if-not-has_stream.false) (Refused c.in-Some.fault) (world_of c.args.self.now) (c.in-Some.ensures.refused solo Started)
+    (sym (c.has_stream.ensures config (sizes_in setup c.args.slot c.requires)) ∙ c.if-not-has_stream.false) (Ok (Refused c.in-Some.fault)) (world_of c.args.self.now) (c.in-Some.ensures.refused solo Started)
 
 pub new_carrier-carrier-requires : goal.new_carrier-carrier-requires
 new_carrier-carrier-requires c =
@@ -43,25 +44,28 @@ new_carrier-carrier-requires c =
 pub join-requires-clause-runs : goal.join-requires-clause-runs
 join-requires-clause-runs c = subst (λ (k : KeptWorld). RunsAt (shape_of k.setup.head) c.args.slot c.new_carrier-carrier.result) c.self.view_is (c.new_carrier-carrier.ensures.runs c.args.slot)
 
-pub returns-then-join-clause-moves : goal.returns-then-join-clause-moves
-returns-then-join-clause-moves c =
+pub returns-in-Ok-clause-moves : goal.returns-in-Ok-clause-moves
+returns-in-Ok-clause-moves c =
     let slot = c.args.slot in
     let setup = c.args.self.now.setup in
     let config = config_in setup slot in
     let sizes = sizes_in setup slot c.requires in
     let solo = OfCarrier (new_carrier (record { origin = c.args.origin; to_dc = c.args.to_dc })) in
     joins_there (world_of c.args.self.now) slot c.args.name.now (λ config. has_stream config c.args.origin.dc c.args.origin.shard c.args.to_dc) solo Started
-    (sym (c.has_stream.ensures config sizes) ∙ c.if-not-has_stream.false) Started (world_of c.join.new.self)
-    (c.join.ensures.joined c.if-join.true solo Started (c.new_carrier-carrier.ensures.stands config (sizes.shards ∙ sym (ap (λ (k : KeptWorld). k.setup.head.shards) c.self.view_is))))
+    (sym (c.has_stream.ensures config sizes) ∙ c.if-not-has_stream.false) (Ok Started) (world_of c.join.new.self)
+    (c.in-Ok.ensures.joined solo Started (c.new_carrier-carrier.ensures.stands config (sizes.shards ∙ sym (ap (λ (k : KeptWorld). k.setup.head.shards) c.self.view_is))))
 
 pub returns-then-not-has_stream-clause-lack : goal.returns-then-not-has_stream-clause-lack
-returns-then-not-has_stream-clause-lack c = same_leaves (world_of c.args.self.now) c.args.slot (Refused NoSuchPlace) (world_of c.args.self.now) refl
+returns-then-not-has_stream-clause-lack c = same_leaves (world_of c.args.self.now) c.args.slot (Ok (Refused NoSuchPlace)) (world_of c.args.self.now) refl
 
 pub returns-in-Some-clause-lack : goal.returns-in-Some-clause-lack
-returns-in-Some-clause-lack c = same_leaves (world_of c.args.self.now) c.args.slot (Refused c.in-Some.fault) (world_of c.args.self.now) refl
+returns-in-Some-clause-lack c = same_leaves (world_of c.args.self.now) c.args.slot (Ok (Refused c.in-Some.fault)) (world_of c.args.self.now) refl
 
-pub returns-then-join-clause-lack : goal.returns-then-join-clause-lack
-returns-then-join-clause-lack c = spared_leaves Stays (world_of c.args.self.now) c.args.slot Started (world_of c.join.new.self) refl
+pub returns-in-Ok-clause-lack : goal.returns-in-Ok-clause-lack
+returns-in-Ok-clause-lack c = spared_leaves Stays (world_of c.args.self.now) c.args.slot (Ok Started) (world_of c.join.new.self) refl
 
-pub returns-else-join-clause-lack : goal.returns-else-join-clause-lack
-returns-else-join-clause-lack c = same_leaves (world_of c.args.self.now) c.args.slot (Refused OutOfMemory) (world_of c.join.new.self) (c.join.ensures.lack c.if-join.false)
+pub returns-in-Err-clause-lack : goal.returns-in-Err-clause-lack
+returns-in-Err-clause-lack c = same_leaves (world_of c.args.self.now) c.args.slot (Err c.in-Err.error) (world_of c.join.new.self) c.in-Err.ensures.err
+
+pub returns-in-Err-clause-moves : goal.returns-in-Err-clause-moves
+returns-in-Err-clause-moves c = lack_moves AnyReply _ (world_of c.args.self.now) c.args.slot c.in-Err.error (world_of c.join.new.self) c.in-Err.ensures.err

@@ -1,7 +1,7 @@
 use Rattle.std.proofs.Common.{◌<◌, ◌≤◌, refl, sym, subst, ap, ◌∙◌}
-use Rattle.std.specs.Prelude.{nat_lt}
+use Rattle.std.specs.Prelude.{Ok, Err, nat_lt}
 use Rattle.std.proofs.lemmas.Bool.{lt-ltb, le-ltb}
-use Rattle.cops_types.specs.declared.faults.Fault.TheVariants.{NoSuchPlace, OutOfMemory}
+use Rattle.cops_types.specs.declared.faults.Fault.TheVariants.{NoSuchPlace}
 use Rattle.cops_types.specs.OpenSlots.{open_at}
 use Rattle.cops_model.specs.Session.{new_session}
 use Rattle.cops_model.specs.declared.replies.Reply.TheVariants.{Opened, Refused}
@@ -9,8 +9,9 @@ use Rattle.cops_model.specs.Cluster.{OfSession}
 use Rattle.cops_model.specs.Setups.{config_in, config_of}
 use Rattle.cops_world.specs.ActorsStand.{ActorStandsFor}
 use Rattle.cops_script.specs.Lacks.{Stays}
-use Rattle.cops_world.specs.Worlds.{KeptWorld, world_of}
+use Rattle.cops_world.specs.Worlds.{AnyReply, KeptWorld, world_of}
 use Rattle.cops_world.proofs.WorldCalls.{joins_there, no_place_moves}
+use Rattle.cops_world.proofs.WorldJoins.{lack_moves}
 use Rattle.cops_world.proofs.WorldKeeps.{sizes_in}
 use Rattle.cops_world.proofs.WorldLacks.{same_leaves, spared_leaves}
 use Rattle.cops_world.proofs.world.World.open.Goals as goal
@@ -30,28 +31,31 @@ returns-in-Some-clause-moves c =
     let solo = OfSession (new_session c.args.dc 1) in
     let there = subst (λ n. c.args.dc < n) (ap (λ (k : KeptWorld). k.setup.head.data_centres) c.self.view_is ∙ sym sizes.data_centres) c.if-dc-self.false in
     joins_there (world_of c.args.self.now) c.args.slot c.args.name.now (λ config. nat_lt c.args.dc config.data_centres) solo Opened
-    (lt-ltb c.args.dc (config_in setup c.args.slot).data_centres there) (Refused c.in-Some.fault) (world_of c.args.self.now) (c.in-Some.ensures.refused solo Opened)
+    (lt-ltb c.args.dc (config_in setup c.args.slot).data_centres there) (Ok (Refused c.in-Some.fault)) (world_of c.args.self.now) (c.in-Some.ensures.refused solo Opened)
 
-pub returns-then-join-clause-moves : goal.returns-then-join-clause-moves
-returns-then-join-clause-moves c =
+pub returns-in-Ok-clause-moves : goal.returns-in-Ok-clause-moves
+returns-in-Ok-clause-moves c =
     let setup = c.args.self.now.setup in
     let sizes = sizes_in setup c.args.slot c.requires in
     let solo = OfSession (new_session c.args.dc 1) in
     let there = subst (λ n. c.args.dc < n) (ap (λ (k : KeptWorld). k.setup.head.data_centres) c.self.view_is ∙ sym sizes.data_centres) c.if-dc-self.false in
     joins_there (world_of c.args.self.now) c.args.slot c.args.name.now (λ config. nat_lt c.args.dc config.data_centres) solo Opened
-    (lt-ltb c.args.dc (config_in setup c.args.slot).data_centres there) Opened (world_of c.join.new.self)
-    (c.join.ensures.joined c.if-join.true solo Opened
+    (lt-ltb c.args.dc (config_in setup c.args.slot).data_centres there) (Ok Opened) (world_of c.join.new.self)
+    (c.in-Ok.ensures.joined solo Opened
     (subst (λ (k : KeptWorld). ActorStandsFor (config_in k.setup c.args.slot) c.new_session-session.result solo) c.self.view_is
     (subst (λ o. ActorStandsFor (config_of c.self.inside.config o) c.new_session-session.result solo) (sym (ap (λ (k : KeptWorld). open_at c.args.slot k.setup.tenants) c.self.view_is ∙ c.tenant-tenant.ensures.there)) c.new_session-session.ensures.stands)))
 
 pub returns-then-dc-self-clause-lack : goal.returns-then-dc-self-clause-lack
-returns-then-dc-self-clause-lack c = same_leaves (world_of c.args.self.now) c.args.slot (Refused NoSuchPlace) (world_of c.args.self.now) refl
+returns-then-dc-self-clause-lack c = same_leaves (world_of c.args.self.now) c.args.slot (Ok (Refused NoSuchPlace)) (world_of c.args.self.now) refl
 
 pub returns-in-Some-clause-lack : goal.returns-in-Some-clause-lack
-returns-in-Some-clause-lack c = same_leaves (world_of c.args.self.now) c.args.slot (Refused c.in-Some.fault) (world_of c.args.self.now) refl
+returns-in-Some-clause-lack c = same_leaves (world_of c.args.self.now) c.args.slot (Ok (Refused c.in-Some.fault)) (world_of c.args.self.now) refl
 
-pub returns-then-join-clause-lack : goal.returns-then-join-clause-lack
-returns-then-join-clause-lack c = spared_leaves Stays (world_of c.args.self.now) c.args.slot Opened (world_of c.join.new.self) refl
+pub returns-in-Ok-clause-lack : goal.returns-in-Ok-clause-lack
+returns-in-Ok-clause-lack c = spared_leaves Stays (world_of c.args.self.now) c.args.slot (Ok Opened) (world_of c.join.new.self) refl
 
-pub returns-else-join-clause-lack : goal.returns-else-join-clause-lack
-returns-else-join-clause-lack c = same_leaves (world_of c.args.self.now) c.args.slot (Refused OutOfMemory) (world_of c.join.new.self) (c.join.ensures.lack c.if-join.false)
+pub returns-in-Err-clause-lack : goal.returns-in-Err-clause-lack
+returns-in-Err-clause-lack c = same_leaves (world_of c.args.self.now) c.args.slot (Err c.in-Err.error) (world_of c.join.new.self) c.in-Err.ensures.err
+
+pub returns-in-Err-clause-moves : goal.returns-in-Err-clause-moves
+returns-in-Err-clause-moves c = lack_moves AnyReply _ (world_of c.args.self.now) c.args.slot c.in-Err.error (world_of c.join.new.self) c.in-Err.ensures.err

@@ -1,5 +1,5 @@
 use Rattle.std.proofs.Common.{◌≡◌, ◌⊎◌, refl, sym, subst, ap, ◌∙◌}
-use Rattle.std.specs.Prelude.{None, Some}
+use Rattle.std.specs.Prelude.{None, Ok, Some}
 use Rattle.cops_types.specs.declared.faults.Fault.TheVariants.{ValueTooLong, OutOfMemory}
 use Rattle.cops_types.specs.Refusal.{refused_if}
 use Rattle.cops_types.specs.Value.{is_too_long}
@@ -8,8 +8,8 @@ use Rattle.cops_model.specs.declared.replies.Reply.TheVariants.{Refused}
 use Rattle.cops_model.specs.Cluster.{cluster_step}
 use Rattle.cops_world.specs.declared.actors.Deed.TheVariants as deeds
 use Rattle.cops_world.specs.Deeds.{deed_step}
-use Rattle.cops_world.specs.Worlds.{Moves, world_of}
-use Rattle.cops_world.proofs.PutsAndGets.{bad_key, bad_key_moves, bad_value_moves, good_key, key_or_fault, put_moves, short_value}
+use Rattle.cops_world.specs.Worlds.{AnyReply, Moves, world_of}
+use Rattle.cops_world.proofs.PutsAndGets.{bad_key, bad_key_moves, good_key, key_or_fault, no_value_moves, put_moves, short_value}
 use Rattle.cops_world.proofs.WorldLacks.{same_leaves}
 use Rattle.cops_world.proofs.world.World.put.Goals as goal
 
@@ -17,14 +17,15 @@ pub returns-in-Err-clause-moves : goal.returns-in-Err-clause-moves
 returns-in-Err-clause-moves c =
     let old = world_of c.args.self.now in
     let bad = bad_key c.args.key.now c.in-Err.fault (sym c.in-Err.is ∙ c.new.ensures ∙ ap key_or_fault c.as_slice.ensures) in
-    subst (λ f. Moves (λ config. cluster_step config (acts.Put c.args.name.now c.args.number c.args.key.now c.args.value.now)) old c.args.slot (Refused f) old) (sym bad.0)
+    subst (λ f. Moves AnyReply (λ config. cluster_step config (acts.Put c.args.name.now c.args.number c.args.key.now c.args.value.now)) old c.args.slot (Ok (Refused f)) old) (sym bad.0)
     (bad_key_moves old c.args.slot c.args.name.now c.args.number c.args.key.now c.args.value.now bad.1)
 
 pub returns-in-Err-new-clause-moves : goal.returns-in-Err-new-clause-moves
 returns-in-Err-new-clause-moves c =
     let good = good_key c.args.key.now c.in-Ok.key (sym c.in-Ok.is ∙ c.new.ensures ∙ ap key_or_fault c.as_slice.ensures) in
-    bad_value_moves (world_of c.args.self.now) c.args.slot c.args.name.now c.args.number c.args.key.now c.args.value.now c.in-Err-new.fault good.1
+    no_value_moves (world_of c.args.self.now) c.args.slot c.args.name.now c.args.number c.args.key.now c.args.value.now c.in-Err-new.fault c.refused_with.result good.1
     (subst (λ v. (c.in-Err-new.fault ≡ OutOfMemory) ⊎ (refused_if (is_too_long v) ValueTooLong ≡ Some c.in-Err-new.fault)) c.as_slice-2.ensures c.in-Err-new.ensures.refused)
+    c.refused_with.ensures.reply c.refused_with.ensures.spared
 
 pub returns-in-Ok-new-clause-moves : goal.returns-in-Ok-new-clause-moves
 returns-in-Ok-new-clause-moves c =
@@ -38,11 +39,11 @@ returns-in-Ok-new-clause-moves c =
     let value : c.in-Ok-new.value ≡ c.args.value.now = c.in-Ok-new.ensures.ok ∙ c.as_slice-2.ensures in
     let short = short_value c.args.value.now (subst (λ v. refused_if (is_too_long v) ValueTooLong ≡ None) c.as_slice-2.ensures c.in-Ok-new.ensures.refused) in
     put_moves old slot name number c.args.key.now c.args.value.now key.1 short reply new
-    (subst (λ k. Moves (λ config. deed_step config name (deeds.Put number k c.args.value.now)) old slot reply new) key.0
-    (subst (λ v. Moves (λ config. deed_step config name (deeds.Put number c.in-Ok.key v)) old slot reply new) value c.act.ensures.moves))
+    (subst (λ k. Moves AnyReply (λ config. deed_step config name (deeds.Put number k c.args.value.now)) old slot reply new) key.0
+    (subst (λ v. Moves AnyReply (λ config. deed_step config name (deeds.Put number c.in-Ok.key v)) old slot reply new) value c.act.ensures.moves))
 
 pub returns-in-Err-clause-lack : goal.returns-in-Err-clause-lack
-returns-in-Err-clause-lack c = same_leaves (world_of c.args.self.now) c.args.slot (Refused c.in-Err.fault) (world_of c.args.self.now) refl
+returns-in-Err-clause-lack c = same_leaves (world_of c.args.self.now) c.args.slot (Ok (Refused c.in-Err.fault)) (world_of c.args.self.now) refl
 
 pub returns-in-Err-new-clause-lack : goal.returns-in-Err-new-clause-lack
-returns-in-Err-new-clause-lack c = same_leaves (world_of c.args.self.now) c.args.slot (Refused c.in-Err-new.fault) (world_of c.args.self.now) refl
+returns-in-Err-new-clause-lack c = same_leaves (world_of c.args.self.now) c.args.slot c.refused_with.result (world_of c.args.self.now) refl

@@ -1,8 +1,10 @@
 use Rattle.std.proofs.Common.{◌≡◌}
-use Rattle.std.specs.Prelude.{Some, position}
+use Rattle.std.specs.Prelude.{Result, Some, position}
+use Rattle.std.specs.declared.alloc.AllocError.{AllocError}
 use Rattle.cops_types.specs.Key.{key_eq}
 use Rattle.cops_model.specs.declared.replies.Reply.{Reply}
 use Rattle.cops_model.specs.Cluster.{actor_steps}
+use Rattle.cops_script.specs.Acting.{IsSparedReply}
 use Rattle.cops_script.specs.Lacks.{StepsStop}
 use Rattle.cops_world.specs.ActorTables.{names_at}
 use Rattle.cops_world.specs.Worlds.{World, Leaves, Moves, world_of}
@@ -13,10 +15,10 @@ abbrev pub invariant-loop-id : goal.invariant-loop-id
 invariant-loop-id l = record {
   same : l.self.setup ≡ l.fn.self.setup;
   placed : Some l.place ≡ position (key_eq l.id.name) (names_at l.slot l.self.tables);
-  rest : (reply : Reply) (new : World) → Moves (λ config. actor_steps l.more config l.id.name l.moment) (world_of l.self) l.slot reply new →
-      Moves (λ config. actor_steps l.fn.more config l.id.name l.moment) (world_of l.fn.self) l.slot reply new;
-  lack_rest : (reply : Reply) (new : World) → Leaves (λ config. StepsStop l.more config l.id.name l.moment) (world_of l.self) l.slot reply new →
-      Leaves (λ config. StepsStop l.fn.more config l.id.name l.moment) (world_of l.fn.self) l.slot reply new;
+  rest : (answered : Result Reply AllocError) (new : World) → Moves IsSparedReply (λ config. actor_steps l.more config l.id.name l.moment) (world_of l.self) l.slot answered new →
+      Moves IsSparedReply (λ config. actor_steps l.fn.more config l.id.name l.moment) (world_of l.fn.self) l.slot answered new;
+  lack_rest : (answered : Result Reply AllocError) (new : World) → Leaves (λ config. StepsStop l.more config l.id.name l.moment) (world_of l.self) l.slot answered new →
+      Leaves (λ config. StepsStop l.fn.more config l.id.name l.moment) (world_of l.fn.self) l.slot answered new;
 }
 
 abbrev pub decreases-loop-id : goal.decreases-loop-id
