@@ -1,21 +1,15 @@
 -- Keys of a get transaction, made of what lies in its body.
-use Rattle.std.proofs.Common.{◌≡◌, ◌⊎◌, ℕ, suc, ◌-◌, ◌+◌, ◌<◌, ◌≤◌, Bool, true, false, cond, List, [], ◌∷◌, ◌++◌, length, inl, inr, Option, Some, None, Result, Ok, Err, refl, sym, ap, subst, ◌∙◌, arith}
-use Rattle.std.specs.Prelude.{not, nat_lt, ◌==◌, ◌&&◌}
+use Rattle.std.proofs.Common.{◌≡◌, ℕ, suc, ◌-◌, ◌+◌, ◌<◌, ◌≤◌, Bool, true, false, cond, List, [], ◌∷◌, ◌++◌, length, Option, Some, None, Ok, Err, refl, sym, ap, subst, ◌∙◌, arith}
+use Rattle.std.specs.Prelude.{nat_lt, ◌==◌, ◌&&◌}
 use Rattle.std.specs.List.{list_all}
-use Rattle.std.specs.Option.{option_or}
 use Rattle.std.proofs.lemmas.List.{nil_from_length}
 use Rattle.std.proofs.lemmas.Bool.Decides.{nat_tests}
 use Rattle.cops_types.specs.declared.faults.Fault.{Fault}
-use Rattle.cops_types.specs.declared.faults.Fault.TheVariants.{BadKey, OutOfMemory, Syntax}
+use Rattle.cops_types.specs.declared.faults.Fault.TheVariants.{BadKey, Syntax}
 use Rattle.cops_types.specs.Key.{is_key}
-use Rattle.cops_types.specs.Refusal.{IsAnswer}
-use Rattle.cops_types.specs.Search.{first_refusal}
-use Rattle.cops_types.specs.TenantConfig.{TenantConfig}
-use Rattle.cops_model.specs.Session.{Session, get_refusal}
 use Rattle.cops_wire.specs.declared.messages.Message.{Message}
 use Rattle.cops_wire.specs.declared.messages.Message.TheVariants.{GetTrans}
 use Rattle.cops_wire.specs.Reading.{Reader, all_at, cells_at, counted_parts, get_at, message_of, number_at, parts_of_tag, text_at}
-use Rattle.cops_wire.specs.Requests.{naming_refusal, number_in, reading_refusal}
 use Rattle.cops_wire.specs.Running.{AreKeysOf}
 use Rattle.cops_wire.proofs.AllParts.{goes_on, is_done, with_front}
 
@@ -59,31 +53,27 @@ front_of front None all e = cc
 -- ---- keys
 
 -- no keys are read
-pub no_keys : (lists : List (List ℕ)) (count : ℕ) (read : Reader (List ℕ)) (bytes : List ℕ) → count ≡ 0 → all_at read count bytes ≡ Some (lists, []) → (keys : List (List ℕ)) → AreKeysOf lists (Err Syntax) keys
+pub no_keys : (lists : List (List ℕ)) (count : ℕ) (read : Reader (List ℕ)) (bytes : List ℕ) → count ≡ 0 → all_at read count bytes ≡ Some (lists, []) → (keys : List (List ℕ)) → AreKeysOf lists (Ok (Err Syntax)) keys
 unfolding all_at
 no_keys lists count read bytes e is keys =
     let none : lists ≡ [] = sym (ap (λ p. p.0) (some_same {A = List (List ℕ) × List ℕ} ([], bytes) (lists, []) (subst (λ n. all_at read n bytes ≡ Some (lists, [])) e is))) in
-    subst (λ l. AreKeysOf l (Err Syntax) keys) (sym none) (record { same = tt; refused = inr refl })
-
--- memory was refused
-pub keys_lack : (lists keys : List (List ℕ)) → AreKeysOf lists (Err OutOfMemory) keys
-keys_lack lists keys = record { same = tt; refused = inl refl }
+    subst (λ l. AreKeysOf l (Ok (Err Syntax)) keys) (sym none) (record { same = tt; told_is = refl })
 
 -- one is no key
 pub bad_key : (read : Reader (List ℕ)) (front : List (List ℕ)) (count i : ℕ) (bytes : List ℕ) (part after : List ℕ) (lists : List (List ℕ)) → i < count → read bytes ≡ Some (part, after)
-    → with_front front (all_at read (count - i) bytes) ≡ Some (lists, []) → is_key part ≡ false → (keys : List (List ℕ)) → AreKeysOf lists (Err BadKey) keys
+    → with_front front (all_at read (count - i) bytes) ≡ Some (lists, []) → is_key part ≡ false → (keys : List (List ℕ)) → AreKeysOf lists (Ok (Err BadKey)) keys
 bad_key read front count i bytes part after lists lt e so_far bad keys =
     let f = front_of (front ++ part ∷ []) (all_at read (count - (i + 1)) after) (lists, []) (goes_on read front count i bytes part after (Some (lists, [])) lt e so_far) in
     let some : nat_lt (length lists) 1 ≡ false = ap (λ l. nat_lt (length l) 1) f.1 ∙ some_length front f.0 part in
     let none : list_all is_key lists ≡ false = ap (list_all is_key) f.1 ∙ no_key front f.0 part bad in
-    record { same = tt; refused = inr (rw (some, none) refl) }
+    record { same = tt; told_is = rw (some, none) refl }
 
 -- that is how it is refused
 pub refused_key : (read : Reader (List ℕ)) (front : List (List ℕ)) (count i : ℕ) (bytes : List ℕ) (part after : List ℕ) (lists : List (List ℕ)) (fault : Fault) → i < count → read bytes ≡ Some (part, after)
-    → with_front front (all_at read (count - i) bytes) ≡ Some (lists, []) → Err fault ≡ cond (is_key part) (Ok part) (Err BadKey) → (keys : List (List ℕ)) → AreKeysOf lists (Err fault) keys
+    → with_front front (all_at read (count - i) bytes) ≡ Some (lists, []) → Err fault ≡ cond (is_key part) (Ok part) (Err BadKey) → (keys : List (List ℕ)) → AreKeysOf lists (Ok (Err fault)) keys
 refused_key read front count i bytes part after lists fault lt e so_far refused keys =
     let so = by_test (is_key part) refused in
-    subst (λ f. AreKeysOf lists (Err f) keys) (sym so.1) (bad_key read front count i bytes part after lists lt e so_far so.0 keys)
+    subst (λ f. AreKeysOf lists (Ok (Err f)) keys) (sym so.1) (bad_key read front count i bytes part after lists lt e so_far so.0 keys)
   where
     by_test : (b : Bool) → Err fault ≡ cond b (Ok part) (Err BadKey) → (b ≡ false) × (fault ≡ BadKey)
     by_test true e = cc
@@ -102,11 +92,11 @@ part_there read front count i bytes lists lt e so_far =
     none_some x e = cc
 
 -- of lists that are all keys
-pub keys_made : (keys lists : List (List ℕ)) → keys ≡ lists → 0 < length keys → list_all is_key keys ≡ true → AreKeysOf lists (Ok tt) keys
+pub keys_made : (keys lists : List (List ℕ)) → keys ≡ lists → 0 < length keys → list_all is_key keys ≡ true → AreKeysOf lists (Ok (Ok tt)) keys
 keys_made keys lists same some all =
-    subst (λ l. AreKeysOf l (Ok tt) keys) same (
+    subst (λ l. AreKeysOf l (Ok (Ok tt)) keys) same (
     let few : nat_lt (length keys) 1 ≡ false = by_length keys some in
-    record { same = refl; refused = rw (few, all) refl })
+    record { same = refl; told_is = rw (few, all) refl })
   where
     by_length : (l : List (List ℕ)) → 0 < length l → nat_lt (length l) 1 ≡ false
     by_length [] h = absurd (let none : ⊥ = omega (arith, h) in none)
@@ -114,7 +104,7 @@ keys_made keys lists same some all =
 
 -- all are keys
 pub all_keys : (read : Reader (List ℕ)) (keys : List (List ℕ)) (count i : ℕ) (bytes : List ℕ) (lists : List (List ℕ)) → count ≤ i → 0 < length keys
-    → with_front keys (all_at read (count - i) bytes) ≡ Some (lists, []) → list_all is_key keys ≡ true → AreKeysOf lists (Ok tt) keys
+    → with_front keys (all_at read (count - i) bytes) ≡ Some (lists, []) → list_all is_key keys ≡ true → AreKeysOf lists (Ok (Ok tt)) keys
 all_keys read keys count i bytes lists le some so_far all =
     let same : keys ≡ lists = sym (ap (λ p. p.0) (some_same {A = List (List ℕ) × List ℕ} (lists, []) (keys, bytes) (is_done read keys count i bytes (Some (lists, [])) le so_far))) in
     keys_made keys lists same some all
@@ -132,21 +122,3 @@ get_read bytes handle mid after rest count lists h n a = rw (h, n, a) refl
 pub get_found : (body rest left : List ℕ) (tag : ℕ) (message : Message) → body ≡ tag ∷ rest → tag ≡ 5 → get_at rest ≡ Some (message, left) → left ≡ [] → message_of body ≡ Some message
 unfolding message_of parts_of_tag
 get_found body rest left tag message b t g l = rw (b, t, g, l) refl
-
--- ---- refusals
-
--- what could not be made is refused so
-pub keys_refused : (config : TenantConfig) (handle : List ℕ) (lists : List (List ℕ)) (solo : Session) (made : Result Unit Fault) (keys : List (List ℕ)) (fault : Fault) → AreKeysOf lists made keys → made ≡ Err fault
-    → (fault ≡ OutOfMemory) ⊎ (reading_refusal config handle lists solo ≡ Some fault)
-keys_refused config handle lists solo made keys fault are e = by_cause (subst (λ r. IsAnswer (first_refusal ((nat_lt (length lists) 1, Syntax) ∷ (not (list_all is_key lists), BadKey) ∷ [])) r) e are.refused)
-  where
-    by_cause : (fault ≡ OutOfMemory) ⊎ (first_refusal ((nat_lt (length lists) 1, Syntax) ∷ (not (list_all is_key lists), BadKey) ∷ []) ≡ Some fault) → (fault ≡ OutOfMemory) ⊎ (reading_refusal config handle lists solo ≡ Some fault)
-    by_cause (inl lack) = inl lack
-    by_cause (inr is) = inr (ap (λ o. option_or o (option_or (naming_refusal handle solo) (get_refusal config (number_in handle) lists solo))) is)
-
--- the keys refuse nothing
-pub reading_named : (config : TenantConfig) (handle : List ℕ) (lists : List (List ℕ)) (solo : Session) (made : Result Unit Fault) (keys : List (List ℕ)) (done : Unit) → AreKeysOf lists made keys → made ≡ Ok done
-    → reading_refusal config handle lists solo ≡ option_or (naming_refusal handle solo) (get_refusal config (number_in handle) lists solo)
-reading_named config handle lists solo made keys done are e =
-    let none : first_refusal ((nat_lt (length lists) 1, Syntax) ∷ (not (list_all is_key lists), BadKey) ∷ []) ≡ None = subst (λ r. IsAnswer (first_refusal ((nat_lt (length lists) 1, Syntax) ∷ (not (list_all is_key lists), BadKey) ∷ [])) r) e are.refused in
-    ap (λ o. option_or o (option_or (naming_refusal handle solo) (get_refusal config (number_in handle) lists solo))) none

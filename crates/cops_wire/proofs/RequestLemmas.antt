@@ -1,25 +1,24 @@
 -- Requests that were begun or refused are answered as the definition says.
-use Rattle.std.proofs.Common.{◌≡◌, ◌⊎◌, ℕ, ◌≤◌, Bool, true, false, cond, List, [], ◌∷◌, length, inl, inr, refl, sym, ap, subst, ◌∙◌, arith}
-use Rattle.std.specs.Prelude.{Option, Some, None, Result, Ok, Err, OnErr, OnOk, not, nat_lt}
+use Rattle.std.proofs.Common.{◌≡◌, ℕ, ◌≤◌, Bool, true, false, cond, List, [], ◌∷◌, length, inl, inr, refl, sym, ap, subst, ◌∙◌, arith}
+use Rattle.std.specs.Prelude.{Option, Some, None, Result, Ok, Err, IfOk, OnErr, OnOk, not, nat_lt}
+use Rattle.std.specs.declared.alloc.AllocError.{AllocError}
 use Rattle.std.specs.Option.{option_or}
 use Rattle.std.proofs.lemmas.Bool.Decides.{nat_tests}
 use Rattle.cops_types.specs.declared.faults.Fault.{Fault}
-use Rattle.cops_types.specs.declared.faults.Fault.TheVariants.{BadKey, Busy, IdsSpent, NoContext, OutOfMemory, RepeatedKey, Syntax, TooManyKeys, ValueTooLong}
-use Rattle.cops_types.specs.Key.{is_key}
-use Rattle.cops_types.specs.Refusal.{IsAnswer, refused_if}
+use Rattle.cops_types.specs.declared.faults.Fault.TheVariants.{Busy, IdsSpent, NoContext, OutOfMemory, RepeatedKey, Syntax, TooManyKeys}
 use Rattle.cops_types.specs.Search.{first_refusal}
 use Rattle.cops_types.specs.TenantConfig.{TenantConfig}
-use Rattle.cops_types.specs.Value.{is_too_long}
 use Rattle.cops_model.specs.declared.calls.NodeCall.{NodeCall}
 use Rattle.cops_model.specs.declared.calls.NodeId.{NodeId}
 use Rattle.cops_model.specs.declared.calls.NodeReply.{NodeReply}
 use Rattle.cops_session.specs.Kept.{KeptSession}
 use Rattle.cops_model.specs.Request.{Action}
-use Rattle.cops_model.specs.Session.{Session, has_repeats, is_busy, is_open, request_begun, session_put_refusal, is_spent}
+use Rattle.cops_model.specs.Session.{Session, has_repeats, is_busy, is_open, request_begun, is_spent}
+use Rattle.cops_session.specs.Refusals.{told_refusal}
 use Rattle.cops_session.specs.SessionStands.{SessionStandsFor}
 use Rattle.cops_wire.specs.declared.messages.Message.{Message}
 use Rattle.cops_wire.specs.declared.messages.Message.TheVariants.{Refused}
-use Rattle.cops_wire.specs.Requests.{Answers, AnswersSo, Backend, Becomes, Ends, HasAnswered, HasFewRestarts, Runs, UnlessRefused, backend, message_of_answer, naming_refusal, number_in, reading_refusal, writing_refusal}
+use Rattle.cops_wire.specs.Requests.{Answers, AnswersSo, Backend, Becomes, Ends, HasAnswered, HasFewRestarts, Runs, UnlessRefused, backend, message_of_answer, number_in, reading_refusal}
 use Rattle.cops_wire.specs.Running.{HasFewKeys, HasRun, IsRequestDone, IsTold}
 
 -- ---- refusals
@@ -31,35 +30,6 @@ ok_if false x y e is = cc
 pub ok_same : {A E : Type 0} (b : Bool) (x y : A) (e : E) → Ok x ≡ cond b (Ok y) (Err e) → x ≡ y
 ok_same true x y e is = cc
 ok_same false x y e is = cc
-
--- a put is refused as the session refuses it, where nothing else does
-writing_refused_so : (config : TenantConfig) (handle key value : List ℕ) (session : Session) (fault : Fault) → is_key key ≡ true → refused_if (is_too_long value) ValueTooLong ≡ None
-    → naming_refusal handle session ≡ None → (fault ≡ OutOfMemory) ⊎ (session_put_refusal config (number_in handle) key session ≡ Some fault)
-    → (fault ≡ OutOfMemory) ⊎ (writing_refusal config handle key value session ≡ Some fault)
-writing_refused_so config handle key value session fault is short named refused = by_cause refused
-  where
-    first : first_refusal ((not (is_key key), BadKey) ∷ (is_too_long value, ValueTooLong) ∷ []) ≡ None
-    first = ap (λ b. first_refusal ((not b, BadKey) ∷ (is_too_long value, ValueTooLong) ∷ [])) is ∙ short
-
-    same : writing_refusal config handle key value session ≡ session_put_refusal config (number_in handle) key session
-    same =
-        ap (λ o. option_or o (option_or (naming_refusal handle session) (session_put_refusal config (number_in handle) key session))) first
-        ∙ ap (λ o. option_or o (session_put_refusal config (number_in handle) key session)) named
-
-    by_cause : (fault ≡ OutOfMemory) ⊎ (session_put_refusal config (number_in handle) key session ≡ Some fault) → (fault ≡ OutOfMemory) ⊎ (writing_refusal config handle key value session ≡ Some fault)
-    by_cause (inl e) = inl e
-    by_cause (inr e) = inr (same ∙ e)
-
--- that is so of what was made of the message
-pub writing_refused : (config : TenantConfig) (handle key value : List ℕ) (session : Session) (fault : Fault) (key_text value_text made : List ℕ) (context : ℕ) → key_text ≡ key → value_text ≡ value
-    → Ok made ≡ cond (is_key key_text) (Ok key_text) (Err BadKey) → refused_if (is_too_long value_text) ValueTooLong ≡ None → naming_refusal handle session ≡ None → context ≡ number_in handle
-    → (fault ≡ OutOfMemory) ⊎ (session_put_refusal config context made session ≡ Some fault)
-    → (fault ≡ OutOfMemory) ⊎ (writing_refusal config handle key value session ≡ Some fault)
-writing_refused config handle key value session fault key_text value_text made context k v is short named number refused =
-    let same : made ≡ key = ok_same (is_key key_text) made key_text BadKey is ∙ k in
-    writing_refused_so config handle key value session fault (sym (ap is_key k) ∙ ok_if (is_key key_text) made key_text BadKey is) (sym (ap (λ t. refused_if (is_too_long t) ValueTooLong) v) ∙ short) named
-    (subst (λ n. (fault ≡ OutOfMemory) ⊎ (session_put_refusal config n key session ≡ Some fault)) number
-    (subst (λ t. (fault ≡ OutOfMemory) ⊎ (session_put_refusal config context t session ≡ Some fault)) same refused))
 
 -- no refusal comes from either
 or_none : {A : Type 0} (a b : Option A) → option_or a b ≡ None → (a ≡ None) × (b ≡ None)
@@ -89,6 +59,13 @@ module _ {N M : Type 0} (Calls : N → NodeId → ℕ → ℕ → NodeCall → N
   told_so config slot (Some fault) old then_be after nodes moments told reply is = (is.0, ap (λ (s : Session). backend s nodes moments) is.1)
   told_so config slot None old then_be after nodes moments told reply is = (is.0, ap (λ (s : Session). backend s nodes moments) is.1)
 
+  -- a request that lacks memory changes nothing
+  pub answered_by_lack : (request : Message) (old new : KeptSession) (nodes : N) (moments : M) → new ≡ old → HasAnswered Calls GivesMoment (backend old nodes moments) request (Refused OutOfMemory) (backend new nodes moments)
+  answered_by_lack request old new nodes moments same = record {
+    setting = ap (λ (k : KeptSession). k.setting) same;
+    answers = λ config session restarts stands. (session, subst (λ (k : KeptSession). SessionStandsFor config k session) (sym same) stands, inl (refl, refl));
+  }
+
   -- a request that has its effect at once
   pub answered_at_once : (request : Message) (refusal : TenantConfig → Session → Option Fault) (then_be : Session → Session) (tells : Session → Message)
       → ((config : TenantConfig) (slot : ℕ) (old new : Backend Session N M) (reply : Message)
@@ -103,12 +80,8 @@ module _ {N M : Type 0} (Calls : N → NodeId → ℕ → ℕ → NodeCall → N
         let d = done config session stands in (
           d.after,
           d.stands,
-          elim d.told_is [
-            | inl lack ↦ inl (lack.0, ap (λ (s : Session). backend s nodes moments) lack.1)
-            | inr is ↦
-                inr (so config old.setting.slot (backend session nodes moments) (backend d.after nodes moments) reply
-                (told_so config old.setting.slot (refusal config session) session (then_be session) d.after nodes moments (tells session) reply is))
-          ],
+          inr (so config old.setting.slot (backend session nodes moments) (backend d.after nodes moments) reply
+              (told_so config old.setting.slot (refusal config session) session (then_be session) d.after nodes moments (tells session) reply d.told_is)),
         );
   }
 
@@ -118,20 +91,21 @@ module _ {N M : Type 0} (Calls : N → NodeId → ℕ → ℕ → NodeCall → N
       → UnlessRefused Calls GivesMoment config slot (refusal config old.session) old reply new (Runs Calls GivesMoment config slot old context action reply new)
       → AnswersSo Calls GivesMoment config slot old request reply new)
       → ((config : TenantConfig) (session : Session) → refusal config session ≡ None → HasFewKeys action)
-      → (old mid : KeptSession) (new : Backend KeptSession N M) (nodes : N) (moments : M) (begun : Result Unit Fault) (IsPut : Message → Type 0)
+      → (old mid : KeptSession) (new : Backend KeptSession N M) (nodes : N) (moments : M) (begun : Result (Result Unit Fault) AllocError) (IsPut : Message → Type 0)
       → mid.setting ≡ old.setting → new.session.setting ≡ mid.setting
-      → ((config : TenantConfig) (session : Session) → SessionStandsFor config old session → IsAnswer (refusal config session) begun)
-      → ((config : TenantConfig) (session : Session) → SessionStandsFor config old session → OnOk begun (SessionStandsFor config mid (request_begun context action session)))
+      → ((config : TenantConfig) (session : Session) → SessionStandsFor config old session → OnOk begun (refusal config session ≡ told_refusal begun))
+      → ((config : TenantConfig) (session : Session) → SessionStandsFor config old session → IfOk begun (λ told. OnOk told (SessionStandsFor config mid (request_begun context action session))))
+      → IfOk begun (λ told. OnErr told (mid ≡ old))
       → OnErr begun (mid ≡ old)
       → HasRun Calls GivesMoment (backend mid nodes moments) begun new IsPut
       → (reply : Message) × HasAnswered Calls GivesMoment (backend old nodes moments) request reply new × IsPut reply
-  answered_by_steps request refusal context action so few old mid new nodes moments (Ok done) IsPut same later refused begins err ran =
+  answered_by_steps request refusal context action so few old mid new nodes moments (Ok (Ok done)) IsPut same later told begins refused err ran =
       (message_of_answer ran.0, record { setting = later ∙ same; answers = answers }, ran.1)
     where
       answers : (config : TenantConfig) (session : Session) → HasFewRestarts config → SessionStandsFor config old session → (after : Session) × SessionStandsFor config new.session after
           × Answers Calls GivesMoment config old.setting.slot (backend session nodes moments) request (message_of_answer ran.0) (backend after new.nodes new.moments)
       answers config session restarts stands =
-          let none = refused config session stands in
+          let none = told config session stands in
           let from = backend (request_begun context action session) nodes moments in
           let ended = ran.2 config (request_begun context action session) _ restarts (begins config session stands) refl refl (few config session none) in
           let ends : Ends Calls GivesMoment config old.setting.slot from ran.0 (backend ended.after new.nodes new.moments) =
@@ -142,11 +116,11 @@ module _ {N M : Type 0} (Calls : N → NodeId → ℕ → ℕ → NodeCall → N
                 (subst (λ o. UnlessRefused Calls GivesMoment config old.setting.slot o (backend session nodes moments) (message_of_answer ran.0) (backend ended.after new.nodes new.moments)
                 (Runs Calls GivesMoment config old.setting.slot (backend session nodes moments) context action (message_of_answer ran.0) (backend ended.after new.nodes new.moments))) (sym none) (ran.0, refl, ends))),
           )
-  answered_by_steps request refusal context action so few old mid new nodes moments (Err fault) IsPut same later refused begins err ran =
+  answered_by_steps request refusal context action so few old mid new nodes moments (Ok (Err fault)) IsPut same later told begins refused err ran =
       (Refused fault, record { setting = ap (λ (b : Backend KeptSession N M). b.session.setting) ran.1 ∙ same; answers = answers }, ran.0)
     where
       stays : new ≡ backend old nodes moments
-      stays = ran.1 ∙ ap (λ (k : KeptSession). backend k nodes moments) err
+      stays = ran.1 ∙ ap (λ (k : KeptSession). backend k nodes moments) refused
 
       answers : (config : TenantConfig) (session : Session) → HasFewRestarts config → SessionStandsFor config old session → (after : Session) × SessionStandsFor config new.session after
           × Answers Calls GivesMoment config old.setting.slot (backend session nodes moments) request (Refused fault) (backend after new.nodes new.moments)
@@ -154,11 +128,12 @@ module _ {N M : Type 0} (Calls : N → NodeId → ℕ → ℕ → NodeCall → N
           let same_backend : backend session new.nodes new.moments ≡ backend session nodes moments = ap (λ (b : Backend KeptSession N M). backend session b.nodes b.moments) stays in (
             session,
             subst (λ (b : Backend KeptSession N M). SessionStandsFor config b.session session) (sym stays) stands,
-            elim (refused config session stands) [
-              | inl lack ↦ inl (ap Refused lack, same_backend)
-              | inr is ↦
-                  inr (so config old.setting.slot (backend session nodes moments) (backend session new.nodes new.moments) (Refused fault)
-                  (subst (λ o. UnlessRefused Calls GivesMoment config old.setting.slot o (backend session nodes moments) (Refused fault) (backend session new.nodes new.moments)
-                  (Runs Calls GivesMoment config old.setting.slot (backend session nodes moments) context action (Refused fault) (backend session new.nodes new.moments))) (sym is) (refl, same_backend)))
-            ],
+            inr (so config old.setting.slot (backend session nodes moments) (backend session new.nodes new.moments) (Refused fault)
+                (subst (λ o. UnlessRefused Calls GivesMoment config old.setting.slot o (backend session nodes moments) (Refused fault) (backend session new.nodes new.moments)
+                (Runs Calls GivesMoment config old.setting.slot (backend session nodes moments) context action (Refused fault) (backend session new.nodes new.moments))) (sym (told config session stands)) (refl, same_backend))),
           )
+  answered_by_steps request refusal context action so few old mid new nodes moments (Err error) IsPut same later told begins refused err ran = (
+    Refused OutOfMemory,
+    subst (λ b. HasAnswered Calls GivesMoment (backend old nodes moments) request (Refused OutOfMemory) b) (sym ran.1) (answered_by_lack request old mid nodes moments err),
+    ran.0,
+  )

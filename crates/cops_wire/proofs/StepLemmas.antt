@@ -42,9 +42,9 @@ module _ {N M : Type 0} (Calls : N → NodeId → ℕ → ℕ → NodeCall → N
       → stepping.DoesNext (λ id call reply. Calls old id slot moment call reply new) (new ≡ old) config session running moment shown kept n
       → (after : Session) × SessionStandsFor config kept after × DoesNext Keeps GivesMoment config slot session running moment old n shown after new
   does_next Keeps session running moment old new shown kept (Call directed) keeps d =
-      (session_after session running (record { moment = moment; outcome = Replied d.0 }) shown, d.2.stands, (d.0, keeps directed.node directed.call d.0 d.1, record { shown_is = d.2.shown_is; after_is = refl }))
+      (session_after session running (record { moment = moment; outcome = Replied d.0 }) shown, d.2.stands, (d.0, keeps directed.node directed.call d.0 d.1, record { shown_is = d.2.shown_is; wants = d.2.wants; after_is = refl }))
   does_next Keeps session running moment old new shown kept Restart keeps d =
-      (session_after session running (record { moment = moment; outcome = Late }) shown, d.1.stands, (d.0, record { shown_is = d.1.shown_is; after_is = refl }))
+      (session_after session running (record { moment = moment; outcome = Late }) shown, d.1.stands, (d.0, record { shown_is = d.1.shown_is; wants = d.1.wants; after_is = refl }))
   does_next Keeps session running moment old new shown kept (Ended answer) keeps d = absurd d
 
   -- whatever the step is told to have shown

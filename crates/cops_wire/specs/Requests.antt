@@ -25,6 +25,7 @@ use Rattle.cops_session.specs.Kept.{KeptSession}
 use Rattle.cops_model.specs.Request.{Action, Write, Fetch, next}
 use Rattle.cops_model.specs.Session.{Running, Session, context_created, context_deleted, context_refusal, create_refusal, get_refusal, is_busy, moment_at, progress, request_begun, request_of, session_after, session_put_refusal}
 use Rattle.cops_session.specs.SessionStands.{SessionStandsFor}
+use Rattle.cops_session.specs.Wants.{WantsMemory}
 use Rattle.cops_wire.specs.declared.messages.Link.{Link}
 use Rattle.cops_wire.specs.declared.messages.Message.{Message}
 use Rattle.cops_wire.specs.declared.messages.Message.TheVariants.{CreateContext, DeleteContext, Put, GetTrans, Created, Deleted, Stored, Values, Refused}
@@ -117,9 +118,10 @@ pub record Backend (S N M : Type 0) : Type 0 where
 abbrev pub backend : {S N M : Type 0} → S → N → M → Backend S N M
 backend session nodes moments = record { session = session; nodes = nodes; moments = moments }
 
--- what the step shows, and the session after it; that memory was refused may come in place of what it shows
+-- what the step shows, and the session after it; that memory was refused may come in place of what it shows, only where memory was wanted
 pub record HasShown (config : TenantConfig) (session : Session) (running : Running) (step : LogStep) (shown : Progress) (after : Session) : Type 0 where
   pub shown_is : (shown ≡ progress config (request_of session running) running.log step) ⊎ (shown ≡ Done (answer.Refused OutOfMemory))
+  pub wants : shown ≡ Done (answer.Refused OutOfMemory) → WantsMemory config (request_of session running) running.log step running.action
   pub after_is : after ≡ session_after session running step shown
 
 -- the request goes on

@@ -1,11 +1,10 @@
 -- The steps of a session that is kept, for each session of the definition that it stands for.
-use Rattle.std.specs.Prelude.{◌≡◌, ◌⊎◌, ◌≤◌, ◌++◌, ℕ, nat_lt, not, length, List, [], ◌∷◌, Option, Some, None, Result, Ok, Err, OnOk, OnErr}
+use Rattle.std.specs.Prelude.{◌≡◌, ◌≤◌, ◌++◌, ℕ, nat_lt, not, length, List, [], ◌∷◌, Option, Some, None, Result, Ok, Err, IfOk, OnOk, OnErr}
 use Rattle.std.specs.List.{list_all}
 use Rattle.std.specs.declared.alloc.AllocError.{AllocError}
 use Rattle.cops_types.specs.declared.faults.Fault.{Fault}
 use Rattle.cops_types.specs.declared.faults.Fault.TheVariants.{BadKey, OutOfMemory, Syntax}
 use Rattle.cops_types.specs.Key.{is_key}
-use Rattle.cops_types.specs.Refusal.{IsAnswer}
 use Rattle.cops_types.specs.Search.{first_refusal}
 use Rattle.cops_types.specs.TenantConfig.{TenantConfig}
 use Rattle.cops_model.specs.declared.calls.NodeCall.{NodeCall}
@@ -17,6 +16,7 @@ use Rattle.cops_model.specs.declared.requests.Progress.{Progress}
 use Rattle.cops_session.specs.Kept.{KeptSession}
 use Rattle.cops_model.specs.Request.{Action, Write, Fetch}
 use Rattle.cops_model.specs.Session.{Running, Session}
+use Rattle.cops_session.specs.Refusals.{told_refusal}
 use Rattle.cops_session.specs.SessionStands.{SessionStandsFor}
 use Rattle.cops_wire.specs.declared.messages.Message.{Message}
 use Rattle.cops_wire.specs.declared.messages.Message.TheVariants.{Refused}
@@ -50,7 +50,7 @@ module _ {N M : Type 0} (Calls : N → NodeId → ℕ → ℕ → NodeCall → N
 
 -- ---- requests
 
--- the request was refused and changed nothing, or had its effect at once; that memory was refused may come in place of either
+-- the request was refused and changed nothing, or had its effect at once
 abbrev pub IsTold : Option Fault → Session → Session → Message → Session → Message → Type 0
 IsTold (Some fault) old then_be told after reply = (reply ≡ Refused fault) × (after ≡ old)
 IsTold None old then_be told after reply = (reply ≡ told) × (after ≡ then_be)
@@ -58,24 +58,25 @@ IsTold None old then_be told after reply = (reply ≡ told) × (after ≡ then_b
 pub record IsRequestDone (config : TenantConfig) (refusal : Option Fault) (old then_be : Session) (told : Message) (kept : KeptSession) (reply : Message) : Type 0 where
   pub after : Session
   pub stands : SessionStandsFor config kept after
-  pub told_is : ((reply ≡ Refused OutOfMemory) × (after ≡ old)) ⊎ IsTold refusal old then_be told after reply
+  pub told_is : IsTold refusal old then_be told after reply
 
--- the keys were made of these lists, unless there are none or one is no key
-pub record AreKeysOf (lists : List (List ℕ)) (made : Result Unit Fault) (keys : List (List ℕ)) : Type 0 where
-  pub same : OnOk made (keys ≡ lists)
-  pub refused : IsAnswer (first_refusal ((nat_lt (length lists) 1, Syntax) ∷ (not (list_all is_key lists), BadKey) ∷ [])) made
+-- the keys were made of these lists, unless there are none or one is no key; or there was no memory
+pub record AreKeysOf (lists : List (List ℕ)) (made : Result (Result Unit Fault) AllocError) (keys : List (List ℕ)) : Type 0 where
+  pub same : IfOk made (λ told. OnOk told (keys ≡ lists))
+  pub told_is : OnOk made (first_refusal ((nat_lt (length lists) 1, Syntax) ∷ (not (list_all is_key lists), BadKey) ∷ []) ≡ told_refusal made)
 
 -- the frame of a reply was put at the end, or nothing for want of memory
 abbrev pub PutsFrame : Result Unit AllocError → List ℕ → List ℕ → Message → Type 0
 PutsFrame result old new reply = OnOk result (new ≡ old ++ spelling reply) × OnErr result (new ≡ old)
 
--- What was begun ran to its answer, from whatever the kept session stood for; what was refused changed nothing.
-abbrev pub HasRun : {N M : Type 0} → (N → NodeId → ℕ → ℕ → NodeCall → NodeReply → N → Type 0) → (M → ℕ → M → Type 0) → Backend KeptSession N M → Result Unit Fault → Backend KeptSession N M → (Message → Type 0) → Type 0
-HasRun Calls GivesMoment old (Ok begun) new IsPut =
+-- What was begun ran to its answer, from whatever the kept session stood for; what was refused, or lacked memory, changed nothing.
+abbrev pub HasRun : {N M : Type 0} → (N → NodeId → ℕ → ℕ → NodeCall → NodeReply → N → Type 0) → (M → ℕ → M → Type 0) → Backend KeptSession N M → Result (Result Unit Fault) AllocError → Backend KeptSession N M → (Message → Type 0) → Type 0
+HasRun Calls GivesMoment old (Ok (Ok begun)) new IsPut =
     (answer : Answer) × IsPut (message_of_answer answer)
     × ((config : TenantConfig) (session : Session) (running : Running) → HasFewRestarts config → SessionStandsFor config old.session session → session.running ≡ Some running → running.log ≡ [] → HasFewKeys running.action →
     HasEnded Calls GivesMoment config old.session.setting.slot (backend session old.nodes old.moments) new.session new.nodes new.moments answer)
-HasRun Calls GivesMoment old (Err fault) new IsPut = IsPut (Refused fault) × (new ≡ old)
+HasRun Calls GivesMoment old (Ok (Err fault)) new IsPut = IsPut (Refused fault) × (new ≡ old)
+HasRun Calls GivesMoment old (Err error) new IsPut = IsPut (Refused OutOfMemory) × (new ≡ old)
 
 -- the reply that gives the answer was put at the end if there is one; otherwise nothing was
 abbrev pub PutsAnswer : Option (Result Unit AllocError) → List ℕ → List ℕ → Option Answer → Type 0

@@ -1,10 +1,11 @@
 //! The requests of a client, as its session answers them.
-ghost use Rattle.std.specs.Prelude.{◌≡◌, ℕ, List, [], Some, None, IsTrue, OnOk, OnErr, IfOk, MatchResult, not, ◌++◌};
-ghost use Rattle.cops_types.specs.Refusal.{IsAnswer};
+ghost use Rattle.std.specs.Prelude.{◌≡◌, ℕ, List, [], Some, None, true, IsTrue, OnOk, OnErr, IfOk, MatchResult, not, ◌++◌};
+ghost use Rattle.cops_types.specs.Key.{is_key};
 ghost use Rattle.cops_types.specs.TenantConfig.{TenantConfig};
 ghost use Rattle.cops_session.specs.Kept.{IsOfSizes};
 ghost use Rattle.cops_model.specs.Request.{Write, Fetch};
 ghost use Rattle.cops_model.specs.Session.{Session as SoloSession, context_created, context_deleted, create_refusal, request_begun};
+ghost use Rattle.cops_session.specs.Refusals.{told_refusal};
 ghost use Rattle.cops_session.specs.SessionStands.{SessionStandsFor};
 ghost use Rattle.cops_wire.specs.declared.messages.Message.{Message};
 ghost use Rattle.cops_wire.specs.Fitting.{CanBeWritten};
@@ -20,7 +21,7 @@ use crate::messages::Message;
 use crate::moments::Moments;
 use crate::reading::Unseen;
 use crate::steps::finish;
-use crate::writing::{encode, push_refusal};
+use crate::writing::{encode, push_lack, push_refusal};
 use cops_handles::Handle;
 use cops_node::Nodes;
 use cops_session::{Contexts, Session};
@@ -39,17 +40,18 @@ fn context_of(session: &Session, handle: &[u8; 9]) -> Result<Handle<Contexts>, F
     Handle::from_wire(*handle)
 }
 
-/// Opens a context, and tells its handle.
-fn create(session: &mut Session) -> Message
+/// Opens a context, and tells its handle. That there was no memory is the error.
+fn create(session: &mut Session) -> Result<Message, AllocError>
     ensures created { (config : TenantConfig) (solo : SoloSession) → SessionStandsFor config session.old solo →
-        IsRequestDone config (create_refusal config solo) solo (context_created solo) (Message.Created (wire_of context_tag solo.next_context)) session.new result }
+        IfOk result (λ reply. IsRequestDone config (create_refusal config solo) solo (context_created solo) (Message.Created (wire_of context_tag solo.next_context)) session.new reply) }
     ensures setting { session.new.setting ≡ session.old.setting }
-    ensures fits { CanBeWritten result }
+    ensures fits { IfOk result (λ reply. CanBeWritten reply) }
+    ensures allowed { (config : TenantConfig) (solo : SoloSession) → SessionStandsFor config session.old solo → OnErr result (create_refusal config solo ≡ None) }
+    ensures err { OnErr result (session.new ≡ session.old) }
 {
-    match session.create_context() {
-        Ok(Ok(context)) => Message::Created(context.to_wire()),
-        Ok(Err(fault)) => Message::Refused(fault),
-        Err(error) => Message::Refused(Fault::from(error)),
+    match session.create_context()? {
+        Ok(context) => Ok(Message::Created(context.to_wire())),
+        Err(fault) => Ok(Message::Refused(fault)),
     }
 }
 
@@ -57,7 +59,8 @@ fn create(session: &mut Session) -> Message
 fn close(session: &mut Session, handle: &[u8; 9]) -> Result<(), Fault>
     ensures closed { (config : TenantConfig) (solo : SoloSession) → SessionStandsFor config session.old solo →
         OnOk result (SessionStandsFor config session.new (context_deleted (number_in handle.now) solo)) }
-    ensures refused { (config : TenantConfig) (solo : SoloSession) → SessionStandsFor config session.old solo → IsAnswer (deletion_refusal handle.now solo) result }
+    ensures refused { (config : TenantConfig) (solo : SoloSession) → SessionStandsFor config session.old solo →
+        MatchResult result (λ _. deletion_refusal handle.now solo ≡ None) (λ fault. deletion_refusal handle.now solo ≡ Some fault) }
     ensures setting { session.new.setting ≡ session.old.setting }
     ensures err { OnErr result (session.new ≡ session.old) }
 {
@@ -78,103 +81,124 @@ fn delete(session: &mut Session, handle: &[u8; 9]) -> Message
     }
 }
 
-/// Begins a put.
+/// Begins a put. That there was no memory is the error, where the key is one.
 fn begin_put(
     alloc: Global,
     session: &mut Session,
     handle: &[u8; 9],
     key: &[u8],
     value: &[u8],
-) -> Result<(), Fault>
+) -> Result<Result<(), Fault>, AllocError>
     ensures begun { (config : TenantConfig) (solo : SoloSession) → SessionStandsFor config session.old solo →
-        OnOk result (SessionStandsFor config session.new (request_begun (number_in handle.now) (Write key.now value.now) solo)) }
-    ensures refused { (config : TenantConfig) (solo : SoloSession) → SessionStandsFor config session.old solo →
-        IsAnswer (writing_refusal config handle.now key.now value.now solo) result }
+        IfOk result (λ told. OnOk told (SessionStandsFor config session.new (request_begun (number_in handle.now) (Write key.now value.now) solo))) }
+    ensures told { (config : TenantConfig) (solo : SoloSession) → SessionStandsFor config session.old solo →
+        OnOk result (writing_refusal config handle.now key.now value.now solo ≡ told_refusal result) }
+    ensures allowed { OnErr result (is_key key.now ≡ true) }
     ensures setting { session.new.setting ≡ session.old.setting }
+    ensures refused { IfOk result (λ told. OnErr told (session.new ≡ session.old)) }
     ensures err { OnErr result (session.new ≡ session.old) }
 {
-    let key = Key::new(key)?;
-    let value = Value::new(alloc, value)?;
-    let context = context_of(session, handle)?;
-    match session.begin_put(context, key, value) {
-        Ok(Ok(_)) => Ok(()),
-        Ok(Err(fault)) => Err(fault),
-        Err(error) => Err(Fault::from(error)),
+    let key = match Key::new(key) {
+        Ok(key) => key,
+        Err(fault) => return Ok(Err(fault)),
+    };
+    let value = match Value::new(alloc, value) {
+        Ok(value) => value,
+        Err(Fault::OutOfMemory) => return Err(AllocError),
+        Err(fault) => return Ok(Err(fault)),
+    };
+    let context = match context_of(session, handle) {
+        Ok(context) => context,
+        Err(fault) => return Ok(Err(fault)),
+    };
+    match session.begin_put(context, key, value)? {
+        Ok(_) => Ok(Ok(())),
+        Err(fault) => Ok(Err(fault)),
     }
 }
 
 /// Makes keys of these lists, where each is one and there are some.
 ///
-/// They take the place of those that stood there, in the same room.
-fn take_keys(keys: &mut Vec<Key>, lists: &ByteLists) -> Result<(), Fault>
+/// They take the place of those that stood there, in the same room. That there was no memory is the error.
+fn take_keys(keys: &mut Vec<Key>, lists: &ByteLists) -> Result<Result<(), Fault>, AllocError>
     ensures { AreKeysOf lists.now result keys.new.items }
 {
     let lists = lists.as_slice();
     if lists.is_empty() {
-        return Err(Fault::Syntax);
+        return Ok(Err(Fault::Syntax));
     }
     keys.clear();
     for list in lists {
-        let key = Key::new(list.as_slice())?;
-        if keys.push(key).is_err() {
-            return Err(Fault::OutOfMemory);
+        match Key::new(list.as_slice()) {
+            Ok(key) => keys.push(key)?,
+            Err(fault) => return Ok(Err(fault)),
         }
     }
-    Ok(())
+    Ok(Ok(()))
 }
 
 /// Makes keys of those that lie behind one another, where each is one and there are some.
 ///
-/// They take the place of those that stood there, in the same room.
-fn take_keys_at(keys: &mut Vec<Key>, count: u8, bytes: &[u8]) -> Result<(), Fault>
+/// They take the place of those that stood there, in the same room. That there was no memory is the error.
+fn take_keys_at(
+    keys: &mut Vec<Key>,
+    count: u8,
+    bytes: &[u8],
+) -> Result<Result<(), Fault>, AllocError>
     ensures { (lists : List (List ℕ)) → all_at (text_at 1) count bytes.now ≡ Some (lists, []) → AreKeysOf lists result keys.new.items }
 {
     if count == 0 {
-        return Err(Fault::Syntax);
+        return Ok(Err(Fault::Syntax));
     }
     keys.clear();
     let mut unseen = Unseen::of(bytes);
     for _ in 0..count {
         let Some(bytes) = unseen.next_key() else {
-            return Err(Fault::Syntax);
+            return Ok(Err(Fault::Syntax));
         };
-        let key = Key::new(bytes)?;
-        if keys.push(key).is_err() {
-            return Err(Fault::OutOfMemory);
+        match Key::new(bytes) {
+            Ok(key) => keys.push(key)?,
+            Err(fault) => return Ok(Err(fault)),
         }
     }
-    Ok(())
+    Ok(Ok(()))
 }
 
-/// Begins a get transaction of keys that were made of its lists.
+/// Begins a get transaction of keys that were made of its lists. That there was no memory, for them or for what is begun, is the
+/// error.
 fn begin_get(
     session: &mut Session,
     handle: &[u8; 9],
-    made: Result<(), Fault>,
+    made: Result<Result<(), Fault>, AllocError>,
     keys: &[Key],
-) -> Result<(), Fault>
+) -> Result<Result<(), Fault>, AllocError>
     ensures begun { (lists : List (List ℕ)) → AreKeysOf lists made keys.now → (config : TenantConfig) (solo : SoloSession) → SessionStandsFor config session.old solo →
-        OnOk result (SessionStandsFor config session.new (request_begun (number_in handle.now) (Fetch lists) solo)) }
-    ensures refused { (lists : List (List ℕ)) → AreKeysOf lists made keys.now → (config : TenantConfig) (solo : SoloSession) → SessionStandsFor config session.old solo →
-        IsAnswer (reading_refusal config handle.now lists solo) result }
+        IfOk result (λ told. OnOk told (SessionStandsFor config session.new (request_begun (number_in handle.now) (Fetch lists) solo))) }
+    ensures told { (lists : List (List ℕ)) → AreKeysOf lists made keys.now → (config : TenantConfig) (solo : SoloSession) → SessionStandsFor config session.old solo →
+        OnOk result (reading_refusal config handle.now lists solo ≡ told_refusal result) }
     ensures setting { session.new.setting ≡ session.old.setting }
+    ensures refused { IfOk result (λ told. OnErr told (session.new ≡ session.old)) }
     ensures err { OnErr result (session.new ≡ session.old) }
 {
-    made?;
-    let context = context_of(session, handle)?;
-    match session.begin_get_trans(context, keys) {
-        Ok(Ok(_)) => Ok(()),
-        Ok(Err(fault)) => Err(fault),
-        Err(error) => Err(Fault::from(error)),
+    if let Err(fault) = made? {
+        return Ok(Err(fault));
+    }
+    let context = match context_of(session, handle) {
+        Ok(context) => context,
+        Err(fault) => return Ok(Err(fault)),
+    };
+    match session.begin_get_trans(context, keys)? {
+        Ok(_) => Ok(Ok(())),
+        Err(fault) => Ok(Err(fault)),
     }
 }
 
-/// Takes the steps of a request that was begun, and puts its reply, or that it was refused, at the end.
+/// Takes the steps of a request that was begun, and puts its reply, or that it was refused or lacked memory, at the end.
 fn run<N: Nodes, M: Moments>(
     session: &mut Session,
     nodes: &mut N,
     moments: &mut M,
-    begun: Result<(), Fault>,
+    begun: Result<Result<(), Fault>, AllocError>,
     out: &mut Vec<u8>,
 ) -> Result<(), AllocError>
     requires fits { IsOfSizes (N.shape nodes.old).data_centres (N.shape nodes.old).shards session.old.setting }
@@ -183,8 +207,9 @@ fn run<N: Nodes, M: Moments>(
     ensures shape { N.shape nodes.new ≡ N.shape nodes.old }
 {
     match begun {
-        Ok(()) => finish(session, nodes, moments, out),
-        Err(fault) => push_refusal(out, fault),
+        Ok(Ok(())) => finish(session, nodes, moments, out),
+        Ok(Err(fault)) => push_refusal(out, fault),
+        Err(error) => push_lack(out, error),
     }
 }
 
@@ -216,7 +241,7 @@ fn answer_get<N: Nodes, M: Moments>(
     nodes: &mut N,
     moments: &mut M,
     handle: &[u8; 9],
-    made: Result<(), Fault>,
+    made: Result<Result<(), Fault>, AllocError>,
     keys: &[Key],
     out: &mut Vec<u8>,
 ) -> Result<(), AllocError>
@@ -273,7 +298,10 @@ pub(crate) fn answer<N: Nodes, M: Moments>(
     ensures shape { N.shape nodes.new ≡ N.shape nodes.old }
 {
     match request {
-        Message::CreateContext => encode(&create(session), out),
+        Message::CreateContext => match create(session) {
+            Ok(reply) => encode(&reply, out),
+            Err(error) => push_lack(out, error),
+        },
         Message::DeleteContext(handle) => encode(&delete(session, handle), out),
         Message::Put(handle, key, value) => answer_put(
             alloc,

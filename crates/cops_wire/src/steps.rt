@@ -10,7 +10,7 @@ ghost use Rattle.cops_wire.specs.Running.{HasEnded, HasStepped, HasFewKeys, Puts
 
 use crate::moments::Moments;
 use crate::replies::push_reply;
-use crate::writing::push_refusal;
+use crate::writing::{push_lack, push_refusal};
 use cops_node::Nodes;
 use cops_session::{Progress, Session};
 use cops_types::Fault;
@@ -46,7 +46,7 @@ fn step_once<N: Nodes, M: Moments>(
             },
             Err(fault) => Some(push_refusal(out, *fault)),
         },
-        Err(error) => Some(push_refusal(out, Fault::from(*error))),
+        Err(error) => Some(push_lack(out, *error)),
     }
 }
 

@@ -1,23 +1,31 @@
 use Rattle.std.proofs.Common.{sym, ap, subst, ◌∙◌}
 use Rattle.cops_handles.specs.Wire.{wire_of}
+use Rattle.cops_types.specs.declared.faults.Fault.TheVariants.{OutOfMemory}
 use Rattle.cops_model.specs.Session.{context_created, context_deleted, create_refusal}
 use Rattle.cops_wire.specs.declared.messages.Message.{Message}
-use Rattle.cops_wire.specs.declared.messages.Message.TheVariants.{CreateContext, DeleteContext, Put, Created, Deleted}
+use Rattle.cops_wire.specs.declared.messages.Message.TheVariants.{CreateContext, DeleteContext, Put, Created, Deleted, Refused}
 use Rattle.cops_wire.specs.Requests.{KeepsShape, HasAnswered, backend, deletion_refusal, number_in}
 use Rattle.cops_wire.specs.Running.{AreKeysOf, PutsFrame}
-use Rattle.cops_wire.proofs.RequestLemmas.{answered_at_once}
+use Rattle.cops_wire.proofs.RequestLemmas.{answered_at_once, answered_by_lack}
 use Rattle.cops_wire.proofs.requests.answer.Goals as goal
 use Rattle.cops_session.specs.Tags.{context_tag}
 
-pub returns-in-CreateContext-clause-answered : goal.returns-in-CreateContext-clause-answered
-returns-in-CreateContext-clause-answered g c =
+pub returns-in-Ok-clause-answered : goal.returns-in-Ok-clause-answered
+returns-in-Ok-clause-answered g c =
     subst (λ request. (reply : Message) × HasAnswered (KeepsShape g.N.Nodes.shape g.N.Nodes.Answers) g.M.Moments.Gives (backend c.args.session.now c.args.nodes.now c.args.moments.now) request reply (backend c.create.new.session c.args.nodes.now c.args.moments.now)
     × PutsFrame c.encode.result c.args.out.now.items c.encode.new.out.items reply) (sym c.in-CreateContext.is) (
-      c.create.result,
+      c.in-Ok.reply,
       answered_at_once (KeepsShape g.N.Nodes.shape g.N.Nodes.Answers) g.M.Moments.Gives CreateContext (λ config session. create_refusal config session) context_created (λ session. Created (wire_of context_tag session.next_context))
-          (λ config slot old new reply so. so) c.args.session.now c.create.new.session c.args.nodes.now c.args.moments.now c.create.result c.create.ensures.setting c.create.ensures.created,
+          (λ config slot old new reply so. so) c.args.session.now c.create.new.session c.args.nodes.now c.args.moments.now c.in-Ok.reply c.create.ensures.setting c.in-Ok.ensures.created,
       (c.encode.ensures.ok, c.encode.ensures.err),
     )
+
+pub returns-in-Err-clause-answered : goal.returns-in-Err-clause-answered
+returns-in-Err-clause-answered g c = (
+  Refused OutOfMemory,
+  answered_by_lack (KeepsShape g.N.Nodes.shape g.N.Nodes.Answers) g.M.Moments.Gives c.args.request.now c.args.session.now c.create.new.session c.args.nodes.now c.args.moments.now c.in-Err.ensures.err,
+  (c.push_lack.ensures.ok, c.push_lack.ensures.err),
+)
 
 pub returns-in-DeleteContext-clause-answered : goal.returns-in-DeleteContext-clause-answered
 returns-in-DeleteContext-clause-answered g c =

@@ -1,8 +1,7 @@
 use Rattle.std.proofs.Common.{◌∙◌, ap, refl, subst, sym}
 use Rattle.std.specs.Prelude.{None, Some, Ok, Err}
-use Rattle.cops_types.specs.declared.faults.Fault.TheVariants.{Idle}
+use Rattle.cops_types.specs.declared.faults.Fault.TheVariants.{Idle, OutOfMemory}
 use Rattle.cops_model.specs.declared.requests.Answer.TheVariants.{Refused}
-use Rattle.cops_model.specs.declared.requests.Progress.TheVariants.{Done}
 use Rattle.cops_session.specs.Stepping.{told_step}
 use Rattle.cops_wire.specs.Requests.{RequestGoesOn}
 use Rattle.cops_wire.proofs.StepLemmas.{has_number, runs_so, stepped, when_err, when_ok}
@@ -57,10 +56,10 @@ returns-in-Ok-clause-stepped g c = (
 
 pub returns-clause-stepped : goal.returns-clause-stepped
 returns-clause-stepped g c = (
-  Some (Refused c.from.result),
-  (c.push_refusal-in-Err.ensures.ok, c.push_refusal-in-Err.ensures.err),
+  Some (Refused OutOfMemory),
+  (c.push_lack.ensures.ok, c.push_lack.ensures.err),
   λ config solo running stands runs.
       let does = when_ok _ _ (told_step c.step-stepped.result) (Err c.in-Err.error) (ap told_step c.in-Err.is) (c.step-stepped.ensures.stepped config solo stands) in
       stepped g.N.Nodes.Answers g.M.Moments.Gives config c.args.session.now.setting.slot g.N.Nodes.shape solo does.0 c.args.nodes.now c.step-stepped.new.nodes c.args.moments.now c.now-moment.new.self c.now-moment.result (Err c.in-Err.error) c.step-stepped.new.self _
-      does.1 c.now-moment.ensures c.step-stepped.ensures.shape does.3 (ap (λ f. Done (Refused f)) (sym c.from.ensures)),
+      does.1 c.now-moment.ensures c.step-stepped.ensures.shape does.3 refl,
 )
