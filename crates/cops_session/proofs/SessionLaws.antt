@@ -1,9 +1,9 @@
 -- A session stands for that of the definitions, after each call too.
-use Rattle.std.proofs.Common.{◌≡◌, ℕ, ◌+◌, ◌==◌, Bool, true, false, List, [], ◌∷◌, length, refl, sym, ◌∙◌, ap, subst, arith, ◌⊎◌, inl, inr}
-use Rattle.std.specs.Prelude.{IfSome, MatchResult, Option, Some, None, Result, Ok, Err, is_some, nat_le, nat_lt, not}
+use Rattle.std.proofs.Common.{◌≡◌, ℕ, ◌+◌, ◌==◌, Bool, true, false, List, [], ◌∷◌, length, refl, sym, ◌∙◌, ap, subst, arith}
+use Rattle.std.specs.Prelude.{MatchResult, Option, Some, None, Result, Ok, Err, is_some, nat_le, nat_lt, not}
 use Rattle.std.proofs.lemmas.Bool.Decides.{nat_tests}
 use Rattle.cops_types.specs.declared.faults.Fault.{Fault}
-use Rattle.cops_types.specs.declared.faults.Fault.TheVariants.{Busy, NoContext, TooManyContexts, IdsSpent, DependenciesFull, TooManyKeys, RepeatedKey, Syntax, OutOfMemory}
+use Rattle.cops_types.specs.declared.faults.Fault.TheVariants.{Busy, NoContext, TooManyContexts, IdsSpent, DependenciesFull, TooManyKeys, RepeatedKey, Syntax}
 use Rattle.cops_types.specs.Context.{all_of, near_of, can_put}
 use Rattle.cops_types.specs.Refusal.{refused_if}
 use Rattle.cops_types.specs.Search.{first_refusal}
@@ -11,8 +11,7 @@ use Rattle.cops_types.specs.TenantConfig.{TenantConfig}
 use Rattle.cops_model.specs.Log.{Directed, first_fault}
 use Rattle.cops_context.specs.Lists.{Lists, ListsStandFor}
 use Rattle.cops_handles.specs.declared.tables.Open.{Open}
-use Rattle.cops_handles.specs.declared.tables.Returned.{Returned}
-use Rattle.cops_handles.specs.Rows.{Rows, closed, open_refusal, opened, row_at}
+use Rattle.cops_handles.specs.Rows.{closed, open_refusal, opened, row_at}
 use Rattle.cops_session.specs.declared.ongoing.Ongoing.{Ongoing}
 use Rattle.cops_session.specs.declared.ongoing.Round.TheVariants.{First}
 use Rattle.cops_session.specs.declared.ongoing.Work.TheVariants.{Put, Get}
@@ -187,35 +186,10 @@ pub is_allowed : (can : Bool) → refused_if (not can) DependenciesFull ≡ None
 is_allowed true is = refl
 is_allowed false is = cc
 
-pub none_refused : (can : Bool) → (can ≡ false → ⊥) → refused_if (not can) DependenciesFull ≡ None
-none_refused true is = refl
-none_refused false is = absurd (is refl)
-
 -- the one refusal that is left at hand is told
 pub full_told : (can : Bool) (fault : Fault) (refusal : Option Fault) → (can ≡ false → refusal ≡ Some DependenciesFull) → refused_if (not can) DependenciesFull ≡ Some fault → refusal ≡ Some fault
 full_told true fault refusal full is = cc
 full_told false fault refusal full is = full refl ∙ is
-
--- no refusal of a full or spent table says that there was no memory
-open_told : (full spent : Bool) → first_refusal ((full, TooManyContexts) ∷ (spent, IdsSpent) ∷ []) ≡ Some OutOfMemory → ⊥
-open_told true spent is = cc
-open_told false true is = cc
-open_told false false is = cc
-
--- where there was no memory, the table was not full or spent, of which it would have told
-pub none_open : (A : Type 0) {R : Type 0} (rows : Rows R) (back : Returned R) (row : R) → back.fault ≡ OutOfMemory → IfSome (open_refusal rows) (λ fault. ◌≡◌ {A = Result A (Returned R)} (Err back) (Err (record { fault = fault; row = row }))) → open_refusal rows ≡ None
-none_open A {R = R} rows back row memory told = by (open_refusal rows) (open_told (nat_le rows.limit (length rows.rows)) (is_spent rows.next)) told
-  where
-    by : (refusal : Option Fault) → (refusal ≡ Some OutOfMemory → ⊥) → IfSome refusal (λ fault. ◌≡◌ {A = Result A (Returned R)} (Err back) (Err (record { fault = fault; row = row }))) → refusal ≡ None
-    by None never told = refl
-    by (Some fault) never told =
-        let same : back ≡ record { fault = fault; row = row } = cc in
-        absurd (never (ap Some (sym (ap (λ b. b.fault) same) ∙ memory)))
-
--- a refusal of another kind than that there was no memory is the table's
-pub other_told : (fault other : Fault) (refusal : Option Fault) → (fault ≡ OutOfMemory) ⊎ (refusal ≡ Some fault) → (other ≡ fault) × (fault ≡ OutOfMemory → ⊥) → refusal ≡ Some other
-other_told fault other refusal (inl memory) is = absurd (is.1 memory)
-other_told fault other refusal (inr told) is = told ∙ ap Some (sym is.0)
 
 -- what is no error is an answer
 pub answered_by : {A : Type 0} {P : A → Type 0} (Q : Fault → Type 0) (r : Result A Fault) → MatchResult r P Q → ((fault : Fault) → r ≡ Err fault → ⊥) → (a : A) × P a

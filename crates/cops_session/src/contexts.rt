@@ -1,7 +1,8 @@
 //! The contexts of a session, by their handles.
-ghost use Rattle.std.specs.Prelude.{◌≡◌, [], ◌∷◌, List, Some, None, not, IfOk, OnOk, OnErr, MatchResult};
+ghost use Rattle.std.specs.Prelude.{◌≡◌, [], ◌∷◌, List, not, IfOk, OnOk, OnErr};
 ghost use Rattle.cops_types.specs.Context.{Put, all_of, near_of, observations_of, can_put, can_observe};
 ghost use Rattle.cops_types.specs.Refusal.{refused_if};
+ghost use Rattle.cops_context.specs.Lists.{AnswersWithin};
 ghost use Rattle.cops_session.specs.Kept.{HasRoomInContext, IsOpen};
 ghost use Rattle.cops_session.specs.Refusals.{told_refusal};
 ghost use Rattle.cops_model.specs.Session.{OpenContext, context_extended};
@@ -11,16 +12,6 @@ use crate::kinds::Contexts;
 use cops_handles::{Handle, Table};
 use cops_types::{Deps, Fault, Key, Near, Pair, Read};
 use std::alloc::AllocError;
-
-/// A fault of another kind than that there was no memory, which is the error.
-pub(crate) fn other_fault(fault: Fault) -> Result<Fault, AllocError>
-    ensures { MatchResult result (λ other. (other ≡ fault) × (fault ≡ Fault.OutOfMemory → ⊥)) (λ _. fault ≡ Fault.OutOfMemory) }
-{
-    match fault {
-        Fault::OutOfMemory => Err(AllocError),
-        other => Ok(other),
-    }
-}
 
 /// The two lists that a put of the key sends. From here on the context has room for that put. That
 /// there was no memory, where the put is within the limit, is the error.
@@ -35,15 +26,13 @@ pub(crate) fn prepare_put(
         (lists.0 ≡ all_of (obs_in handle opens)) × (lists.1 ≡ near_of (obs_in handle opens)))) }
     ensures stands { IfOk result (λ told. OnOk told ((opens : List OpenContext) → ContextsStandFor contexts.old.rows opens → ContextsStandFor contexts.new.rows opens)) }
     ensures room { IfOk result (λ told. OnOk told (HasRoomInContext handle key.now contexts.new.rows)) }
-    ensures refused { (opens : List OpenContext) → ContextsStandFor contexts.old.rows opens →
+    ensures told { (opens : List OpenContext) → ContextsStandFor contexts.old.rows opens →
         refused_if (not (can_put limit (obs_in handle opens) key.now)) Fault.DependenciesFull ≡ told_refusal result }
     ensures numbers { contexts.new ≡ record contexts.old { rows = contexts.new.rows } }
-    ensures err { MatchResult result (λ told. OnErr told (contexts.new ≡ contexts.old)) (λ _. contexts.new ≡ contexts.old) }
+    ensures refused { IfOk result (λ told. OnErr told (contexts.new ≡ contexts.old)) }
+    ensures err { OnErr result (contexts.new ≡ contexts.old) }
 {
-    match contexts.row_mut(handle).put_args(key, limit) {
-        Ok(lists) => Ok(Ok(lists)),
-        Err(fault) => Ok(Err(other_fault(fault)?)),
-    }
+    contexts.row_mut(handle).put_args(key, limit)
 }
 
 /// The context sees a pair that was put, for which there is room.
@@ -65,17 +54,13 @@ pub(crate) fn see_reads(
     limit: u64,
 ) -> Result<Result<(), Fault>, AllocError>
     requires { IsOpen handle contexts.old.rows }
-    ensures stands { IfOk result (λ seen. OnOk seen ((opens : List OpenContext) → ContextsStandFor contexts.old.rows opens →
+    ensures stands { IfOk result (λ told. OnOk told ((opens : List OpenContext) → ContextsStandFor contexts.old.rows opens →
         ContextsStandFor contexts.new.rows (context_extended handle (observations_of reads.now) opens))) }
-    ensures refused { (opens : List OpenContext) → ContextsStandFor contexts.old.rows opens →
-        IfOk result (λ seen. MatchResult seen
-        (λ _. refused_if (not (can_observe limit (obs_in handle opens) (observations_of reads.now))) Fault.DependenciesFull ≡ None)
-        (λ fault. refused_if (not (can_observe limit (obs_in handle opens) (observations_of reads.now))) Fault.DependenciesFull ≡ Some fault)) }
+    ensures told { (opens : List OpenContext) → ContextsStandFor contexts.old.rows opens →
+        IfOk result (λ told. AnswersWithin (can_observe limit (obs_in handle opens) (observations_of reads.now)) told) }
     ensures numbers { contexts.new ≡ record contexts.old { rows = contexts.new.rows } }
-    ensures err { MatchResult result (λ seen. OnErr seen (contexts.new ≡ contexts.old)) (λ _. contexts.new ≡ contexts.old) }
+    ensures refused { IfOk result (λ told. OnErr told (contexts.new ≡ contexts.old)) }
+    ensures err { OnErr result (contexts.new ≡ contexts.old) }
 {
-    match contexts.row_mut(handle).observe_all(reads, limit) {
-        Ok(()) => Ok(Ok(())),
-        Err(fault) => Ok(Err(other_fault(fault)?)),
-    }
+    contexts.row_mut(handle).observe_all(reads, limit)
 }

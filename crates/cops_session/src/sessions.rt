@@ -7,7 +7,7 @@ ghost use Rattle.cops_model.specs.declared.calls.NodeReply.{NodeReply};
 ghost use Rattle.cops_context.specs.Lists.{ListsStandFor};
 ghost use Rattle.cops_session.specs.declared.ongoing.Work.TheVariants as work;
 
-use crate::contexts::{other_fault, prepare_put, see_put, see_reads};
+use crate::contexts::{prepare_put, see_put, see_reads};
 use crate::kinds::{Contexts, Running};
 use crate::ongoing::{Ongoing, PendingPut, Reading, Round, Work};
 use crate::reading::{Came, ReadStep, read_next, read_step};
@@ -147,9 +147,9 @@ impl Session {
         if self.running.is_some() {
             return Ok(Err(Fault::Busy));
         }
-        match self.contexts.open(Context::new(self.alloc)) {
+        match self.contexts.open(Context::new(self.alloc))? {
             Ok(handle) => Ok(Ok(handle)),
-            Err(back) => Ok(Err(other_fault(back.fault)?)),
+            Err(back) => Ok(Err(back.fault)),
         }
     }
 

@@ -4,7 +4,7 @@
 use super::lists::{assert_lists, long, x, y, z};
 use crate::entries::value;
 use cops_context::Context;
-use cops_types::{Deps, Fault, Pair, Read};
+use cops_types::{Deps, Pair, Read};
 use std::alloc::Global;
 use std::process::Abort;
 
@@ -32,11 +32,11 @@ fn refused_memory_leaves_a_new_context(rt: HostRuntime) {
     let on_x = deps_on_x(&rt, alloc);
     let mut context = Context::new(alloc);
     match context.observe(y(&rt), &on_x, 20) {
-        Ok(()) => {}
-        Err(fault) => {
-            assert!(rt; fault == Fault::OutOfMemory);
+        Ok(told) => told.expect(&rt, "room"),
+        Err(_) => {
             assert_lists(&rt, &context, &[], &[]);
-            context.observe(y(&rt), &on_x, 20).expect(&rt, "memory");
+            let again = context.observe(y(&rt), &on_x, 20).expect(&rt, "memory");
+            again.expect(&rt, "room");
         }
     }
     assert_lists(&rt, &context, &[x(&rt), y(&rt)], &[y(&rt)]);
@@ -51,10 +51,13 @@ fn observe(
     all: &[Pair],
     near: &[Pair],
 ) {
-    if let Err(fault) = context.observe(*pair, deps, 20) {
-        assert!(rt; fault == Fault::OutOfMemory);
-        assert_lists(rt, context, all, near);
-        context.observe(*pair, deps, 20).expect(rt, "a second try");
+    match context.observe(*pair, deps, 20) {
+        Ok(told) => told.expect(rt, "room"),
+        Err(_) => {
+            assert_lists(rt, context, all, near);
+            let again = context.observe(*pair, deps, 20).expect(rt, "a second try");
+            again.expect(rt, "room");
+        }
     }
 }
 
@@ -86,18 +89,15 @@ fn refused_memory_keeps_what_a_put_would_send(rt: HostRuntime) {
         &[],
         &[],
     );
-    let sent = match context.put_args(&key, 20) {
-        Ok((deps, _near)) => deps.len(),
-        Err(fault) => {
-            assert!(rt; fault == Fault::OutOfMemory);
+    let told = match context.put_args(&key, 20) {
+        Ok(told) => told,
+        Err(_) => {
             assert_lists(&rt, &context, &[x(&rt)], &[x(&rt)]);
-            match context.put_args(&key, 20) {
-                Ok((deps, _near)) => deps.len(),
-                Err(_) => panic!(rt; "a second try"),
-            }
+            context.put_args(&key, 20).expect(&rt, "a second try")
         }
     };
-    assert_eq!(rt; sent, 1);
+    let (deps, _near) = told.expect(&rt, "room");
+    assert_eq!(rt; deps.len(), 1);
 }
 
 #[test]
@@ -106,11 +106,11 @@ fn refused_memory_observes_no_half(rt: HostRuntime) {
     let reads = [read(&rt, alloc, x(&rt)), read(&rt, alloc, y(&rt))];
     let mut context = Context::new(alloc);
     match context.observe_all(&reads, 20) {
-        Ok(()) => {}
-        Err(fault) => {
-            assert!(rt; fault == Fault::OutOfMemory);
+        Ok(told) => told.expect(&rt, "room"),
+        Err(_) => {
             assert_lists(&rt, &context, &[], &[]);
-            context.observe_all(&reads, 20).expect(&rt, "memory");
+            let again = context.observe_all(&reads, 20).expect(&rt, "memory");
+            again.expect(&rt, "room");
         }
     }
     assert_lists(&rt, &context, &[x(&rt), y(&rt)], &[x(&rt), y(&rt)]);
@@ -121,14 +121,14 @@ fn refused_memory_sends_no_put(rt: HostRuntime) {
     let put = z(&rt);
     let key = put.key;
     let mut context = Context::new(rt.alloc());
-    let is_ready = match context.put_args(&key, 20) {
-        Ok(_) => true,
-        Err(fault) => {
-            assert!(rt; fault == Fault::OutOfMemory);
+    let told = match context.put_args(&key, 20) {
+        Ok(told) => told,
+        Err(_) => {
             assert_lists(&rt, &context, &[], &[]);
-            context.put_args(&key, 20).is_ok()
+            context.put_args(&key, 20).expect(&rt, "a second try")
         }
     };
+    let is_ready = told.is_ok();
     assert!(rt; is_ready);
     context.after_put(put);
     assert_lists(&rt, &context, &[z(&rt)], &[z(&rt)]);
@@ -146,9 +146,9 @@ fn refused_memory_turns_no_list_full(rt: HostRuntime) {
         &[],
         &[],
     );
-    if let Err(fault) = context.put_args(&key, 20) {
-        assert!(rt; fault == Fault::OutOfMemory);
-        assert_lists(&rt, &context, &[x(&rt)], &[x(&rt)]);
+    match context.put_args(&key, 20) {
+        Ok(told) => assert!(rt; told.is_ok()),
+        Err(_) => assert_lists(&rt, &context, &[x(&rt)], &[x(&rt)]),
     }
     observe(
         &rt,

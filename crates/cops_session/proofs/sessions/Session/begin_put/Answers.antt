@@ -34,7 +34,7 @@ returns-in_err-deps-clause-told c = λ config session stand.
     let stands = subst (λ (k : KeptSession). SessionStandsFor config k session) (sym c.self.view_is) stand in
     let idle = sym c.is_some.ensures ∙ c.if-is_some.false in
     let lack = err_from_is_err_and c.from_residual.result c.from_residual.ensures.1 in
-    let can = is_allowed _ (c.in_err-deps.ensures.refused session.contexts stands.contexts_are) in
+    let can = is_allowed _ (c.in_err-deps.ensures.told session.contexts stands.contexts_are) in
     rw lack.1 (put_refusal-open config _ session stands c.args.handle c.args.key c.in-Ok.seen.now true false idle c.in-Ok.ensures can (let spare = c.if-self.false in grind (arith, nat_tests)))
 
 pub returns-in-Err-2-clause-told : goal.returns-in-Err-2-clause-told
@@ -42,11 +42,11 @@ returns-in-Err-2-clause-told c = λ config session stand.
     let stands = subst (λ (k : KeptSession). SessionStandsFor config k session) (sym c.self.view_is) stand in
     let idle = sym c.is_some.ensures ∙ c.if-is_some.false in
     full_told _ _ _ (λ can. put_refusal-open config _ session stands c.args.handle c.args.key c.in-Ok.seen.now false (is_spent c.self.inside.next_request) idle c.in-Ok.ensures can refl)
-    ((rw c.in-Err-2.is at c.in_ok-deps.ensures.refused) session.contexts stands.contexts_are)
+    ((rw c.in-Err-2.is at c.in_ok-deps.ensures.told) session.contexts stands.contexts_are)
 
 pub returns-in-Ok-2-clause-told : goal.returns-in-Ok-2-clause-told
 returns-in-Ok-2-clause-told c = λ config session stand.
     let stands = subst (λ (k : KeptSession). SessionStandsFor config k session) (sym c.self.view_is) stand in
     let idle = sym c.is_some.ensures ∙ c.if-is_some.false in
-    let can = is_allowed _ ((rw c.in-Ok-2.is at c.in_ok-deps.ensures.refused) session.contexts stands.contexts_are) in
+    let can = is_allowed _ ((rw c.in-Ok-2.is at c.in_ok-deps.ensures.told) session.contexts stands.contexts_are) in
     put_refusal-open config _ session stands c.args.handle c.args.key c.in-Ok.seen.now true false idle c.in-Ok.ensures can c.begin.ensures.left

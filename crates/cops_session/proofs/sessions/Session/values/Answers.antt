@@ -16,7 +16,7 @@ returns-clause-stands c = λ opens stand.
           rw w.result-is (subst (λ (rs : List Read). ContextsStandFor c.see_reads.new.contexts.rows (context_extended c.args.context (observations_of rs) opens)) c.as_slice.ensures ((rw w.in-Ok-Ok.field-0-is at w.in-Ok-Ok.ensures.stands) opens stands))
       | in-Ok-Err w ↦
           rw w.result-is (subst (λ (os : List OpenContext). ContextsStandFor c.see_reads.new.contexts.rows os) (sym (context_extended-nothing c.args.context opens))
-          (subst (λ t. ContextsStandFor t.rows opens) (sym (rw w.in-Ok-Err.field-0-is at w.in-Ok-Err.ensures.err)) stands))
+          (subst (λ t. ContextsStandFor t.rows opens) (sym (rw w.in-Ok-Err.field-0-is at w.in-Ok-Err.ensures.refused)) stands))
       | in-Err w ↦
           rw w.result-is (subst (λ (os : List OpenContext). ContextsStandFor c.see_reads.new.contexts.rows os) (sym (context_extended-nothing c.args.context opens))
           (subst (λ t. ContextsStandFor t.rows opens) (sym w.in-Err.ensures.err) stands))
