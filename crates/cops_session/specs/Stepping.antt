@@ -1,5 +1,5 @@
 -- A step of the running request.
-use Rattle.std.specs.Prelude.{◌≡◌, ◌⊎◌, ℕ, Bool, false, ◌==◌, Option, Some, None, Result, Ok, Err, IfOk}
+use Rattle.std.specs.Prelude.{◌≡◌, ◌⊎◌, ℕ, Bool, false, ◌==◌, Option, Some, None, Result, Ok, Err, IfOk, MatchResult}
 use Rattle.std.specs.declared.alloc.AllocError.{AllocError}
 use Rattle.cops_types.specs.declared.faults.Fault.{Fault}
 use Rattle.cops_types.specs.declared.faults.Fault.TheVariants.{OutOfMemory}
@@ -13,7 +13,8 @@ use Rattle.cops_model.specs.declared.requests.Answer.TheVariants.{Refused}
 use Rattle.cops_model.specs.declared.requests.Progress.{Progress}
 use Rattle.cops_model.specs.declared.requests.Progress.TheVariants.{Done}
 use Rattle.cops_session.specs.Kept.{KeptSession}
-use Rattle.cops_model.specs.Session.{Running, Session, progress, request_of, session_after}
+use Rattle.cops_model.specs.Request.{next}
+use Rattle.cops_model.specs.Session.{Running, Session, moment_at, progress, request_of, session_after}
 use Rattle.cops_session.specs.SessionStands.{SessionStandsFor}
 use Rattle.cops_session.specs.Wants.{WantsMemory}
 
@@ -55,6 +56,13 @@ TellsNext called stays config session running moment told after (Call directed) 
 TellsNext called stays config session running moment told after Restart =
     stays × HasTold config session running (record { moment = moment; outcome = Late }) told after
 TellsNext called stays config session running moment told after (Ended answer) = ⊥
+
+-- and that from whatever the kept session stands for
+abbrev pub StepsFrom : (NodeId → ℕ → NodeCall → NodeReply → Type 0) → Type 0 → KeptSession → ℕ → Result (Result Progress Fault) AllocError → KeptSession → Type 0
+StepsFrom called stays old moment result after =
+    (config : TenantConfig) (session : Session) (running : Running) → SessionStandsFor config old session → session.running ≡ Some running →
+    let at = moment_at moment session in
+    MatchResult (told_step result) (λ told. TellsNext (λ id call reply. called id at call reply) stays config session running at told after (next config (request_of session running) running.log at)) (λ _. ⊥)
 
 -- the request of this number runs
 abbrev pub runs : ℕ → Session → Bool

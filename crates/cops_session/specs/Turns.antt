@@ -3,6 +3,7 @@ use Rattle.std.specs.Prelude.{◌≡◌, ◌⊎◌, ℕ, false, List, [], ◌∷
 use Rattle.std.specs.declared.alloc.AllocError.{AllocError}
 use Rattle.cops_types.specs.declared.faults.Fault.{Fault}
 use Rattle.cops_types.specs.declared.faults.Fault.TheVariants.{OutOfMemory}
+use Rattle.cops_types.specs.Context.{Observation}
 use Rattle.cops_types.specs.TenantConfig.{TenantConfig}
 use Rattle.cops_model.specs.declared.calls.NodeCall.{NodeCall}
 use Rattle.cops_model.specs.declared.calls.NodeId.{NodeId}
@@ -16,10 +17,12 @@ use Rattle.cops_session.specs.declared.ongoing.Reading.{Reading}
 use Rattle.cops_session.specs.declared.reading.Came.{Came}
 use Rattle.cops_session.specs.declared.reading.Came.TheVariants.{Working, Restarted, Complete, Failed}
 use Rattle.cops_session.specs.declared.reading.ReadStep.{ReadStep}
+use Rattle.cops_session.specs.declared.settings.Setting.{Setting}
 use Rattle.cops_session.specs.Reading.{IsReading}
-use Rattle.cops_model.specs.Request.{Request, Fetch, values_or_full}
+use Rattle.cops_model.specs.Request.{Request, Fetch, next, values_or_full}
 use Rattle.cops_model.specs.Session.{has_restarted, raised}
 use Rattle.cops_model.specs.Session as session
+use Rattle.cops_session.specs.SessionStands.{IsSettingOf}
 use Rattle.cops_session.specs.Wants.{EndsRound}
 
 -- what the step shows, and that the transaction stands for one more step, where it goes on
@@ -57,3 +60,10 @@ TurnsNext called stays config request keys log moment turn (Call directed) =
     (reply : NodeReply) × called directed.node directed.call reply × HasTurnedSo config request keys log (record { moment = moment; outcome = Replied reply }) turn
 TurnsNext called stays config request keys log moment turn Restart = stays × HasTurnedSo config request keys log (record { moment = moment; outcome = Late }) turn
 TurnsNext called stays config request keys log moment turn (Ended answer) = ⊥
+
+-- and that from whatever the reading stands for
+abbrev pub TurnsFrom : (NodeId → NodeCall → NodeReply → Type 0) → Type 0 → Setting → Reading → ℕ → Result ReadStep AllocError → Type 0
+TurnsFrom called stays setting reading moment turn =
+    (config : TenantConfig) (obs : List Observation) (keys : List (List ℕ)) (log : List LogStep) → IsSettingOf config setting →
+    let request : Request = record { dc = setting.dc; obs = obs; action = Fetch keys } in
+    IsReading config request keys log reading → TurnsNext called stays config request keys log moment turn (next config request log moment)

@@ -1,17 +1,12 @@
 ghost use Rattle.std.specs.Prelude.{◌≡◌, ◌⊎◌, ◌+◌, ◌<◌, ℕ, false, List, [], Some, None, IsTrue, nat_lt, unwrap_or, if◌then◌else◌};
-ghost use Rattle.cops_types.specs.Context.{Observation};
-ghost use Rattle.cops_types.specs.TenantConfig.{TenantConfig};
 ghost use Rattle.cops_types.specs.declared.faults.Fault.TheVariants.{Overrun};
 ghost use Rattle.cops_model.specs.declared.calls.NodeCall.{NodeCall};
 ghost use Rattle.cops_model.specs.declared.calls.NodeId.{NodeId};
 ghost use Rattle.cops_model.specs.declared.calls.NodeReply.{NodeReply};
-ghost use Rattle.cops_model.specs.Log.{LogStep};
 ghost use Rattle.cops_session.specs.Kept.{IsAmong};
-ghost use Rattle.cops_session.specs.Reading.{GetReadsOn, IsReading, RoundStandsFor, is_past};
+ghost use Rattle.cops_session.specs.Reading.{GetReadsOn, RoundStandsFor, is_past};
 ghost use Rattle.cops_session.specs.Stands.{IsFirstOf};
-ghost use Rattle.cops_model.specs.Request.{Fetch, next};
-ghost use Rattle.cops_session.specs.SessionStands.{IsSettingOf};
-ghost use Rattle.cops_session.specs.Turns.{TurnsNext, turned_in_place};
+ghost use Rattle.cops_session.specs.Turns.{TurnsFrom, turned_in_place};
 ghost use Rattle.cops_session.specs.declared.ongoing.Round.TheVariants.{First, Second};
 ghost use Rattle.cops_session.specs.declared.reading.Came.TheVariants.{Restarted, Failed};
 
@@ -80,10 +75,8 @@ fn read_first<N: Nodes>(
 ) -> Result<ReadStep, AllocError>
     requires among { IsAmong (N.shape nodes.old) setting }
     requires in_time { is_past setting.trans_time start moment ≡ false }
-    ensures turned { (config : TenantConfig) (obs : List Observation) (keys : List (List ℕ)) (log : List LogStep) → IsSettingOf config setting →
-        IsReading config (record { dc = setting.dc; obs = obs; action = Fetch keys }) keys log (record { restarts = restarts; start = start; round = First round }) →
-        TurnsNext (λ id call reply. N.Answers nodes.old id setting.slot moment call reply nodes.new) (nodes.new ≡ nodes.old)
-        config (record { dc = setting.dc; obs = obs; action = Fetch keys }) keys log moment result (next config (record { dc = setting.dc; obs = obs; action = Fetch keys }) log moment) }
+    ensures turned { TurnsFrom (λ id call reply. N.Answers nodes.old id setting.slot moment call reply nodes.new) (nodes.new ≡ nodes.old)
+        setting (record { restarts = restarts; start = start; round = First round }) moment result }
     ensures once { (id : NodeId) × (call : NodeCall) × (reply : NodeReply) × N.Answers nodes.old id setting.slot moment call reply nodes.new }
     ensures shape { N.shape nodes.new ≡ N.shape nodes.old }
 {
@@ -128,10 +121,8 @@ fn read_second<N: Nodes>(
 ) -> Result<ReadStep, AllocError>
     requires among { IsAmong (N.shape nodes.old) setting }
     requires in_time { is_past setting.trans_time start moment ≡ false }
-    ensures turned { (config : TenantConfig) (obs : List Observation) (keys : List (List ℕ)) (log : List LogStep) → IsSettingOf config setting →
-        IsReading config (record { dc = setting.dc; obs = obs; action = Fetch keys }) keys log (record { restarts = restarts; start = start; round = Second round }) →
-        TurnsNext (λ id call reply. N.Answers nodes.old id setting.slot moment call reply nodes.new) (nodes.new ≡ nodes.old)
-        config (record { dc = setting.dc; obs = obs; action = Fetch keys }) keys log moment result (next config (record { dc = setting.dc; obs = obs; action = Fetch keys }) log moment) }
+    ensures turned { TurnsFrom (λ id call reply. N.Answers nodes.old id setting.slot moment call reply nodes.new) (nodes.new ≡ nodes.old)
+        setting (record { restarts = restarts; start = start; round = Second round }) moment result }
     ensures once { (id : NodeId) × (call : NodeCall) × (reply : NodeReply) × N.Answers nodes.old id setting.slot moment call reply nodes.new }
     ensures shape { N.shape nodes.new ≡ N.shape nodes.old }
 {
@@ -185,10 +176,8 @@ pub(crate) fn read_next<N: Nodes>(
 ) -> Result<Result<(), Fault>, AllocError>
     requires among { IsAmong (N.shape nodes.old) setting }
     requires reads_on { GetReadsOn setting.trans_time moment reading.old }
-    ensures turned { (config : TenantConfig) (obs : List Observation) (keys : List (List ℕ)) (log : List LogStep) → IsSettingOf config setting →
-        IsReading config (record { dc = setting.dc; obs = obs; action = Fetch keys }) keys log reading.old →
-        TurnsNext (λ id call reply. N.Answers nodes.old id setting.slot moment call reply nodes.new) (nodes.new ≡ nodes.old)
-        config (record { dc = setting.dc; obs = obs; action = Fetch keys }) keys log moment (turned_in_place moment reading.new result) (next config (record { dc = setting.dc; obs = obs; action = Fetch keys }) log moment) }
+    ensures turned { TurnsFrom (λ id call reply. N.Answers nodes.old id setting.slot moment call reply nodes.new) (nodes.new ≡ nodes.old)
+        setting reading.old moment (turned_in_place moment reading.new result) }
     ensures once { (id : NodeId) × (call : NodeCall) × (reply : NodeReply) × N.Answers nodes.old id setting.slot moment call reply nodes.new }
     ensures shape { N.shape nodes.new ≡ N.shape nodes.old }
 {
@@ -228,10 +217,8 @@ pub(crate) fn read_step<N: Nodes>(
     moment: u64,
 ) -> Result<ReadStep, AllocError>
     requires among { IsAmong (N.shape nodes.old) setting }
-    ensures turned { (config : TenantConfig) (obs : List Observation) (keys : List (List ℕ)) (log : List LogStep) → IsSettingOf config setting →
-        IsReading config (record { dc = setting.dc; obs = obs; action = Fetch keys }) keys log reading →
-        TurnsNext (λ id call reply. N.Answers nodes.old id setting.slot moment call reply nodes.new) (nodes.new ≡ nodes.old)
-        config (record { dc = setting.dc; obs = obs; action = Fetch keys }) keys log moment result (next config (record { dc = setting.dc; obs = obs; action = Fetch keys }) log moment) }
+    ensures turned { TurnsFrom (λ id call reply. N.Answers nodes.old id setting.slot moment call reply nodes.new) (nodes.new ≡ nodes.old)
+        setting reading moment result }
     ensures once { (nodes.new ≡ nodes.old) ⊎ ((id : NodeId) × (call : NodeCall) × (reply : NodeReply) × N.Answers nodes.old id setting.slot moment call reply nodes.new) }
     ensures shape { N.shape nodes.new ≡ N.shape nodes.old }
 {

@@ -52,7 +52,7 @@ impl Session {
     ghost use Rattle.cops_session.specs.SessionStands.{SessionStandsFor, ContextsStandFor, obs_in};
     ghost use Rattle.cops_session.specs.Reading.{ReadsOn};
     ghost use Rattle.cops_session.specs.Refusals.{told_refusal};
-    ghost use Rattle.cops_session.specs.Stepping.{TellsNext, runs, told_step};
+    ghost use Rattle.cops_session.specs.Stepping.{StepsFrom, TellsNext, runs, told_step};
     ghost use Rattle.cops_session.specs.Writing.{told_answer};
 
     /// A session of a tenant of the configuration in a data centre, with no contexts. Its first
@@ -379,11 +379,8 @@ impl Session {
         requires data_centres { self.old.setting.data_centres ≡ (N.shape nodes.old).data_centres }
         requires shards { self.old.setting.shards ≡ (N.shape nodes.old).shards }
         requires reads_on { ReadsOn self.old.setting.trans_time (max self.old.moment moment) self.old.running }
-        ensures stepped { (config : TenantConfig) (session : SoloSession) (running : SoloRunning) → SessionStandsFor config self.old session → session.running ≡ Some running →
-            MatchResult (told_step result)
-            (λ told. TellsNext (λ id call reply. N.Answers nodes.old id self.old.setting.slot (moment_at moment session) call reply nodes.new) (nodes.new ≡ nodes.old)
-            config session running (moment_at moment session) told self.new (next config (request_of session running) running.log (moment_at moment session)))
-            (λ _. ⊥) }
+        ensures stepped { StepsFrom (λ id at call reply. N.Answers nodes.old id self.old.setting.slot at call reply nodes.new) (nodes.new ≡ nodes.old)
+            self.old moment result self.new }
         ensures taken { IfOk result (λ told. OnErr told ⊥) }
         ensures err { OnErr result (self.new ≡ record self.old { moment = self.new.moment; running = None }) }
         ensures once { (id : NodeId) × (at : ℕ) × (call : NodeCall) × (reply : NodeReply) × N.Answers nodes.old id self.old.setting.slot at call reply nodes.new }
@@ -432,12 +429,8 @@ impl Session {
         requires shards { self.old.setting.shards ≡ (N.shape nodes.old).shards }
         requires idle { self.old.running ≡ None }
         requires ready { HasRoomInContext context writing.key self.old.contexts.rows }
-        ensures stepped { (config : TenantConfig) (session : SoloSession) (running : SoloRunning) (number : ℕ) →
-            SessionStandsFor config (record self.old { running = Some (record { number = number; context = context; work = work.Put writing }) }) session → session.running ≡ Some running →
-            MatchResult (told_step result)
-            (λ told. TellsNext (λ id call reply. N.Answers nodes.old id self.old.setting.slot (moment_at moment session) call reply nodes.new) (nodes.new ≡ nodes.old)
-            config session running (moment_at moment session) told self.new (next config (request_of session running) running.log (moment_at moment session)))
-            (λ _. ⊥) }
+        ensures stepped { (number : ℕ) → StepsFrom (λ id at call reply. N.Answers nodes.old id self.old.setting.slot at call reply nodes.new) (nodes.new ≡ nodes.old)
+            (record self.old { running = Some (record { number = number; context = context; work = work.Put writing }) }) moment result self.new }
         ensures taken { IfOk result (λ told. OnErr told ⊥) }
         ensures err { OnErr result (self.new ≡ record self.old { moment = self.new.moment; running = None }) }
         ensures once { (id : NodeId) × (at : ℕ) × (call : NodeCall) × (reply : NodeReply) × N.Answers nodes.old id self.old.setting.slot at call reply nodes.new }
@@ -470,12 +463,8 @@ impl Session {
         requires shards { self.old.setting.shards ≡ (N.shape nodes.old).shards }
         requires idle { self.old.running ≡ None }
         requires ready { IsOpen context self.old.contexts.rows }
-        ensures stepped { (config : TenantConfig) (session : SoloSession) (running : SoloRunning) →
-            SessionStandsFor config (record self.old { running = Some (record { number = number; context = context; work = work.Get reading }) }) session → session.running ≡ Some running →
-            MatchResult (told_step result)
-            (λ told. TellsNext (λ id call reply. N.Answers nodes.old id self.old.setting.slot (moment_at moment session) call reply nodes.new) (nodes.new ≡ nodes.old)
-            config session running (moment_at moment session) told self.new (next config (request_of session running) running.log (moment_at moment session)))
-            (λ _. ⊥) }
+        ensures stepped { StepsFrom (λ id at call reply. N.Answers nodes.old id self.old.setting.slot at call reply nodes.new) (nodes.new ≡ nodes.old)
+            (record self.old { running = Some (record { number = number; context = context; work = work.Get reading }) }) moment result self.new }
         ensures taken { IfOk result (λ told. OnErr told ⊥) }
         ensures err { OnErr result (self.new ≡ record self.old { moment = self.new.moment; running = None }) }
         ensures once { (nodes.new ≡ nodes.old)

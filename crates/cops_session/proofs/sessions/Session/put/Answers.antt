@@ -15,7 +15,7 @@ use Rattle.cops_session.proofs.ContextRows.{context_extended-nothing}
 use Rattle.cops_session.proofs.sessions.Session.put.Goals as goal
 
 pub returns-in-Ok-Err-clause-stepped : goal.returns-in-Ok-Err-clause-stepped
-returns-in-Ok-Err-clause-stepped g c = λ config session running number stand is.
+returns-in-Ok-Err-clause-stepped g c = λ number config session running stand is.
     let inside = c.self.inside in
     let now = c.max-self-inside.result in
     let kept : KeptSession = record { setting = inside.setting; moment = inside.moment; contexts = inside.contexts; next_request = inside.next_request; running = inside.running } in
@@ -33,7 +33,7 @@ returns-in-Ok-Err-clause-stepped g c = λ config session running number stand is
     refl refl refl (ap (λ k. k.running) c.self.view_is ∙ c.requires.idle))
 
 pub returns-in-Err-clause-stepped : goal.returns-in-Err-clause-stepped
-returns-in-Err-clause-stepped g c = λ config session running number stand is.
+returns-in-Err-clause-stepped g c = λ number config session running stand is.
     let inside = c.self.inside in
     let now = c.max-self-inside.result in
     let kept : KeptSession = record { setting = inside.setting; moment = inside.moment; contexts = inside.contexts; next_request = inside.next_request; running = inside.running } in

@@ -23,7 +23,7 @@ returns-in-Put-clause-stepped g c = λ config session stand.
     let own : ongoing.number ≡ c.args.handle = is_number ongoing.number c.args.handle (sym (ap (is_running c.args.handle) runs) ∙ asked) in
     let with : SessionStandsFor config (record kept { running = Some (record { number = ongoing.number; context = ongoing.context; work = Put c.in-Put.writing }) }) session =
     subst (λ (r : Option Ongoing). SessionStandsFor config (record kept { running = r }) session) (runs ∙ ap (λ w. Some (record { number = ongoing.number; context = ongoing.context; work = w })) c.in-Put.is) stands in
-    MatchResult-weaker (told_step c.put.result) (c.put.ensures.stepped config session found.0 ongoing.number with found.1)
+    MatchResult-weaker (told_step c.put.result) (c.put.ensures.stepped ongoing.number config session found.0 with found.1)
     (λ told tells. (
       found.0,
       found.1,
