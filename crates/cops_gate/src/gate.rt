@@ -7,7 +7,7 @@ ghost use Rattle.cops_gate.specs.Seats.{ClosesWith, Extends, Known, Origin, firs
 
 use crate::board::{Beginning, Board, BoardSeat};
 use crate::meetings::{hear, learn, note};
-use crate::turns::{Request, draw, serve};
+use crate::turns::{draw, serve, wait};
 use crate::waiting::Sleepers;
 use atomic_table::{Refused, Table};
 use cops_types::{Fault, Machine};
@@ -106,17 +106,18 @@ impl<M: Machine> Gate<M> {
         let Some(ticket) = draw(rt, &self.board, &self.sleepers, &mut seat.place) else {
             return Err(Fault::GateSpent);
         };
-        let request = Request { slot, moment, call };
-        let reply = serve(
-            rt,
+        let drawn = Snapshot::of(&seat.place);
+        wait(rt, &self.board, &self.sleepers, &mut seat.place, ticket);
+        serve(
             &self.board,
             &self.sleepers,
             &mut seat.place,
+            drawn,
             ticket,
-            request,
-        );
-        self.sleepers.wake(&self.board, ticket + 1);
-        reply
+            slot,
+            moment,
+            call,
+        )
     }
 
     /// A new seat, which has seen the same and has made no turn.

@@ -1,4 +1,5 @@
 //! The parts of one turn: a ticket is drawn, waited for, and published.
+//! The first try of a draw and of a wait stands apart from the loop behind it: alone at a gate, a turn needs no more.
 ghost use Rattle.std.specs.Prelude.{◌≡◌, ◌+◌, ◌^◌, ◌<◌, true, [], ◌∷◌, ◌++◌, ◌≤◌, length, Some, None, OnErr, IfSome, IfNone, IfOk, IfErr};
 ghost use Rattle.cops_types.specs.declared.faults.Fault.TheVariants.{OutOfMemory};
 ghost use Rattle.cops_gate.specs.declared.board.Stage.TheVariants.{Idle, Waits, Holds};
@@ -15,13 +16,6 @@ use std::marker::Brand;
 use std::snapshot::Snapshot;
 use std::sync::Wait;
 
-// What a turn is asked.
-pub(crate) struct Request<C> {
-    pub slot: u64,
-    pub moment: u64,
-    pub call: C,
-}
-
 // Draws the next ticket, if one is left.
 pub(crate) fn draw<M: Machine, R: Wait>(
     rt: &R,
@@ -37,7 +31,37 @@ pub(crate) fn draw<M: Machine, R: Wait>(
     ensures again { place.old.me.0.spent ≡ true → result ≡ None }
     ensures room { HasRoom place.old.me.0.opening place.old.me.0.seen }
 {
-    let mut next = hold_back(rt, board, sleepers);
+    let likely = hold_back(rt, board, sleepers);
+    let found = board
+        .shared
+        .compare_exchange::<Draw>(place, TICKET, likely, likely + 1);
+    if found == likely {
+        return Some(found);
+    }
+    if found == LAST {
+        return None;
+    }
+    draw_again(rt, board, place, found)
+}
+
+// Draws the next ticket where another thread has drawn the likely one.
+#[cold]
+#[inline(never)]
+fn draw_again<M: Machine, R: Wait>(
+    rt: &R,
+    board: &Board<M>,
+    place: &mut BoardSeat<M>,
+    mut next: u64,
+) -> Option<u64>
+    requires board { IsSeatOf board.now.shared.table_id place.old }
+    requires idle { place.old.me.0.stage ≡ Idle }
+    requires next { next < 2 ^ 62 }
+    ensures same { (place.new.table_id ≡ place.old.table_id) × (place.new.id ≡ place.old.id) × (place.new.me.1 ≡ place.old.me.1) }
+    ensures some { IfSome result (λ t. (t < 2 ^ 62) × (place.new.me.0 ≡ at_stage (Waits t) place.old.me.0)) }
+    ensures none { IfNone result (place.new.me.0 ≡ spent_view place.old.me.0) }
+    ensures again { place.old.me.0.spent ≡ true → result ≡ None }
+    ensures room { HasRoom place.old.me.0.opening place.old.me.0.seen }
+{
     for _ in rt.forever() {
         let found = board
             .shared
@@ -54,7 +78,28 @@ pub(crate) fn draw<M: Machine, R: Wait>(
 }
 
 // Waits until the ticket is served. The slot then goes to the seat.
-fn wait<M: Machine, R: Wait>(
+pub(crate) fn wait<M: Machine, R: Wait>(
+    rt: &R,
+    board: &Board<M>,
+    sleepers: &Sleepers,
+    place: &mut BoardSeat<M>,
+    ticket: u64,
+)
+    requires board { IsSeatOf board.now.shared.table_id place.old }
+    requires waits { (place.old.me.0.stage ≡ Waits ticket) × (place.old.me.0.numbered ≡ true) }
+    requires opened { place.old.me.0.opening ≡ Some board.now.shared.key.value }
+    ensures same { (place.new.table_id ≡ place.old.table_id) × (place.new.id ≡ place.old.id) }
+    ensures slot { Gets M.turns M.place board.now.shared.key.value.state ticket place.old.me place.new.me }
+{
+    if board.shared.load::<Look>(place, SERVING) != ticket {
+        wait_on(rt, board, sleepers, place, ticket);
+    }
+}
+
+// Waits where an earlier ticket is served still.
+#[cold]
+#[inline(never)]
+fn wait_on<M: Machine, R: Wait>(
     rt: &R,
     board: &Board<M>,
     sleepers: &Sleepers,
@@ -83,16 +128,17 @@ fn wait<M: Machine, R: Wait>(
 fn turn_in_slot<M: Machine>(
     board: &Board<M>,
     place: &mut BoardSeat<M>,
-    request: Request<M::Call>,
+    slot: u64,
+    moment: u64,
+    call: M::Call,
 ) -> Result<M::Reply, Fault>
     requires board { IsSeatOf board.now.shared.table_id place.old }
-    requires holds { (machine : M) × (place.old.me.1 ≡ (0, Some machine) ∷ []) × M.fits (M.place machine) request.slot request.call }
+    requires holds { (machine : M) × (place.old.me.1 ≡ (0, Some machine) ∷ []) × M.fits (M.place machine) slot call }
     ensures same { (place.new.table_id ≡ place.old.table_id) × (place.new.id ≡ place.old.id) × (place.new.me.0 ≡ place.old.me.0) }
     ensures turned { (before : M) → place.old.me.1 ≡ (0, Some before) ∷ [] → (after : M) × (place.new.me.1 ≡ (0, Some after) ∷ []) × (M.place after ≡ M.place before)
-        × IfOk result (λ reply. M.turns before request.slot request.moment request.call reply after)
-        × IfErr result (λ fault. (fault ≡ OutOfMemory) × (after ≡ before)) × OnErr result (M.may_lack before request.slot request.call) }
+        × IfOk result (λ reply. M.turns before slot moment call reply after)
+        × IfErr result (λ fault. (fault ≡ OutOfMemory) × (after ≡ before)) × OnErr result (M.may_lack before slot call) }
 {
-    let Request { slot, moment, call } = request;
     match place.slot_mut(&board.shared, 0) {
         Some(machine) => machine.turn(slot, moment, call),
         None => unreachable!(),
@@ -104,7 +150,7 @@ fn publish<M: Machine, T: Said<M::Call, M::Reply>>(
     board: &Board<M>,
     place: &mut BoardSeat<M>,
     ticket: u64,
-    note: Option<Note<M::Call, M::Reply>>,
+    note: Note<M::Call, M::Reply>,
 )
     requires board { IsSeatOf board.now.shared.table_id place.old }
     requires ticket { ticket < 2 ^ 62 }
@@ -121,43 +167,42 @@ fn publish<M: Machine, T: Said<M::Call, M::Reply>>(
     board.shared.store::<Publish<T>>(place, SERVING, ticket + 1);
 }
 
-// Makes the turn of the ticket. Without memory it is a blank one.
-pub(crate) fn serve<M: Machine, R: Wait>(
-    rt: &R,
+// Makes the turn of the ticket that is served. Without memory it is a blank one. `drawn` is the seat before it waited.
+//
+// The answer is given back as it comes. Where it were looked at, or came on two ways, its parts would be copied once
+// more; so they would be at each call that may wait, so none is made here.
+pub(crate) fn serve<M: Machine>(
     board: &Board<M>,
     sleepers: &Sleepers,
     place: &mut BoardSeat<M>,
+    drawn: Snapshot<BoardSeat<M>>,
     ticket: u64,
-    request: Request<M::Call>,
+    slot: u64,
+    moment: u64,
+    call: M::Call,
 ) -> Result<M::Reply, Fault>
     requires board { IsSeatOf board.now.shared.table_id place.old }
-    requires waits { (ticket < 2 ^ 62) × (place.old.me.0.stage ≡ Waits ticket) × (place.old.me.0.numbered ≡ true) × (place.old.me.1 ≡ []) }
-    requires opened { place.old.me.0.opening ≡ Some board.now.shared.key.value }
-    requires fits { M.fits (M.place board.now.shared.key.value.state) request.slot request.call }
+    requires ticket { ticket < 2 ^ 62 }
+    requires numbered { (drawn.value.me.0.numbered ≡ true) × (drawn.value.me.1 ≡ []) }
+    requires opened { drawn.value.me.0.opening ≡ Some board.now.shared.key.value }
+    requires gets { Gets M.turns M.place board.now.shared.key.value.state ticket drawn.value.me place.old.me }
+    requires fits { M.fits (M.place board.now.shared.key.value.state) slot call }
     ensures same { (place.new.table_id ≡ place.old.table_id) × (place.new.id ≡ place.old.id) }
-    ensures idle { IsIdle place.old.me.0 place.new.me }
+    ensures idle { IsIdle drawn.value.me.0 place.new.me }
     ensures room { board.now.shared.key.value.ticket + length place.new.me.0.seen ≤ 2 ^ 62 }
-    ensures reply { IfOk result (λ r. Grows M.turns board.now.shared.key.value.state place.old.me.0.number place.old.me.0.seen (Some (entry request.slot request.moment request.call r)) place.new.me.0.seen) }
-    ensures refused { IfErr result (λ f. (f ≡ OutOfMemory) × Grows M.turns board.now.shared.key.value.state place.old.me.0.number place.old.me.0.seen None place.new.me.0.seen) }
-    ensures lacks { OnErr result (LeavesLacking M.turns M.may_lack board.now.shared.key.value.state place.old.me.0.number request.slot request.call place.new.me.0.seen) }
+    ensures reply { IfOk result (λ r. Grows M.turns board.now.shared.key.value.state drawn.value.me.0.number drawn.value.me.0.seen (Some (entry slot moment call r)) place.new.me.0.seen) }
+    ensures refused { IfErr result (λ f. (f ≡ OutOfMemory) × Grows M.turns board.now.shared.key.value.state drawn.value.me.0.number drawn.value.me.0.seen None place.new.me.0.seen) }
+    ensures lacks { OnErr result (LeavesLacking M.turns M.may_lack board.now.shared.key.value.state drawn.value.me.0.number slot call place.new.me.0.seen) }
 {
-    wait(rt, board, sleepers, place, ticket);
-    let Request { slot, moment, call } = request;
     let asked = Snapshot::of(&call);
-    match turn_in_slot(board, place, Request { slot, moment, call }) {
-        Ok(reply) => {
-            let note = Note {
-                slot,
-                moment,
-                call: asked,
-                reply: Snapshot::of(&reply),
-            };
-            publish::<M, Brand>(board, place, ticket, Some(note));
-            Ok(reply)
-        }
-        Err(fault) => {
-            publish::<M, Brand>(board, place, ticket, None);
-            Err(fault)
-        }
-    }
+    let answer = turn_in_slot(board, place, slot, moment, call);
+    let note = Note {
+        slot,
+        moment,
+        call: asked,
+        answer: Snapshot::of(&answer),
+    };
+    publish::<M, Brand>(board, place, ticket, note);
+    sleepers.wake(board, ticket + 1);
+    answer
 }

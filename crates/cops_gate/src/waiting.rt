@@ -97,22 +97,40 @@ impl Sleepers {
         requires { board.now.shared.table_id.words ≡ 2 }
     {
         if self.in_line.load(SeqCst) > 0 {
-            board.shared.wake_all(SERVING);
+            wake_in_line(board);
         }
         if serving >= LAST {
-            self.held_back.store(0, SeqCst);
-            self.held_back.wake_all();
+            self.wake_held_back();
         } else if self.held_back.load(SeqCst) == 1 && self.awake.load(SeqCst) == 0 {
             self.wake_one();
         }
     }
 
+    // Wakes all who hold back.
+    #[cold]
+    #[inline(never)]
+    fn wake_held_back(&self) {
+        self.held_back.store(0, SeqCst);
+        self.held_back.wake_all();
+    }
+
     // Wakes one of those who hold back, unless another thread has done so.
+    #[cold]
+    #[inline(never)]
     fn wake_one(&self) {
         if self.held_back.swap(0, SeqCst) == 1 {
             self.held_back.wake_one();
         }
     }
+}
+
+// Wakes all in line.
+#[cold]
+#[inline(never)]
+fn wake_in_line<M: Machine>(board: &Board<M>)
+    requires { board.now.shared.table_id.words ≡ 2 }
+{
+    board.shared.wake_all(SERVING);
 }
 
 /// Holds back while others are at the machine, and gives the ticket that is likely to be the next.
@@ -126,6 +144,16 @@ pub(crate) fn hold_back<M: Machine, R: Wait>(rt: &R, board: &Board<M>, sleepers:
     if let Ok(ticket) = free_ticket(board) {
         return ticket;
     }
+    hold_back_long(rt, board, sleepers)
+}
+
+// Holds back where others are at the machine.
+#[cold]
+#[inline(never)]
+fn hold_back_long<M: Machine, R: Wait>(rt: &R, board: &Board<M>, sleepers: &Sleepers) -> u64
+    requires { board.now.shared.table_id.words ≡ 2 }
+    ensures { result < 2 ^ 62 }
+{
     for sleeps in 0..SLEEPS {
         let most = if sleeps == 0 { TRIES } else { TRIES_AGAIN };
         match sleepers.look(board, most) {
