@@ -1,21 +1,24 @@
 -- What is answered to a line behind a head keeps to the rules.
 use Rattle.std.proofs.Common.{◌≡◌, ℕ, Bool, true, false, List, ◌++◌, refl, sym, subst, ap, ◌∙◌}
-use Rattle.std.specs.Prelude.{is_some, IsTrue, Option, Some, None}
+use Rattle.std.specs.Prelude.{is_some, IsTrue, Option, Some, None, Result}
+use Rattle.std.specs.declared.alloc.AllocError.{AllocError}
 use Rattle.std.specs.Str.{bytes_eq}
 use Rattle.cops_types.specs.declared.configs.Tenant.{Tenant}
-use Rattle.cops_types.specs.declared.faults.Fault.TheVariants.{UnknownTenant}
+use Rattle.cops_types.specs.declared.faults.Fault.TheVariants.{Syntax, UnknownTenant}
 use Rattle.cops_script.specs.HostLines.{admitted_in, closed_in}
 use Rattle.cops_script.specs.LineAnswers.{Answers}
 use Rattle.cops_types.specs.OpenSlots.{open_at, open_slot_of_name}
 use Rattle.cops_types.specs.Words.{first_word}
 use Rattle.cops_model.specs.declared.replies.HostReply.{HostReply}
 use Rattle.cops_model.specs.declared.replies.HostReply.TheVariants.{Denied}
+use Rattle.cops_model.specs.declared.acts.Act.{Act}
 use Rattle.cops_model.specs.declared.replies.Reply.{Reply}
+use Rattle.cops_model.specs.declared.replies.Reply.TheVariants.{Refused}
 use Rattle.cops_script.specs.ActLines.{act_in}
 use Rattle.cops_model.specs.Cluster.{SoloCluster}
 use Rattle.cops_script.specs.Said.{Said, OfHost, admission_of, begins_admission, begins_closing, closing_of, said_found, said_by, said_in}
 use Rattle.cops_model.specs.Setups.{Setup}
-use Rattle.cops_script.specs.Acting.{HasStayed}
+use Rattle.cops_script.specs.Acting.{HasActed, HasStayed, told_act}
 use Rattle.cops_script.specs.Answers.{ToHost, ToTenant, host_line, open_name, reply_line, slot_line}
 use Rattle.cops_script.specs.Doing.{IsDone}
 use Rattle.cops_script.specs.AllRules.{IsAnswered}
@@ -58,6 +61,14 @@ module _ {W : Type 0} (setup : W → Setup) (StandsFor : W → ℕ → SoloClust
         answered = subst (λ o. MayAnswer old (said_found line o) (host_line (Denied UnknownTenant)) old) (sym found) (ToHost (Denied UnknownTenant), (refl, stays_as_it_is old), refl);
         appended = appended;
       }
+
+  -- the line writes an act, which the tenant did and is told of; or it writes none
+  pub done_written : (old new : W) (slot : ℕ) (written : Option Act) (act : Act) (answered : Result Reply AllocError) (reply : Reply) → written ≡ Some act → reply ≡ told_act answered → HasActed setup StandsFor old (record { slot = slot; act = act }) answered new →
+      IsDone setup StandsFor old (said_by slot written) (ToTenant slot reply) new
+  done_written old new slot written act answered reply e told acted = subst (λ o. IsDone setup StandsFor old (said_by slot o) (ToTenant slot reply) new) (sym e) (answered, ap (ToTenant slot) told, acted)
+
+  pub done_unwritten : (old : W) (slot : ℕ) (written : Option Act) → written ≡ None → IsDone setup StandsFor old (said_by slot written) (ToTenant slot (Refused Syntax)) old
+  done_unwritten old slot written e = subst (λ o. IsDone setup StandsFor old (said_by slot o) (ToTenant slot (Refused Syntax)) old) (sym e) (refl, stays_as_it_is old)
 
   -- the tenant is told
   pub answers_told : (old new : W) (line word : List ℕ) (tenants : List (Option Tenant)) (searched : Option ℕ) (slot : ℕ) (name : List ℕ) (reply : Reply) (out new_out : List ℕ) → tenants ≡ (setup old).tenants → word ≡ first_word line →

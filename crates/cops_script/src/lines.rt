@@ -1,6 +1,6 @@
 //! The acts that the lines of a tenant write.
 ghost use Rattle.std.specs.Prelude.{◌≡◌, ◌≤◌, ◌+◌, [], ◌∷◌, ℕ, List, drop, length, IsTrue, IfSome, IfNone, decimal};
-ghost use Rattle.std.specs.Option.{option_and_then};
+ghost use Rattle.std.specs.Option.{option_and_then, option_map_or};
 ghost use Rattle.cops_types.specs.Key.{is_name};
 ghost use Rattle.cops_types.specs.Words.{first_word, is_u64, is_word, parts_at, space};
 ghost use Rattle.cops_model.specs.declared.acts.Act.TheVariants.{Open, Delete, Show, Step, Done};
@@ -19,10 +19,19 @@ const LONGEST_LINE: usize = 8192;
 pub fn parse_act(line: &[u8]) -> Option<Act>
     ensures { result ≡ act_in (first_word line.now) line.now }
 {
+    let (_tenant, rest) = split_word(line);
+    act_behind(line, rest)
+}
+
+/// The same, of a line that is split behind its first word.
+#[inline(always)]
+pub(crate) fn act_behind<'a>(line: &[u8], rest: Option<&'a [u8]>) -> Option<Act<'a>>
+    requires { parts_at space line.now ≡ first_word line.now ∷ option_map_or (λ rest. parts_at space rest.now) rest [] }
+    ensures { result ≡ act_in (first_word line.now) line.now }
+{
     if line.len() > LONGEST_LINE {
         return None;
     }
-    let (_tenant, rest) = split_word(line);
     read_act(rest?)
 }
 

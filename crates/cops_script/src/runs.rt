@@ -1,14 +1,12 @@
 ghost use Rattle.std.specs.Prelude.{◌≡◌, ℕ, All, IfOk, IsTrue, length};
 ghost use Rattle.cops_types.specs.HeadLines.{is_tenant};
-ghost use Rattle.cops_types.specs.declared.faults.Fault.TheVariants.{OutOfMemory};
 ghost use Rattle.cops_model.specs.Cluster.{SoloCluster};
 ghost use Rattle.cops_model.specs.Events.{own, replies, replies_from, before_lack, IsFrontOf, IsSpared, ToldAlone};
 ghost use Rattle.cops_model.specs.Setups.{Setup, config_in, is_open_at};
-ghost use Rattle.cops_model.specs.declared.replies.Reply.TheVariants.{Refused};
 ghost use Rattle.cops_script.specs.Acting.{HasActed, HasClosed, IsAdmission, IsNew, told_act};
 ghost use Rattle.cops_script.specs.GoodHeads.{is_good};
 
-use cops_model::{Event, Reply};
+use cops_model::{Act, Event, Reply};
 use cops_types::{Config, Fault, OpenTenants, Tenant};
 use std::alloc::{AllocError, Global};
 
@@ -28,12 +26,12 @@ pub trait Tenancy {
     fn tenants(&self) -> &OpenTenants
         ensures { result.now ≡ (setup self.now).tenants };
 
-    /// One event: it acts on its own tenant's cluster and on no other. The error: memory was refused.
-    /// Nothing changed then, unless a step was taken: its request or its carrier is over, and what the
-    /// calls did stands.
-    fn apply(&mut self, event: &Event) -> Result<Reply, AllocError>
-        requires { IsTrue (is_open_at (setup self.old) event.now.slot) }
-        ensures { HasActed setup StandsFor self.old event.now result self.new };
+    /// An act of the tenant in a slot: it acts on its own tenant's cluster and on no other. The error:
+    /// memory was refused. Nothing changed then, unless a step was taken: its request or its carrier is
+    /// over, and what the calls did stands.
+    fn act(&mut self, slot: u64, act: &Act) -> Result<Reply, AllocError>
+        requires { IsTrue (is_open_at (setup self.old) slot) }
+        ensures { HasActed setup StandsFor self.old (record { slot = slot; act = act.now }) result self.new };
 
     /// Gives the least free slot to a tenant, who begins with a new cluster, and tells which it is.
     fn admit(&mut self, tenant: Tenant) -> Result<u64, Fault>
@@ -46,13 +44,6 @@ pub trait Tenancy {
         ensures { HasClosed setup StandsFor slot self.old self.new };
 }
 
-/// The reply to whom memory was refused for an act.
-pub(crate) fn memory_refused(error: AllocError) -> Reply
-    ensures { result ≡ Refused OutOfMemory }
-{
-    Reply::Refused(Fault::from(error))
-}
-
 /// What a tenant is told of an act.
 #[inline(always)]
 pub fn as_reply(answered: Result<Reply, AllocError>) -> Reply
@@ -60,7 +51,7 @@ pub fn as_reply(answered: Result<Reply, AllocError>) -> Reply
 {
     match answered {
         Ok(reply) => reply,
-        Err(error) => memory_refused(error),
+        Err(error) => Reply::Refused(Fault::from(error)),
     }
 }
 
@@ -81,7 +72,7 @@ pub fn run_all<W: Tenancy>(
 {
     let mut told = Vec::with_capacity(alloc, events.len())?;
     for event in events {
-        let reply = as_reply(world.apply(event));
+        let reply = as_reply(world.act(event.slot, &event.act));
         told.push(reply)?;
     }
     Ok(told)

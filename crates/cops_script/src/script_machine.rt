@@ -1,38 +1,22 @@
 //! What answers all lines behind the head of a script.
-ghost use Rattle.std.specs.Prelude.{◌≡◌, is_some, IsTrue, OnOk};
+ghost use Rattle.std.specs.Prelude.{◌≡◌, [], ◌∷◌, is_some, IsTrue, OnOk};
+ghost use Rattle.std.specs.Option.{option_map_or};
 ghost use Rattle.cops_script.specs.LineAnswers.{Answers};
-ghost use Rattle.cops_types.specs.Words.{first_word};
-ghost use Rattle.cops_script.specs.ActLines.{act_in};
+ghost use Rattle.cops_types.specs.Words.{first_word, parts_at, space};
 ghost use Rattle.cops_types.specs.OpenSlots.{open_at, open_slot_of_name};
-ghost use Rattle.cops_script.specs.Said.{said_found, said_by, said_in};
-ghost use Rattle.cops_model.specs.Setups.{is_open_at};
-ghost use Rattle.cops_script.specs.Acting.{told_act};
-ghost use Rattle.cops_script.specs.Answers.{ToTenant, open_name};
-ghost use Rattle.cops_script.specs.Doing.{IsDone};
+ghost use Rattle.cops_script.specs.Said.{said_found, said_in};
+ghost use Rattle.cops_script.specs.Answers.{open_name};
 ghost use Rattle.cops_script.specs.AllRules.{IsAnswered};
 
 use crate::bodies::Body;
 use crate::host_machine::{admit, close};
-use crate::lines::parse_act;
+use crate::lines::act_behind;
 use crate::scripts::BadConfig;
-use crate::texts::{push_host, push_nobody, push_told};
+use crate::texts::{push_answer, push_host, push_nobody, push_refusal};
 use crate::{Stop, Tenancy};
-use cops_model::{Event, Reply};
 use cops_types::words::split_word;
 use cops_types::{Config, Fault, Name, OpenTenants};
 use std::alloc::{AllocError, Global};
-
-/// What the tenant who is open at the slot is answered to the act that the line writes. The error:
-/// memory was refused.
-fn answer_to<W: Tenancy>(world: &mut W, slot: u64, line: &[u8]) -> Result<Reply, AllocError>
-    requires { IsTrue (is_open_at (W.setup world.old) slot) }
-    ensures { IsDone W.setup W.StandsFor world.old (said_by slot (act_in (first_word line.now) line.now)) (ToTenant slot (told_act result)) world.new }
-{
-    let Some(act) = parse_act(line) else {
-        return Ok(Reply::Refused(Fault::Syntax));
-    };
-    world.apply(&Event { slot, act })
-}
 
 /// The name of the tenant who is open at a slot.
 fn name_at(tenants: &OpenTenants, slot: u64) -> Name
@@ -49,10 +33,12 @@ fn name_at(tenants: &OpenTenants, slot: u64) -> Name
 pub(crate) fn answer_tenant<W: Tenancy>(
     world: &mut W,
     word: &[u8],
+    rest: Option<&[u8]>,
     line: &[u8],
     out: &mut Vec<u8>,
 ) -> Result<(), AllocError>
-    requires { word.now ≡ first_word line.now }
+    requires word { word.now ≡ first_word line.now }
+    requires rest { parts_at space line.now ≡ first_word line.now ∷ option_map_or (λ rest. parts_at space rest.now) rest [] }
     ensures { OnOk result (Answers (λ text new. IsAnswered W.setup W.StandsFor world.old (said_found line.now (open_slot_of_name (W.setup world.old).tenants (first_word line.now))) text new) world.new out.old.items out.new.items) }
 {
     let tenants = world.tenants();
@@ -60,15 +46,21 @@ pub(crate) fn answer_tenant<W: Tenancy>(
         return push_nobody(out);
     };
     let name = name_at(tenants, slot);
-    let answered = answer_to(world, slot, line);
-    push_told(out, &name, &answered)
+    // Each way writes its own answer: a reply is large, and would be copied where the ways meet.
+    match &act_behind(line, rest) {
+        Some(act) => match world.act(slot, act) {
+            Ok(reply) => push_answer(out, &name, &reply),
+            Err(error) => push_refusal(out, &name, Fault::from(error)),
+        },
+        None => push_refusal(out, &name, Fault::Syntax),
+    }
 }
 
 /// Answers a line after the head at the end of the output.
 fn answer<W: Tenancy>(world: &mut W, line: &[u8], out: &mut Vec<u8>) -> Result<(), AllocError>
     ensures { OnOk result (Answers (λ text new. IsAnswered W.setup W.StandsFor world.old (said_in (W.setup world.old).tenants line.now) text new) world.new out.old.items out.new.items) }
 {
-    let (word, _rest) = split_word(line);
+    let (word, rest) = split_word(line);
     if word == b"+".as_slice() {
         let reply = admit(world, line);
         return push_host(out, &reply);
@@ -77,7 +69,7 @@ fn answer<W: Tenancy>(world: &mut W, line: &[u8], out: &mut Vec<u8>) -> Result<(
         let reply = close(world, line);
         return push_host(out, &reply);
     }
-    answer_tenant(world, word, line, out)
+    answer_tenant(world, word, rest, line, out)
 }
 
 /// Each line is answered, in one world of all tenants.

@@ -15,7 +15,7 @@ use crate::host_machine::{admit, close};
 use crate::lines::parse_act;
 use crate::scripts::BadConfig;
 use crate::{Stop, Tenancy};
-use cops_model::{Event, HostReply, Reply};
+use cops_model::{HostReply, Reply};
 use cops_types::words::split_word;
 use cops_types::{Config, Fault};
 use std::alloc::{AllocError, Global};
@@ -53,7 +53,7 @@ fn act_for<W: Tenancy>(world: &mut W, slot: u64, line: &[u8]) -> bool
     let Some(act) = parse_act(line) else {
         return true;
     };
-    let answered = world.apply(&Event { slot, act });
+    let answered = world.act(slot, &act);
     !is_out_of_memory(&answered)
 }
 

@@ -1,11 +1,12 @@
 //! What answers the lines of one name's tenants behind the head of a script. Each has a world to himself.
-ghost use Rattle.std.specs.Prelude.{◌≡◌, [], Some, IfErr, IfOk, IsTrue, OnOk};
+ghost use Rattle.std.specs.Prelude.{◌≡◌, [], ◌∷◌, Some, IfErr, IfOk, IsTrue, OnOk};
+ghost use Rattle.std.specs.Option.{option_map_or};
 ghost use Rattle.cops_script.specs.declared.line_runs.machine.Stop.TheVariants.{OutOfMemory};
 ghost use Rattle.cops_types.specs.HeadLines.{is_tenant};
 ghost use Rattle.cops_script.specs.HostLines.{admitted_in, closed_in};
 ghost use Rattle.cops_script.specs.LineAnswers.{Answers};
 ghost use Rattle.cops_types.specs.OpenSlots.{open_slot_of_name};
-ghost use Rattle.cops_types.specs.Words.{first_word};
+ghost use Rattle.cops_types.specs.Words.{first_word, parts_at, space};
 ghost use Rattle.cops_model.specs.MainTheorem.{with_tenant_alone};
 ghost use Rattle.cops_script.specs.Said.{OfHost, admission_of, closing_of, said_found};
 ghost use Rattle.cops_model.specs.Setups.{next_slot};
@@ -158,14 +159,16 @@ fn close<W: Tenancy + Drop>(name: &[u8], run: &mut SoloRun<W>, line: &[u8])
 fn answer_named<W: Tenancy>(
     run: &mut SoloRun<W>,
     word: &[u8],
+    rest: Option<&[u8]>,
     line: &[u8],
     out: &mut Vec<u8>,
 ) -> Result<(), AllocError>
-    requires { word.now ≡ first_word line.now }
+    requires word { word.now ≡ first_word line.now }
+    requires rest { parts_at space line.now ≡ first_word line.now ∷ option_map_or (λ rest. parts_at space rest.now) rest [] }
     ensures { OnOk result (Answers (λ text new. Takes W.setup W.StandsFor word.now run.old (said_found line.now (open_slot_of_name run.old.tenants (first_word line.now))) text new) run.new out.old.items out.new.items) }
 {
     match &mut run.world {
-        Some(world) => answer_tenant(world, word, line, out),
+        Some(world) => answer_tenant(world, word, rest, line, out),
         None => Ok(()),
     }
 }
@@ -181,7 +184,7 @@ fn answer<W: Tenancy + Drop>(
     ensures ok { OnOk result (Answers (λ text new. AnswersOwn W.setup W.StandsFor (is_own name.now line.now) name.now run.old line.now text new) run.new out.old.items out.new.items) }
     ensures err { IfErr result (λ stop. stop ≡ OutOfMemory) }
 {
-    let (word, _rest) = split_word(line);
+    let (word, rest) = split_word(line);
     if word == b"+".as_slice() {
         return admit(alloc, name, run, line);
     }
@@ -192,7 +195,7 @@ fn answer<W: Tenancy + Drop>(
     if word != name {
         return Ok(());
     }
-    answer_named(run, word, line, out)?;
+    answer_named(run, word, rest, line, out)?;
     Ok(())
 }
 

@@ -1,18 +1,16 @@
 //! Texts of replies, put at the end of a vector.
 ghost use Rattle.std.specs.Prelude.{◌≡◌, ◌++◌, [], ◌∷◌, ℕ, List, decimal, map, OnOk};
 ghost use Rattle.cops_types.specs.Words.{spaced};
-ghost use Rattle.cops_model.specs.declared.replies.Reply.TheVariants.{Carried, Lists, OutOfOrder};
+ghost use Rattle.cops_model.specs.declared.replies.Reply.TheVariants.{Carried, Lists, OutOfOrder, Refused};
 ghost use Rattle.cops_model.specs.declared.replies.HostReply.TheVariants.{Denied};
 ghost use Rattle.cops_script.specs.ReplyText.{pair_words, read_text, text_of_reply, value_text};
 ghost use Rattle.cops_script.specs.ReplyWords.{later_texts};
-ghost use Rattle.cops_script.specs.Acting.{told_act};
 ghost use Rattle.cops_script.specs.Answers.{host_line, reply_line};
 ghost use Rattle.cops_types.specs.declared.faults.Fault.TheVariants.{UnknownTenant};
 
-use crate::runs::memory_refused;
 use cops_model::{HostReply, Reply};
 use cops_types::texts::{push_deps, push_fault, push_near, push_number, push_version};
-use cops_types::{Deps, Name, Near, Pair, Read, Value, Version};
+use cops_types::{Deps, Fault, Name, Near, Pair, Read, Value, Version};
 use std::alloc::AllocError;
 
 /// Puts the text of a reply at the end. After an `Err` a front of it may be there.
@@ -38,29 +36,30 @@ pub fn push_reply(out: &mut Vec<u8>, reply: &Reply) -> Result<(), AllocError>
     }
 }
 
-/// Puts what a tenant is told of an act at the end, as an answer. After an `Err` a front of it may be
-/// there.
-pub(crate) fn push_told(
-    out: &mut Vec<u8>,
-    name: &Name,
-    answered: &Result<Reply, AllocError>,
-) -> Result<(), AllocError>
-    ensures { OnOk result (out.new.items ≡ out.old.items ++ reply_line name.now (told_act answered.now)) }
-{
-    match answered {
-        Ok(reply) => push_answer(out, name, reply),
-        Err(error) => push_answer(out, name, &memory_refused(*error)),
-    }
-}
-
 /// Puts a tenant's name, a space, the text of a reply and a newline at the end. After an `Err` a
 /// front of it may be there.
-fn push_answer(out: &mut Vec<u8>, name: &Name, reply: &Reply) -> Result<(), AllocError>
+pub(crate) fn push_answer(out: &mut Vec<u8>, name: &Name, reply: &Reply) -> Result<(), AllocError>
     ensures { OnOk result (out.new.items ≡ out.old.items ++ reply_line name.now reply.now) }
 {
     push_word(out, name.bytes())?;
     out.push(b' ')?;
     push_reply(out, reply)?;
+    out.push(b'\n')?;
+    Ok(())
+}
+
+/// Puts a tenant's name, a space, the code of a fault and a newline at the end. After an `Err` a front
+/// of it may be there.
+///
+/// It is apart from other answers, so that the code that writes these stands once, where a line is
+/// answered.
+#[inline(never)]
+pub(crate) fn push_refusal(out: &mut Vec<u8>, name: &Name, fault: Fault) -> Result<(), AllocError>
+    ensures { OnOk result (out.new.items ≡ out.old.items ++ reply_line name.now (Refused fault)) }
+{
+    push_word(out, name.bytes())?;
+    out.push(b' ')?;
+    push_fault(out, fault)?;
     out.push(b'\n')?;
     Ok(())
 }

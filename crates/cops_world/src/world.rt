@@ -612,9 +612,8 @@ impl Tenancy for World {
         World::tenants(self)
     }
 
-    // Not by way of `World::apply`: a reply is large, and each call hands it up by a copy.
-    fn apply(&mut self, event: &Event) -> Result<Reply, AllocError> {
-        self.act_for(event.slot, &event.act)
+    fn act(&mut self, slot: u64, act: &Act) -> Result<Reply, AllocError> {
+        self.act_for(slot, act)
     }
 
     fn admit(&mut self, tenant: Tenant) -> Result<u64, Fault> {

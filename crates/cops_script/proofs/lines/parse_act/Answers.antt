@@ -1,20 +1,9 @@
-use Rattle.std.proofs.Common.{◌≡◌, ◌∙◌, ◌∷◌, [], ℕ, List, ap, sym, arith}
+use Rattle.std.proofs.Common.{◌∙◌, ◌∷◌, [], ℕ, List, ap}
 use Rattle.std.specs.Borrow.{Bor}
 use Rattle.std.specs.Option.{option_map_or}
-use Rattle.cops_types.specs.Words.{first_word, parts_at, space}
-use Rattle.cops_script.proofs.ActReading.{rest_read}
-use Rattle.cops_script.proofs.CutLemmas.{long_is_no_act}
+use Rattle.cops_types.specs.Words.{parts_at, space}
 use Rattle.cops_script.proofs.lines.parse_act.Goals as goal
 
-pub returns-then-line-gt-LONGEST_LINE : goal.returns-then-line-gt-LONGEST_LINE
-returns-then-line-gt-LONGEST_LINE c =
-    let line = c.args.line.now in
-    sym (long_is_no_act (first_word line) line (omega arith))
-
-pub returns : goal.returns
-returns c =
-    let line = c.args.line.now in
-    let word = c.split_word.result.0.now in
-    let first : parts_at space line ≡ word ∷ parts_at space c.in_ok-rest.field-0.now =
-    c.split_word.ensures.parts ∙ ap (λ (rest : _). word ∷ option_map_or (λ (bytes : Bor (List ℕ)). parts_at space bytes.now) rest []) c.in_ok-rest.was in
-    c.read_act.ensures ∙ rest_read line word (parts_at space c.in_ok-rest.field-0.now) (omega arith) first
+pub act_behind-requires : goal.act_behind-requires
+act_behind-requires c =
+    c.split_word.ensures.parts ∙ ap (λ (word : List ℕ). word ∷ option_map_or (λ (bytes : Bor (List ℕ)). parts_at space bytes.now) c.split_word.result.1 []) c.split_word.ensures.word

@@ -17,10 +17,10 @@ loop-event-preserved g c =
     let reply = c.as_reply-reply.result in
     let told = c.loop-event.told.items in
     let setup = g.W.Tenancy.setup in
-    let acted = subst (λ r. ActsAsTold g.W.Tenancy.setup g.W.Tenancy.StandsFor c.loop-event.world e r c.apply.new.self) (sym c.as_reply-reply.ensures)
-    (as_told_act g.W.Tenancy.setup g.W.Tenancy.StandsFor c.loop-event.world e c.apply.result c.apply.new.self c.apply.ensures) in
+    let acted = subst (λ r. ActsAsTold g.W.Tenancy.setup g.W.Tenancy.StandsFor c.loop-event.world e r c.act.new.self) (sym c.as_reply-reply.ensures)
+    (as_told_act g.W.Tenancy.setup g.W.Tenancy.StandsFor c.loop-event.world e c.act.result c.act.new.self c.act.ensures) in
     let Before = g.W.Tenancy.StandsFor c.loop-event.world in
-    let After = g.W.Tenancy.StandsFor c.apply.new.self in
+    let After = g.W.Tenancy.StandsFor c.act.new.self in
     let invariant = c.loop-event.invariant in
     let takes : take (i + 1) xs ≡ take i xs ++ e ∷ [] = take_more xs i e c.loop-event-test.true ∙ ap (λ d. take i xs ++ d ∷ []) (sym c.event-item.is) in
     let items : c.push.new.self.items ≡ told ++ reply ∷ [] = c.in_ok-push.ensures.items in

@@ -7,5 +7,5 @@ returns-in_default g c = λ fine. done_unformed g.W.Tenancy.setup g.W.Tenancy.St
 
 pub returns : goal.returns
 returns g c = λ fine.
-    done_act g.W.Tenancy.setup g.W.Tenancy.StandsFor c.args.world.now c.apply-answered.new.self c.args.slot c.args.line.now c.in-Some.act c.apply-answered.result c.is_out_of_memory.result
-    (sym c.parse_act.ensures ∙ c.in-Some.is) c.apply-answered.ensures c.is_out_of_memory.ensures fine
+    done_act g.W.Tenancy.setup g.W.Tenancy.StandsFor c.args.world.now c.act-answered.new.self c.args.slot c.args.line.now c.in-Some.act c.act-answered.result c.is_out_of_memory.result
+    (sym c.parse_act.ensures ∙ c.in-Some.is) c.act-answered.ensures c.is_out_of_memory.ensures fine
