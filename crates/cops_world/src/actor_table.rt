@@ -1,5 +1,6 @@
 //! The actors of all tenants: a table for each slot, by name.
 ghost use Rattle.std.specs.Prelude.{◌≡◌, ◌<◌, ◌+◌, ◌⊎◌, ℕ, [], length, replicate, if◌then◌else◌, true, false, IsTrue, IfOk, IfSome, OnErr, OnOk, is_some, position, Ok, Some, None};
+ghost use Rattle.std.specs.List.{list_any};
 ghost use Rattle.std.specs.Map.{keys_of, lookup};
 ghost use Rattle.cops_types.specs.Key.{key_eq};
 ghost use Rattle.cops_types.specs.TenantConfig.{TenantConfig};
@@ -26,6 +27,9 @@ use cops_types::{Fault, Name, Seeds};
 use indexmap::IndexMap;
 use std::alloc::{AllocError, Global};
 use std::marker::Model;
+
+/// How many actors are looked at one by one, which takes less than a hash of a name.
+const FEW: usize = 8;
 
 /// The actors of one tenant. Contracts see each with its name.
 #[derive(Drop)]
@@ -69,7 +73,17 @@ impl ActorTable {
     pub(crate) fn has(&self, name: &Name) -> bool
         ensures { result ≡ is_some (lookup (key_eq name.now) self.now) }
     {
-        self.actors.contains_key(name)
+        if self.actors.len() > FEW {
+            return self.actors.contains_key(name);
+        }
+        self.has_among_few(name)
+    }
+
+    /// The same, where there are few.
+    fn has_among_few(&self, name: &Name) -> bool
+        ensures { result ≡ list_any (key_eq name.now) (keys_of self.now) }
+    {
+        self.actors.keys().any(|other| name == other)
     }
 
     /// The place of an actor. Where the guess is right, nothing is hashed.

@@ -18,6 +18,7 @@ ghost use Rattle.cops_world.specs.declared.actors.Actor.TheVariants.{OfCarrier a
 ghost use Rattle.cops_world.specs.declared.actors.Deed.TheVariants as deeds;
 
 use crate::Reply;
+use crate::own_sessions::OwnSession;
 use cops_context::Context;
 use cops_handles::Handle;
 use cops_node::Nodes;
@@ -37,7 +38,7 @@ pub struct ActorId {
 /// A session or a carrier.
 #[derive(Drop)]
 pub enum Actor {
-    OfSession(Session),
+    OfSession(OwnSession),
     OfCarrier(Carrier),
 }
 
@@ -277,7 +278,7 @@ impl Actor {
         ensures lack { IsTrue (is_out_of_memory (told_act result)) → self.new ≡ self.old }
     {
         match self {
-            Actor::OfSession(session) => act_in(alloc, session, deed),
+            Actor::OfSession(own) => act_in(alloc, &mut own.session, deed),
             Actor::OfCarrier(_) => Ok(Reply::Refused(Fault::UnknownName)),
         }
     }
@@ -301,7 +302,7 @@ impl Actor {
         ensures runs { (shape : Shape) (slot : ℕ) → RunsAt shape slot self.old → RunsAt shape slot self.new }
     {
         match self {
-            Actor::OfSession(session) => step_session(session, nodes, moment),
+            Actor::OfSession(own) => step_session(&mut own.session, nodes, moment),
             Actor::OfCarrier(carrier) => {
                 if carrier.ended() {
                     return Ok(Reply::Refused(Fault::Torn));

@@ -31,6 +31,7 @@ use crate::actor_table::{
 };
 use crate::actors::{Actor, ActorId, Deed, Keys};
 use crate::guesses::Guesses;
+use crate::own_sessions::OwnSession;
 use crate::{Act, ByteSlice, ByteSlices, Event, Reply};
 use cops_node::{AuditRow, Cluster0, Node, NodeCall, NodeId, NodeReply, Nodes};
 use cops_repl::Carrier;
@@ -100,13 +101,20 @@ fn refused_with(fault: Fault) -> Result<Reply, AllocError>
 }
 
 /// A session of a tenant at a data centre, as an actor.
-fn new_session(alloc: Global, config: &Config, tenant: &Tenant, slot: u64, dc: u64) -> Actor
+fn new_session(
+    alloc: Global,
+    config: &Config,
+    tenant: &Tenant,
+    slot: u64,
+    dc: u64,
+) -> Result<Actor, AllocError>
     requires dc { dc < config.now.data_centres }
     requires shards { 0 < config.now.shards }
-    ensures stands { ActorStandsFor (tenant_config config.now tenant.now) result (Solo.OfSession (new_session dc 1)) }
-    ensures runs { RunsAt (shape_of config.now) slot result }
+    ensures stands { IfOk result (λ actor. ActorStandsFor (tenant_config config.now tenant.now) actor (Solo.OfSession (new_session dc 1))) }
+    ensures runs { IfOk result (RunsAt (shape_of config.now) slot) }
 {
-    Actor::OfSession(Session::of_tenant(alloc, config, tenant, slot, dc))
+    let session = Session::of_tenant(alloc, config, tenant, slot, dc);
+    Ok(Actor::OfSession(OwnSession::new(alloc, session)?))
 }
 
 /// A carrier from a node to another data centre, as an actor.
@@ -256,7 +264,7 @@ impl World {
             return Ok(Reply::Refused(fault));
         }
         let tenant = self.tenant(slot);
-        let session = new_session(self.alloc, &self.config, tenant, slot, dc);
+        let session = new_session(self.alloc, &self.config, tenant, slot, dc)?;
         match self.join(ActorId { slot, name: *name }, session) {
             Ok(()) => Ok(Reply::Opened),
             Err(error) => Err(error),

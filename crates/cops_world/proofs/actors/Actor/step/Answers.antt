@@ -1,13 +1,8 @@
 use Rattle.std.proofs.Common.{◌≡◌}
 use Rattle.cops_world.specs.declared.actors.Actor.TheVariants as kept
 use Rattle.cops_world.specs.ActorsStand.{stepped_to}
-use Rattle.cops_world.proofs.ActorSteps.{session_steps, carrier_steps}
+use Rattle.cops_world.proofs.ActorSteps.{carrier_steps}
 use Rattle.cops_world.proofs.actors.Actor.step.Goals as goal
-
-pub returns-in-OfSession-clause-steps : goal.returns-in-OfSession-clause-steps
-returns-in-OfSession-clause-steps g c = λ config solo stands.
-    session_steps (λ slot at id call reply. g.N.Nodes.Answers c.args.nodes.now id slot at call reply c.step_session.new.nodes) (c.step_session.new.nodes ≡ c.args.nodes.now)
-    (g.N.Nodes.shape c.args.nodes.now) c.args.slot config c.args.moment c.in-OfSession.session c.step_session.new.session c.step_session.result c.args.self.now solo c.in-OfSession.is c.requires stands (c.step_session.ensures.steps config)
 
 pub returns-else-ended-clause-steps : goal.returns-else-ended-clause-steps
 returns-else-ended-clause-steps g c = λ config solo stands.

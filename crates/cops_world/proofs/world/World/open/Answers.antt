@@ -42,8 +42,8 @@ returns-in-Ok-clause-moves c =
     joins_there (world_of c.args.self.now) c.args.slot c.args.name.now (λ config. nat_lt c.args.dc config.data_centres) solo Opened
     (lt-ltb c.args.dc (config_in setup c.args.slot).data_centres there) (Ok Opened) (world_of c.join.new.self)
     (c.in-Ok.ensures.joined solo Opened
-    (subst (λ (k : KeptWorld). ActorStandsFor (config_in k.setup c.args.slot) c.new_session-session.result solo) c.self.view_is
-    (subst (λ o. ActorStandsFor (config_of c.self.inside.config o) c.new_session-session.result solo) (sym (ap (λ (k : KeptWorld). open_at c.args.slot k.setup.tenants) c.self.view_is ∙ c.tenant-tenant.ensures.there)) c.new_session-session.ensures.stands)))
+    (subst (λ (k : KeptWorld). ActorStandsFor (config_in k.setup c.args.slot) c.in_ok-session.session solo) c.self.view_is
+    (subst (λ o. ActorStandsFor (config_of c.self.inside.config o) c.in_ok-session.session solo) (sym (ap (λ (k : KeptWorld). open_at c.args.slot k.setup.tenants) c.self.view_is ∙ c.tenant-tenant.ensures.there)) c.in_ok-session.ensures.stands)))
 
 pub returns-then-dc-self-clause-lack : goal.returns-then-dc-self-clause-lack
 returns-then-dc-self-clause-lack c = same_leaves (world_of c.args.self.now) c.args.slot (Ok (Refused NoSuchPlace)) (world_of c.args.self.now) refl

@@ -1,0 +1,32 @@
+//! A session in memory of its own.
+ghost use Rattle.std.specs.Prelude.{◌≡◌, IfOk};
+
+use cops_session::Session;
+use std::alloc::{AllocError, Global};
+use std::marker::Model;
+
+/// A session that stands apart from the table of its tenant's actors. A place of the table is as
+/// large as its largest actor. A session is more than twice a carrier, which is put in and taken
+/// out for each entry that it carries. Contracts see the session.
+#[derive(Drop)]
+pub struct OwnSession {
+    pub(crate) session: Box<Session>,
+}
+
+impl Model for OwnSession {
+    ghost use Rattle.cops_session.specs.Kept.{KeptSession};
+
+    ghost Value = { KeptSession };
+
+    ghost view = { λ o. o.session.value };
+}
+
+impl OwnSession {
+    /// The session, in a block of memory.
+    pub(crate) fn new(alloc: Global, session: Session) -> Result<Self, AllocError>
+        ensures { IfOk result (λ own. own ≡ session) }
+    {
+        let session = Box::new(alloc, session)?;
+        Ok(OwnSession { session })
+    }
+}
