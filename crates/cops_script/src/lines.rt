@@ -29,15 +29,27 @@ pub(crate) fn act_behind<'a>(line: &[u8], rest: Option<&'a [u8]>) -> Option<Act<
     requires { parts_at space line.now ≡ first_word line.now ∷ option_map_or (λ rest. parts_at space rest.now) rest [] }
     ensures { result ≡ act_in (first_word line.now) line.now }
 {
+    let words = words_of_act(line, rest)?;
+    read_act(words)
+}
+
+/// The words behind the first one, where the line is short enough for an act and has them.
+#[inline(always)]
+pub(crate) fn words_of_act<'a>(line: &[u8], rest: Option<&'a [u8]>) -> Option<&'a [u8]>
+    requires { parts_at space line.now ≡ first_word line.now ∷ option_map_or (λ rest. parts_at space rest.now) rest [] }
+    ensures some { IfSome result (λ words. option_and_then with_line (act_of_words ([] ∷ parts_at space words.now)) ≡ act_in (first_word line.now) line.now) }
+    ensures none { IfNone result (act_in (first_word line.now) line.now ≡ None) }
+{
     if line.len() > LONGEST_LINE {
         return None;
     }
-    read_act(rest?)
+    let words = rest?;
+    Some(words)
 }
 
 /// The act of the words behind the tenant's name. The verbs of most lines come first. Each verb has
 /// words behind it, so a space.
-fn read_act(words: &[u8]) -> Option<Act>
+pub(crate) fn read_act(words: &[u8]) -> Option<Act>
     ensures { result ≡ option_and_then with_line (act_of_words ([] ∷ parts_at space words.now)) }
 {
     if let Some(rest) = behind_word(words, b"put".as_slice()) {

@@ -10,7 +10,7 @@ ghost use Rattle.cops_script.specs.AllRules.{IsAnswered};
 
 use crate::bodies::Body;
 use crate::host_machine::{admit, close};
-use crate::lines::act_behind;
+use crate::lines::{read_act, words_of_act};
 use crate::scripts::BadConfig;
 use crate::texts::{push_answer, push_host, push_nobody, push_refusal};
 use crate::{Stop, Tenancy};
@@ -46,8 +46,11 @@ pub(crate) fn answer_tenant<W: Tenancy>(
         return push_nobody(out);
     };
     let name = name_at(tenants, slot);
-    // Each way writes its own answer: a reply is large, and would be copied where the ways meet.
-    match &act_behind(line, rest) {
+    // Each way writes its own answer: an act and a reply are large, and would be copied where ways meet.
+    let Some(words) = words_of_act(line, rest) else {
+        return push_refusal(out, &name, Fault::Syntax);
+    };
+    match &read_act(words) {
         Some(act) => match world.act(slot, act) {
             Ok(reply) => push_answer(out, &name, &reply),
             Err(error) => push_refusal(out, &name, Fault::from(error)),

@@ -10,7 +10,7 @@ ghost use Rattle.cops_world.specs.HostRuns.{IsWithinLimits, TellsLives, acts_at,
 ghost use Rattle.cops_world.specs.Worlds.{HasOpenCluster, open_setup};
 
 use crate::{Act, HostReply, Reply, World};
-use cops_script::as_reply;
+use cops_script::{Tenancy, as_reply};
 use cops_types::{Config, Fault, Tenant};
 use std::alloc::{AllocError, Global};
 
@@ -46,7 +46,7 @@ fn act_at(world: &mut World, slot: u64, act: &Act) -> LifeReply
     if world.tenants().tenant(slot).is_none() {
         return LifeReply::ToHost(HostReply::Denied(Fault::UnknownTenant));
     }
-    LifeReply::ToTenant(as_reply(world.act_for(slot, act)))
+    LifeReply::ToTenant(as_reply(world.act(slot, act)))
 }
 
 /// Gives a slot to a tenant.

@@ -8,7 +8,7 @@ ghost use Rattle.cops_script.specs.GoodHeads.{is_good};
 ghost use Rattle.cops_world.specs.Worlds.{HasOpenCluster, open_setup};
 
 use crate::{Event, Reply, World};
-use cops_script::{as_reply, run_all, with_tenant_alone};
+use cops_script::{Tenancy, as_reply, run_all, with_tenant_alone};
 use cops_types::Config;
 use std::alloc::{AllocError, Global};
 
@@ -61,7 +61,7 @@ pub fn solo(
     let mut told = Vec::new(alloc);
     for event in events {
         if event.slot == slot {
-            told.push(as_reply(world.act_for(0, &event.act)))?;
+            told.push(as_reply(world.act(0, &event.act)))?;
         }
     }
     Ok(told)

@@ -147,7 +147,7 @@ fn reply_of_collect(reply: NodeReply) -> Reply
 
 impl World {
     /// Has a session of a tenant do what is asked.
-    fn act(&mut self, slot: u64, name: &Name, deed: Deed) -> Result<Reply, AllocError>
+    fn ask(&mut self, slot: u64, name: &Name, deed: Deed) -> Result<Reply, AllocError>
         ensures moves { Moves AnyReply (λ config. deed_step config name.now deed) (world_of self.old) slot result (world_of self.new) }
         ensures lack { Leaves Stays (world_of self.old) slot result (world_of self.new) }
     {
@@ -161,7 +161,7 @@ impl World {
         ensures moves { Moves AnyReply (λ config. cluster_step config (acts.Create name.now)) (world_of self.old) slot result (world_of self.new) }
         ensures lack { Leaves Stays (world_of self.old) slot result (world_of self.new) }
     {
-        self.act(slot, name, Deed::Create)
+        self.ask(slot, name, Deed::Create)
     }
 
     /// Deletes a context of a session.
@@ -170,7 +170,7 @@ impl World {
         ensures moves { Moves AnyReply (λ config. cluster_step config (acts.Delete name.now number)) (world_of self.old) slot result (world_of self.new) }
         ensures lack { Leaves Stays (world_of self.old) slot result (world_of self.new) }
     {
-        self.act(slot, name, Deed::Delete(number))
+        self.ask(slot, name, Deed::Delete(number))
     }
 
     /// Shows the two lists of a context of a session.
@@ -179,7 +179,7 @@ impl World {
         ensures moves { Moves AnyReply (λ config. cluster_step config (acts.Show name.now number)) (world_of self.old) slot result (world_of self.new) }
         ensures lack { Leaves Stays (world_of self.old) slot result (world_of self.new) }
     {
-        self.act(slot, name, Deed::Show(number))
+        self.ask(slot, name, Deed::Show(number))
     }
 
     /// Whether a tenant is open at a slot.
@@ -402,7 +402,7 @@ impl World {
             Err(fault) => return Ok(Reply::Refused(fault)),
         };
         match Value::new(self.alloc, value.as_slice()) {
-            Ok(value) => self.act(slot, name, Deed::Put(number, key, value)),
+            Ok(value) => self.ask(slot, name, Deed::Put(number, key, value)),
             Err(fault) => refused_with(fault),
         }
     }
@@ -422,7 +422,7 @@ impl World {
             return Ok(Reply::Refused(Fault::Syntax));
         }
         match keys_of(self.alloc, keys) {
-            Ok(Ok(keys)) => self.act(slot, name, Deed::Get(number, keys)),
+            Ok(Ok(keys)) => self.ask(slot, name, Deed::Get(number, keys)),
             Ok(Err(fault)) => Ok(Reply::Refused(fault)),
             Err(error) => Err(error),
         }
@@ -446,46 +446,7 @@ impl World {
         ensures acted { HasActed open_setup HasOpenCluster self.old event.now result self.new }
         ensures vacant { IsFalse (is_open_at self.old.setup event.now.slot) → (result ≡ Ok (Refused UnknownTenant)) × (self.new ≡ self.old) }
     {
-        self.act_for(event.slot, &event.act)
-    }
-
-    /// One act of the tenant in a slot, if it has one.
-    #[inline(never)]
-    pub(crate) fn act_for(&mut self, slot: u64, act: &Act) -> Result<Reply, AllocError>
-        ensures moves { Moves (TellsExactly act.now) (λ config. cluster_step config act.now) (world_of self.old) slot result (world_of self.new) }
-        ensures lack { Leaves (λ config. Lacks config act.now) (world_of self.old) slot result (world_of self.new) }
-        ensures vacant { IsFalse (is_open_at self.old.setup slot) → (result ≡ Ok (Refused UnknownTenant)) × (self.new ≡ self.old) }
-    {
-        if !self.has_tenant(slot) {
-            return Ok(Reply::Refused(Fault::UnknownTenant));
-        }
-        match act {
-            Act::Open(name, dc) => self.open(slot, name, *dc),
-            Act::Create(name) => self.create(slot, name),
-            Act::Delete(name, number) => self.delete(slot, name, *number),
-            Act::Put(name, number, key, value) => self.put(slot, name, *number, key, value),
-            Act::Get(name, number, keys) => self.get(slot, name, *number, keys),
-            Act::Show(name, number) => self.show(slot, name, *number),
-            Act::Carry(name, dc, shard, to_dc) => {
-                let origin = NodeId {
-                    dc: *dc,
-                    shard: *shard,
-                };
-                self.carry(slot, name, origin, *to_dc)
-            }
-            Act::Step(name, moment) => self.steps(slot, name, *moment, 0),
-            Act::Done(name, moment) => {
-                let more = self.most_steps(slot);
-                self.steps(slot, name, *moment, more)
-            }
-            Act::Collect(dc, shard, moment) => {
-                let id = NodeId {
-                    dc: *dc,
-                    shard: *shard,
-                };
-                self.collect(slot, id, *moment)
-            }
-        }
+        Tenancy::act(self, event.slot, &event.act)
     }
 
     /// Gives a slot to a tenant, who begins with an empty cluster and without actors: at all nodes, or
@@ -620,8 +581,43 @@ impl Tenancy for World {
         World::tenants(self)
     }
 
-    fn act(&mut self, slot: u64, act: &Act) -> Result<Reply, AllocError> {
-        self.act_for(slot, act)
+    /// The answer is made here and handed to nobody between: each such function would copy it.
+    #[inline(never)]
+    fn act(&mut self, slot: u64, act: &Act) -> Result<Reply, AllocError>
+        ensures moves { Moves (TellsExactly act.now) (λ config. cluster_step config act.now) (world_of self.old) slot result (world_of self.new) }
+        ensures lack { Leaves (λ config. Lacks config act.now) (world_of self.old) slot result (world_of self.new) }
+        ensures vacant { IsFalse (is_open_at self.old.setup slot) → (result ≡ Ok (Refused UnknownTenant)) × (self.new ≡ self.old) }
+    {
+        if !self.has_tenant(slot) {
+            return Ok(Reply::Refused(Fault::UnknownTenant));
+        }
+        match act {
+            Act::Open(name, dc) => self.open(slot, name, *dc),
+            Act::Create(name) => self.create(slot, name),
+            Act::Delete(name, number) => self.delete(slot, name, *number),
+            Act::Put(name, number, key, value) => self.put(slot, name, *number, key, value),
+            Act::Get(name, number, keys) => self.get(slot, name, *number, keys),
+            Act::Show(name, number) => self.show(slot, name, *number),
+            Act::Carry(name, dc, shard, to_dc) => {
+                let origin = NodeId {
+                    dc: *dc,
+                    shard: *shard,
+                };
+                self.carry(slot, name, origin, *to_dc)
+            }
+            Act::Step(name, moment) => self.steps(slot, name, *moment, 0),
+            Act::Done(name, moment) => {
+                let more = self.most_steps(slot);
+                self.steps(slot, name, *moment, more)
+            }
+            Act::Collect(dc, shard, moment) => {
+                let id = NodeId {
+                    dc: *dc,
+                    shard: *shard,
+                };
+                self.collect(slot, id, *moment)
+            }
+        }
     }
 
     fn admit(&mut self, tenant: Tenant) -> Result<u64, Fault> {

@@ -25,20 +25,20 @@ returns-in-Ok g c =
     (λ appended. answers_told g.W.Tenancy.setup g.W.Tenancy.StandsFor c.args.world.now c.act.new.self line c.args.word.now c.tenants-tenants.result.now c.slot_of_name.result c.in-Some.slot
     c.name_at-name.result c.in-Ok.reply c.args.out.now.items c.push_answer.new.out.items
     c.tenants-tenants.ensures c.requires.word c.slot_of_name.ensures c.in-Some.is c.name_at-name.ensures
-    (done_written g.W.Tenancy.setup g.W.Tenancy.StandsFor c.args.world.now c.act.new.self c.in-Some.slot (act_in (first_word line) line) c.in-Some-act_behind.act c.act.result c.in-Ok.reply (sym c.act_behind.ensures ∙ c.in-Some-act_behind.is) (sym (ap told_act c.in-Ok.is)) c.act.ensures)
+    (done_written g.W.Tenancy.setup g.W.Tenancy.StandsFor c.args.world.now c.act.new.self c.in-Some.slot (act_in (first_word line) line) c.in-Some-read_act.act c.act.result c.in-Ok.reply (sym c.in-Some-words_of_act.ensures.some ∙ sym c.read_act.ensures ∙ c.in-Some-read_act.is) (sym (ap told_act c.in-Ok.is)) c.act.ensures)
     appended)
     c.push_answer.ensures
 
 pub returns-in-Err : goal.returns-in-Err
 returns-in-Err g c =
     let line = c.args.line.now in
-    on_ok_weaker c.push_refusal.result
+    on_ok_weaker c.push_refusal-in-Err.result
     (λ appended. answers_told g.W.Tenancy.setup g.W.Tenancy.StandsFor c.args.world.now c.act.new.self line c.args.word.now c.tenants-tenants.result.now c.slot_of_name.result c.in-Some.slot
-    c.name_at-name.result (Refused c.from.result) c.args.out.now.items c.push_refusal.new.out.items
+    c.name_at-name.result (Refused c.from.result) c.args.out.now.items c.push_refusal-in-Err.new.out.items
     c.tenants-tenants.ensures c.requires.word c.slot_of_name.ensures c.in-Some.is c.name_at-name.ensures
-    (done_written g.W.Tenancy.setup g.W.Tenancy.StandsFor c.args.world.now c.act.new.self c.in-Some.slot (act_in (first_word line) line) c.in-Some-act_behind.act c.act.result (Refused c.from.result) (sym c.act_behind.ensures ∙ c.in-Some-act_behind.is) (ap Refused c.from.ensures ∙ sym (ap told_act c.in-Err.is)) c.act.ensures)
+    (done_written g.W.Tenancy.setup g.W.Tenancy.StandsFor c.args.world.now c.act.new.self c.in-Some.slot (act_in (first_word line) line) c.in-Some-read_act.act c.act.result (Refused c.from.result) (sym c.in-Some-words_of_act.ensures.some ∙ sym c.read_act.ensures ∙ c.in-Some-read_act.is) (ap Refused c.from.ensures ∙ sym (ap told_act c.in-Err.is)) c.act.ensures)
     appended)
-    c.push_refusal.ensures
+    c.push_refusal-in-Err.ensures
 
 pub returns-in-None : goal.returns-in-None
 returns-in-None g c =
@@ -47,6 +47,17 @@ returns-in-None g c =
     (λ appended. answers_told g.W.Tenancy.setup g.W.Tenancy.StandsFor c.args.world.now c.args.world.now line c.args.word.now c.tenants-tenants.result.now c.slot_of_name.result c.in-Some.slot
     c.name_at-name.result (Refused Syntax) c.args.out.now.items c.push_refusal-in-None.new.out.items
     c.tenants-tenants.ensures c.requires.word c.slot_of_name.ensures c.in-Some.is c.name_at-name.ensures
-    (done_unwritten g.W.Tenancy.setup g.W.Tenancy.StandsFor c.args.world.now c.in-Some.slot (act_in (first_word line) line) (sym c.act_behind.ensures ∙ c.in-None.is))
+    (done_unwritten g.W.Tenancy.setup g.W.Tenancy.StandsFor c.args.world.now c.in-Some.slot (act_in (first_word line) line) (sym c.in-Some-words_of_act.ensures.some ∙ sym c.read_act.ensures ∙ c.in-None.is))
     appended)
     c.push_refusal-in-None.ensures
+
+pub returns-in_default-words_of_act : goal.returns-in_default-words_of_act
+returns-in_default-words_of_act g c =
+    let line = c.args.line.now in
+    on_ok_weaker c.push_refusal.result
+    (λ appended. answers_told g.W.Tenancy.setup g.W.Tenancy.StandsFor c.args.world.now c.args.world.now line c.args.word.now c.tenants-tenants.result.now c.slot_of_name.result c.in-Some.slot
+    c.name_at-name.result (Refused Syntax) c.args.out.now.items c.push_refusal.new.out.items
+    c.tenants-tenants.ensures c.requires.word c.slot_of_name.ensures c.in-Some.is c.name_at-name.ensures
+    (done_unwritten g.W.Tenancy.setup g.W.Tenancy.StandsFor c.args.world.now c.in-Some.slot (act_in (first_word line) line) c.in_default-words_of_act.ensures.none)
+    appended)
+    c.push_refusal.ensures

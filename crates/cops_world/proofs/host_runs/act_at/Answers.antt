@@ -6,6 +6,6 @@ use Rattle.cops_world.proofs.host_runs.act_at.Goals as goal
 
 pub returns : goal.returns
 returns c =
-    acted_at c.args.world.now c.act_for.new.self c.args.slot c.args.act.now c.act_for.result c.as_reply.result c.as_reply.ensures
+    acted_at c.args.world.now c.act.new.self c.args.slot c.args.act.now c.act.result c.as_reply.result c.as_reply.ensures
     (ap (λ ts. is_some (open_at c.args.slot ts)) (sym c.tenants.ensures) ∙ ap is_some (sym c.tenant.ensures) ∙ some_copied c.tenant.result ∙ c.if-is_none.ensures)
-    c.act_for.ensures.moves c.act_for.ensures.lack
+    c.act.ensures.moves c.act.ensures.lack

@@ -55,10 +55,10 @@ loop-event-preserved c =
       | then-event-slot+in_ok-push w ↦
           let reply = w.as_reply.result in
           let event : Event = record { slot = 0; act = e.act } in
-          let moves = subst (λ r. ActsAsTold open_setup HasOpenCluster l.world event r w.act_for.new.self) (sym w.as_reply.ensures)
-          (as_told_act open_setup HasOpenCluster l.world event w.act_for.result w.act_for.new.self (has_acted l.world event w.act_for.result w.act_for.new.self w.act_for.ensures.moves w.act_for.ensures.lack)) in
+          let moves = subst (λ r. ActsAsTold open_setup HasOpenCluster l.world event r w.act.new.self) (sym w.as_reply.ensures)
+          (as_told_act open_setup HasOpenCluster l.world event w.act.result w.act.new.self (has_acted l.world event w.act.result w.act.new.self w.act.ensures.moves w.act.ensures.lack)) in
           let items = ap (λ t. t.items) w.told-is ∙ w.in_ok-push.ensures.items in
-          let After = HasOpenCluster w.act_for.new.self 0 in
+          let After = HasOpenCluster w.act.new.self 0 in
           let Told : List Event → List Reply → (SoloCluster → Type 0) → Type 0 = λ es rs Stands. IsSpared rs → ToldAlone config (new_cluster config) (own slot es) rs Stands in
           let First : List Event → List Reply → Type 0 = λ es rs. IsFrontOf (before_lack rs) (solo_replies config (own slot es)) in
           record {

@@ -30,17 +30,17 @@ returns-in-Err-new-clause-moves c =
 pub returns-in-Ok-new-clause-moves : goal.returns-in-Ok-new-clause-moves
 returns-in-Ok-new-clause-moves c =
     let old = world_of c.args.self.now in
-    let new = world_of c.act.new.self in
+    let new = world_of c.ask.new.self in
     let slot = c.args.slot in
     let name = c.args.name.now in
     let number = c.args.number in
-    let reply = c.act.result in
+    let reply = c.ask.result in
     let key = good_key c.args.key.now c.in-Ok.key (sym c.in-Ok.is ∙ c.new.ensures ∙ ap key_or_fault c.as_slice.ensures) in
     let value : c.in-Ok-new.value ≡ c.args.value.now = c.in-Ok-new.ensures.ok ∙ c.as_slice-2.ensures in
     let short = short_value c.args.value.now (subst (λ v. refused_if (is_too_long v) ValueTooLong ≡ None) c.as_slice-2.ensures c.in-Ok-new.ensures.refused) in
     put_moves old slot name number c.args.key.now c.args.value.now key.1 short reply new
     (subst (λ k. Moves AnyReply (λ config. deed_step config name (deeds.Put number k c.args.value.now)) old slot reply new) key.0
-    (subst (λ v. Moves AnyReply (λ config. deed_step config name (deeds.Put number c.in-Ok.key v)) old slot reply new) value c.act.ensures.moves))
+    (subst (λ v. Moves AnyReply (λ config. deed_step config name (deeds.Put number c.in-Ok.key v)) old slot reply new) value c.ask.ensures.moves))
 
 pub returns-in-Err-clause-lack : goal.returns-in-Err-clause-lack
 returns-in-Err-clause-lack c = same_leaves (world_of c.args.self.now) c.args.slot (Ok (Refused c.in-Err.fault)) (world_of c.args.self.now) refl

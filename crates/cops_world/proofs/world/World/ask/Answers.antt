@@ -7,7 +7,7 @@ use Rattle.cops_world.specs.Worlds.{AnyReply, KeptWorld, Leaves, Moves, world_of
 use Rattle.cops_world.proofs.WorldKeeps.{hosted_after_act, runs_after_act}
 use Rattle.cops_world.proofs.WorldLacks.{deed_leaves}
 use Rattle.cops_world.proofs.WorldMoves.{deed_moves}
-use Rattle.cops_world.proofs.world.World.act.Goals as goal
+use Rattle.cops_world.proofs.world.World.ask.Goals as goal
 
 pub invariant_of-self : goal.invariant_of-self
 invariant_of-self c =
