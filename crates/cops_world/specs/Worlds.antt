@@ -1,5 +1,5 @@
 -- A world as contracts see it, and the cluster that a tenant's part of it stands for.
-use Rattle.std.specs.Prelude.{◌≡◌, ◌≢◌, ℕ, ◌*◌, ◌≤◌, true, IfOk, IsTrue, List, [], length, map, slice_index_or, slice_set, Option, Some, None, Result}
+use Rattle.std.specs.Prelude.{◌≡◌, ◌≢◌, ◌⊎◌, ℕ, ◌+◌, ◌*◌, ◌≤◌, true, false, IfOk, IsTrue, List, [], length, map, slice_index_or, slice_set, Option, Some, None, Result}
 use Rattle.std.specs.declared.alloc.AllocError.{AllocError}
 use Rattle.std.specs.List.{AllByRecursion}
 use Rattle.std.specs.Option.{option_map}
@@ -17,8 +17,8 @@ use Rattle.cops_model.specs.Setups.{Setup, config_in, is_open_at}
 use Rattle.cops_world.specs.declared.actors.Actor.{Actor as Kept}
 use Rattle.cops_world.specs.declared.actors.ActorId.{ActorId}
 use Rattle.cops_world.specs.Actors.{ActorsStandFor}
-use Rattle.cops_world.specs.ActorTables.{Table, actor_at, count_at}
-use Rattle.cops_world.specs.ActorsStand.{ActorStandsFor, RunsAt}
+use Rattle.cops_world.specs.ActorTables.{Places, Table, actor_at, count_at}
+use Rattle.cops_world.specs.ActorsStand.{ActorStandsFor, RunsAt, actor_ended}
 use Rattle.cops_script.specs.Acting.{told_act}
 use Rattle.cops_script.specs.GoodHeads.{is_good}
 
@@ -94,6 +94,16 @@ pub record Moves (Exact : Reply → Type 0) (turn_of : TenantConfig → SoloClus
 abbrev pub Leaves : (TenantConfig → SoloCluster → SoloCluster → Type 0) → World → ℕ → Result Reply AllocError → World → Type 0
 Leaves Left old slot answered new =
     IsTrue (is_out_of_memory (told_act answered)) → (cluster : SoloCluster) → ClusterStandsAt old slot cluster → (after : SoloCluster) × Left (config_in old.setup slot) cluster after × ClusterStandsAt new slot after
+
+-- the actor is taken out, and nothing else changes
+pub record IsTakenOut (old : KeptWorld) (id : ActorId) (new : KeptWorld) : Type 0 where
+  pub rest : new ≡ record old { tables = new.tables }
+  pub out : Places old.tables id None new.tables
+  pub count : count_at new.tables id.slot + 1 ≡ count_at old.tables id.slot
+
+-- a carrier that has ended is taken out, and any other actor stays
+abbrev pub IsLeft : ActorId → KeptWorld → KeptWorld → Type 0
+IsLeft id old new = (actor : Kept) → actor_at old.tables id ≡ Some actor → ((actor_ended actor ≡ true) × IsTakenOut old id new) ⊎ ((actor_ended actor ≡ false) × (new ≡ old))
 
 -- a new actor joins, where its place exists, unless its name is taken or the tenant has as many as he may
 abbrev pub join_step : List ℕ → Actor → Reply → TenantConfig → SoloCluster → ActEffect

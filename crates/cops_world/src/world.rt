@@ -23,7 +23,7 @@ ghost use Rattle.cops_world.specs.ActorsStand.{ActorStandsFor, RunsAt};
 ghost use Rattle.cops_world.specs.Deeds.{deed_step};
 ghost use Rattle.cops_script.specs.Lacks.{Lacks, Stays, StepStops, StepsStop};
 ghost use Rattle.cops_world.specs.Trails.{audited_at};
-ghost use Rattle.cops_world.specs.Worlds.{Admits, AnyReply, AreSitesIn, ClusterStandsAt, Closes, HasOpenCluster, Leaves, Moves, StaysOpen, open_setup, join_step, world_of};
+ghost use Rattle.cops_world.specs.Worlds.{Admits, AnyReply, AreSitesIn, ClusterStandsAt, Closes, HasOpenCluster, IsLeft, KeptWorld, Leaves, Moves, StaysOpen, open_setup, join_step, world_of};
 ghost use Rattle.cops_script.specs.Sizes.{HasSizes};
 
 use crate::actor_table::{
@@ -325,22 +325,32 @@ impl World {
         Some(place)
     }
 
-    /// Takes a step of the actor at a place of its table. It stays there if it goes on.
+    /// Takes a step of the actor at a place of its table, where it stays, also if it has ended.
     fn step_at(&mut self, place: usize, id: &ActorId, moment: u64) -> Result<Reply, AllocError>
         requires slot { IsTrue (is_open_at self.old.setup id.now.slot) }
         requires place { Some place ≡ position (key_eq id.now.name) (names_at id.now.slot self.old.tables) }
-        ensures moves { Moves IsSparedReply (λ config. actor_step config id.now.name moment) (world_of self.old) id.now.slot result (world_of self.new) }
-        ensures lack { Leaves (λ config. StepStops config id.now.name moment) (world_of self.old) id.now.slot result (world_of self.new) }
-        ensures place { goes_on (told_act result) ≡ true → Some place ≡ position (key_eq id.now.name) (names_at id.now.slot self.new.tables) }
+        ensures moves { (left : KeptWorld) → IsLeft id.now self.new left → Moves IsSparedReply (λ config. actor_step config id.now.name moment) (world_of self.old) id.now.slot result (world_of left) }
+        ensures lack { (left : KeptWorld) → IsLeft id.now self.new left → Leaves (λ config. StepStops config id.now.name moment) (world_of self.old) id.now.slot result (world_of left) }
+        ensures goes_on { goes_on (told_act result) ≡ true → IsLeft id.now self.new self.new }
+        ensures place { Some place ≡ position (key_eq id.now.name) (names_at id.now.slot self.new.tables) }
+        ensures setup { self.new.setup ≡ self.old.setup }
     {
-        let answered = step_at(&mut self.actors, place, id, &mut self.nodes, moment);
+        step_at(&mut self.actors, place, id, &mut self.nodes, moment)
+    }
+
+    /// Takes out the actor at a place of its table if it is a carrier that has ended.
+    fn leave(&mut self, place: usize, id: &ActorId)
+        requires slot { IsTrue (is_open_at self.old.setup id.now.slot) }
+        requires place { Some place ≡ position (key_eq id.now.name) (names_at id.now.slot self.old.tables) }
+        ensures { IsLeft id.now self.old self.new }
+    {
         if has_ended(&self.actors, place, id) {
             take_out(&mut self.actors, place, id);
         }
-        answered
     }
 
-    /// Takes steps of an actor at one moment until it has answered, at most `more` after the first.
+    /// Takes steps of an actor at one moment until it has answered, at most `more` after the first. Only
+    /// where it has answered may it have ended: an answer that is kept meanwhile is copied.
     fn steps(
         &mut self,
         slot: u64,
@@ -359,6 +369,7 @@ impl World {
         loop {
             let answered = self.step_at(place, &id, moment);
             if !goes_on(&answered) {
+                self.leave(place, &id);
                 return answered;
             }
             if more == 0 {

@@ -11,8 +11,8 @@ use Rattle.cops_world.specs.Worlds.{World, Leaves, Moves, world_of}
 use Rattle.cops_world.proofs.world.World.steps.Given as goal
 
 -- the actor is at its place, and the steps that are left make, with those that were taken, all the steps
-abbrev pub invariant-loop-id : goal.invariant-loop-id
-invariant-loop-id l = record {
+abbrev pub invariant-loop-self : goal.invariant-loop-self
+invariant-loop-self l = record {
   same : l.self.setup ≡ l.fn.self.setup;
   placed : Some l.place ≡ position (key_eq l.id.name) (names_at l.slot l.self.tables);
   rest : (answered : Result Reply AllocError) (new : World) → Moves IsSparedReply (λ config. actor_steps l.more config l.id.name l.moment) (world_of l.self) l.slot answered new →
@@ -21,5 +21,5 @@ invariant-loop-id l = record {
       Leaves (λ config. StepsStop l.fn.more config l.id.name l.moment) (world_of l.fn.self) l.slot answered new;
 }
 
-abbrev pub decreases-loop-id : goal.decreases-loop-id
-decreases-loop-id l = l.more
+abbrev pub decreases-loop-self : goal.decreases-loop-self
+decreases-loop-self l = l.more
