@@ -51,6 +51,11 @@ impl Model for ActorTable {
 }
 
 impl ActorTable {
+    ghost use Rattle.std.specs.Borrow.{Lends, sem};
+    ghost use Rattle.indexmap.specs.IndexMap.{set_value_at};
+    ghost use Rattle.cops_world.specs.contracts.actor_table.ActorTable.{the_row};
+    ghost use Rattle.cops_world.specs.contracts.actors.Actor.{the_row as actor_row};
+
     /// A table without actors. It asks for no memory.
     ///
     /// Names that collide slow only the tenant whose table it is.
@@ -116,30 +121,16 @@ impl ActorTable {
         actor.act(alloc, deed)
     }
 
-    /// Takes a step of the actor at a place.
-    fn step<N: Nodes>(
-        &mut self,
-        place: usize,
-        id: &ActorId,
-        nodes: &mut N,
-        moment: u64,
-    ) -> Result<Reply, AllocError>
-        requires place { Some place ≡ position (key_eq id.now.name) (keys_of self.old) }
-        requires runs { (actor : Kept) → lookup (key_eq id.now.name) self.old ≡ Some actor → RunsAt (N.shape nodes.old) id.now.slot actor }
-        ensures stepped { (before : Kept) → lookup (key_eq id.now.name) self.old ≡ Some before → (after : Kept) × PlacesIn self.old id.now.name (Some after) self.new
-            × ((config : TenantConfig) (solo : Solo) → ActorStandsFor config before solo →
-            ActorSteps (λ at node call reply. N.Answers nodes.old node id.now.slot at call reply nodes.new) (nodes.new ≡ nodes.old) config moment (stepped_to result after) solo after)
-            × ((shape : Shape) → RunsAt shape id.now.slot before → RunsAt shape id.now.slot after) }
-        ensures last { (after : Kept) → lookup (key_eq id.now.name) self.new ≡ Some after → actor_ended after ≡ true → goes_on (told_act result) ≡ false }
-        ensures keys { keys_of self.new ≡ keys_of self.old }
-        ensures there { (before : Kept) × (lookup (key_eq id.now.name) self.old ≡ Some before) }
-        ensures once { (nodes.new ≡ nodes.old)
-            ⊎ ((node : NodeId) × (at : ℕ) × (call : NodeCall) × (reply : NodeReply) × N.Answers nodes.old node id.now.slot at call reply nodes.new) }
-        ensures shape { N.shape nodes.new ≡ N.shape nodes.old }
-        ensures len { length self.new ≡ length self.old }
+    /// The actor at a place, to be changed where it stands.
+    pub(crate) fn actor_mut(&mut self, place: usize, name: &Name) -> &mut Actor
+        requires { Some place ≡ position (key_eq name.now) (keys_of self.old) }
+        ensures* lent { sem 𝓛 (Lends the_row actor_row self.entry result (set_value_at self.old place)) }
+        ensures before { lookup (key_eq name.now) self.old ≡ Some result.now }
+        ensures placed { (actor : Kept) → PlacesIn self.old name.now (Some actor) (set_value_at self.old place actor) }
+        ensures keys { (actor : Kept) → keys_of (set_value_at self.old place actor) ≡ keys_of self.old }
+        ensures len { (actor : Kept) → length (set_value_at self.old place actor) ≡ length self.old }
     {
-        let actor = &mut self.actors[place];
-        actor.step(nodes, id.slot, moment)
+        &mut self.actors[place]
     }
 
     /// Puts in an actor.
@@ -224,32 +215,6 @@ pub(crate) fn act_at(
         }
         None => Ok(Reply::Refused(Fault::UnknownName)),
     }
-}
-
-/// Takes a step of the actor at a place of its table.
-pub(crate) fn step_at<N: Nodes>(
-    actors: &mut Vec<ActorTable>,
-    place: usize,
-    id: &ActorId,
-    nodes: &mut N,
-    moment: u64,
-) -> Result<Reply, AllocError>
-    requires within { id.now.slot < length actors.old.items }
-    requires place { Some place ≡ position (key_eq id.now.name) (names_at id.now.slot actors.old.items) }
-    requires runs { AllRun (N.shape nodes.old) actors.old.items }
-    ensures stepped { (before : Kept) → actor_at actors.old.items id.now ≡ Some before → (after : Kept) × PutsBack actors.old.items id.now after actors.new.items
-        × ((config : TenantConfig) (solo : Solo) → ActorStandsFor config before solo →
-        ActorSteps (λ at node call reply. N.Answers nodes.old node id.now.slot at call reply nodes.new) (nodes.new ≡ nodes.old) config moment (stepped_to result after) solo after)
-        × ((shape : Shape) → RunsAt shape id.now.slot before → RunsAt shape id.now.slot after) }
-    ensures last { (after : Kept) → actor_at actors.new.items id.now ≡ Some after → actor_ended after ≡ true → goes_on (told_act result) ≡ false }
-    ensures place { Some place ≡ position (key_eq id.now.name) (names_at id.now.slot actors.new.items) }
-    ensures there { (before : Kept) × (actor_at actors.old.items id.now ≡ Some before) }
-    ensures once { (nodes.new ≡ nodes.old)
-        ⊎ ((node : NodeId) × (at : ℕ) × (call : NodeCall) × (reply : NodeReply) × N.Answers nodes.old node id.now.slot at call reply nodes.new) }
-    ensures shape { N.shape nodes.new ≡ N.shape nodes.old }
-{
-    let table = &mut actors[id.slot as usize];
-    table.step(place, id, nodes, moment)
 }
 
 /// Puts in an actor. Its place, behind the others, is noted.

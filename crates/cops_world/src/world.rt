@@ -27,7 +27,7 @@ ghost use Rattle.cops_world.specs.Worlds.{Admits, AnyReply, AreSitesIn, ClusterS
 ghost use Rattle.cops_script.specs.Sizes.{HasSizes};
 
 use crate::actor_table::{
-    ActorTable, act_at, empty_tables, has_ended, place_of, put_new, step_at, take_out,
+    ActorTable, act_at, empty_tables, has_ended, place_of, put_new, take_out,
 };
 use crate::actors::{Actor, ActorId, Deed, Keys};
 use crate::guesses::Guesses;
@@ -335,7 +335,9 @@ impl World {
         ensures place { Some place ≡ position (key_eq id.now.name) (names_at id.now.slot self.new.tables) }
         ensures setup { self.new.setup ≡ self.old.setup }
     {
-        step_at(&mut self.actors, place, id, &mut self.nodes, moment)
+        let table = &mut self.actors[id.slot as usize];
+        let actor = table.actor_mut(place, &id.name);
+        actor.step(&mut self.nodes, id.slot, moment)
     }
 
     /// Takes out the actor at a place of its table if it is a carrier that has ended.
