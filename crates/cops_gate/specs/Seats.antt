@@ -1,10 +1,11 @@
 -- A gate and its seats, as callers see them.
-use Rattle.std.specs.Prelude.{◌≡◌, ℕ, ◌+◌, ◌^◌, Bool, true, false, List, [], length, Option, Some}
+use Rattle.std.specs.Prelude.{◌≡◌, ◌≢◌, ◌⊎◌, ℕ, ◌+◌, ◌^◌, Bool, true, false, List, [], length, Option, Some, None, Result, Ok, IfOk, OnErr}
+use Rattle.std.specs.declared.alloc.AllocError.{AllocError}
 use Rattle.atomic_table.specs.Seated.{TableId}
 use Rattle.cops_gate.specs.declared.board.Beginning.{Beginning}
 use Rattle.cops_gate.specs.declared.history.Entry.{Entry}
 use Rattle.cops_gate.specs.declared.history.Turn.{Turn}
-use Rattle.cops_gate.specs.History.{turns_of, StartsWith, Leads, Grows}
+use Rattle.cops_gate.specs.History.{turns_of, entry, StartsWith, Leads, Grows, LeavesLacking}
 
 -- which gate it is, the state that it opened with and the number of its first ticket
 pub record Origin (M : Type 0) : Type 0 where
@@ -30,6 +31,14 @@ pub record Known (M C R : Type 0) : Type 0 where
 -- the seat has made one turn more, which is blank where there is no entry
 abbrev pub Extends : {M C R : Type 0} → (M → ℕ → ℕ → C → R → M → Type 0) → M → Known M C R → Option (Entry C R) → Known M C R → Type 0
 Extends turns opening old e new = Grows turns opening old.number old.history e new.history
+
+-- What a call was told, where `spent` is the reply that tickets are spent: that, and the history stays; or a turn of the machine, which is blank where memory was refused, and a seat that has met 2^62 makes none
+abbrev pub IsToldOrSpent : {M C R : Type 0} → (M → ℕ → ℕ → C → R → M → Type 0) → (M → ℕ → C → Type 0) → M → R → ℕ → ℕ → C → Known M C R → Known M C R → Result R AllocError → Type 0
+IsToldOrSpent turns may_lack opening spent slot moment call old new told =
+    (told ≡ Ok spent) × (new.history ≡ old.history) × (new.spent ≡ true)
+    ⊎ (old.spent ≢ true) × (new.spent ≡ old.spent)
+    × IfOk told (λ reply. Extends turns opening old (Some (entry slot moment call reply)) new)
+    × OnErr told (Extends turns opening old None new × LeavesLacking turns may_lack opening old.number slot call new.history)
 
 -- The machine is one that a history leaves which begins with all that the seat has seen, and has no other turn of it.
 -- Where the seat has met the ticket word at 2^62, each ticket below that had its turn

@@ -3,15 +3,16 @@ ghost use Rattle.std.specs.Prelude.{◌≡◌, ◌≢◌, ◌+◌, ◌^◌, leng
 ghost use Rattle.cops_types.specs.declared.faults.Fault.TheVariants.{GateSpent, OutOfMemory};
 ghost use Rattle.cops_gate.specs.declared.board.Stage.TheVariants.{Idle};
 ghost use Rattle.cops_gate.specs.History.{entry, turns_of, StartsWith, IsLegal, LeavesLacking};
-ghost use Rattle.cops_gate.specs.Seats.{ClosesWith, Extends, Known, Origin, first_seat, gate_home};
+ghost use Rattle.cops_gate.specs.Seats.{ClosesWith, Extends, IsToldOrSpent, Known, Origin, first_seat, gate_home};
 
 use crate::board::{Beginning, Board, BoardSeat};
 use crate::meetings::{hear, learn, note};
+use crate::spent::{SpentReply, tell_spent};
 use crate::turns::{draw, serve, wait};
 use crate::waiting::Sleepers;
 use atomic_table::{Refused, Table};
 use cops_types::{Fault, Machine};
-use std::alloc::Global;
+use std::alloc::{AllocError, Global};
 use std::marker::Model;
 use std::snapshot::Snapshot;
 use std::sync::Wait;
@@ -105,6 +106,44 @@ impl<M: Machine> Gate<M> {
     {
         let Some(ticket) = draw(rt, &self.board, &self.sleepers, &mut seat.place) else {
             return Err(Fault::GateSpent);
+        };
+        let drawn = Snapshot::of(&seat.place);
+        wait(rt, &self.board, &self.sleepers, &mut seat.place, ticket);
+        let answer = serve(
+            &self.board,
+            &self.sleepers,
+            &mut seat.place,
+            drawn,
+            ticket,
+            slot,
+            moment,
+            call,
+        );
+        match answer {
+            Ok(reply) => Ok(reply),
+            Err(error) => Err(Fault::from(error)),
+        }
+    }
+
+    /// Makes one turn as `step` does. That memory was refused is the only error: where the tickets are spent, the reply
+    /// tells so which `S` has for that.
+    pub fn step_or_reply<R: Wait, S: SpentReply<M::Reply>>(
+        &self,
+        rt: &R,
+        seat: &mut GateSeat<M>,
+        slot: u64,
+        moment: u64,
+        call: M::Call,
+    ) -> Result<M::Reply, AllocError>
+        requires seat { seat.old.gate ≡ gate_home self.now }
+        requires fits { M.fits (M.place self.now.opening) slot call }
+        ensures same { (seat.new.gate ≡ seat.old.gate) × (seat.new.number ≡ seat.old.number) }
+        ensures told { IsToldOrSpent M.turns M.may_lack self.now.opening S.told slot moment call seat.old seat.new result }
+        ensures room { self.now.ticket + length seat.new.history ≤ 2 ^ 62 }
+    {
+        let found = draw(rt, &self.board, &self.sleepers, &mut seat.place);
+        let Some(ticket) = found else {
+            return tell_spent::<M::Call, M::Reply, S>(call);
         };
         let drawn = Snapshot::of(&seat.place);
         wait(rt, &self.board, &self.sleepers, &mut seat.place, ticket);

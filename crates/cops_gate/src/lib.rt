@@ -8,6 +8,7 @@ mod history;
 mod meetings;
 mod note;
 mod plays;
+mod spent;
 #[cfg(test)]
 mod tests;
 mod turns;
@@ -15,3 +16,4 @@ mod waiting;
 
 pub use gate::{Gate, GateSeat};
 pub use history::{Entry, Turn};
+pub use spent::SpentReply;

@@ -3,7 +3,7 @@ ghost use Rattle.cops_gate.specs.Seats.{gate_home};
 
 use crate::{Gate, GateSeat};
 use cops_types::{Fault, Machine};
-use std::alloc::Global;
+use std::alloc::{AllocError, Global};
 use std::process::Abort;
 use std::sync::Wait;
 use std::test::Fail;
@@ -41,7 +41,7 @@ impl Machine for Counter {
 
     ghost may_lack = { λ before _ call. (call ≡ Refuse) ⊎ (2 ^ 64 ≤ before.count + 1) };
 
-    fn turn(&mut self, _slot: u64, _moment: u64, call: Ask) -> Result<u64, Fault> {
+    fn turn(&mut self, _slot: u64, _moment: u64, call: Ask) -> Result<u64, AllocError> {
         if let Ask::Linger = call {
             linger();
         }
@@ -50,7 +50,7 @@ impl Machine for Counter {
                 self.count += 1;
                 Ok(self.count)
             }
-            _ => Err(Fault::OutOfMemory),
+            _ => Err(AllocError),
         }
     }
 }

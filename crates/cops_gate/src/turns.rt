@@ -1,7 +1,6 @@
 //! The parts of one turn: a ticket is drawn, waited for, and published.
 //! The first try of a draw and of a wait stands apart from the loop behind it: alone at a gate, a turn needs no more.
-ghost use Rattle.std.specs.Prelude.{◌≡◌, ◌+◌, ◌^◌, ◌<◌, true, [], ◌∷◌, ◌++◌, ◌≤◌, length, Some, None, OnErr, IfSome, IfNone, IfOk, IfErr};
-ghost use Rattle.cops_types.specs.declared.faults.Fault.TheVariants.{OutOfMemory};
+ghost use Rattle.std.specs.Prelude.{◌≡◌, ◌+◌, ◌^◌, ◌<◌, true, [], ◌∷◌, ◌++◌, ◌≤◌, length, Some, None, OnErr, IfSome, IfNone, IfOk};
 ghost use Rattle.cops_gate.specs.declared.board.Stage.TheVariants.{Idle, Waits, Holds};
 ghost use Rattle.cops_gate.specs.History.{entry, turn, Leads, Grows, LeavesLacking};
 ghost use Rattle.cops_gate.specs.Notes.{entry_of};
@@ -11,7 +10,8 @@ use crate::board::{Board, BoardSeat, LAST, SERVING, TICKET};
 use crate::note::Note;
 use crate::plays::{Draw, Look, Publish, Said};
 use crate::waiting::{Sleepers, hold_back};
-use cops_types::{Fault, Machine};
+use cops_types::Machine;
+use std::alloc::AllocError;
 use std::marker::Brand;
 use std::snapshot::Snapshot;
 use std::sync::Wait;
@@ -131,13 +131,13 @@ fn turn_in_slot<M: Machine>(
     slot: u64,
     moment: u64,
     call: M::Call,
-) -> Result<M::Reply, Fault>
+) -> Result<M::Reply, AllocError>
     requires board { IsSeatOf board.now.shared.table_id place.old }
     requires holds { (machine : M) × (place.old.me.1 ≡ (0, Some machine) ∷ []) × M.fits (M.place machine) slot call }
     ensures same { (place.new.table_id ≡ place.old.table_id) × (place.new.id ≡ place.old.id) × (place.new.me.0 ≡ place.old.me.0) }
     ensures turned { (before : M) → place.old.me.1 ≡ (0, Some before) ∷ [] → (after : M) × (place.new.me.1 ≡ (0, Some after) ∷ []) × (M.place after ≡ M.place before)
         × IfOk result (λ reply. M.turns before slot moment call reply after)
-        × IfErr result (λ fault. (fault ≡ OutOfMemory) × (after ≡ before)) × OnErr result (M.may_lack before slot call) }
+        × OnErr result (after ≡ before) × OnErr result (M.may_lack before slot call) }
 {
     match place.slot_mut(&board.shared, 0) {
         Some(machine) => machine.turn(slot, moment, call),
@@ -180,7 +180,7 @@ pub(crate) fn serve<M: Machine>(
     slot: u64,
     moment: u64,
     call: M::Call,
-) -> Result<M::Reply, Fault>
+) -> Result<M::Reply, AllocError>
     requires board { IsSeatOf board.now.shared.table_id place.old }
     requires ticket { ticket < 2 ^ 62 }
     requires numbered { (drawn.value.me.0.numbered ≡ true) × (drawn.value.me.1 ≡ []) }
@@ -191,7 +191,7 @@ pub(crate) fn serve<M: Machine>(
     ensures idle { IsIdle drawn.value.me.0 place.new.me }
     ensures room { board.now.shared.key.value.ticket + length place.new.me.0.seen ≤ 2 ^ 62 }
     ensures reply { IfOk result (λ r. Grows M.turns board.now.shared.key.value.state drawn.value.me.0.number drawn.value.me.0.seen (Some (entry slot moment call r)) place.new.me.0.seen) }
-    ensures refused { IfErr result (λ f. (f ≡ OutOfMemory) × Grows M.turns board.now.shared.key.value.state drawn.value.me.0.number drawn.value.me.0.seen None place.new.me.0.seen) }
+    ensures refused { OnErr result (Grows M.turns board.now.shared.key.value.state drawn.value.me.0.number drawn.value.me.0.seen None place.new.me.0.seen) }
     ensures lacks { OnErr result (LeavesLacking M.turns M.may_lack board.now.shared.key.value.state drawn.value.me.0.number slot call place.new.me.0.seen) }
 {
     let asked = Snapshot::of(&call);

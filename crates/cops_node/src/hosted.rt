@@ -3,6 +3,7 @@ ghost use Rattle.std.specs.Prelude.{◌≡◌};
 
 use crate::{Home, Node, NodeCall, NodeReply};
 use cops_types::{Fault, Machine, Tenant};
+use std::alloc::AllocError;
 use std::marker::Model;
 
 /// What is asked of a slot of a node: by a session or a carrier of its tenant, or by the host.
@@ -87,15 +88,17 @@ impl Machine for HostedNode {
 
     ghost may_lack = { MayLackAtSlot };
 
-    fn turn(&mut self, slot: u64, moment: u64, call: SlotCall) -> Result<SlotReply, Fault> {
+    fn turn(&mut self, slot: u64, moment: u64, call: SlotCall) -> Result<SlotReply, AllocError> {
         match call {
             SlotCall::Own(call) => Ok(SlotReply::Own(self.node.turn(slot, moment, call)?)),
             SlotCall::Admit(tenant) => {
                 if self.node.is_taken(slot) {
                     return Ok(SlotReply::Refused(Fault::NoSlot));
                 }
-                self.node.admit(slot, tenant.first_clock, tenant.quota)?;
-                Ok(SlotReply::Admitted)
+                match self.node.admit(slot, tenant.first_clock, tenant.quota) {
+                    Ok(()) => Ok(SlotReply::Admitted),
+                    Err(_) => Err(AllocError),
+                }
             }
             SlotCall::Close => match self.node.close(slot) {
                 Ok(()) => Ok(SlotReply::Closed),

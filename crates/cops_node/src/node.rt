@@ -276,10 +276,7 @@ impl Machine for Node {
 
     ghost may_lack = { MayLack };
 
-    fn turn(&mut self, slot: u64, moment: u64, call: NodeCall) -> Result<NodeReply, Fault> {
-        match self.step(slot, moment, call) {
-            Ok(reply) => Ok(reply),
-            Err(error) => Err(Fault::from(error)),
-        }
+    fn turn(&mut self, slot: u64, moment: u64, call: NodeCall) -> Result<NodeReply, AllocError> {
+        self.step(slot, moment, call)
     }
 }

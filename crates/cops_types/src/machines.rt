@@ -1,8 +1,7 @@
 //! What a gate stands in front of.
-ghost use Rattle.std.specs.Prelude.{◌≡◌, ℕ, OnErr, IfOk, IfErr};
-ghost use Rattle.cops_types.specs.declared.faults.Fault.TheVariants.{OutOfMemory};
+ghost use Rattle.std.specs.Prelude.{◌≡◌, ℕ, OnErr, IfOk};
 
-use crate::faults::Fault;
+use std::alloc::AllocError;
 
 /// A state that calls change one at a time.
 pub trait Machine {
@@ -25,10 +24,10 @@ pub trait Machine {
     ghost may_lack: { Self → ℕ → Self.Call → Type 0 };
 
     /// Makes one turn. It is refused only for want of memory, where the state lets that be, and then nothing has changed.
-    fn turn(&mut self, slot: u64, moment: u64, call: Self::Call) -> Result<Self::Reply, Fault>
+    fn turn(&mut self, slot: u64, moment: u64, call: Self::Call) -> Result<Self::Reply, AllocError>
         requires { fits (place self.old) slot call }
         ensures reply { IfOk result (λ r. turns self.old slot moment call r self.new) }
-        ensures refused { IfErr result (λ f. (f ≡ OutOfMemory) × (self.new ≡ self.old)) }
+        ensures refused { OnErr result (self.new ≡ self.old) }
         ensures lacks { OnErr result (may_lack self.old slot call) }
         ensures place { place self.new ≡ place self.old };
 }

@@ -42,4 +42,4 @@ returns-clause-refused g c =
     (noted turns place held.0 made.0 slot moment c.args.call c.of-asked.result.value answer c.of.result.value c.of-asked.ensures c.of.ensures made.3 made.4) in
     let grown = grows turns place first before.0 held-by c.args.ticket held.0 made.0 noted-entry (entry_for slot moment c.args.call answer) c.publish.new.place.me.0.seen held.2 leads
     (λ i. entry_for slot moment (c.of-asked.ensures i) (c.of.ensures i)) (ap (λ m. m.0.seen) c.publish.ensures.me) in
-    refused turns place first before.0.number slot moment c.args.call answer held.0 made.0 before.0.seen c.publish.new.place.me.0.seen grown made.4
+    refused turns place first before.0.number slot moment c.args.call answer before.0.seen c.publish.new.place.me.0.seen grown
