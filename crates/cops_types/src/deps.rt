@@ -1,5 +1,5 @@
 ghost use Rattle.std.specs.Arc.{arc_value};
-ghost use Rattle.std.specs.Prelude.{◌≡◌, ◌<◌, ◌≤◌, [], ◌∷◌, length, slice_index_or, IfOk, IsTrue, OnOk, OnErr, ◌↔◌};
+ghost use Rattle.std.specs.Prelude.{◌≡◌, ◌<◌, ◌≤◌, [], ◌∷◌, length, slice_index_or, IfOk, IfSome, IsTrue, OnOk, OnErr, ◌↔◌};
 ghost use Rattle.cops_types.specs.Pairs.{holds, pairs_eq, version_of, joined, is_over, greatest_clock as greatest_clock_of};
 ghost use Rattle.cops_types.specs.Same.{same_pairs, same_equivalence};
 ghost use Rattle.cops_types.specs.Refusal.{IsAnswer, refused_if};
@@ -9,7 +9,7 @@ ghost use Rattle.std.specs.Cmp.{partial_equiv_from_equiv};
 use crate::faults::Fault;
 use crate::growing_pairs::GrowingPairs;
 use crate::keys::Key;
-use crate::packed::PackedPairs;
+use crate::packed::{PackedPairs, ShortPair};
 use crate::pairs::Pair;
 use crate::records::KeptParts;
 use crate::versions::Version;
@@ -61,6 +61,14 @@ impl OwnedDeps {
         ensures in_order { IsDeps self.now }
     {
         &self.pairs
+    }
+
+    /// All pairs, where their keys are kept as short ones.
+    #[inline(always)]
+    pub fn short(&self) -> Option<&[ShortPair]>
+        ensures { IfSome result (λ pairs. pairs.now ≡ self.now) }
+    {
+        self.pairs.short()
     }
 
     /// The version of a key, 0.0 where there is none.

@@ -54,6 +54,7 @@ pub use near::{Near, OwnedNear};
 pub use near_builder::NearBuilder;
 pub use old_heads::OldConfigReader;
 pub use open_tenants::OpenTenants;
+pub use packed::ShortPair;
 pub use pairs::Pair;
 pub use quotas::Quota;
 pub use records::{Dated, Entry, EntryParts, Record};

@@ -32,7 +32,7 @@ const FEW: usize = 8;
 
 /// A pair whose key has at most 15 bytes. Contracts see a pair like any other.
 #[derive(Clone, Copy, Debug)]
-pub(crate) struct ShortPair {
+pub struct ShortPair {
     bytes: [u8; 15],
     len: u8,
     version: Version,
@@ -80,10 +80,30 @@ impl ShortPair {
     }
 
     /// The version.
-    pub(crate) fn version(&self) -> Version
+    #[inline(always)]
+    pub fn version(&self) -> Version
         ensures { result ≡ self.now.version }
     {
         self.version
+    }
+
+    /// How many bytes the key has.
+    #[inline(always)]
+    pub fn key_len(&self) -> u8
+        ensures value { result ≡ length self.now.key }
+        ensures short { result ≤ SHORT }
+    {
+        self.len
+    }
+
+    /// Puts the key at a place where there is room for a short one.
+    #[inline(always)]
+    pub fn put_key(&self, bytes: &mut [u8], at: usize) -> usize
+        requires { at + SHORT ≤ length bytes.old }
+        ensures text { take result bytes.new ≡ take at bytes.old ++ self.now.key }
+        ensures end { result ≡ at + length self.now.key }
+    {
+        put_front(bytes, at, &self.bytes, usize::from(self.len))
     }
 
     /// Whether this is the key.
