@@ -15,7 +15,7 @@ use crate::writing::{
 use byteorder::{BigEndian, ByteOrder};
 use cops_session::Answer;
 use cops_types::placed::put_byte;
-use cops_types::{Fault, Key, OwnedDeps, Pair, Read, Version};
+use cops_types::{Fault, Key, OwnedDeps, Pair, Read, ShortPair, Version};
 use std::alloc::AllocError;
 
 /// The greatest length of a body.
@@ -24,11 +24,14 @@ const LONGEST_BODY: usize = 4_000_000;
 /// How many bytes a pair has at most: a key behind its length, and a version.
 const LONGEST_PAIR: usize = 73;
 
+/// How many bytes a pair with a short key has at most.
+const LONGEST_SHORT_PAIR: usize = 24;
+
 /// How many bytes a value has at most that is put with its key and its version at once.
-const SHORT_VALUE: usize = 50;
+const SHORT_VALUE: usize = 114;
 
 /// How many bytes a key has at most with a short value, its version, and how many dependencies there are.
-const SHORT_HELD: usize = 128;
+const SHORT_HELD: usize = 192;
 
 /// The bytes of a key, which one byte can count.
 fn key_bytes(key: &Key) -> &[u8]
@@ -62,8 +65,45 @@ fn push_pair(out: &mut Vec<u8>, pair: &Pair) -> Result<(), AllocError>
     Ok(())
 }
 
-/// Puts the dependencies at the end. After an `Err` a front of them may be there.
-fn push_pairs(out: &mut Vec<u8>, deps: &OwnedDeps) -> Result<(), AllocError>
+/// Puts a pair with a short key at a place where there is room for it.
+#[inline(always)]
+fn put_short_pair(bytes: &mut [u8], at: usize, pair: &ShortPair) -> usize
+    requires { at + LONGEST_SHORT_PAIR ≤ length bytes.old }
+    ensures text { take result bytes.new ≡ take at bytes.old ++ link_of (link_to pair.now) }
+    ensures end { result ≤ at + LONGEST_SHORT_PAIR }
+{
+    let of_key = put_byte(bytes, at, pair.key_len());
+    let of_version = pair.put_key(bytes, of_key);
+    put_version(bytes, of_version, pair.version())
+}
+
+/// Puts a pair with a short key at the end. After an `Err` nothing is put.
+#[inline(always)]
+fn push_short_pair(out: &mut Vec<u8>, pair: &ShortPair) -> Result<(), AllocError>
+    ensures ok { OnOk result (out.new.items ≡ out.old.items ++ link_of (link_to pair.now)) }
+    ensures front { StartsWith out.new.items out.old.items }
+{
+    let start = out.len();
+    out.extend_from_slice(&[0; LONGEST_SHORT_PAIR])?;
+    let end = put_short_pair(out.as_mut_slice(), start, pair);
+    out.truncate(end);
+    Ok(())
+}
+
+/// Puts pairs with short keys at the end. After an `Err` a front of them may be there.
+fn push_short_pairs(out: &mut Vec<u8>, pairs: &[ShortPair]) -> Result<(), AllocError>
+    ensures ok { OnOk result (out.new.items ≡ out.old.items ++ flat_map link_of (map link_to pairs.now)) }
+    ensures front { StartsWith out.new.items out.old.items }
+{
+    for pair in pairs {
+        push_short_pair(out, pair)?;
+    }
+    Ok(())
+}
+
+/// Puts dependencies of any kind at the end. After an `Err` a front of them may be there.
+#[inline(never)]
+fn push_any_pairs(out: &mut Vec<u8>, deps: &OwnedDeps) -> Result<(), AllocError>
     ensures ok { OnOk result (out.new.items ≡ out.old.items ++ flat_map link_of (map link_to deps.now)) }
     ensures front { StartsWith out.new.items out.old.items }
 {
@@ -71,6 +111,17 @@ fn push_pairs(out: &mut Vec<u8>, deps: &OwnedDeps) -> Result<(), AllocError>
         push_pair(out, &deps.pair(place))?;
     }
     Ok(())
+}
+
+/// Puts the dependencies at the end. After an `Err` a front of them may be there.
+fn push_pairs(out: &mut Vec<u8>, deps: &OwnedDeps) -> Result<(), AllocError>
+    ensures ok { OnOk result (out.new.items ≡ out.old.items ++ flat_map link_of (map link_to deps.now)) }
+    ensures front { StartsWith out.new.items out.old.items }
+{
+    match deps.short() {
+        Some(pairs) => push_short_pairs(out, pairs),
+        None => push_any_pairs(out, deps),
+    }
 }
 
 /// Puts a key and what it had, up to its dependencies, of which it puts how many there are, where there is room for a short value.

@@ -3,7 +3,7 @@ use Rattle.std.specs.List.{flat_map}
 use Rattle.cops_types.specs.Words.{StartsWith}
 use Rattle.cops_wire.specs.Requests.{link_to}
 use Rattle.cops_wire.specs.Spelling.{link_of}
-use Rattle.cops_wire.proofs.replies.push_pairs.Given as goal
+use Rattle.cops_wire.proofs.replies.push_any_pairs.Given as goal
 
 abbrev pub invariant-loop-place : goal.invariant-loop-place
 invariant-loop-place l = record {
