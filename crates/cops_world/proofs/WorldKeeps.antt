@@ -82,15 +82,6 @@ hosted_after setup old new id after updates before own q actor there = by (same_
     by true e = subst (λ (i : ActorId). IsTrue (is_open_at setup i.slot)) (same_actor-is id q e) (own actor (ap (λ b. cond b after (old q)) (sym e) ∙ sym (updates q) ∙ there))
     by false e = before q actor (ap (λ b. cond b after (old q)) (sym e) ∙ sym (updates q) ∙ there)
 
--- one of them did what it was asked, or there is none of the name
-pub hosted_after_act : (setup : Setup) (old new : ActorId → Option Kept) (id : ActorId) → AllHosted setup old →
-    ((before : Kept) → old id ≡ Some before → (after : Kept) × ((q : ActorId) → new q ≡ cond (same_actor id q) (Some after) (old q))) → (old id ≡ None → new ≡ old) → AllHosted setup new
-hosted_after_act setup old new id before found absent = by (old id) refl
-  where
-    by : (o : Option Kept) → old id ≡ o → AllHosted setup new
-    by None e = subst (AllHosted setup) (sym (absent e)) before
-    by (Some kept) e = let f = found kept e in hosted_after setup old new id (Some f.0) f.1 before (λ actor same. before id kept e)
-
 -- one of them was put in, put back or taken out
 pub runs_after : (shape : Shape) (old new : ActorId → Option Kept) (id : ActorId) (after : Option Kept) → ((q : ActorId) → new q ≡ cond (same_actor id q) after (old q)) →
     AllRunIn shape old → ((actor : Kept) → after ≡ Some actor → RunsAt shape id.slot actor) → AllRunIn shape new
@@ -99,18 +90,6 @@ runs_after shape old new id after updates before own q actor there = by (same_ac
     by : (t : Bool) → same_actor id q ≡ t → RunsAt shape q.slot actor
     by true e = subst (λ (i : ActorId). RunsAt shape i.slot actor) (same_actor-is id q e) (own actor (ap (λ b. cond b after (old q)) (sym e) ∙ sym (updates q) ∙ there))
     by false e = before q actor (ap (λ b. cond b after (old q)) (sym e) ∙ sym (updates q) ∙ there)
-
--- one of them did what it was asked, or there is none of the name
-pub runs_after_act : (shape : Shape) (old new : ActorId → Option Kept) (id : ActorId) → AllRunIn shape old →
-    ((before : Kept) → old id ≡ Some before → (after : Kept) × (((q : ActorId) → new q ≡ cond (same_actor id q) (Some after) (old q)) × ((s : Shape) → RunsAt s id.slot before → RunsAt s id.slot after))) →
-    (old id ≡ None → new ≡ old) → AllRunIn shape new
-runs_after_act shape old new id before found absent = by (old id) refl
-  where
-    by : (o : Option Kept) → old id ≡ o → AllRunIn shape new
-    by None e = subst (AllRunIn shape) (sym (absent e)) before
-    by (Some kept) e =
-        let f = found kept e in
-        runs_after shape old new id (Some f.0) f.1.0 before (λ actor same. subst (RunsAt shape id.slot) (same_value f.0 actor same) (f.1.1 shape (before id kept e)))
 
 -- ---- limits
 

@@ -102,25 +102,6 @@ impl ActorTable {
         }
     }
 
-    /// Has the actor at a place do what is asked.
-    fn act(
-        &mut self,
-        place: usize,
-        name: &Name,
-        alloc: Global,
-        deed: Deed,
-    ) -> Result<Reply, AllocError>
-        requires { Some place ≡ position (key_eq name.now) (keys_of self.old) }
-        ensures found { (before : Kept) → lookup (key_eq name.now) self.old ≡ Some before → (after : Kept) × PlacesIn self.old name.now (Some after) self.new
-            × ((config : TenantConfig) (solo : Solo) → ActorStandsFor config before solo → HasDone config (actor_does config deed solo) result after)
-            × ((shape : Shape) (slot : ℕ) → RunsAt shape slot before → RunsAt shape slot after)
-            × (IsTrue (is_out_of_memory (told_act result)) → after ≡ before) }
-        ensures len { length self.new ≡ length self.old }
-    {
-        let actor = &mut self.actors[place];
-        actor.act(alloc, deed)
-    }
-
     /// The actor at a place, to be changed where it stands.
     pub(crate) fn actor_mut(&mut self, place: usize, name: &Name) -> &mut Actor
         requires { Some place ≡ position (key_eq name.now) (keys_of self.old) }
@@ -186,34 +167,6 @@ pub(crate) fn place_of(actors: &Vec<ActorTable>, guess: usize, id: &ActorId) -> 
     match actors.get(id.slot as usize) {
         Some(table) => table.place_of(guess, &id.name),
         None => None,
-    }
-}
-
-/// Has the actor do what is asked. It is looked for first where its guess says, and its place is
-/// noted there.
-pub(crate) fn act_at(
-    actors: &mut Vec<ActorTable>,
-    guesses: &mut Guesses,
-    id: ActorId,
-    alloc: Global,
-    deed: Deed,
-) -> Result<Reply, AllocError>
-    ensures found { (before : Kept) → actor_at actors.old.items id ≡ Some before → (after : Kept) × PutsBack actors.old.items id after actors.new.items
-        × ((config : TenantConfig) (solo : Solo) → ActorStandsFor config before solo → HasDone config (actor_does config deed solo) result after)
-        × ((shape : Shape) → RunsAt shape id.slot before → RunsAt shape id.slot after) }
-    ensures absent { actor_at actors.old.items id ≡ None → (result ≡ Ok (Refused UnknownName)) × (actors.new.items ≡ actors.old.items) }
-    ensures lack { IsTrue (is_out_of_memory (told_act result)) → (q : Id) → actor_at actors.new.items q ≡ actor_at actors.old.items q }
-    ensures counts { (slot : ℕ) → count_at actors.new.items slot ≡ count_at actors.old.items slot }
-    ensures tables { length actors.new.items ≡ length actors.old.items }
-{
-    let cell = Guesses::cell_of(&id);
-    match place_of(actors, guesses.guess(cell), &id) {
-        Some(place) => {
-            guesses.note(cell, place);
-            let table = &mut actors[id.slot as usize];
-            table.act(place, &id.name, alloc, deed)
-        }
-        None => Ok(Reply::Refused(Fault::UnknownName)),
     }
 }
 

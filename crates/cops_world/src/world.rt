@@ -26,9 +26,7 @@ ghost use Rattle.cops_world.specs.Trails.{audited_at};
 ghost use Rattle.cops_world.specs.Worlds.{Admits, AnyReply, AreSitesIn, ClusterStandsAt, Closes, HasOpenCluster, IsLeft, KeptWorld, Leaves, Moves, StaysOpen, open_setup, join_step, world_of};
 ghost use Rattle.cops_script.specs.Sizes.{HasSizes};
 
-use crate::actor_table::{
-    ActorTable, act_at, empty_tables, has_ended, place_of, put_new, take_out,
-};
+use crate::actor_table::{ActorTable, empty_tables, has_ended, place_of, put_new, take_out};
 use crate::actors::{Actor, ActorId, Deed, Keys};
 use crate::guesses::Guesses;
 use crate::own_sessions::OwnSession;
@@ -152,7 +150,14 @@ impl World {
         ensures lack { Leaves Stays (world_of self.old) slot result (world_of self.new) }
     {
         let id = ActorId { slot, name: *name };
-        act_at(&mut self.actors, &mut self.guesses, id, self.alloc, deed)
+        let cell = Guesses::cell_of(&id);
+        let Some(place) = place_of(&self.actors, self.guesses.guess(cell), &id) else {
+            return Ok(Reply::Refused(Fault::UnknownName));
+        };
+        self.guesses.note(cell, place);
+        let table = &mut self.actors[slot as usize];
+        let actor = table.actor_mut(place, name);
+        actor.act(self.alloc, deed)
     }
 
     /// Creates a context of a session.

@@ -1,4 +1,4 @@
-use Rattle.std.proofs.Common.{◌≡◌, subst, sym}
+use Rattle.std.proofs.Common.{subst, sym}
 use Rattle.cops_node.specs.Clusters.{shape_of}
 use Rattle.cops_session.specs.Kept.{KeptSession}
 use Rattle.cops_world.specs.declared.actors.Actor.TheVariants.{OfSession}

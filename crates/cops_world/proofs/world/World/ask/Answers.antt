@@ -1,49 +1,110 @@
-use Rattle.std.proofs.Common.{ap, subst, ◌∙◌}
+use Rattle.std.proofs.Common.{◌≡◌, Bool, true, false, cond, List, set, refl, sym, subst, ap, ◌∙◌, true≢false}
+use Rattle.std.specs.Prelude.{Ok, Some, is_some, position}
+use Rattle.std.specs.Map.{keys_of}
+use Rattle.indexmap.specs.IndexMap.{set_value_at}
+use Rattle.cops_types.proofs.WordLemmas.{same_value}
+use Rattle.cops_types.specs.Key.{key_eq}
+use Rattle.cops_types.specs.declared.faults.Fault.TheVariants.{UnknownName}
 use Rattle.cops_node.specs.Clusters.{shape_of}
-use Rattle.cops_world.specs.ActorTables.{actor_at, count_at}
+use Rattle.cops_model.specs.declared.replies.Reply.TheVariants.{Refused}
+use Rattle.cops_world.specs.declared.actors.Actor.{Actor}
+use Rattle.cops_world.specs.declared.actors.ActorId.{ActorId}
+use Rattle.cops_world.specs.ActorsStand.{ActorStandsFor, RunsAt}
+use Rattle.cops_world.specs.ActorTables.{PutsBack, Table, actor_at, count_at, same_actor}
 use Rattle.cops_world.specs.Deeds.{deed_step}
 use Rattle.cops_script.specs.Lacks.{Stays}
 use Rattle.cops_world.specs.Worlds.{AnyReply, KeptWorld, Leaves, Moves, world_of}
-use Rattle.cops_world.proofs.WorldKeeps.{hosted_after_act, runs_after_act}
-use Rattle.cops_world.proofs.WorldLacks.{deed_leaves}
+use Rattle.cops_world.proofs.ActorTableLemmas.{actor_read, counts_now, own, places_now, same_actor-is}
+use Rattle.cops_world.proofs.WorldCalls.{none_there}
+use Rattle.cops_world.proofs.WorldKeeps.{kept_placed}
+use Rattle.cops_world.proofs.WorldLacks.{deed_leaves, spared_leaves}
 use Rattle.cops_world.proofs.WorldMoves.{deed_moves}
 use Rattle.cops_world.proofs.world.World.ask.Goals as goal
 
+pub returns-in_default-clause-moves : goal.returns-in_default-clause-moves
+returns-in_default-clause-moves c =
+    let id : ActorId = record { slot = c.args.slot; name = c.args.name.now } in
+    let old : KeptWorld = record { setup = record { head = c.self.inside.config; tenants = c.self.inside.tenants }; nodes = c.self.inside.nodes; tables = c.self.inside.actors.items } in
+    let none = none_there (actor_at old.tables id) (sym c.place_of.ensures.found ∙ ap is_some c.in_default.is) in
+    subst (λ (kept : KeptWorld). Moves AnyReply (λ config. deed_step config c.args.name.now c.args.deed) (world_of kept) c.args.slot (Ok (Refused UnknownName)) (world_of kept)) c.self.view_is
+    (deed_moves (world_of old) c.args.slot c.args.name.now (actor_at old.tables) (count_at old.tables) c.args.deed (Ok (Refused UnknownName)) (record {
+      found = λ before e. absurd (true≢false (sym (ap is_some e) ∙ ap is_some none));
+      absent = λ e. (refl, refl);
+      counts = λ slot. refl;
+    }))
+
+pub returns-in_default-clause-lack : goal.returns-in_default-clause-lack
+returns-in_default-clause-lack c = spared_leaves Stays (world_of c.args.self.now) c.args.slot (Ok (Refused UnknownName)) (world_of c.args.self.now) refl
+
+pub actor_mut-actor-requires : goal.actor_mut-actor-requires
+actor_mut-actor-requires c =
+    let id : ActorId = record { slot = c.args.slot; name = c.args.name.now } in
+    c.in-Some.ensures.index
+    ∙ ap (λ (t : Table). position (key_eq id.name) (keys_of t)) (own c.self.inside.actors.items id c.in-Some.ensures.within c.index_mut-table.result.now c.index_mut-table.ensures.value)
+
 pub invariant_of-self : goal.invariant_of-self
 invariant_of-self c =
-    let whole = c.self.invariant.whole in
-    record {
-      whole = record {
-        shape_is = whole.shape_is;
-        sites_are = whole.sites_are;
-        good = whole.good;
-        tenants_good = whole.tenants_good;
-        enough = whole.enough;
-        run = runs_after_act (shape_of c.self.inside.config) (actor_at c.self.inside.actors.items) (actor_at c.act_at.new.actors.items) (record { slot = c.args.slot; name = c.args.name.now }) whole.run
-            (λ before e. let f = c.act_at.ensures.found before e in (f.0, (f.1.0.at, f.3)))
-            (λ e. ap actor_at (c.act_at.ensures.absent e).1);
-        hosted = hosted_after_act (record { head = c.self.inside.config; tenants = c.self.inside.tenants }) (actor_at c.self.inside.actors.items) (actor_at c.act_at.new.actors.items)
-            (record { slot = c.args.slot; name = c.args.name.now }) whole.hosted
-            (λ before e. let f = c.act_at.ensures.found before e in (f.0, f.1.0.at))
-            (λ e. ap actor_at (c.act_at.ensures.absent e).1);
-      };
-      tabled = c.act_at.ensures.tables ∙ c.self.invariant.tabled;
-    }
+    let slot = c.args.slot in
+    let name = c.args.name.now in
+    let id : ActorId = record { slot = slot; name = name } in
+    let old : KeptWorld = record { setup = record { head = c.self.inside.config; tenants = c.self.inside.tenants }; nodes = c.self.inside.nodes; tables = c.self.inside.actors.items } in
+    let within = c.in-Some.ensures.within in
+    let table = c.index_mut-table.result.now in
+    let lent = c.actor_mut-actor.ensures in
+    let before = c.actor_mut-actor.result.now in
+    let after = c.act.new.self in
+    let there = actor_read old.tables id within table c.index_mut-table.ensures.value ∙ lent.before in
+    let new = set_value_at table c.in-Some.place after in
+    let mid = set old.tables slot new in
+    let back : PutsBack old.tables id after mid = (places_now old.tables id within table c.index_mut-table.ensures.value new (Some after) (lent.placed after), counts_now old.tables id within table c.index_mut-table.ensures.value new (lent.len after) slot) in
+    kept_placed old c.self.invariant id (Some after) mid back.0
+    (λ actor same. (subst (RunsAt (shape_of c.self.inside.config) slot) (same_value after actor same) (c.act.ensures.runs (shape_of c.self.inside.config) slot (c.self.invariant.whole.run id before there)), c.self.invariant.whole.hosted id before there))
 
 pub returns-clause-moves : goal.returns-clause-moves
 returns-clause-moves c =
-    let new = c.act_at.new.actors.items in
+    let slot = c.args.slot in
+    let name = c.args.name.now in
+    let id : ActorId = record { slot = slot; name = name } in
     let old : KeptWorld = record { setup = record { head = c.self.inside.config; tenants = c.self.inside.tenants }; nodes = c.self.inside.nodes; tables = c.self.inside.actors.items } in
-    subst (λ (kept : KeptWorld). Moves AnyReply (λ config. deed_step config c.args.name.now c.args.deed) (world_of kept) c.args.slot c.act_at.result (record (world_of old) { actors = actor_at new; count = count_at new })) c.self.view_is
-    (deed_moves (world_of old) c.args.slot c.args.name.now (actor_at new) (count_at new) c.args.deed c.act_at.result (record {
-      found = λ before e. let f = c.act_at.ensures.found before e in (f.0, (f.1.0.at, f.2));
-      absent = λ e. let a = c.act_at.ensures.absent e in (a.0, ap actor_at a.1);
-      counts = c.act_at.ensures.counts;
+    let within = c.in-Some.ensures.within in
+    let table = c.index_mut-table.result.now in
+    let lent = c.actor_mut-actor.ensures in
+    let before = c.actor_mut-actor.result.now in
+    let after = c.act.new.self in
+    let there = actor_read old.tables id within table c.index_mut-table.ensures.value ∙ lent.before in
+    let new = set_value_at table c.in-Some.place after in
+    let mid = set old.tables slot new in
+    let back : PutsBack old.tables id after mid = (places_now old.tables id within table c.index_mut-table.ensures.value new (Some after) (lent.placed after), counts_now old.tables id within table c.index_mut-table.ensures.value new (lent.len after) slot) in
+    subst (λ (kept : KeptWorld). Moves AnyReply (λ config. deed_step config name c.args.deed) (world_of kept) slot c.act.result (record (world_of old) { actors = actor_at mid; count = count_at mid })) c.self.view_is
+    (deed_moves (world_of old) slot name (actor_at mid) (count_at mid) c.args.deed c.act.result (record {
+      found = λ found e. (
+        after,
+        (back.0.at, λ config solo stands. c.act.ensures.own config solo (subst (λ (a : Actor). ActorStandsFor config a solo) (same_value found before (sym e ∙ there)) stands)),
+      );
+      absent = λ e. absurd (true≢false (sym (ap is_some there) ∙ ap is_some e));
+      counts = counts_now old.tables id within table c.index_mut-table.ensures.value new (lent.len after);
     }))
 
 pub returns-clause-lack : goal.returns-clause-lack
 returns-clause-lack c =
-    let new = c.act_at.new.actors.items in
+    let slot = c.args.slot in
+    let name = c.args.name.now in
+    let id : ActorId = record { slot = slot; name = name } in
     let old : KeptWorld = record { setup = record { head = c.self.inside.config; tenants = c.self.inside.tenants }; nodes = c.self.inside.nodes; tables = c.self.inside.actors.items } in
-    subst (λ (kept : KeptWorld). Leaves Stays (world_of kept) c.args.slot c.act_at.result (record (world_of old) { actors = actor_at new; count = count_at new })) c.self.view_is
-    (deed_leaves (world_of old) c.args.slot c.act_at.result (actor_at new) (count_at new) c.act_at.ensures.lack (c.act_at.ensures.counts c.args.slot))
+    let within = c.in-Some.ensures.within in
+    let table = c.index_mut-table.result.now in
+    let lent = c.actor_mut-actor.ensures in
+    let before = c.actor_mut-actor.result.now in
+    let after = c.act.new.self in
+    let there = actor_read old.tables id within table c.index_mut-table.ensures.value ∙ lent.before in
+    let new = set_value_at table c.in-Some.place after in
+    let mid = set old.tables slot new in
+    let back : PutsBack old.tables id after mid = (places_now old.tables id within table c.index_mut-table.ensures.value new (Some after) (lent.placed after), counts_now old.tables id within table c.index_mut-table.ensures.value new (lent.len after) slot) in
+    subst (λ (kept : KeptWorld). Leaves Stays (world_of kept) slot c.act.result (record (world_of old) { actors = actor_at mid; count = count_at mid })) c.self.view_is
+    (deed_leaves (world_of old) slot c.act.result (actor_at mid) (count_at mid)
+    (λ lack q. back.0.at q ∙ kept old.tables id after before (c.act.ensures.lack lack) there q (same_actor id q) refl)
+    (counts_now old.tables id within table c.index_mut-table.ensures.value new (lent.len after) slot))
+  where
+    kept : (tables : List Table) (id : ActorId) (after before : Actor) → after ≡ before → actor_at tables id ≡ Some before → (q : ActorId) (t : Bool) → same_actor id q ≡ t → cond t (Some after) (actor_at tables q) ≡ actor_at tables q
+    kept tables id after before same there q false e = refl
+    kept tables id after before same there q true e = ap Some same ∙ sym there ∙ ap (actor_at tables) (same_actor-is id q e)
