@@ -17,7 +17,7 @@ use Rattle.cops_types.proofs.KeyTests.{key_eq-true, key_eq-refl}
 use Rattle.cops_types.specs.Key.{key_eq}
 use Rattle.cops_world.specs.declared.actors.Actor.{Actor}
 use Rattle.cops_world.specs.declared.actors.ActorId.{ActorId}
-use Rattle.cops_world.specs.ActorTables.{Table, Places, PlacesIn, actor_at, count_at, same_actor, table_of}
+use Rattle.cops_world.specs.ActorTables.{Table, Places, PlacesIn, PutsBack, actor_at, count_at, same_actor, table_of}
 
 and_left : (a b : Bool) → (a && b) ≡ true → a ≡ true
 and_left true b h = refl
@@ -187,3 +187,6 @@ module _ (tables : List Table) (id : ActorId) (within : id.slot < length tables)
 
   pub places_now : (new : Table) (after : Option Actor) → PlacesIn table id.name after new → Places tables id after (set tables id.slot new)
   places_now new after placed = places tables id within new after (subst (λ (t : Table). PlacesIn t id.name after new) (sym own) placed)
+
+  pub back_now : (new : Table) (after : Actor) → PlacesIn table id.name (Some after) new → length new ≡ length table → PutsBack tables id after (set tables id.slot new)
+  back_now new after placed same = (places_now new (Some after) placed, counts_now new same id.slot)

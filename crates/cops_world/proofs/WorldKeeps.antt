@@ -28,9 +28,9 @@ use Rattle.cops_model.specs.Cluster.{new_cluster}
 use Rattle.cops_world.specs.declared.actors.Actor.{Actor as Kept}
 use Rattle.cops_world.specs.declared.actors.ActorId.{ActorId}
 use Rattle.cops_world.specs.Actors.{AreSame}
-use Rattle.cops_world.specs.ActorsStand.{ActorStandsFor, RunsAt}
+use Rattle.cops_world.specs.ActorsStand.{ActorStandsFor, RunsAt, actor_ended}
 use Rattle.cops_world.specs.ActorTables.{Places, PutsBack, Table, actor_at, count_at, same_actor, table_of}
-use Rattle.cops_world.specs.Worlds.{AreSitesIn, HasOpenCluster, IsSiteIn, IsKeptWorld, IsWorld, KeptWorld, world_of}
+use Rattle.cops_world.specs.Worlds.{AreSitesIn, HasOpenCluster, IsLeft, IsSiteIn, IsKeptWorld, IsWorld, KeptWorld, world_of}
 use Rattle.cops_script.specs.Sizes.{HasSizes}
 use Rattle.cops_world.proofs.ActorTableLemmas.{same_actor-is, same_actor-refl}
 use Rattle.cops_script.proofs.BegunSetups.{config_begun, open_begun, open_within}
@@ -127,6 +127,29 @@ counts_left old mid new id after over is back out less = record {
 -- it is the one that is there
 pub put_back : (old new : List Table) (id : ActorId) (after : Kept) → PutsBack old id after new → actor_at new id ≡ Some after
 put_back old new id after back = back.0.at id ∙ ap (λ b. cond b (Some after) (actor_at old id)) (same_actor-refl id)
+
+-- what a step leaves once its actor was taken out, where it has ended
+pub record HasLeft (old : KeptWorld) (id : ActorId) (after : Kept) (nodes : Cluster) (left : KeptWorld) : Type 0 where
+  pub setup : left.setup ≡ old.setup
+  pub nodes_are : left.nodes ≡ nodes
+  pub table : (q : ActorId) → actor_at left.tables q ≡ table_after (actor_ended after) (actor_at old.tables) id after q
+  pub counts : CountsAfter (actor_ended after) (count_at old.tables) id.slot (count_at left.tables)
+
+pub has_left : (old : KeptWorld) (id : ActorId) (after : Kept) (mid : List Table) (nodes : Cluster) (left : KeptWorld) → PutsBack old.tables id after mid → IsLeft id (record old { nodes = nodes; tables = mid }) left → HasLeft old id after nodes left
+has_left old id after mid nodes left back is_left = elim (is_left after (put_back old.tables mid id after back)) [
+  | inl over ↦ record {
+    setup = ap (λ (k : KeptWorld). k.setup) over.1.rest;
+    nodes_are = ap (λ (k : KeptWorld). k.nodes) over.1.rest;
+    table = left_table (actor_at old.tables) (actor_at mid) (actor_at left.tables) id after (actor_ended after) over.0 back.0.at over.1.out.at;
+    counts = counts_left old.tables mid left.tables id after (actor_ended after) over.0 back over.1.out over.1.count;
+  }
+  | inr stays ↦ record {
+    setup = ap (λ (k : KeptWorld). k.setup) stays.1;
+    nodes_are = ap (λ (k : KeptWorld). k.nodes) stays.1;
+    table = λ q. ap (λ (k : KeptWorld). actor_at k.tables q) stays.1 ∙ back_table (actor_at old.tables) (actor_at mid) id after (actor_ended after) stays.0 back.0.at q;
+    counts = subst (λ (k : KeptWorld). CountsAfter (actor_ended after) (count_at old.tables) id.slot (count_at k.tables)) (sym stays.1) (counts_back old.tables mid id after (actor_ended after) stays.0 back);
+  }
+]
 
 -- ---- the world as it is kept
 

@@ -10,11 +10,11 @@ use Rattle.cops_model.specs.declared.replies.Reply.TheVariants.{Refused}
 use Rattle.cops_world.specs.declared.actors.Actor.{Actor}
 use Rattle.cops_world.specs.declared.actors.ActorId.{ActorId}
 use Rattle.cops_world.specs.ActorsStand.{ActorStandsFor, RunsAt}
-use Rattle.cops_world.specs.ActorTables.{PutsBack, Table, actor_at, count_at, same_actor}
+use Rattle.cops_world.specs.ActorTables.{Table, actor_at, count_at, same_actor}
 use Rattle.cops_world.specs.Deeds.{deed_step}
 use Rattle.cops_script.specs.Lacks.{Stays}
 use Rattle.cops_world.specs.Worlds.{AnyReply, KeptWorld, Leaves, Moves, world_of}
-use Rattle.cops_world.proofs.ActorTableLemmas.{actor_read, counts_now, own, places_now, same_actor-is}
+use Rattle.cops_world.proofs.ActorTableLemmas.{actor_read, back_now, counts_now, own, same_actor-is}
 use Rattle.cops_world.proofs.WorldCalls.{none_there}
 use Rattle.cops_world.proofs.WorldKeeps.{kept_placed}
 use Rattle.cops_world.proofs.WorldLacks.{deed_leaves, spared_leaves}
@@ -56,7 +56,7 @@ invariant_of-self c =
     let there = actor_read old.tables id within table c.index_mut-table.ensures.value ∙ lent.before in
     let new = set_value_at table c.in-Some.place after in
     let mid = set old.tables slot new in
-    let back : PutsBack old.tables id after mid = (places_now old.tables id within table c.index_mut-table.ensures.value new (Some after) (lent.placed after), counts_now old.tables id within table c.index_mut-table.ensures.value new (lent.len after) slot) in
+    let back = back_now old.tables id within table c.index_mut-table.ensures.value new after (lent.placed after) (lent.len after) in
     kept_placed old c.self.invariant id (Some after) mid back.0
     (λ actor same. (subst (RunsAt (shape_of c.self.inside.config) slot) (same_value after actor same) (c.act.ensures.runs (shape_of c.self.inside.config) slot (c.self.invariant.whole.run id before there)), c.self.invariant.whole.hosted id before there))
 
@@ -74,7 +74,7 @@ returns-clause-moves c =
     let there = actor_read old.tables id within table c.index_mut-table.ensures.value ∙ lent.before in
     let new = set_value_at table c.in-Some.place after in
     let mid = set old.tables slot new in
-    let back : PutsBack old.tables id after mid = (places_now old.tables id within table c.index_mut-table.ensures.value new (Some after) (lent.placed after), counts_now old.tables id within table c.index_mut-table.ensures.value new (lent.len after) slot) in
+    let back = back_now old.tables id within table c.index_mut-table.ensures.value new after (lent.placed after) (lent.len after) in
     subst (λ (kept : KeptWorld). Moves AnyReply (λ config. deed_step config name c.args.deed) (world_of kept) slot c.act.result (record (world_of old) { actors = actor_at mid; count = count_at mid })) c.self.view_is
     (deed_moves (world_of old) slot name (actor_at mid) (count_at mid) c.args.deed c.act.result (record {
       found = λ found e. (
@@ -99,7 +99,7 @@ returns-clause-lack c =
     let there = actor_read old.tables id within table c.index_mut-table.ensures.value ∙ lent.before in
     let new = set_value_at table c.in-Some.place after in
     let mid = set old.tables slot new in
-    let back : PutsBack old.tables id after mid = (places_now old.tables id within table c.index_mut-table.ensures.value new (Some after) (lent.placed after), counts_now old.tables id within table c.index_mut-table.ensures.value new (lent.len after) slot) in
+    let back = back_now old.tables id within table c.index_mut-table.ensures.value new after (lent.placed after) (lent.len after) in
     subst (λ (kept : KeptWorld). Leaves Stays (world_of kept) slot c.act.result (record (world_of old) { actors = actor_at mid; count = count_at mid })) c.self.view_is
     (deed_leaves (world_of old) slot c.act.result (actor_at mid) (count_at mid)
     (λ lack q. back.0.at q ∙ kept old.tables id after before (c.act.ensures.lack lack) there q (same_actor id q) refl)

@@ -1,4 +1,4 @@
-use Rattle.std.proofs.Common.{◌≡◌, inl, inr, Bool, true, false, set, refl, sym, subst, ap, ◌∙◌, true≢false}
+use Rattle.std.proofs.Common.{◌≡◌, inr, Bool, true, false, set, refl, sym, subst, ap, ◌∙◌, true≢false}
 use Rattle.std.specs.Prelude.{IsTrue, Some, position}
 use Rattle.std.specs.Map.{keys_of}
 use Rattle.indexmap.specs.IndexMap.{set_value_at}
@@ -11,13 +11,13 @@ use Rattle.cops_model.specs.Setups.{is_open_at}
 use Rattle.cops_world.specs.declared.actors.Actor.{Actor}
 use Rattle.cops_world.specs.declared.actors.ActorId.{ActorId}
 use Rattle.cops_world.specs.ActorsStand.{RunsAt, actor_ended, stepped_to}
-use Rattle.cops_world.specs.ActorTables.{PutsBack, Table, actor_at, names_at}
+use Rattle.cops_world.specs.ActorTables.{Table, names_at}
 use Rattle.cops_script.specs.Acting.{IsSparedReply, told_act}
 use Rattle.cops_script.specs.Lacks.{StepStops}
 use Rattle.cops_world.specs.Worlds.{KeptWorld, Leaves, Moves, world_of}
-use Rattle.cops_world.proofs.ActorTableLemmas.{actor_read, counts_now, own, places_now, table_here}
+use Rattle.cops_world.proofs.ActorTableLemmas.{actor_read, back_now, own, table_here}
 use Rattle.cops_world.proofs.WorldCalls.{steps_world}
-use Rattle.cops_world.proofs.WorldKeeps.{back_table, below_tables, counts_back, counts_left, kept_called, kept_placed, left_table, put_back, sites_stay}
+use Rattle.cops_world.proofs.WorldKeeps.{below_tables, has_left, kept_called, kept_placed, put_back, sites_stay}
 use Rattle.cops_world.proofs.WorldLacks.{steps_world_leaves}
 use Rattle.cops_world.proofs.WorldSteps.{HasSteppedAt}
 use Rattle.cops_world.proofs.world.World.step_at.Goals as goal
@@ -52,7 +52,7 @@ invariant_of-self c =
     let there = actor_read old.tables id within table c.index_mut-table.ensures.value ∙ lent.before in
     let new = set_value_at table c.args.place after in
     let mid = set old.tables slot new in
-    let back : PutsBack old.tables id after mid = (places_now old.tables id within table c.index_mut-table.ensures.value new (Some after) (lent.placed after), counts_now old.tables id within table c.index_mut-table.ensures.value new (lent.len after) slot) in
+    let back = back_now old.tables id within table c.index_mut-table.ensures.value new after (lent.placed after) (lent.len after) in
     let ensures = c.step.ensures in
     let stepped = stepped_to c.step.result after in
     let nodes = c.step.new.nodes in
@@ -72,30 +72,16 @@ returns-clause-moves c =
     let there = actor_read old.tables id within table c.index_mut-table.ensures.value ∙ lent.before in
     let new = set_value_at table c.args.place after in
     let mid = set old.tables slot new in
-    let back : PutsBack old.tables id after mid = (places_now old.tables id within table c.index_mut-table.ensures.value new (Some after) (lent.placed after), counts_now old.tables id within table c.index_mut-table.ensures.value new (lent.len after) slot) in
+    let back = back_now old.tables id within table c.index_mut-table.ensures.value new after (lent.placed after) (lent.len after) in
     let ensures = c.step.ensures in
     let stepped = stepped_to c.step.result after in
     let nodes = c.step.new.nodes in
-    let now = put_back old.tables mid id after back in
     let open_there = subst (λ (k : KeptWorld). IsTrue (is_open_at k.setup slot)) (sym c.self.view_is) c.requires.slot in
     let step : HasSteppedAt (world_of old) slot id.name c.args.moment stepped nodes before after = record { there = there; steps = ensures.steps; once = ensures.once } in
-    λ left is_left. subst (λ (k : KeptWorld). Moves IsSparedReply (λ config. actor_step config id.name c.args.moment) (world_of k) slot stepped.answered (world_of left)) c.self.view_is
-    (elim (is_left after now) [
-      | inl over ↦
-          subst (λ (k : KeptWorld). Moves IsSparedReply (λ config. actor_step config id.name c.args.moment) (world_of old) slot stepped.answered (world_of k)) (sym over.1.rest)
-          (steps_world (world_of old) c.self.invariant.whole slot id.name c.args.moment stepped nodes before after step (world_of (record old { nodes = nodes; tables = left.tables }))
-          (left_table (actor_at old.tables) (actor_at mid) (actor_at left.tables) id after stepped.is_over over.0 back.0.at over.1.out.at)
-          refl refl
-          (counts_left old.tables mid left.tables id after stepped.is_over over.0 back over.1.out over.1.count)
-          open_there)
-      | inr stays ↦
-          subst (λ (k : KeptWorld). Moves IsSparedReply (λ config. actor_step config id.name c.args.moment) (world_of old) slot stepped.answered (world_of k)) (sym stays.1)
-          (steps_world (world_of old) c.self.invariant.whole slot id.name c.args.moment stepped nodes before after step (world_of (record old { nodes = nodes; tables = mid }))
-          (back_table (actor_at old.tables) (actor_at mid) id after stepped.is_over stays.0 back.0.at)
-          refl refl
-          (counts_back old.tables mid id after stepped.is_over stays.0 back)
-          open_there)
-    ])
+    λ left is_left.
+    let over = has_left old id after mid nodes left back is_left in
+    subst (λ (k : KeptWorld). Moves IsSparedReply (λ config. actor_step config id.name c.args.moment) (world_of k) slot stepped.answered (world_of left)) c.self.view_is
+    (steps_world (world_of old) c.self.invariant.whole slot id.name c.args.moment stepped nodes before after step (world_of left) over.table over.setup over.nodes_are over.counts open_there)
 
 pub returns-clause-lack : goal.returns-clause-lack
 returns-clause-lack c =
@@ -110,30 +96,16 @@ returns-clause-lack c =
     let there = actor_read old.tables id within table c.index_mut-table.ensures.value ∙ lent.before in
     let new = set_value_at table c.args.place after in
     let mid = set old.tables slot new in
-    let back : PutsBack old.tables id after mid = (places_now old.tables id within table c.index_mut-table.ensures.value new (Some after) (lent.placed after), counts_now old.tables id within table c.index_mut-table.ensures.value new (lent.len after) slot) in
+    let back = back_now old.tables id within table c.index_mut-table.ensures.value new after (lent.placed after) (lent.len after) in
     let ensures = c.step.ensures in
     let stepped = stepped_to c.step.result after in
     let nodes = c.step.new.nodes in
-    let now = put_back old.tables mid id after back in
     let open_there = subst (λ (k : KeptWorld). IsTrue (is_open_at k.setup slot)) (sym c.self.view_is) c.requires.slot in
     let step : HasSteppedAt (world_of old) slot id.name c.args.moment stepped nodes before after = record { there = there; steps = ensures.steps; once = ensures.once } in
-    λ left is_left. subst (λ (k : KeptWorld). Leaves (λ config. StepStops config id.name c.args.moment) (world_of k) slot stepped.answered (world_of left)) c.self.view_is
-    (elim (is_left after now) [
-      | inl over ↦
-          subst (λ (k : KeptWorld). Leaves (λ config. StepStops config id.name c.args.moment) (world_of old) slot stepped.answered (world_of k)) (sym over.1.rest)
-          (steps_world_leaves (world_of old) c.self.invariant.whole slot id.name c.args.moment stepped nodes before after step (world_of (record old { nodes = nodes; tables = left.tables }))
-          (left_table (actor_at old.tables) (actor_at mid) (actor_at left.tables) id after stepped.is_over over.0 back.0.at over.1.out.at)
-          refl refl
-          (counts_left old.tables mid left.tables id after stepped.is_over over.0 back over.1.out over.1.count)
-          open_there)
-      | inr stays ↦
-          subst (λ (k : KeptWorld). Leaves (λ config. StepStops config id.name c.args.moment) (world_of old) slot stepped.answered (world_of k)) (sym stays.1)
-          (steps_world_leaves (world_of old) c.self.invariant.whole slot id.name c.args.moment stepped nodes before after step (world_of (record old { nodes = nodes; tables = mid }))
-          (back_table (actor_at old.tables) (actor_at mid) id after stepped.is_over stays.0 back.0.at)
-          refl refl
-          (counts_back old.tables mid id after stepped.is_over stays.0 back)
-          open_there)
-    ])
+    λ left is_left.
+    let over = has_left old id after mid nodes left back is_left in
+    subst (λ (k : KeptWorld). Leaves (λ config. StepStops config id.name c.args.moment) (world_of k) slot stepped.answered (world_of left)) c.self.view_is
+    (steps_world_leaves (world_of old) c.self.invariant.whole slot id.name c.args.moment stepped nodes before after step (world_of left) over.table over.setup over.nodes_are over.counts open_there)
 
 pub returns-clause-goes_on : goal.returns-clause-goes_on
 returns-clause-goes_on c =
@@ -148,7 +120,7 @@ returns-clause-goes_on c =
     let there = actor_read old.tables id within table c.index_mut-table.ensures.value ∙ lent.before in
     let new = set_value_at table c.args.place after in
     let mid = set old.tables slot new in
-    let back : PutsBack old.tables id after mid = (places_now old.tables id within table c.index_mut-table.ensures.value new (Some after) (lent.placed after), counts_now old.tables id within table c.index_mut-table.ensures.value new (lent.len after) slot) in
+    let back = back_now old.tables id within table c.index_mut-table.ensures.value new after (lent.placed after) (lent.len after) in
     let ensures = c.step.ensures in
     let stepped = stepped_to c.step.result after in
     let nodes = c.step.new.nodes in
@@ -173,7 +145,7 @@ returns-clause-place c =
     let there = actor_read old.tables id within table c.index_mut-table.ensures.value ∙ lent.before in
     let new = set_value_at table c.args.place after in
     let mid = set old.tables slot new in
-    let back : PutsBack old.tables id after mid = (places_now old.tables id within table c.index_mut-table.ensures.value new (Some after) (lent.placed after), counts_now old.tables id within table c.index_mut-table.ensures.value new (lent.len after) slot) in
+    let back = back_now old.tables id within table c.index_mut-table.ensures.value new after (lent.placed after) (lent.len after) in
     let ensures = c.step.ensures in
     let stepped = stepped_to c.step.result after in
     let nodes = c.step.new.nodes in
