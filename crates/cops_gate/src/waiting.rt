@@ -9,12 +9,16 @@ use std::sync::Wait;
 use std::sync::atomic::AtomicU64;
 use std::sync::atomic::Ordering::SeqCst;
 
-// How many tries a thread stays awake, each for twice as many looks as the one before, until it sleeps.
+// How many tries a thread stays awake, each twice as long as the one before, until it sleeps.
 const TRIES: u32 = 12;
 
 // How many tries it stays awake each time that it has slept. They are few: where threads are more than processors, one
 // that looks takes a processor from one that could make a turn.
 const TRIES_AGAIN: u32 = 6;
+
+// So many tries look after each pause, and later ones after eight: a look takes the word from the cache of the thread
+// that is about to publish its turn there.
+const CLOSE_TRIES: u32 = 3;
 
 // A thread that has slept so often no longer holds back: it draws its ticket and waits in line.
 const SLEEPS: u32 = 16;
@@ -208,15 +212,22 @@ fn below_last(ticket: u64) -> u64
     if ticket < LAST { ticket } else { 0 }
 }
 
-// Looks until a turn has ended, but at most so often.
+// Looks until a turn has ended, but for `2 ^ tries` pauses at most.
 fn look_again<M: Machine>(board: &Board<M>, tries: u32, seen: u64)
     requires words { board.now.shared.table_id.words ≡ 2 }
     requires tries { tries < 32 }
 {
-    for _ in 0..1u32 << tries {
+    let (looks, pauses) = if tries < CLOSE_TRIES {
+        (1u32 << tries, 1u32)
+    } else {
+        (1 << (tries - CLOSE_TRIES), 1 << CLOSE_TRIES)
+    };
+    for _ in 0..looks {
         if board.shared.peek(SERVING) != seen {
             return;
         }
-        hint::spin_loop();
+        for _ in 0..pauses {
+            hint::spin_loop();
+        }
     }
 }
