@@ -31,8 +31,8 @@ pub(crate) struct Sleepers {
     /// 1 where threads without a ticket may sleep, which they do on this word. It is 0 where none does, and from the end
     /// of a turn that wakes one until that one goes on.
     held_back: AtomicU64,
-    /// How many are awake without a ticket and look whether they may go on. While there are any, none of those who hold
-    /// back is woken.
+    /// How many are awake without a ticket and look whether they may go on, of those who began while others could sleep.
+    /// While there are any, none of those who hold back is woken.
     awake: AtomicU64,
 }
 
@@ -66,12 +66,16 @@ impl Sleepers {
         }
     }
 
-    // Looks for so many tries at most, and is counted as awake meanwhile.
+    // Looks for so many tries at most, and is counted as awake meanwhile if others may sleep. Where nobody sleeps the count
+    // isn't asked for, and to write it would take its line from the cache of the thread whose turn ends.
     fn look<M: Machine>(&self, board: &Board<M>, most: u32) -> Result<u64, u64>
         requires words { board.now.shared.table_id.words ≡ 2 }
         requires most { most ≤ 32 }
         ensures { IfOk result (λ ticket. ticket < 2 ^ 62) }
     {
+        if self.held_back.load(SeqCst) == 0 {
+            return look_for_free(board, most);
+        }
         self.awake.fetch_add(1, SeqCst);
         let found = look_for_free(board, most);
         self.awake.fetch_sub(1, SeqCst);
