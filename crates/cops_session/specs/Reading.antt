@@ -52,3 +52,22 @@ WorkReadsOn trans_time moment (Get reading) = GetReadsOn trans_time moment readi
 abbrev pub ReadsOn : ℕ → ℕ → Option Ongoing → Type 0
 ReadsOn trans_time moment None = ⊥
 ReadsOn trans_time moment (Some ongoing) = WorkReadsOn trans_time moment ongoing.work
+
+-- the next read is one of the first round
+abbrev pub IsFirst : Round → Type 0
+IsFirst (First round) = Unit {0}
+IsFirst (Second round) = ⊥
+
+-- the step at the moment is such a read, in time
+pub record GetReadsFirst (trans_time moment : ℕ) (reading : Reading) : Type 0 where
+  pub is_first : IsFirst reading.round
+  pub in_time : is_past trans_time reading.start moment ≡ false
+
+abbrev pub WorkReadsFirst : ℕ → ℕ → Work → Type 0
+WorkReadsFirst trans_time moment (Put writing) = ⊥
+WorkReadsFirst trans_time moment (Get reading) = GetReadsFirst trans_time moment reading
+
+-- the running request is a transaction whose step at the moment is such a read
+abbrev pub ReadsFirst : ℕ → ℕ → Option Ongoing → Type 0
+ReadsFirst trans_time moment None = ⊥
+ReadsFirst trans_time moment (Some ongoing) = WorkReadsFirst trans_time moment ongoing.work

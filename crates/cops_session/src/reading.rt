@@ -4,7 +4,7 @@ ghost use Rattle.cops_model.specs.declared.calls.NodeCall.{NodeCall};
 ghost use Rattle.cops_model.specs.declared.calls.NodeId.{NodeId};
 ghost use Rattle.cops_model.specs.declared.calls.NodeReply.{NodeReply};
 ghost use Rattle.cops_session.specs.Kept.{IsAmong};
-ghost use Rattle.cops_session.specs.Reading.{GetReadsOn, RoundStandsFor, is_past};
+ghost use Rattle.cops_session.specs.Reading.{GetReadsFirst, GetReadsOn, RoundStandsFor, is_past};
 ghost use Rattle.cops_session.specs.Stands.{IsFirstOf};
 ghost use Rattle.cops_session.specs.Turns.{TurnsFrom, turned_in_place};
 ghost use Rattle.cops_session.specs.declared.ongoing.Round.TheVariants.{First, Second};
@@ -153,6 +153,16 @@ fn read_second<N: Nodes>(
 }
 
 impl Reading {
+    /// Whether the step at this moment is a read of the first round, in time.
+    pub(crate) fn reads_first(&self, moment: u64, trans_time: u64) -> bool
+        ensures { IsTrue result → GetReadsFirst trans_time moment self.now }
+    {
+        match &self.round {
+            Round::First(_) => !is_late(self.start, moment, trans_time),
+            Round::Second(_) => false,
+        }
+    }
+
     /// Whether the step at this moment is a read of the first round, in time, after which another
     /// is wanted.
     pub(crate) fn reads_on(&self, moment: u64, trans_time: u64) -> bool

@@ -1,24 +1,30 @@
-ghost use Rattle.std.specs.Prelude.{◌≡◌, ◌⊎◌, ◌<◌, ◌+◌, ◌-◌, ◌^◌, ℕ, List, [], false, length, max, Some, None, IfOk, IsTrue, OnOk, OnErr, MatchResult, slice_get};
+ghost use Rattle.std.specs.Prelude.{◌≡◌, ◌⊎◌, ◌<◌, ◌+◌, ◌-◌, ◌^◌, ℕ, List, Option, [], false, length, max, Some, None, IfOk, IsTrue, OnOk, OnErr, MatchResult, slice_get};
 ghost use Rattle.std.specs.Option.{option_map};
 ghost use Rattle.cops_types.specs.TenantConfig.{TenantConfig, tenant_config};
 ghost use Rattle.cops_model.specs.declared.calls.NodeCall.{NodeCall};
 ghost use Rattle.cops_model.specs.declared.calls.NodeId.{NodeId};
 ghost use Rattle.cops_model.specs.declared.calls.NodeReply.{NodeReply};
 ghost use Rattle.cops_context.specs.Lists.{ListsStandFor};
+ghost use Rattle.cops_session.specs.declared.ongoing.Round.TheVariants.{First};
 ghost use Rattle.cops_session.specs.declared.ongoing.Work.TheVariants as work;
+ghost use Rattle.cops_model.specs.declared.calls.NodeCall.TheVariants.{Get};
+ghost use Rattle.cops_model.specs.declared.calls.Wanted.TheVariants.{Latest};
+ghost use Rattle.cops_node.specs.ToldReplies.{told_reply};
+ghost use Rattle.cops_types.specs.Key.{shard_of};
 
+use crate::asking::{FirstAnswer, accept_latest, ask_latest};
 use crate::contexts::{prepare_put, see_put, see_reads};
 use crate::kinds::{Contexts, Running};
 use crate::ongoing::{Ongoing, PendingPut, Reading, Round, Work};
 use crate::reading::{Came, ReadStep, read_next, read_step};
 use crate::repeats::has_repeats;
-use crate::rounds::FirstRound;
+use crate::rounds::{AfterFirst, FirstRound};
 use crate::settings::Setting;
 use crate::writing::write_step;
 use crate::{Answer, Progress};
 use cops_context::Context;
 use cops_handles::{Handle, Table};
-use cops_node::Nodes;
+use cops_node::{NodeReply, Nodes};
 use cops_types::{Config, Fault, Key, Reads, Tenant, Value};
 use std::alloc::{AllocError, Global};
 use std::marker::Model;
@@ -50,7 +56,9 @@ impl Session {
     ghost use Rattle.cops_model.specs.Request.{Write, Fetch, next, values_or_full};
     ghost use Rattle.cops_model.specs.Session.{OpenContext, Running as SoloRunning, Session as SoloSession, context_created, context_deleted, context_extended, context_refusal, create_refusal, get_refusal, moment_at, new_session, obs_of, request_begun, request_of, seen_in, session_put_refusal, is_spent};
     ghost use Rattle.cops_session.specs.SessionStands.{SessionStandsFor, ContextsStandFor, obs_in};
-    ghost use Rattle.cops_session.specs.Reading.{ReadsOn};
+    ghost use Rattle.cops_session.specs.Reading.{ReadsFirst, ReadsOn};
+    ghost use Rattle.cops_session.specs.Asking.{IsWantedIn};
+    ghost use Rattle.cops_session.specs.Rounds.{FirstReads};
     ghost use Rattle.cops_session.specs.Refusals.{told_refusal};
     ghost use Rattle.cops_session.specs.Stepping.{StepsFrom, TellsNext, runs, told_step};
     ghost use Rattle.cops_session.specs.Writing.{told_answer};
@@ -324,8 +332,11 @@ impl Session {
         if !self.runs(handle) {
             return Ok(Err(Fault::Idle));
         }
-        if self.reads_on(moment) {
-            return self.read_on(nodes, moment);
+        if self.reads_first(moment) {
+            if self.reads_on(moment) {
+                return self.read_on(nodes, moment);
+            }
+            return self.read_first(nodes, moment);
         }
         match self.running.take() {
             Some(ongoing) => {
@@ -404,6 +415,129 @@ impl Session {
                         }
                     }
                 }
+                Work::Put(_) => unreachable!(),
+            },
+            None => unreachable!(),
+        }
+    }
+
+    /// Whether the step at this moment is a read of a first round, in time.
+    fn reads_first(&self, moment: u64) -> bool
+        ensures { IsTrue result → ReadsFirst self.now.setting.trans_time (max self.now.moment moment) self.now.running }
+    {
+        match &self.running {
+            Some(ongoing) => match &ongoing.work {
+                Work::Get(reading) => {
+                    reading.reads_first(self.moment.max(moment), self.setting.trans_time)
+                }
+                Work::Put(_) => false,
+            },
+            None => false,
+        }
+    }
+
+    /// Takes such a step. The node is asked while the transaction stands where it is, which is large:
+    /// out of it come then only its lists, and most such steps end it. Its answer is the one of `step`.
+    fn read_first<N: Nodes>(
+        &mut self,
+        nodes: &mut N,
+        moment: u64,
+    ) -> Result<Result<Progress, Fault>, AllocError>
+        requires data_centres { self.old.setting.data_centres ≡ (N.shape nodes.old).data_centres }
+        requires shards { self.old.setting.shards ≡ (N.shape nodes.old).shards }
+        requires reads_first { ReadsFirst self.old.setting.trans_time (max self.old.moment moment) self.old.running }
+        ensures stepped { StepsFrom (λ id at call reply. N.Answers nodes.old id self.old.setting.slot at call reply nodes.new) (nodes.new ≡ nodes.old)
+            self.old moment result self.new }
+        ensures taken { IfOk result (λ told. OnErr told ⊥) }
+        ensures err { OnErr result (self.new ≡ record self.old { moment = self.new.moment; running = None }) }
+        ensures once { (id : NodeId) × (at : ℕ) × (call : NodeCall) × (reply : NodeReply) × N.Answers nodes.old id self.old.setting.slot at call reply nodes.new }
+        ensures shape { N.shape nodes.new ≡ N.shape nodes.old }
+        ensures setting { self.new.setting ≡ self.old.setting }
+    {
+        let now = self.moment.max(moment);
+        let answered = self.ask_latest(nodes, now);
+        self.moment = now;
+        match self.running.take() {
+            Some(ongoing) => {
+                let Ongoing {
+                    number,
+                    context,
+                    work,
+                } = ongoing;
+                match work {
+                    Work::Get(reading) => {
+                        let Reading {
+                            restarts,
+                            start,
+                            round,
+                        } = reading;
+                        match round {
+                            Round::First(round) => match accept_latest(
+                                self.alloc, round, answered,
+                            ) {
+                                Ok(FirstAnswer::Went(AfterFirst::More(round))) => {
+                                    self.running = Some(Ongoing {
+                                        number,
+                                        context,
+                                        work: Work::Get(Reading {
+                                            restarts,
+                                            start: Some(start.unwrap_or(now)),
+                                            round: Round::First(round),
+                                        }),
+                                    });
+                                    Ok(Ok(Progress::Working))
+                                }
+                                Ok(FirstAnswer::Went(AfterFirst::Second(round))) => {
+                                    self.running = Some(Ongoing {
+                                        number,
+                                        context,
+                                        work: Work::Get(Reading {
+                                            restarts,
+                                            start: Some(start.unwrap_or(now)),
+                                            round: Round::Second(round),
+                                        }),
+                                    });
+                                    Ok(Ok(Progress::Working))
+                                }
+                                Ok(FirstAnswer::Went(AfterFirst::Complete(reads))) => {
+                                    match self.values(context, reads) {
+                                        Ok(answer) => Ok(Ok(Progress::Done(answer))),
+                                        Err(error) => Err(error),
+                                    }
+                                }
+                                Ok(FirstAnswer::Failed(fault)) => {
+                                    Ok(Ok(Progress::Done(Answer::Refused(fault))))
+                                }
+                                Err(error) => Err(error),
+                            },
+                            Round::Second(_) => unreachable!(),
+                        }
+                    }
+                    Work::Put(_) => unreachable!(),
+                }
+            }
+            None => unreachable!(),
+        }
+    }
+
+    /// Asks for the key that the first round wants next. That the node was refused memory is the error.
+    #[inline(always)]
+    fn ask_latest<N: Nodes>(&self, nodes: &mut N, moment: u64) -> Result<NodeReply, AllocError>
+        requires data_centres { self.now.setting.data_centres ≡ (N.shape nodes.old).data_centres }
+        requires shards { self.now.setting.shards ≡ (N.shape nodes.old).shards }
+        requires reads_first { ReadsFirst self.now.setting.trans_time moment self.now.running }
+        ensures called { (key : List ℕ)
+            × N.Answers nodes.old (record { dc = self.now.setting.dc; shard = shard_of key self.now.setting.shards }) self.now.setting.slot moment (Get key Latest) (told_reply result) nodes.new
+            × ((number context restarts : ℕ) (start : Option ℕ) (round : FirstReads) →
+            self.now.running ≡ Some (record { number = number; context = context; work = work.Get (record { restarts = restarts; start = start; round = First round }) }) → IsWantedIn round key) }
+        ensures shape { N.shape nodes.new ≡ N.shape nodes.old }
+    {
+        match &self.running {
+            Some(ongoing) => match &ongoing.work {
+                Work::Get(reading) => match &reading.round {
+                    Round::First(round) => ask_latest(nodes, round, self.setting, moment),
+                    Round::Second(_) => unreachable!(),
+                },
                 Work::Put(_) => unreachable!(),
             },
             None => unreachable!(),
