@@ -4,7 +4,7 @@ ghost use Rattle.cops_model.specs.declared.calls.NodeCall.{NodeCall};
 ghost use Rattle.cops_model.specs.declared.calls.NodeId.{NodeId};
 ghost use Rattle.cops_model.specs.declared.calls.NodeReply.{NodeReply};
 ghost use Rattle.cops_session.specs.Kept.{IsAmong};
-ghost use Rattle.cops_session.specs.Reading.{GetReadsFirst, GetReadsOn, RoundStandsFor, is_past};
+ghost use Rattle.cops_session.specs.Reading.{GetReadsFirst, GetReadsOn, IsBeforeLast, RoundStandsFor, is_past};
 ghost use Rattle.cops_session.specs.Stands.{IsFirstOf};
 ghost use Rattle.cops_session.specs.Turns.{TurnsFrom, turned_in_place};
 ghost use Rattle.cops_session.specs.declared.ongoing.Round.TheVariants.{First, Second};
@@ -163,20 +163,19 @@ impl Reading {
         }
     }
 
-    /// Whether the step at this moment is a read of the first round, in time, after which another
-    /// is wanted.
-    pub(crate) fn reads_on(&self, moment: u64, trans_time: u64) -> bool
-        ensures { IsTrue result → GetReadsOn trans_time moment self.now }
+    /// Whether the next read is one of the first round, after which another is wanted.
+    pub(crate) fn has_more(&self) -> bool
+        ensures { IsTrue result → IsBeforeLast self.now.round }
     {
         match &self.round {
-            Round::First(round) => round.has_more() && !is_late(self.start, moment, trans_time),
+            Round::First(round) => round.has_more(),
             Round::Second(_) => false,
         }
     }
 }
 
-/// Takes such a step: what is read joins the round where it stands. That the node was refused
-/// memory is the error.
+/// Takes a step that is a read of the first round, in time, after which another is wanted: what is
+/// read joins the round where it stands. That the node was refused memory is the error.
 pub(crate) fn read_next<N: Nodes>(
     alloc: Global,
     nodes: &mut N,

@@ -333,7 +333,7 @@ impl Session {
             return Ok(Err(Fault::Idle));
         }
         if self.reads_first(moment) {
-            if self.reads_on(moment) {
+            if self.has_more() {
                 return self.read_on(nodes, moment);
             }
             return self.read_first(nodes, moment);
@@ -364,15 +364,14 @@ impl Session {
         }
     }
 
-    /// Whether the step at this moment is a read of a first round, in time, after which another is
-    /// wanted.
-    fn reads_on(&self, moment: u64) -> bool
-        ensures { IsTrue result → ReadsOn self.now.setting.trans_time (max self.now.moment moment) self.now.running }
+    /// Whether the step at this moment is a read of a first round, in time.
+    fn reads_first(&self, moment: u64) -> bool
+        ensures { IsTrue result → ReadsFirst self.now.setting.trans_time (max self.now.moment moment) self.now.running }
     {
         match &self.running {
             Some(ongoing) => match &ongoing.work {
                 Work::Get(reading) => {
-                    reading.reads_on(self.moment.max(moment), self.setting.trans_time)
+                    reading.reads_first(self.moment.max(moment), self.setting.trans_time)
                 }
                 Work::Put(_) => false,
             },
@@ -380,8 +379,22 @@ impl Session {
         }
     }
 
-    /// Takes such a step. The transaction changes where it stands: it is large, and most steps of
-    /// transactions are these. Its answer is the one of `step`, which hands it on where it stands.
+    /// Whether another read of the first round is wanted after the next one.
+    fn has_more(&self) -> bool
+        ensures { (trans_time moment : ℕ) → IsTrue result → ReadsFirst trans_time moment self.now.running → ReadsOn trans_time moment self.now.running }
+    {
+        match &self.running {
+            Some(ongoing) => match &ongoing.work {
+                Work::Get(reading) => reading.has_more(),
+                Work::Put(_) => false,
+            },
+            None => false,
+        }
+    }
+
+    /// Takes a step that is a read of a first round, in time, after which another is wanted. The
+    /// transaction changes where it stands: it is large, and most steps of transactions are these. Its
+    /// answer is the one of `step`, which hands it on where it stands.
     fn read_on<N: Nodes>(
         &mut self,
         nodes: &mut N,
@@ -421,23 +434,9 @@ impl Session {
         }
     }
 
-    /// Whether the step at this moment is a read of a first round, in time.
-    fn reads_first(&self, moment: u64) -> bool
-        ensures { IsTrue result → ReadsFirst self.now.setting.trans_time (max self.now.moment moment) self.now.running }
-    {
-        match &self.running {
-            Some(ongoing) => match &ongoing.work {
-                Work::Get(reading) => {
-                    reading.reads_first(self.moment.max(moment), self.setting.trans_time)
-                }
-                Work::Put(_) => false,
-            },
-            None => false,
-        }
-    }
-
-    /// Takes such a step. The node is asked while the transaction stands where it is, which is large:
-    /// out of it come then only its lists, and most such steps end it. Its answer is the one of `step`.
+    /// Takes a step that is a read of a first round, in time. The node is asked while the transaction
+    /// stands where it is: only its lists come out of it then, and most such steps end it. Its answer is
+    /// the one of `step`.
     fn read_first<N: Nodes>(
         &mut self,
         nodes: &mut N,
@@ -476,27 +475,25 @@ impl Session {
                                 self.alloc, round, answered,
                             ) {
                                 Ok(FirstAnswer::Went(AfterFirst::More(round))) => {
-                                    self.running = Some(Ongoing {
-                                        number,
-                                        context,
-                                        work: Work::Get(Reading {
-                                            restarts,
-                                            start: Some(start.unwrap_or(now)),
-                                            round: Round::First(round),
-                                        }),
-                                    });
+                                    let start = Some(start.unwrap_or(now));
+                                    let round = Round::First(round);
+                                    let reading = Reading {
+                                        restarts,
+                                        start,
+                                        round,
+                                    };
+                                    self.go_on(number, context, reading);
                                     Ok(Ok(Progress::Working))
                                 }
                                 Ok(FirstAnswer::Went(AfterFirst::Second(round))) => {
-                                    self.running = Some(Ongoing {
-                                        number,
-                                        context,
-                                        work: Work::Get(Reading {
-                                            restarts,
-                                            start: Some(start.unwrap_or(now)),
-                                            round: Round::Second(round),
-                                        }),
-                                    });
+                                    let start = Some(start.unwrap_or(now));
+                                    let round = Round::Second(round);
+                                    let reading = Reading {
+                                        restarts,
+                                        start,
+                                        round,
+                                    };
+                                    self.go_on(number, context, reading);
                                     Ok(Ok(Progress::Working))
                                 }
                                 Ok(FirstAnswer::Went(AfterFirst::Complete(reads))) => {
@@ -542,6 +539,18 @@ impl Session {
             },
             None => unreachable!(),
         }
+    }
+
+    /// Puts a transaction that goes on in its place.
+    fn go_on(&mut self, number: u64, context: Handle<Contexts>, reading: Reading)
+        requires ready { IsOpen context self.old.contexts.rows }
+        ensures { self.new ≡ record self.old { running = Some (record { number = number; context = context; work = work.Get reading }) } }
+    {
+        self.running = Some(Ongoing {
+            number,
+            context,
+            work: Work::Get(reading),
+        });
     }
 
     /// Ends the running request.

@@ -61,8 +61,8 @@ returns-in-Get-clause-stepped g c = λ config session stand.
     ))
     (λ fault none. absurd none)
 
-pub returns-then-reads_on-clause-stepped : goal.returns-then-reads_on-clause-stepped
-returns-then-reads_on-clause-stepped g c = λ config session stand.
+pub returns-then-has_more-clause-stepped : goal.returns-then-has_more-clause-stepped
+returns-then-has_more-clause-stepped g c = λ config session stand.
     let one = one_runs c.args.handle session (runs_in_both config session c.args.handle c.args.self.now.running stand.running_is ∙ sym c.runs.ensures ∙ c.if-not-runs.false) in
     MatchResult-weaker (told_step c.read_on.result) (c.read_on.ensures.stepped config session one.0 stand one.1)
     (λ told tells. (one.0, one.1, one.2, tells))
