@@ -456,64 +456,44 @@ impl Session {
         let now = self.moment.max(moment);
         let answered = self.ask_latest(nodes, now);
         self.moment = now;
-        match self.running.take() {
-            Some(ongoing) => {
-                let Ongoing {
-                    number,
-                    context,
-                    work,
-                } = ongoing;
-                match work {
-                    Work::Get(reading) => {
-                        let Reading {
-                            restarts,
-                            start,
-                            round,
-                        } = reading;
-                        match round {
-                            Round::First(round) => match accept_latest(
-                                self.alloc, round, answered,
-                            ) {
-                                Ok(FirstAnswer::Went(AfterFirst::More(round))) => {
-                                    let start = Some(start.unwrap_or(now));
-                                    let round = Round::First(round);
-                                    let reading = Reading {
-                                        restarts,
-                                        start,
-                                        round,
-                                    };
-                                    self.go_on(number, context, reading);
-                                    Ok(Ok(Progress::Working))
-                                }
-                                Ok(FirstAnswer::Went(AfterFirst::Second(round))) => {
-                                    let start = Some(start.unwrap_or(now));
-                                    let round = Round::Second(round);
-                                    let reading = Reading {
-                                        restarts,
-                                        start,
-                                        round,
-                                    };
-                                    self.go_on(number, context, reading);
-                                    Ok(Ok(Progress::Working))
-                                }
-                                Ok(FirstAnswer::Went(AfterFirst::Complete(reads))) => {
-                                    match self.values(context, reads) {
-                                        Ok(answer) => Ok(Ok(Progress::Done(answer))),
-                                        Err(error) => Err(error),
-                                    }
-                                }
-                                Ok(FirstAnswer::Failed(fault)) => {
-                                    Ok(Ok(Progress::Done(Answer::Refused(fault))))
-                                }
-                                Err(error) => Err(error),
-                            },
-                            Round::Second(_) => unreachable!(),
-                        }
-                    }
-                    Work::Put(_) => unreachable!(),
-                }
+        let Some(ongoing) = self.running.take() else {
+            unreachable!()
+        };
+        let Ongoing {
+            number,
+            context,
+            work,
+        } = ongoing;
+        let Work::Get(reading) = work else {
+            unreachable!()
+        };
+        let Reading {
+            restarts,
+            start,
+            round,
+        } = reading;
+        let Round::First(round) = round else {
+            unreachable!()
+        };
+        match accept_latest(self.alloc, round, answered) {
+            Ok(FirstAnswer::Went(AfterFirst::More(round))) => {
+                let started = start.unwrap_or(now);
+                self.go_on(number, context, restarts, started, Round::First(round));
+                Ok(Ok(Progress::Working))
             }
-            None => unreachable!(),
+            Ok(FirstAnswer::Went(AfterFirst::Second(round))) => {
+                let started = start.unwrap_or(now);
+                self.go_on(number, context, restarts, started, Round::Second(round));
+                Ok(Ok(Progress::Working))
+            }
+            Ok(FirstAnswer::Went(AfterFirst::Complete(reads))) => match self.values(
+                context, reads,
+            ) {
+                Ok(answer) => Ok(Ok(Progress::Done(answer))),
+                Err(error) => Err(error),
+            },
+            Ok(FirstAnswer::Failed(fault)) => Ok(Ok(Progress::Done(Answer::Refused(fault)))),
+            Err(error) => Err(error),
         }
     }
 
@@ -541,11 +521,23 @@ impl Session {
         }
     }
 
-    /// Puts a transaction that goes on in its place.
-    fn go_on(&mut self, number: u64, context: Handle<Contexts>, reading: Reading)
+    /// Runs a transaction on from a round of an attempt that has started.
+    fn go_on(
+        &mut self,
+        number: u64,
+        context: Handle<Contexts>,
+        restarts: u64,
+        started: u64,
+        round: Round,
+    )
         requires ready { IsOpen context self.old.contexts.rows }
-        ensures { self.new ≡ record self.old { running = Some (record { number = number; context = context; work = work.Get reading }) } }
+        ensures { self.new ≡ record self.old { running = Some (record { number = number; context = context; work = work.Get (record { restarts = restarts; start = Some started; round = round }) }) } }
     {
+        let reading = Reading {
+            restarts,
+            start: Some(started),
+            round,
+        };
         self.running = Some(Ongoing {
             number,
             context,

@@ -40,7 +40,7 @@ returns-in-Ok-Went-More-clause-stepped g c = λ config session running stand is.
     let reads = subst (λ (k : KeptSession). ReadsFirst k.setting.trans_time (max k.moment c.args.moment) k.running) (sym c.self.view_is) c.requires.reads_first in
     let answers = subst (λ (k : KeptSession). g.N.Nodes.Answers c.args.nodes.now (record { dc = k.setting.dc; shard = shard_of called.0 k.setting.shards }) k.setting.slot now (call.Get called.0 Latest) (told_reply c.ask_latest-answered.result) nodes) (sym c.self.view_is) called.1 in
     let reading : Reading = record { restarts = old.restarts; start = old.start; round = First round } in
-    let next_reading : Reading = record { restarts = old.restarts; start = Some c.unwrap_or.result; round = First c.in-Ok-Went-More.round } in
+    let next_reading : Reading = record { restarts = old.restarts; start = Some c.unwrap_or-started.result; round = First c.in-Ok-Went-More.round } in
     let turn : ReadStep = record { moment = now; came = came.Working next_reading } in
     let kept_after : KeptSession = c.go_on.new.self in
     subst
@@ -48,8 +48,8 @@ returns-in-Ok-Went-More-clause-stepped g c = λ config session running stand is.
     config session running (moment_at c.args.moment session) (Ok Working) kept_after (next config (request_of session running) running.log (moment_at c.args.moment session)))
     c.self.view_is
     (first_steps config kept kept_after session running ongoing.number ongoing.context old.restarts old.start round
-    (λ t id call reply. g.N.Nodes.Answers c.args.nodes.now id inside.setting.slot t call reply nodes) (nodes ≡ c.args.nodes.now) c.args.moment now c.unwrap_or.result called.0 (told_reply c.ask_latest-answered.result)
-    (Ok (asked.Went (after.More c.in-Ok-Went-More.round))) (Ok Working) whole (subst (λ (k : KeptSession). SessionStandsFor config k session) (sym c.self.view_is) stand) is c.max-now.ensures c.unwrap_or.ensures reads answers
+    (λ t id call reply. g.N.Nodes.Answers c.args.nodes.now id inside.setting.slot t call reply nodes) (nodes ≡ c.args.nodes.now) c.args.moment now c.unwrap_or-started.result called.0 (told_reply c.ask_latest-answered.result)
+    (Ok (asked.Went (after.More c.in-Ok-Went-More.round))) (Ok Working) whole (subst (λ (k : KeptSession). SessionStandsFor config k session) (sym c.self.view_is) stand) is c.max-now.ensures c.unwrap_or-started.ensures reads answers
     (λ keys replies stands. (rw (c.in-Ok-Went-More.field-0-is, c.in-Ok-Went-More.field-0-0-is) at c.in-Ok-Went-More.ensures) called.0 keys replies asked_key stands)
     (λ stands keys step timed same number action has. works config kept kept_after session running ongoing.number ongoing.context reading next_reading turn keys step stands refl c.go_on.ensures same number action has))
 
@@ -70,7 +70,7 @@ returns-in-Ok-Went-Second-clause-stepped g c = λ config session running stand i
     let reads = subst (λ (k : KeptSession). ReadsFirst k.setting.trans_time (max k.moment c.args.moment) k.running) (sym c.self.view_is) c.requires.reads_first in
     let answers = subst (λ (k : KeptSession). g.N.Nodes.Answers c.args.nodes.now (record { dc = k.setting.dc; shard = shard_of called.0 k.setting.shards }) k.setting.slot now (call.Get called.0 Latest) (told_reply c.ask_latest-answered.result) nodes) (sym c.self.view_is) called.1 in
     let reading : Reading = record { restarts = old.restarts; start = old.start; round = First round } in
-    let next_reading : Reading = record { restarts = old.restarts; start = Some c.unwrap_or-in-Ok-Went-Second.result; round = Second c.in-Ok-Went-Second.round } in
+    let next_reading : Reading = record { restarts = old.restarts; start = Some c.unwrap_or-started-in-Ok-Went-Second.result; round = Second c.in-Ok-Went-Second.round } in
     let turn : ReadStep = record { moment = now; came = came.Working next_reading } in
     let kept_after : KeptSession = c.go_on-in-Ok-Went-Second.new.self in
     subst
@@ -78,8 +78,8 @@ returns-in-Ok-Went-Second-clause-stepped g c = λ config session running stand i
     config session running (moment_at c.args.moment session) (Ok Working) kept_after (next config (request_of session running) running.log (moment_at c.args.moment session)))
     c.self.view_is
     (first_steps config kept kept_after session running ongoing.number ongoing.context old.restarts old.start round
-    (λ t id call reply. g.N.Nodes.Answers c.args.nodes.now id inside.setting.slot t call reply nodes) (nodes ≡ c.args.nodes.now) c.args.moment now c.unwrap_or-in-Ok-Went-Second.result called.0 (told_reply c.ask_latest-answered.result)
-    (Ok (asked.Went (after.Second c.in-Ok-Went-Second.round))) (Ok Working) whole (subst (λ (k : KeptSession). SessionStandsFor config k session) (sym c.self.view_is) stand) is c.max-now.ensures c.unwrap_or-in-Ok-Went-Second.ensures reads answers
+    (λ t id call reply. g.N.Nodes.Answers c.args.nodes.now id inside.setting.slot t call reply nodes) (nodes ≡ c.args.nodes.now) c.args.moment now c.unwrap_or-started-in-Ok-Went-Second.result called.0 (told_reply c.ask_latest-answered.result)
+    (Ok (asked.Went (after.Second c.in-Ok-Went-Second.round))) (Ok Working) whole (subst (λ (k : KeptSession). SessionStandsFor config k session) (sym c.self.view_is) stand) is c.max-now.ensures c.unwrap_or-started-in-Ok-Went-Second.ensures reads answers
     (λ keys replies stands. (rw (c.in-Ok-Went-Second.field-0-is, c.in-Ok-Went-Second.field-0-0-is) at c.in-Ok-Went-Second.ensures) called.0 keys replies asked_key stands)
     (λ stands keys step timed same number action has. works config kept kept_after session running ongoing.number ongoing.context reading next_reading turn keys step stands refl c.go_on-in-Ok-Went-Second.ensures same number action has))
 
