@@ -9,16 +9,23 @@ use std::sync::Wait;
 use std::sync::atomic::AtomicU64;
 use std::sync::atomic::Ordering::SeqCst;
 
-// How many tries a thread stays awake, each twice as long as the one before, until it sleeps.
-const TRIES: u32 = 12;
+// How many pauses a thread that holds back makes between two looks. Where turns are short it thus looks at each second or
+// third of them: who makes one turn after another keeps the machine for some, with all of its memory in one cache.
+const PAUSES: u32 = 64;
 
-// How many tries it stays awake each time that it has slept. They are few: where threads are more than processors, one
-// that looks takes a processor from one that could make a turn.
-const TRIES_AGAIN: u32 = 6;
+// How many times a thread that holds back looks until it sleeps.
+const LOOKS: u32 = 64;
 
-// So many tries look after each pause, and later ones after eight: a look takes the word from the cache of the thread
-// that is about to publish its turn there.
-const CLOSE_TRIES: u32 = 3;
+// How many times it looks each time that it has slept. They are few: where threads are more than processors, one that
+// looks takes a processor from one that could make a turn.
+const LOOKS_AGAIN: u32 = 2;
+
+// A thread past which others have made more turns than this sleeps sooner: turns are so short here that it costs less to
+// be woken than to keep a processor.
+const MOST_PASSED: u64 = 16;
+
+// How many tries a thread in line stays awake, each twice as long as the one before, until it sleeps.
+const TRIES_IN_LINE: u32 = 12;
 
 // A thread that has slept so often no longer holds back: it draws its ticket and waits in line.
 const SLEEPS: u32 = 16;
@@ -57,8 +64,8 @@ impl Sleepers {
     )
         requires { board.now.shared.table_id.words ≡ 2 }
     {
-        if tries < TRIES {
-            look_again(board, tries, seen);
+        if tries < TRIES_IN_LINE {
+            look_in_line(board, tries, seen);
         } else {
             self.in_line.fetch_add(1, SeqCst);
             board.shared.park(rt, SERVING, (seen % (1 << 32)) as u32);
@@ -69,8 +76,7 @@ impl Sleepers {
     // Looks for so many tries at most, and is counted as awake meanwhile if others may sleep. Where nobody sleeps the count
     // isn't asked for, and to write it would take its line from the cache of the thread whose turn ends.
     fn look<M: Machine>(&self, board: &Board<M>, most: u32) -> Result<u64, u64>
-        requires words { board.now.shared.table_id.words ≡ 2 }
-        requires most { most ≤ 32 }
+        requires { board.now.shared.table_id.words ≡ 2 }
         ensures { IfOk result (λ ticket. ticket < 2 ^ 62) }
     {
         if self.held_back.load(SeqCst) == 0 {
@@ -163,7 +169,7 @@ fn hold_back_long<M: Machine, R: Wait>(rt: &R, board: &Board<M>, sleepers: &Slee
     ensures { result < 2 ^ 62 }
 {
     for sleeps in 0..SLEEPS {
-        let most = if sleeps == 0 { TRIES } else { TRIES_AGAIN };
+        let most = if sleeps == 0 { LOOKS } else { LOOKS_AGAIN };
         match sleepers.look(board, most) {
             Ok(ticket) => {
                 if sleeps > 0 {
@@ -192,19 +198,24 @@ fn free_ticket<M: Machine>(board: &Board<M>) -> Result<u64, u64>
     }
 }
 
-// Looks until no ticket is out, but only for so many tries.
+// Looks until no ticket is out, but only so many times, and only until others have made some turns.
 fn look_for_free<M: Machine>(board: &Board<M>, most: u32) -> Result<u64, u64>
-    requires words { board.now.shared.table_id.words ≡ 2 }
-    requires most { most ≤ 32 }
+    requires { board.now.shared.table_id.words ≡ 2 }
     ensures { IfOk result (λ ticket. ticket < 2 ^ 62) }
 {
-    let mut seen = 0;
-    for tries in 0..most {
+    let first = board.shared.peek(SERVING);
+    let mut seen = first;
+    for _ in 0..most {
         match free_ticket(board) {
             Ok(ticket) => return Ok(ticket),
             Err(serving) => seen = serving,
         }
-        look_again(board, tries, seen);
+        if seen.saturating_sub(first) > MOST_PASSED {
+            return Err(seen);
+        }
+        for _ in 0..PAUSES {
+            hint::spin_loop();
+        }
     }
     Err(seen)
 }
@@ -216,22 +227,16 @@ fn below_last(ticket: u64) -> u64
     if ticket < LAST { ticket } else { 0 }
 }
 
-// Looks until a turn has ended, but for `2 ^ tries` pauses at most.
-fn look_again<M: Machine>(board: &Board<M>, tries: u32, seen: u64)
+// Looks until a turn has ended, but `2 ^ tries` times at most. Nobody else can make a turn meanwhile, so it looks often.
+fn look_in_line<M: Machine>(board: &Board<M>, tries: u32, seen: u64)
     requires words { board.now.shared.table_id.words ≡ 2 }
     requires tries { tries < 32 }
 {
-    let (looks, pauses) = if tries < CLOSE_TRIES {
-        (1u32 << tries, 1u32)
-    } else {
-        (1 << (tries - CLOSE_TRIES), 1 << CLOSE_TRIES)
-    };
-    for _ in 0..looks {
+    for _ in 0..(1u32 << tries) {
         if board.shared.peek(SERVING) != seen {
             return;
         }
-        for _ in 0..pauses {
-            hint::spin_loop();
-        }
+        hint::spin_loop();
+        hint::spin_loop();
     }
 }
