@@ -43,7 +43,7 @@ IsHere config c dc pair = Among pair (map pair_of_entry (entries (node_of config
 
 -- what a transaction found is in its data centre
 abbrev pub IsFoundHere : TenantConfig → SoloCluster → ℕ → ReadRequest → NodeReply → Type 0
-IsFoundHere config c dc q (Found version value deps) = IsHere config c dc (at q.key version)
+IsFoundHere config c dc q (Found f) = IsHere config c dc (at q.key f.version)
 IsFoundHere config c dc q reply = Unit {0}
 
 abbrev pub RepliesAreHere : TenantConfig → SoloCluster → ℕ → Action → List LogStep → Type 0

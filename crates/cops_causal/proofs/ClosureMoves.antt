@@ -39,7 +39,7 @@ module _ (config : TenantConfig) (c after : SoloCluster) (grows : (n : ℕ) → 
       subst (Among q) (sym (ap (map pair_of_entry) grown.1 ∙ map-append pair_of_entry (entries (node_of config c n)) grown.0)) (Among-left q (map pair_of_entry (entries (node_of config c n))) (map pair_of_entry grown.0) at)
 
   pub found-grown : (dc : ℕ) (a : ReadRequest) (reply : NodeReply) → IsFoundHere config c dc a reply → IsFoundHere config after dc a reply
-  found-grown dc a (Found version value deps) is = here-grown dc (record { key = a.key; version = version }) is
+  found-grown dc a (Found f) is = here-grown dc (record { key = a.key; version = f.version }) is
   found-grown dc a reply is = tt
 
   zipped-grown : (dc : ℕ) (asked : List ReadRequest) (rs : List NodeReply) → Zipped (IsFoundHere config c dc) asked rs → Zipped (IsFoundHere config after dc) asked rs

@@ -5,7 +5,7 @@ use Rattle.std.specs.List.{AllByRecursion}
 use Rattle.std.proofs.lemmas.Nat.{div-mul-add}
 use Rattle.std.proofs.Math.Nat.{mod-lt}
 use Rattle.std.specs.Prelude.{sum}
-use Rattle.cops_types.specs.declared.contexts.Read.{Read}
+use Rattle.cops_types.specs.declared.contexts.ReadParts.{ReadParts as Read}
 use Rattle.cops_types.specs.declared.pairs.Pair.{Pair}
 use Rattle.cops_types.specs.declared.records.EntryParts.{EntryParts as Entry}
 use Rattle.cops_types.specs.Context.{Put as PutPair, all_of, observations_of}
@@ -52,7 +52,7 @@ IsReadHere config c dc read = IsValueHere config c dc (at read.key read.version)
 
 module _ (config : TenantConfig) (some : 0 < config.shards) (c : SoloCluster) (ts : List Traced) (pasts : PastsAreHere config c.nodes ts) (name : List ℕ) (s : Session) (home : IsAtHome config (bare c.nodes) ts name s) where
   read_here : (q : ReadRequest) (reply : NodeReply) → IsFoundHere config c s.dc q reply → IsReadHere config c s.dc (read_of q.key reply)
-  read_here q (Found version value deps) is = is
+  read_here q (Found f) is = is
   read_here q reply is = tt
 
   returned_here : (reads : List Read) → AllByRecursion (IsReadHere config c s.dc) reads → (p : Pair) → Among p (returned_by (Returned reads)) → IsHere config c s.dc p

@@ -41,7 +41,7 @@ pub record IsPutEntry (ts : List Traced) (e : Entry) : Type 0 where
 
 -- what a reply to a read found was put
 abbrev pub IsFound : List Traced → ReadRequest → NodeReply → Type 0
-IsFound ts q (Found version value deps) = IsPut ts (at q.key version) deps
+IsFound ts q (Found f) = IsPut ts (at q.key f.version) f.deps
 IsFound ts q reply = Unit {0}
 
 -- what a carrier pulled was put
@@ -135,7 +135,7 @@ module _ (ts : List Traced) (t : Traced) (new : IsNew ts t) where
       }
 
   IsFound-grown : (q : ReadRequest) (reply : NodeReply) → IsFound ts q reply → IsFound (ts ++ t ∷ []) q reply
-  IsFound-grown q (Found version value deps) is = IsPut-grown (at q.key version) deps is
+  IsFound-grown q (Found f) is = IsPut-grown (at q.key f.version) f.deps is
   IsFound-grown q reply is = tt
 
   IsPulled-grown : (outcome : Outcome) → IsPulled ts outcome → IsPulled (ts ++ t ∷ []) outcome

@@ -3,7 +3,7 @@ use Rattle.std.proofs.Common.{◌≡◌, ℕ, ◌<◌, Bool, true, false, not, �
 use Rattle.std.specs.Prelude.{Option, Some, None, slice_get, sum, ◌==◌}
 use Rattle.std.proofs.lemmas.Bool.Decides.{Decides-eqb}
 use Rattle.std.proofs.Math.Nat.{mod-lt}
-use Rattle.cops_types.specs.declared.contexts.Read.{Read}
+use Rattle.cops_types.specs.declared.contexts.ReadParts.{ReadParts as Read}
 use Rattle.cops_types.specs.declared.pairs.Pair.{Pair}
 use Rattle.cops_types.specs.declared.records.EntryParts.{EntryParts as Entry}
 use Rattle.cops_types.specs.Key.{shard_of}
@@ -63,11 +63,11 @@ abbrev IsReadHere : TenantConfig → SoloCluster → ℕ → Read → Type 0
 IsReadHere config c dc read = IsValueHere config c dc (at read.key read.version) read.value
 
 read_here : (config : TenantConfig) (c : SoloCluster) (dc : ℕ) (q : ReadRequest) (reply : NodeReply) → IsFoundHere config c dc q reply → IsReadHere config c dc (read_of q.key reply)
-read_here config c dc q (Found version value deps) is = is
+read_here config c dc q (Found f) is = is
 read_here config c dc q reply is = tt
 
 pub read_put : (ts : List Traced) (q : ReadRequest) (reply : NodeReply) → IsFound ts q reply → IsRead ts (read_of q.key reply)
-read_put ts q (Found version value deps) is = is
+read_put ts q (Found f) is = is
 read_put ts q reply is = tt
 
 module _ (config : TenantConfig) (some : 0 < config.shards) (c : SoloCluster) (ts : List Traced) (inv : IsSound config c ts) where

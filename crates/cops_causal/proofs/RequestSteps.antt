@@ -2,7 +2,7 @@
 use Rattle.std.proofs.Common.{◌≡◌, ℕ, Bool, true, false, List, [], ◌∷◌, ◌++◌, length, refl, sym, ◌∙◌, ap, subst}
 use Rattle.std.specs.Prelude.{Option, Some, None, slice_get}
 use Rattle.std.specs.Option.{option_map, option_and_then}
-use Rattle.cops_types.specs.declared.contexts.Read.{Read}
+use Rattle.cops_types.specs.declared.contexts.ReadParts.{ReadParts as Read}
 use Rattle.cops_types.specs.declared.faults.Fault.{Fault}
 use Rattle.cops_types.specs.declared.records.EntryParts.{EntryParts as Entry}
 use Rattle.cops_types.specs.Context.{all_of, near_of}

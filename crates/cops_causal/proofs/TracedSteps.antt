@@ -3,7 +3,7 @@ use Rattle.std.proofs.Common.{◌≡◌, ℕ, Bool, true, false, cond, ◌&&◌,
 use Rattle.std.specs.Prelude.{Option, Some, None, nat_lt, is_some, ◌==◌}
 use Rattle.std.specs.List.{AllByRecursion}
 use Rattle.std.proofs.lemmas.Bool.Decides.{nat_tests, Decides-eqb}
-use Rattle.cops_types.specs.declared.contexts.Read.{Read}
+use Rattle.cops_types.specs.declared.contexts.ReadParts.{ReadParts as Read}
 use Rattle.cops_types.specs.declared.pairs.Pair.{Pair}
 use Rattle.cops_types.specs.Context.{Observation, all_of, near_of, observations_of}
 use Rattle.cops_types.specs.Key.{key_eq}
@@ -183,7 +183,7 @@ module _ (config : TenantConfig) (c : SoloCluster) (ts : List Traced) (inv : IsT
   -- ---- a step of a transaction
 
   read_well : (q : ReadRequest) (reply : NodeReply) → IsFound ts q reply → IsRead ts (read_of q.key reply)
-  read_well q (Found version value deps) is = is
+  read_well q (Found f) is = is
   read_well q reply is = tt
 
   module _ (number context : ℕ) (keys : List (List ℕ)) (log : List LogStep) (step : LogStep)

@@ -21,8 +21,8 @@ module _ (config : TenantConfig) where
 
   -- and only a get finds, and only a pull brings
   abbrev pub HasFewInReply : NodeReply → NodeCall → Type 0
-  HasFewInReply (Found version value deps) (Get key wanted) = length deps ≤ config.quota.deps
-  HasFewInReply (Found version value deps) call = ⊥
+  HasFewInReply (Found f) (Get key wanted) = length f.deps ≤ config.quota.deps
+  HasFewInReply (Found f) call = ⊥
   HasFewInReply (Pulled e) (Pull dc) = HasFewPairs e
   HasFewInReply (Pulled e) call = ⊥
   HasFewInReply reply call = Unit {0}

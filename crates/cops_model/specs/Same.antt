@@ -6,6 +6,7 @@ use Rattle.std.specs.Cmp.Lexicographic.{pointwise}
 use Rattle.std.proofs.lemmas.Bool.Decides.{Decides-eqb}
 use Rattle.cops_types.specs.declared.faults.Fault.{Fault}
 use Rattle.cops_types.specs.FaultText.{fault_number, fault_of_number}
+use Rattle.cops_types.specs.Founds.{found_eq, same_founds}
 use Rattle.cops_types.specs.Pairs.{pairs_eq}
 use Rattle.cops_types.proofs.FaultLemmas.{fault_back}
 use Rattle.cops_types.specs.Same.{TellsSame, both, entry_eq, same_bytes, same_versions, same_pairs, same_entries}
@@ -133,7 +134,7 @@ same_calls = record { same = same_calls_from; itself = same_calls_itself }
 -- ---- replies
 
 abbrev pub reply_eq : NodeReply → NodeReply → Bool
-reply_eq (Found version value deps) (Found version' value' deps') = version_eq version version' && (pointwise nat_eq value value' && pairs_eq deps deps')
+reply_eq (Found f) (Found g) = found_eq f g
 reply_eq Absent Absent = true
 reply_eq (Gone now) (Gone now') = nat_eq now now'
 reply_eq NotYet NotYet = true
@@ -151,13 +152,9 @@ reply_eq (Refused fault) (Refused fault') = fault_eq fault fault'
 reply_eq reply reply' = false
 
 same_replies_from : (x y : NodeReply) → reply_eq x y ≡ true → x ≡ y
-same_replies_from (Found version value deps) (Found version' value' deps') h =
-    let version_is = same_versions.same version version' (first_so (version_eq version version') (pointwise nat_eq value value' && pairs_eq deps deps') h) in
-    let h1 = second_so (version_eq version version') (pointwise nat_eq value value' && pairs_eq deps deps') h in
-    let value_is = same_bytes.same value value' (first_so (pointwise nat_eq value value') (pairs_eq deps deps') h1) in
-    let h2 = second_so (pointwise nat_eq value value') (pairs_eq deps deps') h1 in
-    let deps_is = same_pairs.same deps deps' h2 in
-    (λ i. Found (version_is i) (value_is i) (deps_is i))
+same_replies_from (Found f) (Found g) h =
+    let found_is = same_founds.same f g h in
+    (λ i. Found (found_is i))
 same_replies_from Absent Absent h = refl
 same_replies_from (Gone now) (Gone now') h =
     let now_is = same_numbers.same now now' h in
@@ -189,7 +186,7 @@ same_replies_from (Refused fault) (Refused fault') h =
 same_replies_from x y h = absurd (true≢false (sym h))
 
 same_replies_itself : (x : NodeReply) → reply_eq x x ≡ true
-same_replies_itself (Found version value deps) = both (same_versions.itself version) (both (same_bytes.itself value) (same_pairs.itself deps))
+same_replies_itself (Found f) = same_founds.itself f
 same_replies_itself Absent = refl
 same_replies_itself (Gone now) = same_numbers.itself now
 same_replies_itself NotYet = refl

@@ -1,4 +1,4 @@
-use cops_types::{Deps, Entry, Fault, Key, Near, Value, Version};
+use cops_types::{Deps, Entry, Fault, Found, Key, Near, Value, Version};
 
 /// A node, by its data centre and its shard.
 #[derive(Clone, Copy, Debug)]
@@ -39,7 +39,7 @@ pub enum NodeCall {
 #[derive(Debug, Drop)]
 pub enum NodeReply {
     /// The version, its value and its dependencies.
-    Found(Version, Value, Deps),
+    Found(Found),
     /// The key has no value.
     Absent,
     /// The version was here and is collected; the node's `now`.

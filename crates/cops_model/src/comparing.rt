@@ -92,12 +92,8 @@ fn is_same_reply(reply: &NodeReply, other: &NodeReply) -> bool
     ensures { IsTrue result ↔ (reply.now ≡ other.now) }
 {
     match reply {
-        NodeReply::Found(version, value, deps) => match other {
-            NodeReply::Found(other_version, other_value, other_deps) => is_same_version(
-                *version,
-                *other_version,
-            ) && is_same_value(value, other_value)
-                && *deps == *other_deps,
+        NodeReply::Found(found) => match other {
+            NodeReply::Found(other_found) => *found == *other_found,
             _ => false
         },
         NodeReply::Absent => match other {

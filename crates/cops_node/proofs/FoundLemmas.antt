@@ -3,6 +3,7 @@ use Rattle.std.proofs.Common.{◌≡◌, ℕ, List, ap, sym, ◌∙◌}
 use Rattle.std.specs.Prelude.{Some}
 use Rattle.cops_types.specs.declared.records.EntryParts.{EntryParts as Entry}
 use Rattle.cops_types.specs.declared.records.Record.{Record}
+use Rattle.cops_types.specs.Founds.{found_in}
 use Rattle.cops_types.specs.Key.{key_eq}
 use Rattle.cops_types.specs.Records.{Tracked, exact, greatest_of, kept, latest, of_key}
 use Rattle.cops_types.specs.Version.{Timestamp, version_eq}
@@ -24,7 +25,7 @@ exact_is key version tracked r is =
 
 -- a get that found the entry
 abbrev got : Entry → Wanted → Exchange
-got entry wanted = record { call = Get entry.key wanted; reply = Found entry.version entry.value entry.deps }
+got entry wanted = record { call = Get entry.key wanted; reply = Found (found_in entry) }
 
 abbrev asked : List ℕ → Wanted → NodeReply → Exchange
 asked key wanted reply = record { call = Get key wanted; reply = reply }
@@ -33,7 +34,7 @@ asked key wanted reply = record { call = Get key wanted; reply = reply }
 module _ (key : List ℕ) (tracked : List Tracked) (r : Record) (entry : Entry) (same : entry ≡ r.entry) (told : NodeReply) (told_is : told ≡ found r) where
   got_is : (wanted wanted' : Wanted) → entry.key ≡ key → wanted ≡ wanted' → got entry wanted ≡ asked key wanted' told
   got_is wanted wanted' keys as_wanted =
-      let replies : Found entry.version entry.value entry.deps ≡ told = ap (λ (e : Entry). Found e.version e.value e.deps) same ∙ sym told_is in
+      let replies : Found (found_in entry) ≡ told = ap (λ (e : Entry). Found (found_in e)) same ∙ sym told_is in
       λ i. asked (keys i) (as_wanted i) (replies i)
 
   pub latest_asked : (packed : Exchange) → Some r ≡ latest key tracked → packed ≡ got entry Latest → packed ≡ asked key Latest told

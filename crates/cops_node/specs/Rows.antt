@@ -1,5 +1,6 @@
 -- The calls and replies that rows of an audit stand for.
 use Rattle.std.specs.Prelude.{true, false}
+use Rattle.cops_types.specs.Founds.{found_in}
 use Rattle.cops_model.specs.declared.calls.NodeCall.TheVariants.{Get, Put, DepCheck, Pull, Commit, Ack, Collect}
 use Rattle.cops_model.specs.declared.calls.NodeReply.TheVariants.{Found, Absent, NotYet, Stored, Checked, Pulled, Nothing, Committed, Already, OutOfOrder, Acked, NotFront, Removed}
 use Rattle.cops_model.specs.declared.calls.Wanted.TheVariants.{Latest, Exactly}
@@ -10,8 +11,8 @@ use Rattle.cops_node.specs.declared.rows.Packing.TheVariants.{PutStored, LatestF
 -- an entry has all that a put says and what it gets, and all that a get finds
 abbrev pub exchange_of : Packing → Exchange
 exchange_of (PutStored entry) = record { call = Put entry.key entry.value entry.deps entry.near; reply = Stored entry.version }
-exchange_of (LatestFound entry) = record { call = Get entry.key Latest; reply = Found entry.version entry.value entry.deps }
-exchange_of (ExactFound entry) = record { call = Get entry.key (Exactly entry.version); reply = Found entry.version entry.value entry.deps }
+exchange_of (LatestFound entry) = record { call = Get entry.key Latest; reply = Found (found_in entry) }
+exchange_of (ExactFound entry) = record { call = Get entry.key (Exactly entry.version); reply = Found (found_in entry) }
 exchange_of (LatestAbsent key) = record { call = Get key Latest; reply = Absent }
 exchange_of (NotCome key version) = record { call = Get key (Exactly version); reply = NotYet }
 exchange_of (WasCommitted key version) = record { call = DepCheck key version; reply = Checked true }

@@ -11,7 +11,7 @@ use crate::parts::{self, Counters};
 use crate::rows::PackedExchange;
 use crate::{Home, NodeCall, NodeReply, Wanted};
 use cops_store::Store;
-use cops_types::{Key, Record, Version};
+use cops_types::{Found, Key, Record, Version};
 use std::alloc::{AllocError, Global};
 
 // The reply that a record is found.
@@ -19,9 +19,7 @@ use std::alloc::{AllocError, Global};
 fn found(alloc: Global, stored: &Record) -> Result<NodeReply, AllocError>
     ensures { IfOk result (λ reply. reply ≡ found_reply stored.now) }
 {
-    let value = stored.entry.shared_value(alloc)?;
-    let deps = stored.entry.shared_deps(alloc)?;
-    Ok(NodeReply::Found(stored.version(), value, deps))
+    Ok(NodeReply::Found(Found::of(stored.entry.copy(alloc)?)))
 }
 
 // What a slot answers for the greatest version of a key.

@@ -1,9 +1,10 @@
 //! The rows of an audit: calls and replies in little memory.
+ghost use Rattle.cops_types.specs.Founds.{found_in};
 ghost use Rattle.std.specs.Prelude.{◌≡◌, IfOk};
 ghost use Rattle.cops_node.specs.Rows.{exchange_of};
 
 use crate::{AuditEntry, NodeCall, NodeReply, Wanted};
-use cops_types::{Entry, Key, ShortKey, Version};
+use cops_types::{Entry, Found, Key, ShortKey, Version};
 use std::alloc::{AllocError, Global};
 use std::boxed::Box;
 use std::marker::Model;
@@ -84,13 +85,9 @@ fn put_of(alloc: Global, entry: &Entry) -> Result<NodeCall, AllocError>
 
 // The reply that the entry is found.
 fn found_of(alloc: Global, entry: &Entry) -> Result<NodeReply, AllocError>
-    ensures { IfOk result (λ reply. reply ≡ NodeReply.Found entry.now.version entry.now.value entry.now.deps) }
+    ensures { IfOk result (λ reply. reply ≡ NodeReply.Found (found_in entry.now)) }
 {
-    Ok(NodeReply::Found(
-        entry.version(),
-        entry.shared_value(alloc)?,
-        entry.shared_deps(alloc)?,
-    ))
+    Ok(NodeReply::Found(Found::of(entry.copy(alloc)?)))
 }
 
 impl PackedExchange {
@@ -105,7 +102,7 @@ impl PackedExchange {
 
     // A get of the greatest version of a key, which found the entry.
     pub(crate) fn found_latest(entry: Entry) -> Self
-        ensures { result ≡ record { call = NodeCall.Get entry.key Wanted.Latest; reply = NodeReply.Found entry.version entry.value entry.deps } }
+        ensures { result ≡ record { call = NodeCall.Get entry.key Wanted.Latest; reply = NodeReply.Found (found_in entry) } }
     {
         PackedExchange {
             packing: Packing::LatestFound(entry),
@@ -114,7 +111,7 @@ impl PackedExchange {
 
     // A get of the entry's version, which found the entry.
     pub(crate) fn found_exactly(entry: Entry) -> Self
-        ensures { result ≡ record { call = NodeCall.Get entry.key (Wanted.Exactly entry.version); reply = NodeReply.Found entry.version entry.value entry.deps } }
+        ensures { result ≡ record { call = NodeCall.Get entry.key (Wanted.Exactly entry.version); reply = NodeReply.Found (found_in entry) } }
     {
         PackedExchange {
             packing: Packing::ExactFound(entry),

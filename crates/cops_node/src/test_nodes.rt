@@ -174,7 +174,7 @@ pub(crate) type Short = (&'static str, u64);
 
 pub(crate) fn in_short(reply: &NodeReply) -> Short {
     match reply {
-        NodeReply::Found(version, _, _) => ("found", version.to_u64()),
+        NodeReply::Found(found) => ("found", found.version().to_u64()),
         NodeReply::Absent => ("absent", 0),
         NodeReply::Gone(now) => ("gone", *now),
         NodeReply::NotYet => ("not yet", 0),

@@ -118,7 +118,7 @@ reply_text text reply e =
 
 -- what has a line has a form
 formed : (reply : NodeReply) → IsTrue (is_reply reply) → IsTrue (has_form reply)
-formed (Found version value deps) h = refl
+formed (Found f) h = refl
 formed Absent h = refl
 formed (Gone now) h = refl
 formed NotYet h = refl

@@ -188,7 +188,7 @@ module _ (config : TenantConfig) (limit : config.quota.deps ≤ 1024) where
       omega (arith, a, b)
   call_short Collect h few = omega arith
 
-  found_short : (version : Timestamp) (value : List ℕ) (deps : List Pair) → IsTrue (is_version version && is_bytes value && are_deps deps) → length deps ≤ config.quota.deps → long (reply_words (Found version value deps)) ≤ 98000
+  found_short : (version : Timestamp) (value : List ℕ) (deps : List Pair) → IsTrue (is_version version && is_bytes value && are_deps deps) → length deps ≤ config.quota.deps → long (reply_words (Found (record { version = version; value = value; deps = deps }))) ≤ 98000
   found_short version value deps h few =
       let p = both (is_version version && is_bytes value) (are_deps deps) h in
       let q = both (is_version version) (is_bytes value) p.0 in
@@ -211,13 +211,13 @@ module _ (config : TenantConfig) (limit : config.quota.deps ≤ 1024) where
   small_reply call words h = let a = most_small call in omega (arith, a, h)
 
   reply_short : (reply : NodeReply) (call : NodeCall) → IsTrue (is_reply reply) → HasFewInReply config reply call → most call + long (reply_words reply) ≤ 187300
-  reply_short (Found version value deps) (Get key wanted) h few = let a = found_short version value deps h few in omega (arith, a)
-  reply_short (Found version value deps) (Put k v d n) h few = absurd few
-  reply_short (Found version value deps) (DepCheck k v) h few = absurd few
-  reply_short (Found version value deps) (Pull dc) h few = absurd few
-  reply_short (Found version value deps) (Commit e) h few = absurd few
-  reply_short (Found version value deps) (Ack dc v) h few = absurd few
-  reply_short (Found version value deps) Collect h few = absurd few
+  reply_short (Found f) (Get key wanted) h few = let a = found_short f.version f.value f.deps h few in omega (arith, a)
+  reply_short (Found f) (Put k v d n) h few = absurd few
+  reply_short (Found f) (DepCheck k v) h few = absurd few
+  reply_short (Found f) (Pull dc) h few = absurd few
+  reply_short (Found f) (Commit e) h few = absurd few
+  reply_short (Found f) (Ack dc v) h few = absurd few
+  reply_short (Found f) Collect h few = absurd few
   reply_short (Pulled entry) (Pull dc) h few = let a = entry_short entry h few in omega (arith, a)
   reply_short (Pulled entry) (Get k w) h few = absurd few
   reply_short (Pulled entry) (Put k v d n) h few = absurd few

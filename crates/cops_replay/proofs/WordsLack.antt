@@ -157,10 +157,10 @@ module _ (s : ℕ) (low : s ≤ 32) where
   refused_free fault h = absurd cc
 
   pub reply_free : (reply : NodeReply) → IsTrue (is_reply reply) → AllByRecursion (Lacks s) (reply_words reply)
-  reply_free (Found version value deps) h =
-      let a = both (is_version version && is_bytes value) (are_deps deps) h in
-      let b = both (is_version version) (is_bytes value) a.0 in
-      (high (codes "found") refl, (version_free version b.0, (value_free value, (deps_free deps a.1, tt))))
+  reply_free (Found f) h =
+      let a = both (is_version f.version && is_bytes f.value) (are_deps f.deps) h in
+      let b = both (is_version f.version) (is_bytes f.value) a.0 in
+      (high (codes "found") refl, (version_free f.version b.0, (value_free f.value, (deps_free f.deps a.1, tt))))
   reply_free Absent h = (high (codes "absent") refl, tt)
   reply_free (Gone now) h = (high (codes "gone") refl, (number_free now h, tt))
   reply_free NotYet h = (high (codes "notyet") refl, tt)

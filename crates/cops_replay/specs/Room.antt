@@ -29,7 +29,7 @@ call_room call = 0
 
 -- that of a reply
 abbrev pub reply_room : NodeReply → ℕ
-reply_room (Found version value deps) = stored_room value deps []
+reply_room (Found f) = stored_room f.value f.deps []
 reply_room (Pulled entry) = entry_room entry
 reply_room reply = 0
 

@@ -53,9 +53,7 @@ pub(crate) fn room_of_reply(reply: &NodeReply) -> usize
     ensures { IsRoomFor (reply_room reply.now) result }
 {
     match reply {
-        NodeReply::Found(_, value, deps) => {
-            room_of_parts(value.owned().len(), deps.owned().len(), 0)
-        }
+        NodeReply::Found(found) => room_of_parts(found.value().len(), found.deps().len(), 0),
         NodeReply::Pulled(entry) => room_of_entry(entry),
         _ => 0,
     }
@@ -150,9 +148,9 @@ pub(crate) fn put_found(
     deps: &OwnedDeps,
 ) -> usize
     requires { at + stored_room value.now deps.now [] + 165 ≤ length bytes.old }
-    ensures text { take result bytes.new ≡ take at bytes.old ++ spaced (reply_words (Found version value.now deps.now)) }
+    ensures text { take result bytes.new ≡ take at bytes.old ++ spaced (reply_words (Found (record { version = version; value = value.now; deps = deps.now }))) }
     ensures end { result ≤ at + stored_room value.now deps.now [] + 165 }
-    ensures formed { IsTrue (is_reply (Found version value.now deps.now)) }
+    ensures formed { IsTrue (is_reply (Found (record { version = version; value = value.now; deps = deps.now }))) }
 {
     let after_version = put_versioned(bytes, at, b"found", version);
     let of_value = put_byte(bytes, after_version, b' ');
@@ -191,8 +189,8 @@ pub(crate) fn put_reply(bytes: &mut [u8], at: usize, reply: &NodeReply) -> usize
     ensures formed { IsTrue (has_form reply.now) → IsTrue (is_reply reply.now) }
 {
     match reply {
-        NodeReply::Found(version, value, deps) => {
-            put_found(bytes, at, *version, value.owned(), deps.owned())
+        NodeReply::Found(found) => {
+            put_found(bytes, at, found.version(), found.value(), found.deps())
         }
         NodeReply::Absent => put_word(bytes, at, b"absent"),
         NodeReply::Gone(now) => put_numbered(bytes, at, b"gone", *now),

@@ -1,4 +1,5 @@
 //! Rows of an audit as text, read where they stand and put over bytes that are there already.
+ghost use Rattle.cops_types.specs.Founds.{found_in};
 ghost use Rattle.std.specs.Prelude.{◌≡◌, ◌≤◌, ◌+◌, ◌*◌, ◌++◌, length, take, IsTrue};
 ghost use Rattle.cops_types.specs.Words.{spaced};
 ghost use Rattle.cops_node.specs.Rows.{exchange_of};
@@ -124,9 +125,9 @@ fn put_check(bytes: &mut [u8], at: usize, key: &ShortKey, version: Version) -> u
 /// Puts that an entry is found.
 fn put_found_entry(bytes: &mut [u8], at: usize, entry: &Entry) -> usize
     requires { at + entry_room entry.now + 165 ≤ length bytes.old }
-    ensures text { take result bytes.new ≡ take at bytes.old ++ spaced (reply_words (Found entry.now.version entry.now.value entry.now.deps)) }
+    ensures text { take result bytes.new ≡ take at bytes.old ++ spaced (reply_words (Found (found_in entry.now))) }
     ensures end { result ≤ at + entry_room entry.now + 165 }
-    ensures formed { IsTrue (is_reply (Found entry.now.version entry.now.value entry.now.deps)) }
+    ensures formed { IsTrue (is_reply (Found (found_in entry.now))) }
 {
     put_found(bytes, at, entry.version(), entry.value(), entry.deps())
 }

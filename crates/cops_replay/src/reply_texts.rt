@@ -49,9 +49,13 @@ fn behind_reply<'a>(text: &'a [u8], reply: &NodeReply) -> Option<&'a [u8]>
     ensures formed { IfSome result (λ _. IsTrue (has_form reply.now) → IsTrue (is_reply reply.now)) }
 {
     match reply {
-        NodeReply::Found(version, value, deps) => {
-            behind_found(text, b"found", *version, value.owned(), deps.owned())
-        }
+        NodeReply::Found(found) => behind_found(
+            text,
+            b"found",
+            found.version(),
+            found.value(),
+            found.deps(),
+        ),
         NodeReply::Absent => behind_bytes(text, b"absent"),
         NodeReply::Gone(now) => behind_numbered(text, b"gone", *now),
         NodeReply::NotYet => behind_bytes(text, b"notyet"),

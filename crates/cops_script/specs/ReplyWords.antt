@@ -1,6 +1,6 @@
 -- The text of reads, as it is written.
 use Rattle.std.specs.Prelude.{ℕ, List, ◌∷◌, flat_map}
-use Rattle.cops_types.specs.declared.contexts.Read.{Read}
+use Rattle.cops_types.specs.declared.contexts.ReadParts.{ReadParts as Read}
 use Rattle.cops_types.specs.Words.{space}
 use Rattle.cops_script.specs.ReplyText.{read_text}
 

@@ -1,4 +1,5 @@
 //! Texts of replies, put at the end of a vector.
+ghost use Rattle.std.specs.Option.{option_copied};
 ghost use Rattle.std.specs.Prelude.{◌≡◌, ◌++◌, [], ◌∷◌, ℕ, List, decimal, map, OnOk};
 ghost use Rattle.cops_types.specs.Words.{spaced};
 ghost use Rattle.cops_model.specs.declared.replies.Reply.TheVariants.{Carried, Lists, OutOfOrder, Refused};
@@ -10,7 +11,7 @@ ghost use Rattle.cops_types.specs.declared.faults.Fault.TheVariants.{UnknownTena
 
 use cops_model::{HostReply, Reply};
 use cops_types::texts::{push_deps, push_fault, push_near, push_number, push_version};
-use cops_types::{Deps, Fault, Name, Near, Pair, Read, Value, Version};
+use cops_types::{Deps, Fault, Name, Near, OwnedValue, Pair, Read, Version};
 use std::alloc::AllocError;
 
 /// Puts the text of a reply at the end. After an `Err` a front of it may be there.
@@ -179,16 +180,16 @@ fn push_later(out: &mut Vec<u8>, reads: &[Read]) -> Result<(), AllocError>
 fn push_read(out: &mut Vec<u8>, read: &Read) -> Result<(), AllocError>
     ensures { OnOk result (out.new.items ≡ out.old.items ++ read_text read.now) }
 {
-    push_word(out, read.key.bytes())?;
+    push_word(out, read.key().bytes())?;
     out.push(b'=')?;
-    push_value(out, &read.value)?;
+    push_value(out, read.value())?;
     out.push(b'@')?;
-    push_version(out, read.version)
+    push_version(out, read.version())
 }
 
 /// Puts the value, or `none`, at the end.
-fn push_value(out: &mut Vec<u8>, value: &Option<Value>) -> Result<(), AllocError>
-    ensures { OnOk result (out.new.items ≡ out.old.items ++ value_text value.now) }
+fn push_value(out: &mut Vec<u8>, value: Option<&OwnedValue>) -> Result<(), AllocError>
+    ensures { OnOk result (out.new.items ≡ out.old.items ++ value_text (option_copied value.entry)) }
 {
     match value {
         Some(value) => push_word(out, value.bytes()),

@@ -4,7 +4,7 @@ use Rattle.std.specs.Prelude.{suc}
 use Rattle.std.specs.List.{list_any}
 use Rattle.std.specs.Ordering.{eq_by_cmp, is_lt, is_eq}
 use Rattle.std.proofs.lemmas.Bool.Decides.{nat_tests}
-use Rattle.cops_types.specs.declared.contexts.Read.{Read}
+use Rattle.cops_types.specs.declared.contexts.ReadParts.{ReadParts as Read}
 use Rattle.cops_types.specs.Key.{key_cmp}
 use Rattle.cops_types.specs.Search.{add_item, sorted_set}
 use Rattle.cops_types.proofs.PairLists.{key_cmp_total, key_cmp-IsAntisymmetric}
@@ -61,7 +61,7 @@ no_repeats keys none = distinct-by_length keys (grind (arith, nat_tests))
 -- ---- reads
 
 pub key-read_of : (key : List ℕ) (r : NodeReply) → (read_of key r).key ≡ key
-key-read_of key (Found version value deps) = refl
+key-read_of key (Found f) = refl
 key-read_of key r = refl
 
 -- each read is of one of the keys

@@ -2,7 +2,7 @@
 use Rattle.std.proofs.Common.{◌≡◌, ℕ, Bool, true, false, cond, List, [], ◌∷◌, ◌++◌, length, inl, inr, refl, sym, ◌∙◌, ap, subst, true≢false}
 use Rattle.std.specs.Prelude.{Option, Some, None, nat_lt}
 use Rattle.std.specs.List.{AllByRecursion, flat_map}
-use Rattle.cops_types.specs.declared.contexts.Read.{Read}
+use Rattle.cops_types.specs.declared.contexts.ReadParts.{ReadParts as Read}
 use Rattle.cops_types.specs.declared.pairs.Pair.{Pair}
 use Rattle.cops_types.specs.Pairs.{version_of}
 use Rattle.cops_types.specs.Version.{no_version, version_lt}
@@ -74,7 +74,7 @@ IsBare None deps = deps ≡ []
 IsBare (Some value) deps = Unit {0}
 
 read_bare : (key : List ℕ) (r : NodeReply) → IsBare (read_of key r).value (read_of key r).deps
-read_bare key (Found version value deps) = tt
+read_bare key (Found f) = tt
 read_bare key r = refl
 
 pub reads_bare : (keys : List (List ℕ)) (rs : List NodeReply) → AllByRecursion (λ (read : Read). IsBare read.value read.deps) (reads_of keys rs)

@@ -16,7 +16,7 @@ use crate::rounds::{AfterFirst, AfterSecond, FirstRound, SecondRound};
 use crate::settings::Setting;
 use cops_node::Nodes;
 use cops_types::{Fault, Reads};
-use std::alloc::{AllocError, Global};
+use std::alloc::AllocError;
 
 /// What came of a step of a get transaction, where there was memory.
 #[derive(Drop)]
@@ -65,7 +65,6 @@ fn begin_again(round: FirstRound, restarts: u64, limit: u64) -> Came
 
 /// A step in the first round, in time.
 fn read_first<N: Nodes>(
-    alloc: Global,
     nodes: &mut N,
     setting: Setting,
     round: FirstRound,
@@ -81,7 +80,7 @@ fn read_first<N: Nodes>(
     ensures shape { N.shape nodes.new ≡ N.shape nodes.old }
 {
     let started = Some(start.unwrap_or(moment));
-    match ask_first(alloc, nodes, round, setting, moment) {
+    match ask_first(nodes, round, setting, moment) {
         Ok(FirstAnswer::Went(AfterFirst::More(round))) => Ok(ReadStep {
             moment,
             came: Came::Working(Reading {
@@ -177,7 +176,6 @@ impl Reading {
 /// Takes a step that is a read of the first round, in time, after which another is wanted: what is
 /// read joins the round where it stands. That the node was refused memory is the error.
 pub(crate) fn read_next<N: Nodes>(
-    alloc: Global,
     nodes: &mut N,
     setting: Setting,
     reading: &mut Reading,
@@ -192,7 +190,7 @@ pub(crate) fn read_next<N: Nodes>(
 {
     let started = Some(reading.start.unwrap_or(moment));
     match &mut reading.round {
-        Round::First(round) => match ask_next(alloc, nodes, round, setting, moment) {
+        Round::First(round) => match ask_next(nodes, round, setting, moment) {
             Ok(Ok(())) => {
                 reading.start = started;
                 Ok(Ok(()))
@@ -219,7 +217,6 @@ impl Round {
 /// A step of a get transaction: a late one makes no call. The error: the node was refused memory, or
 /// there was none for what the second round wants.
 pub(crate) fn read_step<N: Nodes>(
-    alloc: Global,
     nodes: &mut N,
     setting: Setting,
     reading: Reading,
@@ -243,7 +240,7 @@ pub(crate) fn read_step<N: Nodes>(
         });
     }
     match round {
-        Round::First(round) => read_first(alloc, nodes, setting, round, restarts, start, moment),
+        Round::First(round) => read_first(nodes, setting, round, restarts, start, moment),
         Round::Second(round) => read_second(nodes, setting, round, restarts, start, moment),
     }
 }

@@ -416,7 +416,7 @@ impl Session {
         match &mut self.running {
             Some(ongoing) => match &mut ongoing.work {
                 Work::Get(reading) => {
-                    match read_next(self.alloc, nodes, self.setting, reading, now) {
+                    match read_next(nodes, self.setting, reading, now) {
                         Ok(Ok(())) => Ok(Ok(Progress::Working)),
                         Ok(Err(fault)) => {
                             self.end();
@@ -475,7 +475,7 @@ impl Session {
         let Round::First(round) = round else {
             unreachable!()
         };
-        match accept_latest(self.alloc, round, answered) {
+        match accept_latest(round, answered) {
             Ok(FirstAnswer::Went(AfterFirst::More(round))) => {
                 let started = start.unwrap_or(now);
                 self.go_on(number, context, restarts, started, Round::First(round));
@@ -608,7 +608,7 @@ impl Session {
         ensures setting { self.new.setting ≡ self.old.setting }
     {
         let now = self.moment.max(moment);
-        match read_step(self.alloc, nodes, self.setting, reading, now) {
+        match read_step(nodes, self.setting, reading, now) {
             Ok(ReadStep { moment, came }) => {
                 self.moment = moment;
                 match came {

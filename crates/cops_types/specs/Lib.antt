@@ -4,6 +4,7 @@ pub mod BytesForms
 pub mod Context
 pub mod Counts
 pub mod FaultText
+pub mod Founds
 pub mod Growing
 pub mod GrowingForms
 pub mod Head
@@ -21,13 +22,13 @@ pub mod Lines
 pub mod OldHead
 pub mod OnLiterals
 pub mod OpenSlots
-pub mod TenantTexts
 pub mod Packed
 pub mod PackedRows
 pub mod Padding
 pub mod PairForms
 pub mod Pairs
 pub mod Placed
+pub mod Reads
 pub mod Records
 pub mod Refusal
 pub mod Same
@@ -37,6 +38,7 @@ pub mod Sink
 pub mod Slots
 pub mod Source
 pub mod TenantConfig
+pub mod TenantTexts
 pub mod Value
 pub mod Version
 pub mod Words

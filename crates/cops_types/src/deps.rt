@@ -72,14 +72,14 @@ impl OwnedDeps {
     }
 
     /// The version of a key, 0.0 where there is none.
-    fn version_of(&self, key: &Key) -> Version
+    pub fn version_of(&self, key: &Key) -> Version
         ensures { result ≡ version_of key.now self.now }
     {
         self.pairs.version_of(key)
     }
 
     /// The greatest clock among the pairs, 0 where there is none.
-    fn greatest_clock(&self) -> u64
+    pub fn greatest_clock(&self) -> u64
         ensures value { result ≡ greatest_clock_of self.now }
         ensures fits { result ≤ last_clock }
     {

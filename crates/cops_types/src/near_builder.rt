@@ -5,7 +5,7 @@ ghost use Rattle.cops_types.specs.Pairs.{IsNear, holds, pair_cmp, is_over, witho
 ghost use Rattle.cops_types.specs.Refusal.{IsAnswer, refused_if};
 ghost use Rattle.cops_types.specs.Search.{add_item};
 
-use crate::deps::Deps;
+use crate::deps::OwnedDeps;
 use crate::faults::Fault;
 use crate::growing_pairs::GrowingPairs;
 use crate::keys::Key;
@@ -70,10 +70,10 @@ impl NearBuilder {
     }
 
     /// Whether there is a pair that the deps hold exactly.
-    pub fn has_held(&self, deps: &Deps) -> bool
+    pub fn has_held(&self, deps: &OwnedDeps) -> bool
         ensures { result ≡ list_any (holds deps.now) self.now.pairs }
     {
-        self.pairs.has_held(deps.owned())
+        self.pairs.has_held(deps)
     }
 
     /// Takes the memory for one more pair with the key.
@@ -106,10 +106,10 @@ impl NearBuilder {
     }
 
     /// Takes out each pair that the deps hold exactly.
-    pub fn drop_held(&mut self, deps: &Deps)
+    pub fn drop_held(&mut self, deps: &OwnedDeps)
         ensures { self.new.pairs ≡ without_held deps.now self.old.pairs }
     {
-        self.pairs.drop_held(deps.owned());
+        self.pairs.drop_held(deps);
     }
 
     /// A list of these pairs that is shared from now on. It is copied once, here.

@@ -6,7 +6,7 @@ use Rattle.std.specs.List.{flat_map, list_all, AllByRecursion}
 use Rattle.std.proofs.lemmas.Bool.Decides.{nat_tests}
 use Rattle.byteorder.specs.Endian.{big_bytes}
 use Rattle.byteorder.specs.Numbers.{length-bytes_high_first}
-use Rattle.cops_types.specs.declared.contexts.Read.{Read}
+use Rattle.cops_types.specs.declared.contexts.ReadParts.{ReadParts as Read}
 use Rattle.cops_types.specs.declared.pairs.Pair.{Pair}
 use Rattle.cops_model.specs.declared.requests.Answer.TheVariants as answer
 use Rattle.cops_wire.specs.Fitting.{longest_body}

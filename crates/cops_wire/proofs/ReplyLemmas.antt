@@ -6,7 +6,7 @@ use Rattle.std.proofs.lemmas.Bool.Decides.{nat_tests}
 use Rattle.std.proofs.lemmas.List.{length-map, take_all}
 use Rattle.std.specs.List.{flat_map, list_all}
 use Rattle.byteorder.specs.Endian.{big_bytes}
-use Rattle.cops_types.specs.declared.contexts.Read.{Read}
+use Rattle.cops_types.specs.declared.contexts.ReadParts.{ReadParts as Read}
 use Rattle.cops_wire.specs.Requests.{are_counted, is_counted, link_to, outcome_of_read, values_of}
 use Rattle.cops_wire.specs.Spelling.{body_of, held_of, link_of, outcome_of, parts_of, spelled_value, spelled_version}
 

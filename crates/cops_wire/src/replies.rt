@@ -241,12 +241,13 @@ fn push_read(out: &mut Vec<u8>, read: &Read) -> Result<(), AllocError>
     ensures ok { OnOk result (out.new.items ≡ out.old.items ++ outcome_of (outcome_of_read read.now)) }
     ensures front { StartsWith out.new.items out.old.items }
 {
-    let key = key_bytes(&read.key);
-    match &read.value {
+    let key = key_bytes(read.key());
+    match read.found() {
         None => push_absent(out, key),
-        Some(value) => {
-            let deps = read.deps.owned();
-            push_held(out, key, value.bytes(), read.version, deps.len() as u16)?;
+        Some(found) => {
+            let value = found.value();
+            let deps = found.deps();
+            push_held(out, key, value.bytes(), found.version(), deps.len() as u16)?;
             push_pairs(out, deps)
         }
     }
@@ -256,11 +257,10 @@ fn push_read(out: &mut Vec<u8>, read: &Read) -> Result<(), AllocError>
 fn can_be_counted(read: &Read) -> bool
     ensures { result ≡ is_counted read.now }
 {
-    let len = match &read.value {
-        None => 0,
-        Some(value) => value.len(),
-    };
-    len <= 65535 && read.deps.len() <= 65535
+    match read.found() {
+        None => true,
+        Some(found) => found.value().len() <= 65535 && found.deps().len() <= 65535,
+    }
 }
 
 /// Puts the reads at the end, as the body of a message, or finds that one of their counts can't be written.

@@ -4,7 +4,7 @@
 use super::lists::{assert_lists, long, x, y, z};
 use crate::entries::value;
 use cops_context::Context;
-use cops_types::{Deps, Pair, Read};
+use cops_types::{Deps, Found, FoundParts, Pair, Read};
 use std::alloc::Global;
 use std::process::Abort;
 

@@ -3,7 +3,7 @@ ghost use Rattle.std.specs.Prelude.{◌≡◌};
 use crate::entries::{key, value};
 use crate::pairs::{deps, pair};
 use cops_session::{AfterFirst, AfterSecond, FirstRound};
-use cops_types::{Deps, Key, Read, Version};
+use cops_types::{Deps, Found, FoundParts, Key, Read, Version};
 use std::alloc::Global;
 use std::process::Abort;
 
@@ -12,27 +12,22 @@ pub(crate) fn on_x(rt: &impl Abort, alloc: Global) -> Deps {
     deps(rt, alloc, &[pair(rt, b"x", 1, 0)])
 }
 
-fn absent(alloc: Global, key: Key) -> Read
+fn absent(key: Key) -> Read
     ensures { result.key ≡ key }
 {
-    Read {
-        key,
-        value: None,
-        version: Version::none(),
-        deps: Deps::empty(alloc),
-    }
+    Read::new(key, None)
 }
 
 fn found(rt: &impl Abort, alloc: Global, key: Key, version: Version, deps: Deps) -> Read
     ensures key { result.key ≡ key }
     ensures version { result.version ≡ version }
 {
-    Read {
-        key,
-        value: Some(value(rt, alloc)),
+    let parts = FoundParts {
         version,
+        value: value(rt, alloc),
         deps,
-    }
+    };
+    Read::new(key, Some(Found::new(alloc, parts).expect(rt, "memory")))
 }
 
 /// The round over two keys after two reads, x being absent.
@@ -40,9 +35,9 @@ fn after_two(rt: &impl Abort, alloc: Global, y: Read) -> AfterFirst {
     let keys = [key(rt, b"x"), key(rt, b"y")];
     let round = FirstRound::begin(alloc, &keys).expect(rt, "memory");
     let x = round.wanted();
-    match round.accept(absent(alloc, x)) {
+    match round.accept(absent(x)) {
         Ok(AfterFirst::More(round)) => {
-            assert!(rt; round.wanted() == y.key);
+            assert!(rt; round.wanted() == *y.key());
             match round.accept(y) {
                 Ok(after) => after,
                 Err(_) => panic!(rt; "memory"),

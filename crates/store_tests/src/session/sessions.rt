@@ -7,7 +7,7 @@ use crate::one_tenant::{self, one_node};
 use cops_handles::Handle;
 use cops_node::{NodeCall, NodeId, NodeReply, Nodes};
 use cops_session::{Answer, Contexts, Progress, Running, Session};
-use cops_types::{Deps, Fault, Key, Pair, Version};
+use cops_types::{Deps, Fault, Found, FoundParts, Key, Pair, Version};
 use std::alloc::{AllocError, Global};
 use std::process::Abort;
 
@@ -144,7 +144,12 @@ fn assert_idle(rt: &impl Abort, session: &mut Session, handle: Handle<Running>)
 }
 
 pub(crate) fn found(rt: &impl Abort, alloc: Global, version: Version, deps: Deps) -> NodeReply {
-    NodeReply::Found(version, value(rt, alloc), deps)
+    let parts = FoundParts {
+        version,
+        value: value(rt, alloc),
+        deps,
+    };
+    NodeReply::Found(Found::new(alloc, parts).expect(rt, "memory"))
 }
 
 fn has_stored(shown: &Progress, version: Version) -> bool {

@@ -1,6 +1,6 @@
 use Rattle.std.proofs.Common.{◌≡◌, ◌∙◌, List, ℕ, ap, inl, length, sym, subst, arith}
 use Rattle.std.specs.Prelude.{None, Ok}
-use Rattle.cops_types.specs.declared.contexts.Read.{Read}
+use Rattle.cops_types.specs.declared.contexts.ReadParts.{ReadParts as Read}
 use Rattle.cops_model.specs.declared.calls.NodeCall.TheVariants.{Get}
 use Rattle.cops_model.specs.declared.calls.Wanted.TheVariants.{Latest}
 use Rattle.cops_model.specs.Log.{fault_in}

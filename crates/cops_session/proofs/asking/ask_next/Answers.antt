@@ -1,6 +1,6 @@
 use Rattle.std.proofs.Common.{◌≡◌, ◌∙◌, ◌∷◌, ◌++◌, [], ℕ, List, ap, arith, get_or, length, subst, sym}
 use Rattle.std.specs.Prelude.{Ok}
-use Rattle.cops_types.specs.declared.contexts.Read.{Read}
+use Rattle.cops_types.specs.declared.contexts.ReadParts.{ReadParts as Read}
 use Rattle.cops_session.specs.Asking.{StandsAfterAsking}
 use Rattle.cops_session.specs.declared.asking.FirstAnswer.TheVariants.{Went}
 use Rattle.cops_session.specs.declared.rounds.AfterFirst.TheVariants.{More}

@@ -3,7 +3,7 @@ use Rattle.cops_session.specs.Kept.{KeptSession}
 use Rattle.cops_model.specs.Session.{OpenContext, context_extended}
 use Rattle.cops_session.specs.SessionStands.{ContextsStandFor}
 use Rattle.cops_types.specs.Context.{observations_of}
-use Rattle.cops_types.specs.declared.contexts.Read.{Read}
+use Rattle.cops_types.specs.declared.contexts.ReadParts.{ReadParts as Read}
 use Rattle.cops_session.proofs.ContextRows.{context_extended-nothing}
 use Rattle.cops_session.proofs.sessions.Session.values.Goals as goal
 use Rattle.cops_session.proofs.sessions.Session.values.Goals.{in-Ok-Ok, in-Ok-Err, in-Err}
