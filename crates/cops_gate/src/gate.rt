@@ -127,6 +127,7 @@ impl<M: Machine> Gate<M> {
 
     /// Makes one turn as `step` does. That memory was refused is the only error: where the tickets are spent, the reply
     /// tells so which `S` has for that.
+    #[inline(always)]
     pub fn step_or_reply<R: Wait, S: SpentReply<M::Reply>>(
         &self,
         rt: &R,
