@@ -1,5 +1,5 @@
 //! Keys, values and entries of few words. Where memory is refused once, they are made all the same.
-use cops_types::{Deps, Entry, EntryParts, Fault, Key, Near, Value, Version};
+use cops_types::{Deps, Entry, EntryParts, Fault, Found, FoundParts, Key, Near, Value, Version};
 use std::alloc::Global;
 use std::process::Abort;
 
@@ -11,6 +11,22 @@ pub(crate) fn key(rt: &impl Abort, bytes: &[u8]) -> Key {
 pub(crate) fn version(rt: &impl Abort, clock: u64) -> Version {
     assert!(rt; clock <= Version::LAST_CLOCK);
     Version::of(clock, 0)
+}
+
+fn bare_parts(rt: &impl Abort, alloc: Global, version: Version) -> FoundParts {
+    FoundParts {
+        version,
+        value: value(rt, alloc),
+        deps: Deps::empty(alloc),
+    }
+}
+
+/// What is found at a version, which depends on nothing. It is made again where memory was refused.
+pub(crate) fn bare_found(rt: &impl Abort, alloc: Global, version: Version) -> Found {
+    match Found::new(alloc, bare_parts(rt, alloc, version)) {
+        Ok(found) => found,
+        Err(_) => Found::new(alloc, bare_parts(rt, alloc, version)).expect(rt, "memory"),
+    }
 }
 
 /// The value 10.

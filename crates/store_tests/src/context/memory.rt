@@ -2,9 +2,9 @@
 //! is answered. Run with the Nth request refused, for each N.
 
 use super::lists::{assert_lists, long, x, y, z};
-use crate::entries::value;
+use crate::entries::bare_found;
 use cops_context::Context;
-use cops_types::{Deps, Found, FoundParts, Pair, Read};
+use cops_types::{Deps, Pair, Read};
 use std::alloc::Global;
 use std::process::Abort;
 
@@ -18,12 +18,7 @@ fn deps_on_x(rt: &impl Abort, alloc: Global) -> Deps {
 }
 
 fn read(rt: &impl Abort, alloc: Global, pair: Pair) -> Read {
-    Read {
-        key: pair.key,
-        value: Some(value(rt, alloc)),
-        version: pair.version,
-        deps: Deps::empty(alloc),
-    }
+    Read::new(pair.key, Some(bare_found(rt, alloc, pair.version)))
 }
 
 #[test]

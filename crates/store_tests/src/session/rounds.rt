@@ -70,8 +70,8 @@ fn second_round_asks_for_what_the_first_depends_on(rt: HostRuntime) {
             match round.accept(x) {
                 AfterSecond::Complete(reads) => {
                     assert_eq!(rt; reads.len(), 2);
-                    assert!(rt; reads.as_slice()[0].version == Version::of(1, 0));
-                    assert!(rt; reads.as_slice()[1].version == Version::of(2, 1));
+                    assert!(rt; reads.as_slice()[0].version() == Version::of(1, 0));
+                    assert!(rt; reads.as_slice()[1].version() == Version::of(2, 1));
                 }
                 AfterSecond::More(_) => panic!(rt; "nothing is left"),
             }

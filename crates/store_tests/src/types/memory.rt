@@ -1,8 +1,8 @@
 //! Each request for memory may be refused: what the call was made on is then as it was, and the
 //! same call again is answered. Run with the Nth request refused, for each N.
-use crate::entries::{entry, value};
+use crate::entries::{bare_found, entry, value};
 use crate::pairs::{assert_deps, assert_near, pair};
-use cops_types::{Deps, Fault, Near, Pair};
+use cops_types::{Deps, Fault, Near, Pair, Version};
 use std::alloc::Global;
 use std::process::Abort;
 
@@ -101,4 +101,17 @@ fn refused_memory_makes_no_entry(rt: HostRuntime) {
         Err(_) => entry.copy(alloc).expect(&rt, "a second try"),
     };
     assert!(rt; copy == entry);
+}
+
+#[test]
+fn refused_memory_finds_nothing(rt: HostRuntime) {
+    let alloc = rt.alloc();
+    let version = Version::of(1, 0);
+    let found = bare_found(&rt, alloc, version);
+    let copy = match found.copy(alloc) {
+        Ok(copy) => copy,
+        Err(_) => found.copy(alloc).expect(&rt, "a second try"),
+    };
+    assert!(rt; copy == found);
+    assert!(rt; copy.version() == version);
 }
