@@ -10,9 +10,9 @@ ghost use Rattle.cops_session.specs.Turns.{TurnsFrom, turned_in_place};
 ghost use Rattle.cops_session.specs.declared.ongoing.Round.TheVariants.{First, Second};
 ghost use Rattle.cops_session.specs.declared.reading.Came.TheVariants.{Restarted, Failed};
 
-use crate::asking::{FirstAnswer, SecondAnswer, ask_first, ask_next, ask_second};
+use crate::asking::{SecondAnswer, ask_next, ask_second};
 use crate::ongoing::{Reading, Round};
-use crate::rounds::{AfterFirst, AfterSecond, FirstRound, SecondRound};
+use crate::rounds::{AfterSecond, FirstRound, SecondRound};
 use crate::settings::Setting;
 use cops_node::Nodes;
 use cops_types::{Fault, Reads};
@@ -63,52 +63,6 @@ fn begin_again(round: FirstRound, restarts: u64, limit: u64) -> Came
     }
 }
 
-/// A step in the first round, in time.
-fn read_first<N: Nodes>(
-    nodes: &mut N,
-    setting: Setting,
-    round: FirstRound,
-    restarts: u64,
-    start: Option<u64>,
-    moment: u64,
-) -> Result<ReadStep, AllocError>
-    requires among { IsAmong (N.shape nodes.old) setting }
-    requires in_time { is_past setting.trans_time start moment ≡ false }
-    ensures turned { TurnsFrom (λ id call reply. N.Answers nodes.old id setting.slot moment call reply nodes.new) (nodes.new ≡ nodes.old)
-        setting (record { restarts = restarts; start = start; round = First round }) moment result }
-    ensures once { (id : NodeId) × (call : NodeCall) × (reply : NodeReply) × N.Answers nodes.old id setting.slot moment call reply nodes.new }
-    ensures shape { N.shape nodes.new ≡ N.shape nodes.old }
-{
-    let started = Some(start.unwrap_or(moment));
-    match ask_first(nodes, round, setting, moment) {
-        Ok(FirstAnswer::Went(AfterFirst::More(round))) => Ok(ReadStep {
-            moment,
-            came: Came::Working(Reading {
-                restarts,
-                start: started,
-                round: Round::First(round),
-            }),
-        }),
-        Ok(FirstAnswer::Went(AfterFirst::Second(round))) => Ok(ReadStep {
-            moment,
-            came: Came::Working(Reading {
-                restarts,
-                start: started,
-                round: Round::Second(round),
-            }),
-        }),
-        Ok(FirstAnswer::Went(AfterFirst::Complete(reads))) => Ok(ReadStep {
-            moment,
-            came: Came::Complete(reads),
-        }),
-        Ok(FirstAnswer::Failed(fault)) => Ok(ReadStep {
-            moment,
-            came: Came::Failed(fault),
-        }),
-        Err(error) => Err(error),
-    }
-}
-
 /// A step in the second round, in time.
 fn read_second<N: Nodes>(
     nodes: &mut N,
@@ -154,7 +108,8 @@ fn read_second<N: Nodes>(
 impl Reading {
     /// Whether the step at this moment is a read of the first round, in time.
     pub(crate) fn reads_first(&self, moment: u64, trans_time: u64) -> bool
-        ensures { IsTrue result → GetReadsFirst trans_time moment self.now }
+        ensures reads { IsTrue result → GetReadsFirst trans_time moment self.now }
+        ensures other { result ≡ false → GetReadsFirst trans_time moment self.now → ⊥ }
     {
         match &self.round {
             Round::First(_) => !is_late(self.start, moment, trans_time),
@@ -214,8 +169,8 @@ impl Round {
     }
 }
 
-/// A step of a get transaction: a late one makes no call. The error: the node was refused memory, or
-/// there was none for what the second round wants.
+/// A step of a get transaction that is no read of the first round: a late one makes no call, and the
+/// others are reads of the second. That the node was refused memory is the error.
 pub(crate) fn read_step<N: Nodes>(
     nodes: &mut N,
     setting: Setting,
@@ -223,6 +178,7 @@ pub(crate) fn read_step<N: Nodes>(
     moment: u64,
 ) -> Result<ReadStep, AllocError>
     requires among { IsAmong (N.shape nodes.old) setting }
+    requires other { GetReadsFirst setting.trans_time moment reading → ⊥ }
     ensures turned { TurnsFrom (λ id call reply. N.Answers nodes.old id setting.slot moment call reply nodes.new) (nodes.new ≡ nodes.old)
         setting reading moment result }
     ensures once { (nodes.new ≡ nodes.old) ⊎ ((id : NodeId) × (call : NodeCall) × (reply : NodeReply) × N.Answers nodes.old id setting.slot moment call reply nodes.new) }
@@ -240,7 +196,7 @@ pub(crate) fn read_step<N: Nodes>(
         });
     }
     match round {
-        Round::First(round) => read_first(nodes, setting, round, restarts, start, moment),
+        Round::First(_) => unreachable!(),
         Round::Second(round) => read_second(nodes, setting, round, restarts, start, moment),
     }
 }

@@ -56,7 +56,7 @@ impl Session {
     ghost use Rattle.cops_model.specs.Request.{Write, Fetch, next, values_or_full};
     ghost use Rattle.cops_model.specs.Session.{OpenContext, Running as SoloRunning, Session as SoloSession, context_created, context_deleted, context_extended, context_refusal, create_refusal, get_refusal, moment_at, new_session, obs_of, request_begun, request_of, seen_in, session_put_refusal, is_spent};
     ghost use Rattle.cops_session.specs.SessionStands.{SessionStandsFor, ContextsStandFor, obs_in};
-    ghost use Rattle.cops_session.specs.Reading.{ReadsFirst, ReadsOn};
+    ghost use Rattle.cops_session.specs.Reading.{GetReadsFirst, ReadsFirst, ReadsOn};
     ghost use Rattle.cops_session.specs.Asking.{IsWantedIn};
     ghost use Rattle.cops_session.specs.Rounds.{FirstReads};
     ghost use Rattle.cops_session.specs.Refusals.{told_refusal};
@@ -366,7 +366,8 @@ impl Session {
 
     /// Whether the step at this moment is a read of a first round, in time.
     fn reads_first(&self, moment: u64) -> bool
-        ensures { IsTrue result → ReadsFirst self.now.setting.trans_time (max self.now.moment moment) self.now.running }
+        ensures reads { IsTrue result → ReadsFirst self.now.setting.trans_time (max self.now.moment moment) self.now.running }
+        ensures other { result ≡ false → ReadsFirst self.now.setting.trans_time (max self.now.moment moment) self.now.running → ⊥ }
     {
         match &self.running {
             Some(ongoing) => match &ongoing.work {
@@ -584,7 +585,7 @@ impl Session {
         }
     }
 
-    /// A step of a get transaction. Its answer is the one of `step`.
+    /// A step of a get transaction that is no read of its first round. Its answer is the one of `step`.
     #[inline(never)]
     fn get<N: Nodes>(
         &mut self,
@@ -597,6 +598,7 @@ impl Session {
         requires data_centres { self.old.setting.data_centres ≡ (N.shape nodes.old).data_centres }
         requires shards { self.old.setting.shards ≡ (N.shape nodes.old).shards }
         requires idle { self.old.running ≡ None }
+        requires other { GetReadsFirst self.old.setting.trans_time (max self.old.moment moment) reading → ⊥ }
         requires ready { IsOpen context self.old.contexts.rows }
         ensures stepped { StepsFrom (λ id at call reply. N.Answers nodes.old id self.old.setting.slot at call reply nodes.new) (nodes.new ≡ nodes.old)
             (record self.old { running = Some (record { number = number; context = context; work = work.Get reading }) }) moment result self.new }

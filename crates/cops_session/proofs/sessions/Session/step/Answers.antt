@@ -1,5 +1,5 @@
 use Rattle.std.proofs.Common.{◌≡◌, ◌∙◌, ap, sym, subst, true}
-use Rattle.std.specs.Prelude.{Option, Some}
+use Rattle.std.specs.Prelude.{Option, Some, max}
 use Rattle.std.proofs.lemmas.Result.{MatchResult-weaker}
 use Rattle.cops_session.specs.declared.ongoing.Ongoing.{Ongoing}
 use Rattle.cops_session.specs.declared.ongoing.Work.TheVariants.{Put, Get}
@@ -67,3 +67,13 @@ returns-then-has_more-clause-stepped g c = λ config session stand.
     MatchResult-weaker (told_step c.read_on.result) (c.read_on.ensures.stepped config session one.0 stand one.1)
     (λ told tells. (one.0, one.1, one.2, tells))
     (λ fault none. absurd none)
+
+pub returns-then-reads_first-clause-stepped : goal.returns-then-reads_first-clause-stepped
+returns-then-reads_first-clause-stepped g c = λ config session stand.
+    let one = one_runs c.args.handle session (runs_in_both config session c.args.handle c.args.self.now.running stand.running_is ∙ sym c.runs.ensures ∙ c.if-not-runs.false) in
+    MatchResult-weaker (told_step c.read_first.result) (c.read_first.ensures.stepped config session one.0 stand one.1)
+    (λ told tells. (one.0, one.1, one.2, tells))
+    (λ fault none. absurd none)
+
+pub read_on-requires-clause-reads_on : goal.read_on-requires-clause-reads_on
+read_on-requires-clause-reads_on g c = c.has_more.ensures c.args.self.now.setting.trans_time (max c.args.self.now.moment c.args.moment) (rw c.if-has_more.true) (c.reads_first.ensures.reads (rw c.if-reads_first.true))
