@@ -1,9 +1,9 @@
 -- A cluster of nodes at which tenants come and go, behind gates, as a thread sees it.
-use Rattle.std.specs.Prelude.{◌≡◌, ℕ, ◌+◌, ◌^◌, ◌≤◌, ◌⊎◌, true, IsTrue, List, length, Some, None}
+use Rattle.std.specs.Prelude.{◌≡◌, ℕ, ◌≤◌, IsTrue, List, Result, Ok, Err}
+use Rattle.std.specs.declared.alloc.AllocError.{AllocError}
 use Rattle.cops_types.specs.declared.faults.Fault.TheVariants.{OutOfMemory, GateSpent, Torn}
 use Rattle.cops_types.specs.Version.{last_clock}
-use Rattle.cops_gate.specs.History.{LeavesLacking, entry}
-use Rattle.cops_gate.specs.Seats.{Origin, Known, Extends}
+use Rattle.cops_gate.specs.Seats.{Known}
 use Rattle.cops_model.specs.declared.calls.NodeCall.{NodeCall}
 use Rattle.cops_model.specs.declared.calls.NodeId.{NodeId}
 use Rattle.cops_model.specs.declared.calls.NodeReply.{NodeReply}
@@ -18,7 +18,7 @@ use Rattle.cops_node.specs.Parts.{Shared}
 use Rattle.cops_model.specs.Place.{fits}
 use Rattle.cops_node.specs.declared.Shape.{Shape}
 use Rattle.cops_node.specs.Shape.{place_in}
-use Rattle.cops_service.specs.Gates.{Gates, At}
+use Rattle.cops_service.specs.Gates.{Gates, At, IsToldAtGate}
 
 abbrev pub HostedSeat : Type 0
 HostedSeat = Known Shared SlotCall SlotReply
@@ -29,18 +29,14 @@ FitsThere shape id (Own call) = IsTrue (fits (place_in shape id) call)
 FitsThere shape id (Admit tenant) = tenant.first_clock ≤ last_clock
 FitsThere shape id Close = Unit {0}
 
--- The seat's history at a node has grown by this call and reply. Or memory was refused, where that may be, and it has grown by a blank turn, or the node's tickets are spent and it stays
-pub record IsToldAtSlot (slot moment : ℕ) (call : SlotCall) (reply : SlotReply) (gate : Origin Shared) (before after : HostedSeat) : Type 0 where
-  pub grows :
-      Extends IsSlotTurn gate.opening before (Some (entry slot moment call reply)) after
-      ⊎ (reply ≡ told.Refused OutOfMemory) × Extends IsSlotTurn gate.opening before None after × LeavesLacking IsSlotTurn MayLackAtSlot gate.opening before.number slot call after.history
-      ⊎ (reply ≡ told.Refused GateSpent) × (after.history ≡ before.history) × (after.spent ≡ true)
-  pub same : (after.gate ≡ before.gate) × (after.number ≡ before.number)
-  pub room : gate.ticket + length after.history ≤ 2 ^ 62
+-- what a call of a slot is told: the reply, or that memory was refused
+abbrev pub told_at_slot : Result SlotReply AllocError → SlotReply
+told_at_slot (Ok reply) = reply
+told_at_slot (Err error) = told.Refused OutOfMemory
 
 -- a call of a slot at a node: the seat at that node is told the reply, and the seats at other nodes stay
 abbrev pub IsSlotCall : Gates Shared → List HostedSeat → NodeId → ℕ → ℕ → SlotCall → SlotReply → List HostedSeat → Type 0
-IsSlotCall cluster old id slot moment call reply new = At cluster id old new (IsToldAtSlot slot moment call reply)
+IsSlotCall cluster old id slot moment call reply new = At cluster id old new (IsToldAtGate IsSlotTurn MayLackAtSlot (told.Refused OutOfMemory) (told.Refused GateSpent) slot moment call reply)
 
 -- what a session or a carrier is told
 abbrev pub reply_to_own : SlotReply → NodeReply

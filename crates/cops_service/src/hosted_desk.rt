@@ -1,15 +1,29 @@
 //! A thread's place before nodes at which tenants come and go.
 ghost use Rattle.std.specs.Prelude.{◌≡◌, ◌<◌};
-ghost use Rattle.cops_node.specs.ToldReplies.{told_reply};
 ghost use Rattle.cops_service.specs.Desks.{AreNodes, shape_in};
 ghost use Rattle.cops_service.specs.Gates.{IsSeatOf};
-ghost use Rattle.cops_service.specs.HostedDesks.{FitsThere, IsOwnCall, IsSlotCall, reply_to_own};
+ghost use Rattle.cops_service.specs.HostedDesks.{FitsThere, IsOwnCall, IsSlotCall, told_at_slot};
 
 use crate::cluster::{Cluster, ServiceSeat};
+use cops_gate::SpentReply;
 use cops_node::{HostedNode, NodeCall, NodeId, NodeReply, Nodes, SlotCall, SlotReply};
 use cops_types::Fault;
 use std::alloc::AllocError;
 use std::sync::Wait;
+
+/// Where a node's tickets are spent, the call is refused.
+struct RefusesSpent;
+
+impl SpentReply<SlotReply> for RefusesSpent {
+    ghost use Rattle.cops_types.specs.declared.faults.Fault.TheVariants.{GateSpent};
+    ghost use Rattle.cops_node.specs.declared.hosted.SlotReply.TheVariants.{Refused};
+
+    ghost told = { Refused GateSpent };
+
+    fn reply() -> SlotReply {
+        SlotReply::Refused(Fault::GateSpent)
+    }
+}
 
 /// A thread's handle and seat, and a cluster at which tenants come and go. A call at it waits for its
 /// turn at the node.
@@ -20,19 +34,6 @@ pub struct HostedDesk<'a, R: Wait> {
     pub seat: &'a mut ServiceSeat<HostedNode>,
     pub ghost nodes: { AreNodes cluster.now },
     pub ghost own: { IsSeatOf cluster.now seat.now },
-}
-
-/// What a session or a carrier is told.
-fn reply_to_own(answer: SlotReply) -> Result<NodeReply, AllocError>
-    ensures { told_reply result ≡ reply_to_own answer }
-{
-    match answer {
-        SlotReply::Own(reply) => Ok(reply),
-        SlotReply::Refused(Fault::OutOfMemory) => Err(AllocError),
-        SlotReply::Refused(fault) => Ok(NodeReply::Refused(fault)),
-        SlotReply::Admitted => Ok(NodeReply::Refused(Fault::Torn)),
-        SlotReply::Closed => Ok(NodeReply::Refused(Fault::Torn)),
-    }
 }
 
 impl<'a, R: Wait> HostedDesk<'a, R> {
@@ -51,22 +52,23 @@ impl<'a, R: Wait> HostedDesk<'a, R> {
     }
 
     /// Makes a call of a slot at a node, or has the node admit or close its tenant: one turn of that
-    /// node's gate.
-    pub fn ask(&mut self, id: NodeId, slot: u64, moment: u64, call: SlotCall) -> SlotReply
+    /// node's gate. That the node was refused memory is the error.
+    pub fn ask(
+        &mut self,
+        id: NodeId,
+        slot: u64,
+        moment: u64,
+        call: SlotCall,
+    ) -> Result<SlotReply, AllocError>
         requires dc { id.dc < (shape_in self.old.cluster.now).data_centres }
         requires shard { id.shard < (shape_in self.old.cluster.now).shards }
         requires fits { FitsThere (shape_in self.old.cluster.now) id call }
         ensures cluster { self.new.cluster.now ≡ self.old.cluster.now }
         ensures seat { self.new.seat.ghost_name ≡ self.old.seat.ghost_name }
-        ensures told { IsSlotCall self.old.cluster.now self.old.seat.now id slot moment call result self.new.seat.now }
+        ensures told { IsSlotCall self.old.cluster.now self.old.seat.now id slot moment call (told_at_slot result) self.new.seat.now }
     {
-        match self
-            .seat
-            .step(self.rt, self.cluster, id, slot, moment, call)
-        {
-            Ok(reply) => reply,
-            Err(fault) => SlotReply::Refused(fault),
-        }
+        self.seat
+            .step_or_reply::<R, RefusesSpent>(self.rt, self.cluster, id, slot, moment, call)
     }
 }
 
@@ -82,7 +84,10 @@ impl<R: Wait> Nodes for HostedDesk<'_, R> {
         moment: u64,
         call: NodeCall,
     ) -> Result<NodeReply, AllocError> {
-        let answer = self.ask(id, slot, moment, SlotCall::Own(call));
-        reply_to_own(answer)
+        match self.ask(id, slot, moment, SlotCall::Own(call))? {
+            SlotReply::Own(reply) => Ok(reply),
+            SlotReply::Refused(fault) => Ok(NodeReply::Refused(fault)),
+            SlotReply::Admitted | SlotReply::Closed => Ok(NodeReply::Refused(Fault::Torn)),
+        }
     }
 }

@@ -11,7 +11,7 @@ use crate::tests::{QUOTA, config};
 use crate::{Cluster, HostedDesk};
 use cops_node::{NodeCall, NodeId, NodeReply, Nodes, SlotCall, SlotReply, has_clocks};
 use cops_types::{Config, Deps, Fault, Key, Name, Near, Tenant, Value};
-use std::alloc::Global;
+use std::alloc::{AllocError, Global};
 use std::process::Abort;
 use std::sync::Wait;
 use uuid::Uuid;
@@ -77,12 +77,12 @@ fn put<R: Wait>(alloc: Global, desk: &mut HostedDesk<'_, R>) -> Option<u64>
 }
 
 // Why the host's call did nothing.
-fn refusal(reply: &SlotReply) -> Option<Fault> {
-    match reply {
-        SlotReply::Refused(fault) => Some(*fault),
-        SlotReply::Own(_) => Some(Fault::Torn),
-        SlotReply::Admitted => None,
-        SlotReply::Closed => None,
+fn refusal(answer: Result<SlotReply, AllocError>) -> Option<Fault> {
+    match answer {
+        Ok(SlotReply::Refused(fault)) => Some(fault),
+        Ok(SlotReply::Own(_)) => Some(Fault::Torn),
+        Ok(SlotReply::Admitted | SlotReply::Closed) => None,
+        Err(error) => Some(Fault::from(error)),
     }
 }
 
@@ -91,20 +91,14 @@ fn admit<R: Wait>(desk: &mut HostedDesk<'_, R>, slot: u64, tenant: Tenant) -> Op
     requires clock { tenant.first_clock ≤ last_clock }
     ensures { (desk.new.cluster.now ≡ desk.old.cluster.now) × (desk.new.seat.ghost_name ≡ desk.old.seat.ghost_name) }
 {
-    let reply = desk.ask(FIRST, slot, 0, SlotCall::Admit(tenant));
-    let refusal = refusal(&reply);
-    drop(reply);
-    refusal
+    refusal(desk.ask(FIRST, slot, 0, SlotCall::Admit(tenant)))
 }
 
 fn close<R: Wait>(desk: &mut HostedDesk<'_, R>) -> Option<Fault>
     requires { (0 < (shape_in desk.old.cluster.now).data_centres) × ((shape_in desk.old.cluster.now).shards ≡ 1) }
     ensures { (desk.new.cluster.now ≡ desk.old.cluster.now) × (desk.new.seat.ghost_name ≡ desk.old.seat.ghost_name) }
 {
-    let reply = desk.ask(FIRST, 2, 0, SlotCall::Close);
-    let refusal = refusal(&reply);
-    drop(reply);
-    refusal
+    refusal(desk.ask(FIRST, 2, 0, SlotCall::Close))
 }
 
 // Asserts that the slot has no tenant: a put on it is refused.
