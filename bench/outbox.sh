@@ -2,36 +2,17 @@
 # How long calls at an outbox take a tenant while 0, 1,000 and 100,000 entries of another wait: medians in nanoseconds for each
 # call, and their ratios to the first in the same run.
 # Usage: outbox.sh [times [calls]], the number of measurements whose median is printed, and of the calls in each.
-# The program is proved and built in a folder of its own (ROOM, which may be kept), so that rt ci has no part in it.
+# The program is proved and built apart from the repository (room.sh).
 set -eu
-here=$(cd "$(dirname "$0")" && pwd)
-rt=${RT:-rt}
-room=${ROOM:-$(mktemp -d)}
+. "$(dirname "$0")/room.sh"
 times=${1:-11}
 calls=${2:-1000000}
-program=$room/crates/outbox_program
-mkdir -p "$program/src"
-for crate in cops_types cops_model cops_outbox; do
-    mkdir -p "$room/crates/$crate"
-    for part in src specs proofs; do
-        rm -rf "$room/crates/$crate/$part"
-        if [ -d "$here/../crates/$crate/$part" ]; then
-            cp -r "$here/../crates/$crate/$part" "$room/crates/$crate/$part"
-        fi
-    done
-done
-cp "$here/outbox_program.rt.txt" "$program/src/main.rt"
+lay_out outbox_program cops_types cops_outbox
 for function in filled turns; do
     mkdir -p "$program/proofs/$function"
     sed "s/FUNCTION/$function/" "$here/outbox_program_loops.antt.txt" >"$program/proofs/$function/Invariants.antt"
 done
-cp "$here/../HANDLES" "$room/HANDLES"
-grep -E '^cops_(types|model|outbox)( [^:]*)?:' "$here/../crates.txt" >"$room/crates.txt"
-echo 'outbox_program: cops_types cops_outbox' >>"$room/crates.txt"
-(cd "$program" && "$rt" run -- 10 10 >"$room/build.log" 2>&1) || {
-    tail -40 "$room/build.log"
-    exit 1
-}
+build 10 10
 rm -f "$room/figures"
 for _ in $(seq "$times"); do
     for others in 0 1000 100000; do

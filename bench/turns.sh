@@ -6,36 +6,10 @@
 # of its own, who has put 500 keys at each node before; a thread stays at one node, or goes on to the next after each call. A put has a
 # value of 32 bytes, four dependencies and one nearest; a call is made, and its reply given back, within the time that counts. What all
 # four are told is compared.
-# The program of seats is proved and built in a folder of its own (ROOM, which may be kept), so that rt ci has no part in it.
+# The program of seats is proved and built apart from the repository (room.sh).
 set -eu
-here=$(cd "$(dirname "$0")" && pwd)
-rt=${RT:-rt}
-room=${ROOM:-}
-if [ -z "$room" ]; then
-    room=$(mktemp -d)
-    trap 'rm -rf "$room"' EXIT
-fi
-program=$room/crates/turns_program
-mkdir -p "$program/src"
-# All that the service stands on.
-crates='cops_types cops_model cops_store cops_outbox cops_node cops_handles cops_context cops_gate cops_session cops_repl cops_wire cops_service'
-: >"$room/crates.txt"
-for crate in $crates; do
-    mkdir -p "$room/crates/$crate"
-    for part in src specs proofs; do
-        rm -rf "$room/crates/$crate/$part"
-        if [ -d "$here/../crates/$crate/$part" ]; then
-            cp -r "$here/../crates/$crate/$part" "$room/crates/$crate/$part"
-        fi
-    done
-    grep -E "^$crate( [^:]*)?:" "$here/../crates.txt" >>"$room/crates.txt"
-done
-cp "$here/turns_program.rt.txt" "$program/src/main.rt"
-cp "$here/../HANDLES" "$room/HANDLES"
-echo 'turns_program: cops_types cops_node cops_service uuid' >>"$room/crates.txt"
-(cd "$program" && "$rt" run -- put 1 1 1000 0 seats >"$room/build.log" 2>&1) || {
-    tail -40 "$room/build.log"
-    exit 1
-}
-(cd "$here/plain" && cargo build --quiet --release --offline --target-dir "$room/target")
+. "$(dirname "$0")/room.sh"
+lay_out turns_program cops_types cops_node cops_service uuid
+build put 1 1 1000 0 seats
+build_plain
 python3 "$here/turns.py" "$program/out/turns_program" "$room/target/release/turns" "${1:-5}" "${2:-400}"

@@ -4,38 +4,14 @@
 # twenty times as many decoded and encoded. The median of the differences to runs over none counts.
 # Messages are puts of 32 bytes, and get transactions of 4 keys. A decoder gets them in pieces of 4,096 bytes; a connection answers them at
 # one node, behind a greeting, with a context for each eight, that is created before and deleted behind them.
-# The program is proved and built in a folder of its own (ROOM, which may be kept, with what was proved of its crates), so that rt ci has
-# no part in it.
+# The program is proved and built apart from the repository (room.sh).
 set -eu
-here=$(cd "$(dirname "$0")" && pwd)
-rt=${RT:-rt}
+. "$(dirname "$0")/room.sh"
 times=${1:-9}
 thousands=${2:-300}
-room=${ROOM:-}
-if [ -z "$room" ]; then
-    room=$(mktemp -d)
-    trap 'rm -rf "$room"' EXIT
-fi
-program=$room/crates/wire_program
-mkdir -p "$program/src"
-for crate in cops_types cops_model cops_store cops_outbox cops_node cops_handles cops_context cops_session cops_wire; do
-    mkdir -p "$room/crates/$crate"
-    for part in src specs proofs; do
-        rm -rf "$room/crates/$crate/$part"
-        if [ -d "$here/../crates/$crate/$part" ]; then
-            cp -r "$here/../crates/$crate/$part" "$room/crates/$crate/$part"
-        fi
-    done
-done
-cp "$here/wire_program.rt.txt" "$program/src/main.rt"
-cp "$here/../HANDLES" "$room/HANDLES"
-grep -E '^cops_(types|model|store|outbox|node|handles|context|session|wire)( [^:]*)?:' "$here/../crates.txt" >"$room/crates.txt"
-echo 'wire_program: cops_types cops_node cops_wire uuid' >>"$room/crates.txt"
-(cd "$program" && $rt run -- decode put 0 >"$room/build.log" 2>&1) || {
-    tail -40 "$room/build.log"
-    exit 1
-}
-(cd "$here/plain" && cargo build --quiet --release --offline --target-dir "$room/target")
+lay_out wire_program cops_types cops_node cops_wire uuid
+build decode put 0
+build_plain
 python3 - "$program/out/wire_program" "$room/target/release/frames" "$times" "$thousands" <<'END'
 import resource
 import statistics
