@@ -349,7 +349,7 @@ fn answer_taken<N: Nodes, M: Moments, W: Write>(
 /// Answers the requests that a piece completes, in order, up to the first message that is no request. It tells whether all were requests.
 ///
 /// Requests that lie whole in the piece are answered there. Their replies are gathered in `out`, which is emptied before, and written with
-/// one write; where they get long, with one write for each 64 KiB or so.
+/// one write; where they get long, with one write for each 4 KiB or so.
 pub(crate) fn answer_piece<N: Nodes, M: Moments, W: Write>(
     alloc: Global,
     session: &mut Session,
