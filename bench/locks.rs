@@ -1,5 +1,7 @@
 //! Turns per second at a gate, a `std::sync::Mutex` and a plain ticket lock.
 //! Arguments: the gate's program, and how often each is measured. It prints medians, and ratios of turns per second.
+mod work;
+
 use std::cell::UnsafeCell;
 use std::hint::{black_box, spin_loop};
 use std::process::Command;
@@ -7,25 +9,7 @@ use std::sync::atomic::{AtomicBool, AtomicU64, Ordering};
 use std::sync::Mutex;
 use std::thread;
 use std::time::{Duration, Instant};
-
-struct Worker {
-    turns: u64,
-    mixed: u64,
-}
-
-impl Worker {
-    fn turn(&mut self, rounds: u64) -> u64 {
-        let mut mixed = self.mixed;
-        for _ in 0..rounds {
-            mixed = mixed
-                .wrapping_mul(6364136223846793005)
-                .wrapping_add(1442695040888963407);
-        }
-        self.mixed = mixed;
-        self.turns = self.turns.wrapping_add(1);
-        self.turns
-    }
-}
+use work::{median, microsecond, Worker};
 
 trait Shared: Sync {
     fn turn(&self, rounds: u64) -> u64;
@@ -53,7 +37,7 @@ impl<const GIVES_WAY: bool> Ticketed<GIVES_WAY> {
         Ticketed {
             ticket: AtomicU64::new(0),
             serving: AtomicU64::new(0),
-            worker: UnsafeCell::new(Worker { turns: 0, mixed: 1 }),
+            worker: UnsafeCell::new(Worker::new()),
         }
     }
 }
@@ -119,26 +103,6 @@ fn gate(program: &str, threads: u64, turns: u64, rounds: u64) -> f64 {
     (threads * turns) as f64 * 1e9 / nanos
 }
 
-/// How many rounds of work take a microsecond.
-fn microsecond() -> u64 {
-    let mut worker = Worker { turns: 0, mixed: 1 };
-    let best = (0..20)
-        .map(|_| {
-            let start = Instant::now();
-            black_box(worker.turn(black_box(1_000_000)));
-            black_box(worker.mixed);
-            start.elapsed().as_nanos() as u64
-        })
-        .min()
-        .unwrap();
-    1_000_000_000 / best.max(1)
-}
-
-fn median(mut speeds: Vec<f64>) -> f64 {
-    speeds.sort_by(f64::total_cmp);
-    speeds[speeds.len() / 2]
-}
-
 fn main() {
     let words: Vec<String> = std::env::args().collect();
     let times: usize = words[2].parse().expect("a number");
@@ -150,7 +114,7 @@ fn main() {
             let mut all = [const { Vec::new() }; 4];
             for _ in 0..times {
                 all[0].push(gate(&words[1], threads, turns, rounds));
-                let locked = Locked(Mutex::new(Worker { turns: 0, mixed: 1 }));
+                let locked = Locked(Mutex::new(Worker::new()));
                 all[1].push(counted(&locked, threads, turns, rounds));
                 all[2].push(timed(&Ticketed::<false>::new(), threads, rounds));
                 all[3].push(timed(&Ticketed::<true>::new(), threads, rounds));

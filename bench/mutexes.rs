@@ -1,29 +1,13 @@
 //! Turns per second through the seats of a cluster, beside a `std::sync::Mutex` for each node.
 //! Arguments: the program of seats, and how often both are measured in turn. It prints medians of both, and the median of the ratios.
+mod work;
+
 use std::hint::black_box;
 use std::process::Command;
 use std::sync::Mutex;
 use std::thread;
 use std::time::Instant;
-
-struct Worker {
-    turns: u64,
-    mixed: u64,
-}
-
-impl Worker {
-    fn turn(&mut self, rounds: u64) -> u64 {
-        let mut mixed = self.mixed;
-        for _ in 0..rounds {
-            mixed = mixed
-                .wrapping_mul(6364136223846793005)
-                .wrapping_add(1442695040888963407);
-        }
-        self.mixed = mixed;
-        self.turns = self.turns.wrapping_add(1);
-        self.turns
-    }
-}
+use work::{median, microsecond, Worker};
 
 #[derive(Clone, Copy)]
 struct Load {
@@ -42,7 +26,7 @@ impl Load {
 }
 
 fn mutexes(load: Load) -> f64 {
-    let node = |_| Mutex::new(Worker { turns: 0, mixed: 1 });
+    let node = |_| Mutex::new(Worker::new());
     let nodes: Vec<Mutex<Worker>> = (0..load.nodes).map(node).collect();
     let start = Instant::now();
     thread::scope(|scope| {
@@ -67,26 +51,6 @@ fn seats(program: &str, load: Load) -> f64 {
         .expect("the program of seats");
     let text = String::from_utf8(told.stdout).expect("text");
     load.speed(text.trim().parse().expect("nanoseconds"))
-}
-
-/// How many rounds of work take a microsecond.
-fn microsecond() -> u64 {
-    let mut worker = Worker { turns: 0, mixed: 1 };
-    let best = (0..20)
-        .map(|_| {
-            let start = Instant::now();
-            black_box(worker.turn(black_box(1_000_000)));
-            black_box(worker.mixed);
-            start.elapsed().as_nanos() as u64
-        })
-        .min()
-        .unwrap();
-    1_000_000_000 / best.max(1)
-}
-
-fn median(mut speeds: Vec<f64>) -> f64 {
-    speeds.sort_by(f64::total_cmp);
-    speeds[speeds.len() / 2]
 }
 
 fn main() {

@@ -89,7 +89,8 @@ def redis_once(connections, depth, kind):
     client = ["redis-benchmark", "-p", str(port), "-r", str(KEYS), "-d", "64", "--threads", str(min(connections, 4))]
     subprocess.run([*client, "-q", "-n", "20000", "-P", "16", "-t", "set"], check=True, stdout=subprocess.DEVNULL)
     before = processor_seconds(server.pid)
-    requests = 22_000 if depth == 1 else 66_000
+    # (with threads it looks only each quarter of a second whether it has all replies, so a run has to take many of these)
+    requests = (100_000 if depth == 1 else 600_000) * (1 if connections == 1 else 5)
     calls = {"puts": ["-t", "set"], "gets 1": ["-t", "get"], "gets 4": ["MGET", *["key:__rand_int__"] * 4]}
     words = [*client, "-c", str(connections), "-P", str(depth), "-n", str(requests), *calls[kind]]
     text = subprocess.run(words, check=True, capture_output=True, text=True).stdout.replace("\r", "\n")
