@@ -114,9 +114,11 @@ def rows(arguments, room):
         for depth in (1, 16):
             for connections in (1, 4, 16):
                 ours, plain, redis = [], [], []
-                for _ in range(arguments.times):
-                    ours.append(serve_once(room, arguments.program, connections, depth, kind))
-                    plain.append(serve_once(room, arguments.plain, connections, depth, kind))
+                for number in range(arguments.times):
+                    turns = [(ours, arguments.program), (plain, arguments.plain)]
+                    # (each begins every other round)
+                    for runs, program in turns if number % 2 == 0 else turns[::-1]:
+                        runs.append(serve_once(room, program, connections, depth, kind))
                     if arguments.redis:
                         redis.append(redis_once(connections, depth, kind))
                 middle = [[median(it[place] for it in runs) if runs else 0 for place in range(5)] for runs in (ours, plain, redis)]
