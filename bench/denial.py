@@ -109,7 +109,7 @@ def unread() -> None:
 
 
 def script_time(names: list[str], lines: int) -> float:
-    """Opens sessions of these names, and then lets another tenant take a step of his own so often. Seconds."""
+    """Opens sessions of these names, and then lets another tenant take a step of its own so often. Seconds."""
     text = collisions.script(ACME, names, BETA, lines)
     began = time.monotonic()
     subprocess.run([*service.PROGRAM, "run"], input=text, stdout=subprocess.DEVNULL, check=True)

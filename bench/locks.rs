@@ -59,7 +59,7 @@ impl<const GIVES_WAY: bool> Shared for Ticketed<GIVES_WAY> {
     }
 }
 
-/// Turns per second, where each thread makes so many.
+/// Turns per second, if each thread makes so many.
 fn counted(shared: &dyn Shared, threads: u64, turns: u64, rounds: u64) -> f64 {
     let start = Instant::now();
     thread::scope(|scope| {

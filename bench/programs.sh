@@ -14,7 +14,7 @@
 #   LAYOUT=2          1: the greeting of the older layout of versions
 #   LIMIT=300         seconds for one run
 #   GROWTH="1000 10000 100000 1000000"     events of `growth`
-#   CROWD="1000 3000 10000 30000"          events of `crowd`, where one tenant
+#   CROWD="1000 3000 10000 30000"          events of `crowd`, if one tenant
 #                     works beside another's many queued and stale entries
 #   REQUESTS=20000    requests of each of the connections of `serve`
 #   BIN=bench/plain/target/release   where workload and load are

@@ -2,7 +2,7 @@
 # Time and memory of 'cops run' over scripts, in ratio to a program in plain Rust that answers the same.
 # Usage: scripts.sh [times [case ..]]. Both programs run in turn, so many times each (3), and the least time and the
 # least memory of each count. Time is that of the processor, for the user and the system; memory is the most that was resident.
-# PROGRAM is 'cops', where it stands already; ROOM is a folder for what is built and written, where it shall be kept.
+# PROGRAM is 'cops', if it stands already; ROOM is a folder for what is built and written, if it shall be kept.
 set -eu
 here=$(cd "$(dirname "$0")" && pwd)
 times=${1:-3}

@@ -54,13 +54,16 @@ class Service:
     def __init__(self, program, head, workers, connections):
         self.port = free_port()
         words = [*program.split(), "serve", f"127.0.0.1:{self.port}", "--workers", str(workers), "--connections", str(connections + 1)]
+        self.said = tempfile.TemporaryFile()
         with open(head, "rb") as it:
-            self.running = subprocess.Popen(words, stdin=it, stdout=subprocess.DEVNULL)
+            self.running = subprocess.Popen(words, stdin=it, stdout=subprocess.DEVNULL, stderr=self.said)
 
     def end(self):
         connect(self.port).close()
-        if self.running.wait(120) != 0:
-            sys.exit("the service ended with a fault")
+        with self.said:
+            if self.running.wait(120) != 0:
+                self.said.seek(0)
+                sys.exit(f"the service ended with a fault:\n{self.said.read().decode(errors='replace')}")
 
 
 def load_words(room, port, options):

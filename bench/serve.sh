@@ -1,6 +1,6 @@
 #!/usr/bin/env bash
 # serve.sh PROGRAM [times]: requests a second, latencies and processor time of PROGRAM's `serve`, beside the plain program
-# and, where it is installed, redis-server (Debian: apt-get install redis-server). Medians over so many rounds (5), in each of
+# and, if it is installed, redis-server (Debian: apt-get install redis-server). Medians over so many rounds (5), in each of
 # which all of them run in turn. Then one tenant's latencies, alone and beside a neighbour who floods another worker.
 # It needs cargo and python3.
 #   bench/serve.sh out/cops

@@ -4,8 +4,8 @@
 # Usage: turns.sh [times [thousands]]. All four are measured in turn, so many times each (5), and medians are printed, of ratios too.
 # All threads of a run make so many thousand puts together (400), or four times as many gets of the latest version. Each calls for a tenant
 # of its own, who has put 500 keys at each node before; a thread stays at one node, or goes on to the next after each call. A put has a
-# value of 32 bytes, four dependencies and one nearest; a call is made, and its reply given back, within the time that counts. What all
-# four are told is compared.
+# value of 32 bytes, four dependencies and one nearest; a call is made, and its reply given back, within the time that counts. The
+# replies to all four are compared.
 # The program of seats is proved and built apart from the repository (room.sh).
 set -eu
 . "$(dirname "$0")/room.sh"

@@ -8,6 +8,8 @@ from scripts import HERE, Script, answers, replies_to
 TENANT = neighbours.TENANT
 NEIGHBOUR = neighbours.NEIGHBOUR
 BUILT = HERE.parent / "out" / "cops"
+# How many lines of two long runs are shown.
+SHOWN = 7
 
 
 class Section:
@@ -49,10 +51,6 @@ def fingerprint(lines):
     return hashlib.sha256("".join(line + "\n" for line in lines).encode()).hexdigest()[:16]
 
 
-def bytes_of(lines):
-    return sum(len(line) + 1 for line in lines)
-
-
 def rows(left, right):
     """Two runs beside each other, as (line, reply in the one, reply in the other). The tenant's lines are in both."""
     left, right = list(left), list(right)
@@ -72,22 +70,19 @@ def without_name(reply):
 
 
 def side_by_side(program, script):
-    """Two runs beside each other: the neighbour as in the script, and meddling."""
-    section = Section("1. Two runs side by side")
+    """The end of two runs beside each other: the neighbour as in the script, and meddling."""
+    section = Section("1. Two runs side by side, their last lines")
     meddling = neighbours.meddling(script)
     usual, changed = (answers(program, ["run"], one) for one in (script, meddling))
-    section.say("acme's lines begin at the margin, those of his neighbour beta are indented.")
-    section.say()
-    widths = (34, 40, 36)
-    section.heads(widths, ["line", "reply where beta does little", "reply where beta meddles"])
-    for line, one, other in rows(zip(script.lines, usual), zip(meddling.lines, changed)):
+    widths = (34, 26, 26)
+    section.heads(widths, ["line", "beta does little", "beta meddles"])
+    for line, one, other in [*rows(zip(script.lines, usual), zip(meddling.lines, changed))][-SHOWN:]:
         indent = "" if is_own(line) else "    "
         section.columns(widths, [indent + line, *(indent + without_name(reply) for reply in (one, other))])
     section.say()
     one, other = replies_to(TENANT, usual), replies_to(TENANT, changed)
     for what, told in (("does little", one), ("meddles", other)):
-        size = f"{len(told)} lines of {bytes_of(told)} bytes"
-        section.say(f"Where beta {what + ',':<13}acme is told {size}, SHA-256 {fingerprint(told)}..")
+        section.say(f"beta {what + ':':<13}acme gets {len(told)} lines, SHA-256 {fingerprint(told)}..")
     section.claim("Not a byte of acme's replies differs.", one == other)
     return section
 
@@ -96,25 +91,21 @@ def every_way(program, script):
     """The neighbour's part changed in every way, and how much of the tenant's replies differs."""
     section = Section("2. The neighbour changed in every way")
     wanted = replies_to(TENANT, answers(program, ["run"], script))
-    section.say("What beta does in place of the above, and acme's replies then.")
-    section.say()
-    widths = (54, 9, 15, 16, 16)
-    section.heads(widths, ["beta", "scripts", "beta's lines", "refused to him", "acme's differ"])
+    widths = (44, 9, 14, 15)
+    section.heads(widths, ["beta", "scripts", "beta refused", "acme's differ"])
     alone = answers(program, ["solo", TENANT], script)
-    section.columns(widths, ["cops solo acme", "1", "0", "0", f"{differing(wanted, alone)}"])
+    section.columns(widths, ["cops solo acme", "1", "0", f"{differing(wanted, alone)}"])
     wrong = differing(wanted, alone)
     for title, way in neighbours.WAYS:
-        scripts, theirs, refused, differ = 0, 0, 0, 0
+        scripts, refused, differ = 0, 0, 0
         for changed in way(script):
             told = answers(program, ["run"], changed)
-            others = [reply for reply in told if not is_own(reply)]
             scripts += 1
-            theirs += len(others)
-            refused += sum(is_refusal(reply) for reply in others)
+            refused += sum(is_refusal(reply) for reply in told if not is_own(reply))
             differ += differing(wanted, replies_to(TENANT, told))
-        section.columns(widths, [title, f"{scripts:,}", f"{theirs:,}", f"{refused:,}", f"{differ:,}"])
+        section.columns(widths, [title, f"{scripts:,}", f"{refused:,}", f"{differ:,}"])
         wrong += differ
-        section.claims.append((f"acme's replies stay where {title}.", differ == 0))
+        section.claims.append((f"acme's replies stay if beta {title}.", differ == 0))
     section.say()
     section.claim("Not a byte of acme's replies differs in any of them.", wrong == 0)
     return section
@@ -134,9 +125,6 @@ def straddled(program, script):
     """A transaction that two puts fall into, beside single gets at the same moments."""
     section = Section("3. A get transaction that straddles two puts")
     told = answers(program, ["run"], script)
-    section.say("alice narrows the list of those who may see her photos (acl), and then adds one. eve reads both")
-    section.say("keys in one transaction. bob reads them one by one, at the moments of its first round.")
-    section.say()
     widths = (8, 24, 38, 30)
     section.heads(widths, ["moment", "alice puts", "eve: get acl photos", "bob: get acl, get photos"])
     ended = {"alice": [], "eve": [], "bob": []}
@@ -151,18 +139,12 @@ def straddled(program, script):
     values = dict(word.split("=") for word in ended["eve"][-1].split(" "))
     singles = dict(word.split("=") for reply in ended["bob"] for word in reply.split(" "))
     needed = dict(pair.split(":") for pair in without_name(told[-1]).split(" ")[1].split(","))
-    section.say(f"bob's context now holds that photos {needed['photos']} depends on acl {needed['acl']}.")
-    section.say()
-    section.heads(widths, ["", "acl", "photos", ""])
-    section.columns(widths, ["eve", values["acl"], values["photos"], "with the second round"])
-    section.columns(widths, ["bob", singles["acl"], singles["photos"], "what she'd have without it"])
-    section.say()
     section.claim(
-        f"eve's photo is {values['photos'].split('@')[0]}, and her list is the one that it depends on.",
+        f"eve's photo is {values['photos'].split('@')[0]}, and her list is the one that it depends on, acl {needed['acl']}.",
         values["acl"].split("@")[1] == needed["acl"] and values["photos"].split("@")[1] == needed["photos"],
     )
     section.claim(
-        f"bob has the new photo beside the old list, by which it is {singles['acl'].split('@')[0]}.",
+        f"bob has the new photo and the old list, by which it is {singles['acl'].split('@')[0]}.",
         singles["acl"].split("@")[1] != needed["acl"] and singles["photos"].split("@")[1] == needed["photos"],
     )
     return section

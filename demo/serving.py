@@ -115,12 +115,15 @@ class Served:
         port = free_port()
         head = "".join(line + "\n" for line in [CLUSTER, *(tenant_line(name) for name in tenants), "begin"])
         words = ["serve", f"127.0.0.1:{port}", "--workers", str(1 + FLOODS), "--connections", str(1 + floods)]
-        with tempfile.TemporaryFile() as given, tempfile.TemporaryFile() as audit:
+        with tempfile.TemporaryFile() as given, tempfile.TemporaryFile() as audit, tempfile.TemporaryFile() as said:
             given.write(head.encode())
             given.seek(0)
-            with subprocess.Popen(program + words, stdin=given, stdout=audit) as server:
+            with subprocess.Popen(program + words, stdin=given, stdout=audit, stderr=said) as server:
                 self.replies, self.others = asked(port, floods)
                 self.status = server.wait(60)
+            if self.status != 0:
+                said.seek(0)
+                sys.stderr.write(said.read().decode(errors="replace"))
             audit.seek(0)
             replay = subprocess.run(program + ["replay", "acme"], stdin=audit, capture_output=True, check=False)
             self.replay = replay.stdout.decode().split(" ")[0]

@@ -116,7 +116,7 @@ class Room:
     """The folder for all copies. What is proved stands in `proved`, a folder for each crate with its `out`."""
 
     def __init__(self):
-        # (so that the folder goes where the run is told to stop)
+        # (so that the folder goes if the run gets a signal to stop)
         signal.signal(signal.SIGTERM, lambda number, _: sys.exit(128 + number))
         self.held = tempfile.TemporaryDirectory(prefix="cops-")
         self.folder = self.held.name
@@ -278,14 +278,14 @@ def module_of(path):
 
 
 def only_modules(texts):
-    """The words that keep a check to the functions of the edited modules, or none where a crate's root is edited."""
+    """The words that keep a check to the functions of the edited modules, or none if a crate's root is edited."""
     modules = [module_of(it) for it in texts]
     return [it for module in modules for it in ("--only", module)] if all(modules) else []
 
 
 # The last line of a check of some functions alone.
 COUNTS = re.compile(r"only=(\d+) proved=(\d+)$")
-# What the prover says where a proof file names a step, a goal or a field that the edit took away, and of what cites that proof.
+# What the prover says if a proof file names a step, a goal or a field that the edit took away, and of what cites that proof.
 IS_GONE = re.compile(r"(\./)?proofs/.*(has no field|is not in scope|has no `|was not admitted|was rejected, was not checked|were not checked)")
 
 
@@ -327,7 +327,7 @@ def told_in(outcome):
 
 
 def evidence(told):
-    """Of what was told, what shows that a meaning is refused, and what shows no more than that a name is gone."""
+    """Of the prover's lines, those that show that a meaning is refused, and those that only show that a name is gone."""
     errors = [it for it in told if ": error" in it]
     gone = [it for it in errors if IS_GONE.match(it)]
     # (a goal that is left open beside a name that is gone may be open for that alone)
@@ -335,7 +335,7 @@ def evidence(told):
 
 
 def is_unread(line, texts):
-    """Whether an error is that a text of src/, specs/ or an edited file can't be read, where a wrong meaning reads well."""
+    """Whether an error is that a text of src/, specs/ or an edited file can't be read; a wrong meaning reads well."""
     at = re.match(r"(?:\./)?(\S+?):\d+:\d+: error: (?:(`[^`]*`): )?(.*)", line)
     if not at or at[1] not in texts and not at[1].startswith(("src/", "specs/")):
         return False
@@ -349,7 +349,7 @@ def try_edit(edit, folder):
     except (OSError, ValueError) as error:
         return False, f"{name_of(edit)}: BAD EDIT: {error}", 0.0
     with written(texts, folder):
-        # The functions of the edited modules first: where one of them is refused, so is the crate. Only then all.
+        # The functions of the edited modules first: if one of them is refused, so is the crate. Only then all.
         only = only_modules(texts)
         outcome = rt(folder, "check", "--jobs", "1", *only)
         seconds = outcome.seconds
@@ -446,7 +446,7 @@ def without_parameters(line):
 
 
 def body_of(lines, first):
-    """The lines where the body of a function begins and ends, or nothing where it has none: each is at the indentation of its head."""
+    """The lines where the body of a function begins and ends, or nothing if it has none: each is at the indentation of its head."""
     indentation = re.match(" *", lines[first])[0]
     level = [k for k in range(first, len(lines)) if re.match(indentation + r"\S", lines[k])]
     begin = next((k for k in level if lines[k].endswith("{") or k > first and not re.match(r" *(\)|where\b)", lines[k])), first)
@@ -455,7 +455,7 @@ def body_of(lines, first):
 
 
 def changes_of(edit, folder):
-    """What an edit changes in the bodies of functions, or nothing where it changes more, or can't be made."""
+    """What an edit changes in the bodies of functions, or nothing if it changes more, or can't be made."""
     try:
         texts = edited(edit, folder)
     except (OSError, ValueError):
@@ -503,7 +503,7 @@ def together(batch, folder):
 def try_batch(batch, folder, spent=0.0):
     """Tries the edits of a batch by one check, and gives each with what `try_edit` gives.
 
-    An edit is refused where the check shows it in the function that it changes. The others, as those whose function
+    An edit is refused if the check shows it in the function that it changes. The others, as those whose function
     waited for the proof of one that it calls, are tried again with fewer beside them, at last alone by `try_edit`.
     """
     if len(batch) == 1:
@@ -528,7 +528,7 @@ def try_batch(batch, folder, spent=0.0):
 def shown_in(outcome, texts, batch):
     """The edits of a batch whose meaning the prover refuses, each with the line that shows it in the edit's own function.
 
-    Where something else is refused too, edits bear on more than their functions, and nothing is shown.
+    If something else is refused too, edits bear on more than their functions, and nothing is shown.
     """
     if unfit(outcome, texts):
         return {}

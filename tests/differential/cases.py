@@ -22,9 +22,9 @@ SCRIPT_REPLIES = {
     *"opened context dropped started all working restarted stored values removed nothing waits".split(),
     "committed acked", "already notfront", "- E01", "- E02", "- E04", "- E28", "- admitted", "- closed",
 }  # fmt: skip
-#: How many names of a script are told its lines alone.
+#: For how many names of a script its lines are run alone.
 MOST_ALONE = 5
-#: Every kind of reply and every refusal that a stream can meet where replies don't depend on time.
+#: Every kind of reply and every refusal that a stream can meet if replies don't depend on time.
 STREAM_REPLIES = {
     *"81 82 83 84 85".split(),
     *(f"ff{number:02x}" for number in [1, 2, 7, 8, 9, 10, 11, 12, 13, 15, 16, 22, 24]),
@@ -56,7 +56,7 @@ class Pair:
         return ours
 
     def both_but_for_fronts(self, words: list[str], text: bytes) -> Outcome:
-        """The same, but where they end early each may have written a front of its own length."""
+        """The same, but if they end early each may have written a prefix of its own length."""
         ours, theirs = self.each(words, text)
         one_goes_on = ours.output.startswith(theirs.output) or theirs.output.startswith(ours.output)
         if (ours.status, ours.faults) != (theirs.status, theirs.faults) or not one_goes_on or ours.status == 0 and ours != theirs:
@@ -89,7 +89,7 @@ def kinds(output: bytes) -> Counter[str]:
 
 
 def hold_script(pair: Pair, numbers: Random) -> Counter[str]:
-    """A script: what is run, what each name is told alone, the audit, and its replays. The kinds of replies."""
+    """A script: what is run, the replies to each name alone, the audit, and its replays. The kinds of replies."""
     maker = ScriptMaker(numbers)
     return compare_script(pair, numbers, maker.text(), maker.host.names)
 
@@ -118,8 +118,8 @@ def compare_script(pair: Pair, numbers: Random, text: bytes, names: list[str]) -
 
 
 def compare_lives(pair: Pair, numbers: Random, text: bytes, run: Outcome, lives: Lives) -> None:
-    """Each reply is to whom it belongs, the host's are those of a table of tenants, and a life is told what a cluster of its
-    own would tell it."""
+    """Each reply is to whom it belongs, the host's are those of a table of tenants, and a life gets the replies of a
+    cluster of its own."""
     replies = run.output.splitlines()
     for wanted, reply in zip(lives.told, replies):
         if reply != wanted if wanted.startswith(b"- ") else not reply.startswith(wanted + b" "):
@@ -135,7 +135,7 @@ def compare_lives(pair: Pair, numbers: Random, text: bytes, run: Outcome, lives:
 
 
 def compare_alone(pair: Pair, text: bytes, run: Outcome | None, lives: Lives | None, name: str) -> None:
-    """A name alone is told what it is told in the whole run, life after life; where it was never open, that."""
+    """A name alone gets its replies of the whole run, life after life; or E02 if it was never open."""
     alone = pair.both(["solo", name], text)
     if run is None or lives is None:
         return

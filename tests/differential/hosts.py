@@ -65,7 +65,7 @@ class Host:
         return self.numbers.random() < self.share
 
     def is_admission(self) -> bool:
-        """Whether a tenant comes; more often where few are open."""
+        """Whether a tenant comes; more often if few are open."""
         return self.numbers.random() < (0.8 if len(self.tokens) < 2 else 0.5)
 
     def newcomer(self) -> tuple[str, int, bool]:
@@ -97,7 +97,7 @@ class Host:
         return self.last_token
 
     def leaver(self) -> tuple[str, bool]:
-        """A name, mostly of somebody who is open; and whether he is closed."""
+        """A name, mostly of an open tenant; and whether it is closed."""
         numbers = self.numbers
         absent = [*(name for name in self.names if name not in self.tokens), "zeta"]
         if not self.tokens or numbers.random() < 0.15:

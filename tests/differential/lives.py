@@ -1,7 +1,7 @@
 """The tenants of a script, told by the script alone: who is open at which line, and which lines each life of a name has.
 
-It knows nothing of what a tenant is answered. What the host is told, whose reply each line gets and who is open at the end
-it knows in full.
+It knows nothing of the replies to tenants. It knows all replies to the host, whose reply each line gets and who is open at
+the end.
 """
 
 from __future__ import annotations
@@ -37,7 +37,7 @@ class Life:
 
 
 def life_of(words: list[bytes]) -> Life | None:
-    """The life that ten words begin; None where they are of no form."""
+    """The life that ten words begin; None if they are of no form."""
     if len(words) != 10 or not _NAME.match(words[0]) or not _TOKEN.match(words[1]):
         return None
     for word, greatest in zip(words[2:], GREATEST):
@@ -62,7 +62,7 @@ class Lives:
         self.all: list[Life] = []
         for slot, line in enumerate(lines[1:begin]):
             self._open(slot, line.split(b" ")[1:])
-        #: For each line after the head its whole reply, where the host is told it, and else the name before it.
+        #: For each line after the head its whole reply if it goes to the host, and else the name before it.
         self.told = [self._told(place, line) for place, line in enumerate(lines[begin + 1 :])]
 
     def of(self, name: bytes) -> list[Life]:

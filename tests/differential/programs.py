@@ -39,7 +39,7 @@ class Programs:
         signal.signal(signal.SIGALRM, _ring)
 
     def run(self, command: list[str], text: bytes, variables: dict[str, str] | None = None) -> Outcome:
-        """The program over some input, to its end, with these variables alone. TooLong where it doesn't come to one."""
+        """The program over some input, to its end, with these variables alone. TooLong if it doesn't come to one."""
         for file in self._files:
             os.ftruncate(file, 0)
             os.lseek(file, 0, os.SEEK_SET)
@@ -81,7 +81,7 @@ def working_folder() -> tempfile.TemporaryDirectory[str]:
 
 
 def build_plain(root: pathlib.Path) -> list[str]:
-    """Builds the plain program where it isn't built, and gives its command."""
+    """Builds the plain program if it isn't built, and gives its command."""
     folder = root / "bench" / "plain"
     subprocess.run(["cargo", "build", "--quiet", "--release", "--offline", "--bin", "plain"], cwd=folder, check=True)
     return [str(folder / "target" / "release" / "plain")]

@@ -61,7 +61,7 @@ def token_text(numbers: Random, token: uuid.UUID) -> str:
 
 
 def tenant_line(numbers: Random, name: str, number: int, careful: bool) -> str:
-    """A tenant's line; where it is careful, with quotas that are seldom met."""
+    """A tenant's line; if it is careful, with quotas that are seldom met."""
     draw = numbers.random
     clocks = [0, 0, 0, 0, 1, 7, GREATEST_CLOCK - numbers.randrange(6), numbers.randrange(GREATEST_CLOCK + 1)]
     usual = {"versions": 100, "bytes": 10_000, "outbox": 10, "contexts": 4, "deps": 20, "actors": 8, "audit": 1_000}
@@ -107,7 +107,7 @@ class ScriptMaker:
         ]
         self.careful = careful
         self.host = Host(numbers, names, count == 64)
-        #: Who was open and is no longer; each with what his last life had.
+        #: The tenants that were open and no longer are; each with what its last life had.
         self.closed: list[Tenant] = []
         self.head = [f"cluster {self.data_centres} {self.shards} {self.trans_time} {self.restarts}"]
         self.head += [tenant.line for tenant in self.tenants]
@@ -204,7 +204,7 @@ class ScriptMaker:
             return
         tenant = numbers.choice(self.tenants)
         if self.closed and numbers.random() < 0.03:
-            # He goes on as if he were open still. His name may be open again.
+            # The tenant goes on as if it were still open. Its name may be open again.
             tenant = numbers.choice(self.closed)
         draw = numbers.random()
         if draw < 0.02:

@@ -129,7 +129,7 @@ class StreamMaker:
         return stream[:place] + numbers.randbytes(numbers.randrange(200))
 
     def _is_settled(self, stream: bytes) -> bool:
-        """Whether it greets in no other data centre than its tenant's, where replies would depend on carriers."""
+        """Whether it greets in no other data centre than its tenant's, if replies would depend on carriers."""
         sent = Decoder().feed(stream)
         if not sent or not isinstance(sent[0], Hello):
             return True

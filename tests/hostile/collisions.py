@@ -26,7 +26,7 @@ def other_names(count: int) -> list[str]:
 
 
 def script(tenant: Tenant, names: list[str], other: Tenant, lines: int) -> bytes:
-    """The tenant opens sessions of these names, and then another one takes steps of a hundred of his own."""
+    """The tenant opens sessions of these names, and then another one takes steps of a hundred of its own."""
     text = [head([tenant, other]).rstrip("\n")]
     text += [f"{tenant.name} open {name} 0" for name in names]
     text += [f"{other.name} open b{number} 0" for number in range(100)]

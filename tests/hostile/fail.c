@@ -1,26 +1,31 @@
 /* Lets the devices of the program that it is loaded into fail, as these variables say:
-   FAILING_KIND   "read", "write" or "accept": the calls that are meant. On standard input and output, or on sockets
-                  where FAILING_SOCKETS is set
+   FAILING_KIND   "read", "write", "accept" or "thread": the calls that are meant. Reads and writes are those on standard
+                  input and output, or on sockets if FAILING_SOCKETS is set
    FAILING_CALL   the number of the call that fails, from 1
+   FAILING_COUNT  how many calls fail from there on (1)
    FAILING_ERROR  the number of its error (EIO)
    FAILING_PIECE  how many bytes a call moves at most
    FAILING_ROOM   how many bytes writes take in all, before one fails for want of room
-   A call that fails writes the line "failed" to standard error. */
+   A call that fails writes the line "failed" to standard error.
+   With the kind "clock", every other call for the time of day, from the call of that number on, gives a year more. */
 #define _GNU_SOURCE
+#include <dlfcn.h>
 #include <errno.h>
+#include <pthread.h>
 #include <stdatomic.h>
 #include <stdlib.h>
 #include <string.h>
 #include <sys/socket.h>
 #include <sys/syscall.h>
 #include <sys/uio.h>
+#include <time.h>
 #include <unistd.h>
 
 static struct {
     int is_set;
     char kind;
     int sockets;
-    unsigned long call, error, piece;
+    unsigned long call, count, error, piece;
     long room;
 } plan;
 
@@ -39,6 +44,7 @@ __attribute__((constructor)) static void prepare(void)
     plan.kind = kind == NULL ? 0 : kind[0];
     plan.sockets = getenv("FAILING_SOCKETS") != NULL;
     plan.call = number("FAILING_CALL", 0);
+    plan.count = number("FAILING_COUNT", 1);
     plan.error = number("FAILING_ERROR", EIO);
     plan.piece = number("FAILING_PIECE", 0);
     plan.room = (long)number("FAILING_ROOM", -1UL);
@@ -58,13 +64,20 @@ static int is_meant(char kind, int device)
     return plan.is_set && plan.kind == kind && (plan.sockets ? device > 2 : device == (kind == 'w'));
 }
 
-/* How many bytes this call is to move, or -1 where it fails. */
+/* Whether this call, one of those that are meant, is one that fails. */
+static int is_failing(void)
+{
+    unsigned long call = atomic_fetch_add(&calls, 1) + 1;
+    return plan.call > 0 && call >= plan.call && call - plan.call < plan.count;
+}
+
+/* How many bytes this call is to move, or -1 if it fails. */
 static long share(char kind, int device, size_t size)
 {
     if (!is_meant(kind, device)) {
         return (long)size;
     }
-    if (atomic_fetch_add(&calls, 1) + 1 == plan.call) {
+    if (is_failing()) {
         return fail(plan.error);
     }
     if (plan.piece > 0 && size > plan.piece) {
@@ -161,7 +174,7 @@ ssize_t recvmsg(int device, struct msghdr *message, int flags)
 
 int accept4(int device, struct sockaddr *from, socklen_t *length, int flags)
 {
-    if (is_meant('a', device) && atomic_fetch_add(&calls, 1) + 1 == plan.call) {
+    if (is_meant('a', device) && is_failing()) {
         return (int)fail(plan.error);
     }
     return (int)syscall(SYS_accept4, device, from, length, flags);
@@ -170,4 +183,27 @@ int accept4(int device, struct sockaddr *from, socklen_t *length, int flags)
 int accept(int device, struct sockaddr *from, socklen_t *length)
 {
     return accept4(device, from, length, 0);
+}
+
+int pthread_create(pthread_t *thread, const pthread_attr_t *how, void *(*body)(void *), void *given)
+{
+    int (*create)(pthread_t *, const pthread_attr_t *, void *(*)(void *), void *);
+    *(void **)&create = dlsym(RTLD_NEXT, "pthread_create");
+    if (plan.is_set && plan.kind == 't' && is_failing()) {
+        fail(EAGAIN);
+        return EAGAIN;
+    }
+    return create(thread, how, body, given);
+}
+
+int clock_gettime(clockid_t clock, struct timespec *now)
+{
+    int failed = (int)syscall(SYS_clock_gettime, clock, now);
+    if (plan.is_set && plan.kind == 'c' && clock == CLOCK_REALTIME) {
+        unsigned long call = atomic_fetch_add(&calls, 1) + 1;
+        if (call >= plan.call && (call - plan.call) % 2 == 0) {
+            now->tv_sec += 365 * 24 * 60 * 60;
+        }
+    }
+    return failed;
 }

@@ -48,7 +48,7 @@ def main() -> int:
     with tempfile.TemporaryDirectory(dir=programs.memory_folder()) as folder:
         pair.prepare(pathlib.Path(folder))
         compiler = os.environ.get("CC", "cc")
-        subprocess.run([compiler, "-O2", "-shared", "-fPIC", "-o", f"{folder}/fail.so", f"{HERE}/fail.c"], check=True)
+        subprocess.run([compiler, "-O2", "-shared", "-fPIC", "-o", f"{folder}/fail.so", f"{HERE}/fail.c", "-ldl"], check=True)
         suite = unittest.defaultTestLoader.discover(str(HERE), pattern=names)
         result = unittest.TextTestRunner(stream=sys.stdout, verbosity=0, resultclass=Timed).run(suite)
     used = os.times()

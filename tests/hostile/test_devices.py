@@ -1,6 +1,6 @@
 """Standard input and output that fail.
 
-What was written is a front of the right text, and the fault comes only where the device failed: E26 for a read, E27 for a
+What was written is a prefix of the right text, and the fault comes only if the device failed: E26 for a read, E27 for a
 write.
 """
 
@@ -75,7 +75,7 @@ class Devices(unittest.TestCase):
         self.assertEqual(program(words, text, failing("read", call=len(text) + 2, piece=1)), whole)
 
     def test_each_read_fails_before_a_name_is_found_unknown(self):
-        """Whether a name was ever open is known at the end of the input, so a failure before it is told and no other."""
+        """Whether a name was ever open is known at the end of the input, so an earlier failure is reported and no other."""
         words, text = ["solo", "zeta"], SCRIPT
         unknown = Outcome(2, b"", b"cops: E02\n")
         for piece in (4_096, 29):

@@ -124,7 +124,7 @@ class Lines(unittest.TestCase):
                 self.assertEqual((outcome.status, outcome.output), (2, b""))
 
     def test_scripts_cut_at_every_byte(self):
-        """The replies to whole lines are a front of all replies. The line that was cut is answered by itself."""
+        """The replies to whole lines are a prefix of all replies. The line that was cut is answered by itself."""
         wanted = text_of(self.good)
         for cut in range(len(text_of(HEAD)), len(SCRIPT)):
             outcome = both(["run"], SCRIPT[:cut])
@@ -134,7 +134,7 @@ class Lines(unittest.TestCase):
             self.assertEqual((outcome.status, outcome.faults), (0, b""))
 
     def test_each_byte_of_a_script_is_changed(self):
-        """What is changed is acme's, so beta is told the same; as far as the head stands."""
+        """What is changed is acme's, so beta gets the same replies, as long as the head is good."""
         commands_by_turns = commands()
         for place in range(len(SCRIPT)):
             for number, text in enumerate(changes(SCRIPT, place)):

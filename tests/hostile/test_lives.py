@@ -8,7 +8,7 @@ from texts import ACME, AUDIT_HEAD, BACK, FRONT, GAMA, HEAD, LIVES, SCRIPT, TENA
 
 NEWLINE = b"\n"
 EVENTS = [*FRONT, *BACK]
-#: A short life, and what it is told.
+#: A short life, and its replies.
 LIFE = [b"gama open a 0", b"gama ctx a", b"gama put a 1 x 7", b"gama done a 0", b"gama get a 1 x y", b"gama done a 1"]
 TOLD = [b"opened", b"context 1", b"started", b"stored x 1.0", b"started", b"x=7@1.0 y=none@0.0"]
 UNKNOWN = Outcome(2, b"", b"cops: E02\n")
@@ -38,7 +38,7 @@ class Lives(unittest.TestCase):
         return outcome.output.splitlines()
 
     def test_a_life_at_each_line(self):
-        """Nobody else is told anything of it, and an audit has it only where it hasn't ended."""
+        """Nobody else's replies show it, and an audit has it only if it hasn't ended."""
         told = [b"- admitted gama", *(b"gama " + it for it in TOLD)]
         for place in range(len(EVENTS) + 1):
             for is_closed in (False, True):
@@ -61,7 +61,7 @@ class Lives(unittest.TestCase):
                         self.check(both(["replay", "gama"], text_of(audit)), [b"same 3"])
 
     def test_one_of_the_head_goes_at_each_line(self):
-        """His lines are then nobody's, and the other one is told the same. When he comes back he knows nothing."""
+        """Its lines are then nobody's, and the other tenant gets the same replies. When it comes back it has nothing."""
         again = [line.replace(b"gama ", b"acme ") for line in LIFE]
         for place in range(len(EVENTS) + 1):
             with self.subTest(place=place):
@@ -77,7 +77,7 @@ class Lives(unittest.TestCase):
                 self.check(both(["replay", "beta"], text_of(audit)), [b"same 2"])
 
     def test_who_takes_a_slot_knows_nothing_of_the_one_before(self):
-        """Whoever had the slot, and with whatever he left in it."""
+        """Whoever had the slot, and whatever was in it."""
         told = [b"gama " + it for it in TOLD]
         for place in range(len(EVENTS) + 1):
             with self.subTest(place=place):
@@ -117,7 +117,7 @@ class Lives(unittest.TestCase):
                     self.check(both(["run"], text_of(lines)), replies)
 
     def test_every_slot_is_taken_and_given_again(self):
-        """The 65th is refused. Whoever goes, the next one takes his slot, and of two free slots the lesser."""
+        """The 65th is refused. Whoever goes, the next one takes that slot, and of two free slots the lesser."""
         everybody = [b"+ " + words_of(number) for number in range(MOST)]
         full = [HEAD[0], b"begin", *everybody]
         admitted = [b"- admitted t%d" % number for number in range(MOST)]
@@ -136,7 +136,7 @@ class Lives(unittest.TestCase):
                     self.assertEqual(audit, [b"layout 2", HEAD[0], *wanted, b"begin"])
 
     def test_a_name_that_was_never_open(self):
-        """That is told at the end of the input, whatever came before it."""
+        """The end of the input refuses it, whatever came before."""
         for lines in ([*HEAD], [*HEAD, *EVENTS], LIVES, [HEAD[0], b"begin"], [HEAD[0], b"begin", b"zeta open a 0", b"+ zeta", b"- zeta"]):
             for name in ("zeta", "Zeta", "", "+", "acme ", "a" * 17, "\x7f"):
                 with self.subTest(lines=len(lines), name=name):

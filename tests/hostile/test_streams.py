@@ -1,7 +1,6 @@
 """Streams over TCP, beside those of tests/service: all tags, all lengths, and lies about what comes.
 
-What is answered is a front of the replies that a model computes, then the refusal and the end: never a reply to a request
-that wasn't sent whole.
+A prefix of the model's replies comes, then the refusal and the end: never a reply to a request that wasn't sent whole.
 """
 
 import random

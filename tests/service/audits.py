@@ -8,7 +8,7 @@ import unittest
 import service
 from service import Tenant
 
-#: The command that replays audits, where it isn't the program under test.
+#: The command that replays audits, if it isn't the program under test.
 REPLAY: list[str] = []
 
 

@@ -2,6 +2,7 @@
 
 from __future__ import annotations
 
+import os
 import pathlib
 import shlex
 import sys
@@ -29,15 +30,18 @@ class Timed(unittest.TextTestResult):
 
 def main() -> int:
     words = sys.argv[1:]
-    if words[:1] == ["--replay-by"] and len(words) > 2:
-        audits.REPLAY[:] = shlex.split(words[1])
+    while words[:1] in (["--replay-by"], ["--seconds"]) and len(words) > 2:
+        if words[0] == "--seconds":
+            service.SECONDS = float(words[1])
+        else:
+            audits.REPLAY[:] = shlex.split(words[1])
         del words[:2]
     if not words or words[0].startswith("-"):
-        print("usage: run [--replay-by COMMAND] PROGRAM [WORD ..]", file=sys.stderr)
+        print("usage: run [--replay-by COMMAND] [--seconds N] PROGRAM [WORD ..]", file=sys.stderr)
         return 2
     program = pathlib.Path(words[0])
     service.PROGRAM[:] = [str(program.resolve()) if program.exists() else str(program), *words[1:]]
-    suite = unittest.defaultTestLoader.discover(str(HERE))
+    suite = unittest.defaultTestLoader.discover(str(HERE), pattern=os.environ.get("TESTS", "test_*.py"))
     result = unittest.TextTestRunner(stream=sys.stdout, verbosity=0, resultclass=Timed).run(suite)
     failed = len(result.failures) + len(result.errors) + len(result.skipped) + len(result.unexpectedSuccesses)
     print(f"{max(result.testsRun - failed, 0)} passed, {failed} failed")

@@ -75,7 +75,7 @@ class Node:
 
 
 class Alone:
-    """All that one tenant has in his data centre."""
+    """All that one tenant has in its data centre."""
 
     def __init__(self, tenant: Tenant, shards: int, data_centre: int = 0) -> None:
         self.tenant = tenant

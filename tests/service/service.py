@@ -2,12 +2,15 @@
 
 from __future__ import annotations
 
+import contextlib
 import os
+import re
 import socket
 import subprocess
 import tempfile
 import time
 from dataclasses import dataclass
+from typing import IO, TypeVar
 
 from cops_client.client import Connection
 from cops_client.frames import Decoder, Hello, Message, Ready, encode
@@ -19,7 +22,13 @@ PROGRAM: list[str] = []
 REPLY_TIME = 10.0
 SERVICE_TIME = 20.0
 
+#: How long tests that look for what happens seldom go on, in seconds.
+SECONDS = 3.0
+
 MOST = 4_294_967_295
+
+#: What a service says of itself on standard error: where it listens, and at its end what it served.
+ITS_OWN_LINES = re.compile(r"^cops: (listening on \S+|served \d+ connections, \d+ requests, \d+ refused)\n", re.M)
 
 
 @dataclass(frozen=True)
@@ -58,6 +67,13 @@ def _free_port() -> int:
         return probe.getsockname()[1]
 
 
+def _all_of(file: IO[bytes]) -> bytes:
+    return os.pread(file.fileno(), os.fstat(file.fileno()).st_size, 0)
+
+
+Kind = TypeVar("Kind", bound="Service")
+
+
 class Service:
     """The program serving so many connections, and then ending by itself. At the end of a `with` it is gone in any case."""
 
@@ -68,36 +84,55 @@ class Service:
         self._connections = connections
         self._connected = 0
 
-    def __enter__(self) -> Service:
-        self._start()
+    def __enter__(self: Kind) -> Kind:
+        try:
+            self._start()
+        except BaseException:
+            self.__exit__()
+            raise
         return self
 
     def __exit__(self, *error: object) -> None:
         if self._process.poll() is None:
             self._process.kill()
         self._process.wait()
+        with contextlib.suppress(BrokenPipeError):
+            self.close_input()
         self._files.close()
+        self._errors.close()
 
     def _start(self) -> None:
         self.port = _free_port()
-        self._files = tempfile.TemporaryFile()
-        self._faults = tempfile.TemporaryFile()
-        self._process = subprocess.Popen(
-            [*self._program, "serve", f"127.0.0.1:{self.port}", *self._numbers],
-            stdin=subprocess.PIPE,
-            stdout=self._files,
-            stderr=self._faults,
-        )
+        self._launch(f"127.0.0.1:{self.port}", *self._numbers)
+        self.close_input()
+
+    def _launch(self, *words: str, **how: object) -> None:
+        """Starts the program and writes the head to its standard input."""
+        self._files, self._errors = tempfile.TemporaryFile(), tempfile.TemporaryFile()
+        command = [*self._program, "serve", *words]
+        self._process = subprocess.Popen(command, stdin=subprocess.PIPE, stdout=self._files, stderr=self._errors, **how)
+        self.write(self._head.encode())
+
+    def write(self, lines: bytes) -> None:
+        """Writes to the service's standard input."""
         assert self._process.stdin is not None
-        self._process.stdin.write(self._head.encode())
+        self._process.stdin.write(lines)
+        self._process.stdin.flush()
+
+    def close_input(self) -> None:
+        assert self._process.stdin is not None
         self._process.stdin.close()
 
-    def _said(self) -> str:
-        self._faults.seek(0)
-        return self._faults.read().decode(errors="replace")
+    def said(self) -> str:
+        """All of standard error so far."""
+        return _all_of(self._errors).decode(errors="replace")
+
+    def faults(self) -> str:
+        """What standard error has beside the lines that every service writes."""
+        return ITS_OWN_LINES.sub("", self.said())
 
     def stream(self) -> socket.socket:
-        """A connection to the service, which is waited for where it doesn't listen yet."""
+        """A connection to the service. Waits until it listens."""
         until = time.monotonic() + SERVICE_TIME
         while True:
             try:
@@ -111,8 +146,8 @@ class Service:
             except ConnectionRefusedError:
                 pass
             if self._process.poll() is not None:
-                if self._connected > 0 or time.monotonic() > until or "E26" not in self._said():
-                    raise AssertionError(f"the service has ended: {self._said()}")
+                if self._connected > 0 or time.monotonic() > until or "E26" not in self.said():
+                    raise AssertionError(f"the service has ended: {self.said()}")
                 # The port was taken meanwhile.
                 self._start()
             if time.monotonic() > until:
@@ -139,10 +174,17 @@ class Service:
     def audit(self) -> str:
         """Waits for the end and gives what was written then. All connections have to be made and ended before."""
         assert self._connected == self._connections, f"{self._connected} of {self._connections} connections were made"
-        status = self._process.wait(SERVICE_TIME)
-        assert (status, self._said()) == (0, ""), (status, self._said())
-        self._files.seek(0)
-        return self._files.read().decode()
+        outcome = self.status(), self.faults()
+        assert outcome == (0, ""), outcome
+        return self.written().decode()
+
+    def status(self) -> int:
+        """The status with which the service ends, once it does."""
+        return self._process.wait(SERVICE_TIME)
+
+    def written(self) -> bytes:
+        """All of standard output so far."""
+        return _all_of(self._files)
 
 
 def read_to_end(stream: socket.socket) -> bytes:
@@ -159,7 +201,7 @@ def read_to_end(stream: socket.socket) -> bytes:
 
 
 def read_some(stream: socket.socket, count: int) -> bytes:
-    """So many bytes, or less where the other side ends."""
+    """So many bytes, or fewer if the other side ends."""
     read = b""
     while len(read) < count:
         piece = stream.recv(count - len(read))

@@ -2,7 +2,7 @@
 
 A file of the folder `conversations` has what it shows, a head, and then what the client sends (`>`) and what has to come
 next from the server (`<`), in hexadecimal. `> end` is where the client ends its side. After the last line the server ends,
-of itself where the client hasn't ended.
+of itself if the client hasn't ended.
 """
 
 import pathlib

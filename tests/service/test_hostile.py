@@ -1,7 +1,6 @@
 """Streams that end early, come in pieces, or have a byte changed.
 
-What is answered is a front of what the requests would get, then the refusal and the end: never a reply to a request that
-wasn't sent whole.
+A prefix of the requests' replies comes, then the refusal and the end: never a reply to a request that wasn't sent whole.
 """
 
 import random

@@ -43,7 +43,7 @@ def random_value(numbers: random.Random) -> bytes:
 
 
 def random_request(numbers: random.Random, contexts: list[int], created: int, faulty: bool) -> Message:
-    """A request over one of the open contexts; where it may be faulty, some are refused."""
+    """A request over one of the open contexts; if it may be faulty, some are refused."""
     if not contexts or numbers.random() < 0.05:
         return CreateContext()
     handle = Handle(numbers.choice(contexts))

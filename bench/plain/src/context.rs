@@ -78,7 +78,7 @@ impl Context {
         join(&mut self.all, deps);
     }
 
-    /// The lists that a put sends, or a refusal where its key has no room.
+    /// The lists that a put sends, or a refusal if its key has no room.
     pub fn check_put(&self, key: &Key, limit: usize) -> Result<(), Fault> {
         if self.all.len() >= limit && version_of(&self.all, key).is_none() {
             return Err(Fault::DependenciesFull);

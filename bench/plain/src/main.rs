@@ -24,7 +24,7 @@ enum Command {
     Serve(String, Limits),
 }
 
-/// Takes the command line apart; None where it is of no form.
+/// Takes the command line apart; None if it is of no form.
 fn parse(words: impl Iterator<Item = OsString>) -> Option<(Command, Options)> {
     let mut options = Options {
         layout: Layout::Two,

@@ -67,7 +67,7 @@ pub struct AuditEntry {
     pub reply: Reply,
 }
 
-/// The tenant's own audit. Its length counts against the quota even where the
+/// The tenant's own audit. Its length counts against the quota even if the
 /// entries themselves are not kept.
 #[derive(Debug)]
 struct Audit {

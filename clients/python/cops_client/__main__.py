@@ -17,7 +17,7 @@ Then a command a line on standard input, each answered on standard output:
 
 {HELP}
 
-Status 0 at the end of input; 1 where the connection can't be had, is refused or ends; 2 for another command line."""
+Status 0 at the end of input; 1 if the connection isn't available, is refused or ends; 2 for another command line."""
 
 
 def _words(words: list[str]) -> tuple[str, int, uuid.UUID, int] | None:

@@ -66,8 +66,8 @@ def connect(
 ) -> Connection:
     """Connects to a server and greets it as the tenant of this token, in this data centre.
 
-    The timeout, in seconds, is that of connecting and of each reply. UnknownTenant where no tenant has the token,
-    NoSuchPlace where there is no such data centre, OSError where nobody listens.
+    The timeout, in seconds, is that of connecting and of each reply. UnknownTenant if no tenant has the token,
+    NoSuchPlace if there is no such data centre, OSError if nobody listens.
     """
     if isinstance(token, str):
         token = uuid.UUID(token)
@@ -126,17 +126,22 @@ class Connection:
         return context
 
     def send(self, *messages: Message) -> None:
-        """Sends messages without waiting for replies. Each has to be received, in order."""
+        """Sends messages without waiting for replies. Each has to be received, in order.
+
+        Receive before many are under way: a server whose replies nobody reads reads no requests either, and both wait.
+        """
         self._write(b"".join(map(encode, messages)))
 
     def receive(self) -> Message:
-        """The next reply. Where there is none (ConnectionEnded, ProtocolError, TimeoutError) the connection is closed."""
+        """The next reply. If there is none (ConnectionEnded, ProtocolError, TimeoutError) the connection is closed."""
         while not self._received:
             if self._decoder.broken:
                 self.close()
                 raise ProtocolError("the server sent what is no message")
             try:
                 piece = self._open().recv(CHUNK)
+            except ConnectionResetError:
+                piece = b""
             except BaseException:
                 self.close()
                 raise
@@ -152,8 +157,11 @@ class Connection:
         return self._stream
 
     def _write(self, frames: bytes) -> None:
+        """Writes frames. If the server takes no more, what it wrote before is still to be read: `receive` gives it."""
         try:
             self._open().sendall(frames)
+        except (BrokenPipeError, ConnectionResetError):
+            pass
         except BaseException:
             self.close()
             raise
@@ -162,7 +170,7 @@ class Connection:
         self._ask(hello, Ready)
 
     def _ask(self, frame: bytes, kind: type[_Reply]) -> _Reply:
-        """Sends a request and gives its reply, which is of this kind; raises the fault where it is refused."""
+        """Sends a request and gives its reply, which is of this kind; raises the fault if it is refused."""
         self._write(frame)
         reply = self.receive()
         if isinstance(reply, kind):
@@ -202,7 +210,7 @@ class Context:
                 raise
 
     def delete(self) -> None:
-        """Deletes the context; the connection goes on. NoContext where it is gone already."""
+        """Deletes the context; the connection goes on. NoContext if it is gone already."""
         self._connection._ask(encode(DeleteContext(self.handle)), Deleted)
         del self._connection._contexts[self.number]
 

@@ -80,7 +80,7 @@ class Handle:
 
 @dataclass(frozen=True)
 class Hello:
-    """Who is there, and which data centre he wants. The first message of a client, and of a client alone."""
+    """The client's token, and the data centre it wants. The first message of a client, and of a client alone."""
 
     token: bytes
     data_centre: int
@@ -168,7 +168,7 @@ FOUND = 1
 
 
 def _number(number: int, size: int) -> bytes:
-    """A number in so many bytes; ValueError where it doesn't fit."""
+    """A number in so many bytes; ValueError if it doesn't fit."""
     try:
         return number.to_bytes(size, "big")
     except OverflowError:
@@ -200,7 +200,7 @@ def _read(read: Read) -> bytes:
 
 
 def encode_body(message: Message) -> bytes:
-    """The body of a message's frame; ValueError where a part doesn't fit its length field."""
+    """The body of a message's frame; ValueError if a part doesn't fit its length field."""
     match message:
         case Hello(token, data_centre):
             if len(token) != 16:
@@ -233,7 +233,7 @@ def encode_body(message: Message) -> bytes:
 
 
 def encode(message: Message) -> bytes:
-    """The frame of a message; ValueError where a part doesn't fit its length field or the body is too long."""
+    """The frame of a message; ValueError if a part doesn't fit its length field or the body is too long."""
     body = encode_body(message)
     if len(body) > LONGEST_BODY:
         raise ValueError("the body is too long for a frame")
@@ -288,7 +288,7 @@ class _Parts:
 
 
 def decode(body: bytes) -> Message:
-    """The message of a body; ProtocolError where it is the body of none."""
+    """The message of a body; ProtocolError if it is the body of none."""
     parts = _Parts(body)
     tag = parts.number(1)
     message: Message

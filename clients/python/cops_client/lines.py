@@ -20,7 +20,7 @@ quit                  ends; so does the end of input"""
 
 
 def text_of(value: bytes) -> str:
-    """A value as a word: as it is where its bytes are printable and no space, else in hexadecimal after 0x."""
+    """A value as a word: as it is if its bytes are printable and no space, else in hexadecimal after 0x."""
     if value and all(0x21 <= byte <= 0x7E for byte in value) and not value.startswith(b"0x"):
         return value.decode("ascii")
     return "0x" + value.hex()
@@ -64,7 +64,7 @@ class Lines:
         return f"what is '{line.strip()}'? try: help" if reply is None else reply
 
     def _named(self, word: str) -> Context | str:
-        """The context of a number, or what is said where there is none here."""
+        """The context of a number, or what is said if there is none here."""
         context = self._contexts.get(int(word)) if word.isdecimal() else None
         return context or f"no context {word}; try: context"
 

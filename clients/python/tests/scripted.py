@@ -1,4 +1,4 @@
-"""A server that was told what it will be asked and what to answer."""
+"""A server that knows what it will be asked and what to answer."""
 
 from __future__ import annotations
 

@@ -1,4 +1,4 @@
-"""Connections, contexts and the line interface, against a server that was told what to answer."""
+"""Connections, contexts and the line interface, against a server that knows what to answer."""
 
 import socket
 import threading
@@ -104,6 +104,32 @@ class Connections(unittest.TestCase):
         with Scripted(("00000001 02", CREATE[1][:-2]), ends=True) as connection:
             with self.assertRaises(ConnectionEnded):
                 connection.context()
+
+    def test_a_refusal_is_read_though_the_server_took_no_more(self):
+        mine, its = socket.socketpair()
+        its.settimeout(5)
+        connection = Connection(its)
+        mine.sendall(frames(CREATE[1] + "00000002 ff 01"))
+        mine.close()
+        connection.send(*[CreateContext()] * 100)
+        self.assertEqual(connection.receive(), Created(Handle(1)))
+        with self.assertRaises(cops_client.Syntax):
+            connection.context()
+        with self.assertRaises(ConnectionEnded):
+            connection.context()
+        self.assertFalse(connection.is_open)
+
+    def test_a_reset_is_an_end(self):
+        listener = socket.create_server(("127.0.0.1", 0))
+        connection = Connection(socket.create_connection(listener.getsockname(), 5))
+        stream = listener.accept()[0]
+        listener.close()
+        # (an end in place of which a reset is sent)
+        stream.setsockopt(socket.SOL_SOCKET, socket.SO_LINGER, b"\1\0\0\0\0\0\0\0")
+        stream.close()
+        with self.assertRaises(ConnectionEnded):
+            connection.context()
+        self.assertFalse(connection.is_open)
 
     def test_no_reply_in_time_ends_the_connection(self):
         mine, its = socket.socketpair()

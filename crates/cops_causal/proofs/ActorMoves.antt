@@ -17,7 +17,8 @@ use Rattle.cops_model.specs.Carrier.{Carrier, Stream, carrier_after, new_carrier
 use Rattle.cops_model.specs.Carrier as carrier
 use Rattle.cops_model.specs.Causal.{Traced}
 use Rattle.cops_model.specs.Cluster.{Actor, NamedActor, OfCarrier, OfSession, SoloCluster, call_node, carrier_stepped, find_actor, find_session, has_node, session_stepped, with_actor}
-use Rattle.cops_causal.proofs.ActorsKeep.{each-with_actor, Stands, carried_to, changed, joined}
+use Rattle.cops_model.specs.Lacks.{request_dropped}
+use Rattle.cops_causal.proofs.ActorsKeep.{each-with_actor, Stands, carried_to, changed, joined, left}
 use Rattle.cops_causal.proofs.Moves.{Both, IsStream, Leads, history_after}
 use Rattle.cops_causal.proofs.Provenance.{IsTraced}
 use Rattle.cops_causal.proofs.RequestSteps.{StepLeaves, never_ended, step_leads}
@@ -31,7 +32,7 @@ module _ (config : TenantConfig) (N : List SoloNode → List Traced → Type 0) 
     pub nodes_are : N (call_node config directed.node moment directed.call c).after.nodes ts
     pub stays : (name : List ℕ) (a : Actor) → A c.nodes ts name a → A (call_node config directed.node moment directed.call c).after.nodes ts name a
 
-  -- what a step leaves at these nodes, where the history was this one: the nodes, the session of the name, and the other actors
+  -- what a step leaves at these nodes, if the history was this one: the nodes, the session of the name, and the other actors
   pub record Leaves (nodes : List SoloNode) (ts : List Traced) (name : List ℕ) (next : Session) (us : List Traced) : Type 0 where
     pub nodes_are : N nodes ts → N nodes us
     pub others_are : (other : List ℕ) (a : Actor) → key_eq other name ≡ false → A nodes ts other a → A nodes us other a
@@ -48,6 +49,7 @@ module _ (config : TenantConfig) (N : List SoloNode → List Traced → Type 0) 
         let call = call_node config directed.node moment directed.call c in StepLeaves config ts name s (Leaves call.after.nodes ts name) running (record { moment = moment; outcome = Replied call.reply })
     pub late : (running : Running) (moment : ℕ) → s.running ≡ Some running → next config (request_of s running) running.log moment ≡ Restart →
         StepLeaves config ts name s (Leaves c.nodes ts name) running (record { moment = moment; outcome = Late })
+    pub dropped : (moment : ℕ) → A c.nodes ts name (OfSession (request_dropped moment s))
 
   -- the moves of a carrier, which is gone once it has ended
   pub record CarrierMoves (c : SoloCluster) (ts : List Traced) (name : List ℕ) (k : Carrier) : Type 0 where
@@ -113,6 +115,13 @@ module _ (config : TenantConfig) (N : List SoloNode → List Traced → Type 0) 
             let of = (moves c ts inv.0 inv.1).of_carrier name k found in
             carried_to N A (call_node config directed.node moment directed.call c).after ts (called_stands c ts inv.1 moment directed (of.called moment directed e)) name _ _ (of.stepped moment directed e);
         collected = λ c ts id moment there inv. called_stands c ts inv.1 moment (record { node = id; call = node_call.Collect }) ((moves c ts inv.0 inv.1).collected id moment there);
+        dropped = λ c ts name s running moment found runs inv. changed N A c ts inv.1 name (OfSession (request_dropped moment s)) (((moves c ts inv.0 inv.1).of_session name s found).dropped moment);
+        read_dropped = λ c ts name s running moment directed keys found runs fetches e inv.
+            let of = (moves c ts inv.0 inv.1).of_session name s found in
+            let leaves = of.called running moment directed runs e in
+            changed N A (call_node config directed.node moment directed.call c).after ts (called_stands c ts inv.1 moment directed leaves) name (OfSession (request_dropped moment s))
+            (leaves.stays name (OfSession (request_dropped moment s)) (of.dropped moment));
+        carrier_dropped = λ c ts name k found inv. left N A c ts inv.1 name;
       }
 
 -- a step, of a layer that does not look at the history
@@ -155,6 +164,9 @@ nodes_lead config N B old moves =
           let after = carrier_after k (record { moment = moment; outcome = Replied call.reply }) in
           carried name after (carrier.carrier_next config.shards after.stream after.log) call.after ((moves c ts inv).by_carrier name k found moment directed e);
       collected = λ c ts id moment there inv. (moves c ts inv).collected id moment there;
+      dropped = λ c ts name s running moment found runs inv. old c ts inv;
+      read_dropped = λ c ts name s running moment directed keys found runs fetches e inv. (moves c ts inv).by_session name s found running moment directed runs e;
+      carrier_dropped = λ c ts name k found inv. old c ts inv;
     }
   where
     carried : (name : List ℕ) (after : Carrier) (n : Next Delivery) (c : SoloCluster) → N c.nodes → N (carrier_stepped name after (carrier.progress_of n) c).after.nodes

@@ -1,4 +1,4 @@
--- A step of an actor, taken apart once: what a session or a carrier does at its moment, or that nothing is to be done.
+-- A step of an actor, taken apart once: what a session or a carrier does at its timestamp, or that nothing is to be done.
 use Rattle.std.proofs.Common.{◌≡◌, ℕ, zero, suc, Bool, true, false, List, refl, ap}
 use Rattle.std.specs.Prelude.{Option, Some, None, max}
 use Rattle.std.specs.Option.{option_and_then}
@@ -64,7 +64,7 @@ module _ (config : TenantConfig) (name : List ℕ) (moment : ℕ) (c : SoloClust
 -- ---- steps until one does not go on
 
 module _ (config : TenantConfig) (name : List ℕ) (moment : ℕ) (P : SoloCluster → Type 0) (G : SoloCluster → ActEffect → Type 0) where
-  -- what holds where a step goes on, and of one step, holds of steps
+  -- what holds if a step goes on, and of one step, holds of steps
   pub by_steps : ((c : SoloCluster) → P c → G c (actor_step config name moment c)) → ((c : SoloCluster) → P c → goes_on (actor_step config name moment c).reply ≡ true → P (actor_step config name moment c).after) →
       ((c : SoloCluster) (turn : ActEffect) → P c → goes_on (actor_step config name moment c).reply ≡ true → G (actor_step config name moment c).after turn → G c turn) →
       (more : ℕ) (c : SoloCluster) → P c → G c (actor_steps more config name moment c)

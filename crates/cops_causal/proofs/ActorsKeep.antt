@@ -16,13 +16,13 @@ use Rattle.cops_model.specs.Causal.{Traced}
 use Rattle.cops_model.specs.Cluster.{SoloCluster, NamedActor, Actor, OfSession, OfCarrier, find_actor, find_session, session_in, with_actor, with_new_actor, without_actor, carrier_stepped}
 
 -- the first actor of the name
-abbrev actor_in : List ℕ → List NamedActor → Option Actor
+abbrev pub actor_in : List ℕ → List NamedActor → Option Actor
 actor_in name actors = option_map (λ a. a.actor) (find (λ a. key_eq a.name name) actors)
 
-abbrev replaced : List ℕ → Actor → NamedActor → NamedActor
+abbrev pub replaced : List ℕ → Actor → NamedActor → NamedActor
 replaced name actor a = cond (key_eq a.name name) (record { name = name; actor = actor }) a
 
--- under another name the same is found, and under this one the new actor where there was one
+-- under another name the same is found, and under this one the new actor if there was one
 actor_in-replaced : (name : List ℕ) (actor : Actor) (actors : List NamedActor) → actor_in name (map (replaced name actor) actors) ≡ option_map (λ a. actor) (actor_in name actors)
 actor_in-replaced name actor [] = refl
 actor_in-replaced name actor (a ∷ actors) =
@@ -35,7 +35,7 @@ pub find_actor-with_actor : (name : List ℕ) (actor old : Actor) (c : SoloClust
 find_actor-with_actor name actor old c found = actor_in-replaced name actor c.actors ∙ ap (option_map (λ a. actor)) found
 
 -- under another name nothing changes
-actor_in-other : (name other : List ℕ) (actor : Actor) (actors : List NamedActor) → key_eq name other ≡ false → actor_in other (map (replaced name actor) actors) ≡ actor_in other actors
+pub actor_in-other : (name other : List ℕ) (actor : Actor) (actors : List NamedActor) → key_eq name other ≡ false → actor_in other (map (replaced name actor) actors) ≡ actor_in other actors
 actor_in-other name other actor [] apart = refl
 actor_in-other name other actor (a ∷ actors) apart =
     elim (key_eq a.name name) as (λ b. key_eq a.name name ≡ b → actor_in other (map (replaced name actor) (a ∷ actors)) ≡ actor_in other (a ∷ actors)) [
@@ -44,7 +44,7 @@ actor_in-other name other actor (a ∷ actors) apart =
           ≡ option_map (λ (x : NamedActor). x.actor) (cond b (Some a) (find (λ (x : NamedActor). key_eq x.name other) actors))) [ true ↦ refl | false ↦ actor_in-other name other actor actors apart ])
     ] refl
 
-actor_in-without : (name other : List ℕ) (actors : List NamedActor) → key_eq name other ≡ false → actor_in other (filter (λ a. not (key_eq a.name name)) actors) ≡ actor_in other actors
+pub actor_in-without : (name other : List ℕ) (actors : List NamedActor) → key_eq name other ≡ false → actor_in other (filter (λ a. not (key_eq a.name name)) actors) ≡ actor_in other actors
 actor_in-without name other [] apart = refl
 actor_in-without name other (a ∷ actors) apart =
     elim (key_eq a.name name) as (λ b. key_eq a.name name ≡ b → actor_in other (filter (λ a. not (key_eq a.name name)) (a ∷ actors)) ≡ actor_in other (a ∷ actors)) [
@@ -103,7 +103,7 @@ known-with_carrier c name other k after found known =
     carrier_apart c name other k (IsKnown (with_actor name (OfCarrier after) c) other) found known
     (λ apart. ap (λ o. is_some (option_and_then session_in o)) (actor_in-other name other (OfCarrier after) c.actors apart) ∙ known)
 
-known-without : (c : SoloCluster) (name other : List ℕ) (k : Carrier) → find_actor name c ≡ Some (OfCarrier k) → IsKnown c other → IsKnown (without_actor name c) other
+pub known-without : (c : SoloCluster) (name other : List ℕ) (k : Carrier) → find_actor name c ≡ Some (OfCarrier k) → IsKnown c other → IsKnown (without_actor name c) other
 known-without c name other k found known =
     carrier_apart c name other k (IsKnown (without_actor name c) other) found known
     (λ apart. ap (λ o. is_some (option_and_then session_in o)) (actor_in-without name other c.actors apart) ∙ known)
@@ -169,9 +169,13 @@ module _ (N : List SoloNode → List Traced → Type 0) (A : List SoloNode → L
   pub joined : (name : List ℕ) (a : Actor) → A c.nodes ts name a → Stands N A (with_new_actor name a c) ts
   joined name a is = record { nodes = stands.nodes; actors = each-with_new (A c.nodes ts) c name a is stands.actors }
 
+  -- an actor is gone
+  pub left : (name : List ℕ) → Stands N A (without_actor name c) ts
+  left name = record { nodes = stands.nodes; actors = each-without (A c.nodes ts) c name stands.actors }
+
   -- a carrier has one more reply, or has ended and is gone
   pub carried_to : (name : List ℕ) (after : Carrier) (n : Next Delivery) → (((ending : Delivery) → n ≡ Ended ending → ⊥) → A c.nodes ts name (OfCarrier after)) →
       Stands N A (carrier_stepped name after (carrier.progress_of n) c).after ts
-  carried_to name after (Ended ending) is = record { nodes = stands.nodes; actors = each-without (A c.nodes ts) c name stands.actors }
+  carried_to name after (Ended ending) is = left name
   carried_to name after (Call directed) is = changed name (OfCarrier after) (is (λ ending never. cc))
   carried_to name after Restart is = changed name (OfCarrier after) (is (λ ending never. cc))

@@ -27,13 +27,12 @@ use Rattle.cops_model.specs.declared.acts.Act.{Act}
 use Rattle.cops_model.specs.declared.acts.Act.TheVariants.{Open, Create, Delete, Put, Get, Show, Carry, Step, Done, Collect}
 use Rattle.cops_model.specs.declared.replies.Reply.{Reply}
 use Rattle.cops_model.specs.declared.replies.Reply.TheVariants.{Opened, Started, Working, Restarted, Stored, Values}
-use Rattle.cops_model.specs.Causal.{Traced, Operation, Effect, operation_by, operation_ended, operations_from, effect_of, traced_from}
-use Rattle.cops_model.specs.Cluster.{ActEffect, Actor, OfCarrier, OfSession, SoloCluster, actor_step, actor_steps, call_node, carrier_stepped, cluster_step, collect_at, find_actor, find_session, goes_on, has_node, most_steps, new_cluster, reply_of_answer, reply_of_delivery, reply_of_progress, session_in, with_actor}
-use Rattle.cops_model.specs.Events.{cluster_after}
-use Rattle.cops_model.specs.Laws.{cluster_of, history_of}
+use Rattle.cops_model.specs.Causal.{Traced, Operation, Effect, effect_of, traced_from}
+use Rattle.cops_model.specs.Cluster.{ActEffect, Actor, OfCarrier, OfSession, SoloCluster, actor_step, actor_steps, call_node, carrier_stepped, cluster_step, collect_at, find_actor, find_session, goes_on, has_node, most_steps, reply_of_answer, reply_of_delivery, reply_of_progress, session_in, with_actor}
 use Rattle.cops_causal.proofs.ActorsKeep.{find_actor-with_actor}
 use Rattle.cops_causal.proofs.Moves.{IsKept, with_operation, history_after, Holds, plainly, new_actor, session_act, passes, head_passes, flipped, not_busy, stream_of, plain_collect, actor_step_keeps}
 use Rattle.cops_causal.proofs.ActorSteps.{by_step, by_steps}
+use Rattle.cops_causal.proofs.EndedOperations.{operation_by}
 
 -- the context of the request that the session of this name runs
 abbrev pub context_run : List ℕ → SoloCluster → Option ℕ
@@ -132,7 +131,7 @@ history_after-context ts c d name reply same = ap (with_operation ts) (by_effect
 
 module _ {config : TenantConfig} {P : SoloCluster → List Traced → Type 0} (kept : IsKept config P) where
   -- a step that goes on leaves the history
-  step_goes_on : (c : SoloCluster) (ts : List Traced) (name : List ℕ) (moment : ℕ) → P c ts → goes_on (actor_step config name moment c).reply ≡ true → P (actor_step config name moment c).after ts
+  pub step_goes_on : (c : SoloCluster) (ts : List Traced) (name : List ℕ) (moment : ℕ) → P c ts → goes_on (actor_step config name moment c).reply ≡ true → P (actor_step config name moment c).after ts
   step_goes_on c ts name moment p goes =
       let step = actor_step config name moment c in
       subst (λ e. P step.after (with_operation ts (option_and_then (λ effect. operation_by c effect name) e))) (plain_goes step.reply goes) (actor_step_keeps kept c ts name moment p)
@@ -183,17 +182,6 @@ module _ {config : TenantConfig} {P : SoloCluster → List Traced → Type 0} (k
   -- ---- runs
 
   -- the history is the one of all operations
-  traced_more : (ts : List Traced) (o : Option Operation) (later : List Operation) → traced_from ts (cons_option o later) ≡ traced_from (with_operation ts o) later
+  pub traced_more : (ts : List Traced) (o : Option Operation) (later : List Operation) → traced_from ts (cons_option o later) ≡ traced_from (with_operation ts o) later
   traced_more ts None later = refl
   traced_more ts (Some o) later = refl
-
-  runs_keep : (acts : List Act) (c : SoloCluster) (ts : List Traced) → P c ts → P (cluster_after config acts c) (traced_from ts (operations_from config acts c))
-  runs_keep [] c ts p = p
-  runs_keep (act ∷ acts) c ts p =
-      let turn = cluster_step config act c in
-      subst (λ h. P (cluster_after config acts turn.after) h) (sym (traced_more ts (operation_ended c act turn.reply) (operations_from config acts turn.after)))
-      (runs_keep acts turn.after (with_operation ts (operation_ended c act turn.reply)) (cluster_step_keeps act c ts p))
-
-  -- after every list of acts
-  pub after_acts : (acts : List Act) → P (new_cluster config) [] → P (cluster_of config acts) (history_of config acts)
-  after_acts acts p = runs_keep acts (new_cluster config) [] p

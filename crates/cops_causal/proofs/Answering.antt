@@ -281,6 +281,7 @@ module _ (config : TenantConfig) (some : 0 < config.shards) (c : SoloCluster) (t
           called = λ running moment directed runs e. call_answering moment directed;
           stepped = stepped_answering config some c ts inv answering name s found;
           late = late_answering config some c ts inv answering name s found;
+          dropped = λ moment. none_runs _ None refl;
         };
         of_carrier = λ name k found. record { called = λ moment directed e. call_answering moment directed; stepped = λ moment directed e open_still. tt };
         collected = λ id moment there. call_answering moment (record { node = id; call = node_call.Collect });

@@ -270,6 +270,7 @@ module _ (config : TenantConfig) (some : 0 < config.shards) (c : SoloCluster) (t
               (attempt_pushed config call.after s.dc keys log moment call.reply q (attempt_stays config c sent.node moment sent.call s.dc keys (attempt_of (Fetch keys) log) (reads_before (run number context (Fetch keys) log) runs)) at
               (λ start low. get_since config some c ts inv s.dc moment q.key this.placed q.wanted start low)));
           late = λ running moment runs e. leaving c.nodes running _ (reads_late running.action running.log moment);
+          dropped = λ moment. none_runs (HasRead c.nodes) None refl;
         }
 
   -- all moves

@@ -28,9 +28,12 @@ use Rattle.cops_model.specs.Session.{Running, Session, request_of}
 use Rattle.cops_model.specs.declared.acts.Act.{Act}
 use Rattle.cops_model.specs.Causal.{Traced}
 use Rattle.cops_model.specs.Cluster.{SoloCluster, call_node, find_session, has_node, new_cluster}
-use Rattle.cops_model.specs.Laws.{cluster_of}
+use Rattle.cops_model.specs.declared.replies.Reply.{Reply}
+use Rattle.cops_model.specs.Events.{cluster_of, solo_replies}
+use Rattle.cops_model.specs.Goes.{Goes}
 use Rattle.cops_model.specs.ListLimits.{HasFew, HasFewInAudit, HasFewInCall, HasFewInReply, HasFewPairs}
-use Rattle.cops_causal.proofs.AfterActs.{after_acts}
+use Rattle.cops_causal.proofs.AfterTurns.{after_turns}
+use Rattle.cops_causal.proofs.Runs.{goes_alone}
 use Rattle.cops_causal.proofs.Limits.{IsWithinLimits, limits_at_first, limits_kept, offered_few, room, seen_roomy}
 use Rattle.cops_causal.proofs.Moves.{Both, Leads, kept_both, IsStream}
 use Rattle.cops_causal.proofs.NodeEffects.{call_changes, node_of, number_within}
@@ -171,13 +174,16 @@ module _ (config : TenantConfig) where
   few_at_first : HasFewInAudits (new_cluster config) []
   few_at_first n = subst (HasFewInAudit config) (sym (new_nodes (config.data_centres * config.shards) n (new_node config.data_centres))) tt
 
-  -- ---- after every list of acts
+  -- ---- after every run
 
   each_node : (nodes : List SoloNode) → ((n : ℕ) → HasFewInAudit config (slice_index_or nodes n (new_node config.data_centres))) → AllByRecursion (HasFewInAudit config) nodes
   each_node [] few = tt
   each_node (node ∷ nodes) few = (few zero, each_node nodes (λ n. few (suc n)))
 
+  pub audits_few_left : 0 < config.shards → (acts : List Act) (told : List Reply) (left : SoloCluster) → Goes config acts told (new_cluster config) left → AllByRecursion (HasFewInAudit config) left.nodes
+  audits_few_left some acts told left goes =
+      let inv = after_turns (kept_both (kept_both (sound_kept config some) (limits_kept config some)) (few_kept some)) acts told left ((sound_at_first config some, limits_at_first config), few_at_first) goes in
+      each_node left.nodes inv.1
+
   pub audits_few : 0 < config.shards → (acts : List Act) → AllByRecursion (HasFewInAudit config) (cluster_of config acts).nodes
-  audits_few some acts =
-      let inv = after_acts (kept_both (kept_both (sound_kept config some) (limits_kept config some)) (few_kept some)) acts ((sound_at_first config some, limits_at_first config), few_at_first) in
-      each_node (cluster_of config acts).nodes inv.1
+  audits_few some acts = audits_few_left some acts (solo_replies config acts) (cluster_of config acts) (goes_alone config acts (new_cluster config))

@@ -1,4 +1,4 @@
--- Where a record was committed, its past was: the words of that invariant, and what a carrier's checks tell.
+-- If a record was committed, its past was: the words of that invariant, and the meaning of a carrier's checks.
 use Rattle.std.proofs.Common.{◌≡◌, ℕ, ◌+◌, ◌*◌, ◌<◌, ◌≤◌, true, List, [], ◌∷◌, ◌++◌, map, length, ◌⊎◌, inl, inr, sym, ◌∙◌, ap, subst, arith, true≢false}
 use Rattle.std.specs.Prelude.{Some, zero, suc, slice_get, ◌==◌, sum}
 use Rattle.std.proofs.lemmas.Bool.Decides.{leb_tells}
@@ -114,7 +114,7 @@ module _ (config : TenantConfig) (c : SoloCluster) (ts : List Traced) (traced : 
           let below : version_le p.version last ≡ true = ap (version_le p.version) (sym (mark-is m (node_of config c n) ∙ chain-greatest (held config c n m) (chain-left no_version (held config c n m) front.rest whole))) ∙ was in
           absurd (true≢false (sym (version_le-lt_trans p.version last p.version below (ap (version_lt last) (sym version-is) ∙ above)) ∙ version_lt-irrefl p.version))
 
-  -- where all near pairs of an entry were committed, all of its past was
+  -- if all near pairs of an entry were committed, all of its past was
   pub past-here : IsClosed config c ts → 0 < config.shards → (dc : ℕ) (e : Entry) → IsPutEntry ts e → ((n : Pair) → Among n e.near → was_committed n.version (node_of config c (home_in config dc n.key)) ≡ true) →
       (q : Pair) → Among q (past_of_put ts (pair_of_entry e)) → IsHere config c dc q
   past-here closed some dc e is checked q at_q =

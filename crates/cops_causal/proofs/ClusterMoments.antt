@@ -1,4 +1,4 @@
--- No moment of a cluster is past all those that were handed in.
+-- No timestamp of a cluster is past all those that were passed.
 use Rattle.std.proofs.Common.{◌≡◌, ℕ, ◌+◌, ◌*◌, ◌≤◌, Bool, true, false, cond, List, [], ◌∷◌, ◌++◌, refl, sym, ◌∙◌, ap, subst, arith}
 use Rattle.std.specs.Prelude.{Option, Some, None, max, length}
 use Rattle.std.specs.List.{AllByRecursion, cons_option}
@@ -23,9 +23,7 @@ use Rattle.cops_model.specs.Carrier.{new_carrier}
 use Rattle.cops_model.specs.declared.acts.Act.{Act}
 use Rattle.cops_model.specs.declared.acts.Act.TheVariants.{Open, Create, Delete, Put, Get, Show, Carry, Step, Done, Collect}
 use Rattle.cops_model.specs.Cluster.{ActEffect, Actor, OfCarrier, OfSession, SoloCluster, actor_step, actor_steps, call_node, cluster_step, find_session, most_steps, new_cluster, on_found, on_session, unless_refused, with_actor, session_stepped}
-use Rattle.cops_model.specs.Events.{cluster_after}
 use Rattle.cops_model.specs.Restarts.{moment_in, moments_in}
-use Rattle.cops_model.specs.Laws.{cluster_of}
 use Rattle.cops_causal.proofs.ActorsKeep.{actor_found, session_actor, Stands, bare, carried_to, changed, joined}
 use Rattle.cops_causal.proofs.NodeEffects.{node_of}
 use Rattle.cops_causal.proofs.NodeMoments.{turn_moment, get_gone, call_leaves}
@@ -36,7 +34,7 @@ use Rattle.cops_model.specs.Causal.{Traced}
 
 -- ---- the words
 
--- no step of an attempt came before its first, and this moment is not before it
+-- no step of an attempt came before its first, and this timestamp is not before it
 abbrev pub IsAscending : List LogStep → ℕ → Type 0
 IsAscending [] now = Unit {0}
 IsAscending (first ∷ steps) now = (first.moment ≤ now) × AllByRecursion (λ (s : LogStep). first.moment ≤ s.moment) (first ∷ steps)
@@ -46,14 +44,14 @@ IsActorWithin most name (OfSession s) = (s.moment ≤ most) × ((running : Runni
 IsActorWithin most name (OfCarrier k) = k.moment ≤ most
 
 -- so of each actor, whatever the nodes and the history
-abbrev AreActorsWithin : ℕ → List SoloNode → List Traced → List ℕ → Actor → Type 0
+abbrev pub AreActorsWithin : ℕ → List SoloNode → List Traced → List ℕ → Actor → Type 0
 AreActorsWithin most nodes ts = IsActorWithin most
 
 -- and of each node
-abbrev AreNodesWithin : TenantConfig → ℕ → List SoloNode → List Traced → Type 0
+abbrev pub AreNodesWithin : TenantConfig → ℕ → List SoloNode → List Traced → Type 0
 AreNodesWithin config most nodes ts = (n : ℕ) → (node_of config (bare nodes) n).moment ≤ most
 
--- no moment is past this one, and attempts ascend
+-- no timestamp is past this one, and attempts ascend
 abbrev pub IsWithin : TenantConfig → ℕ → SoloCluster → Type 0
 IsWithin config most c = Stands (AreNodesWithin config most) (AreActorsWithin most) c []
 
@@ -85,7 +83,7 @@ raised_within most moment Late low gone = low
 raised_within most moment (Replied (Gone now)) low gone = let high = gone now refl in omega arith
 raised_within most moment (Replied reply) low gone = low
 
--- the step's moment lies between, and so does the session's then
+-- the step's timestamp lies between, and so does the session's then
 record IsStepWithin (most : ℕ) (s : Session) (running : Running) (step : LogStep) : Type 0 where
   pub first : s.moment ≤ step.moment
   pub next : step.moment ≤ moment_after running step
@@ -110,7 +108,7 @@ stepped_within most name s running step shown runs is within = by_shown shown
 -- ---- moves
 
 module _ (config : TenantConfig) (most : ℕ) where
-  call_within : (c : SoloCluster) (id : NodeId) (moment : ℕ) (call : NodeCall) → moment ≤ most → IsWithin config most c → IsWithin config most (call_node config id moment call c).after
+  pub call_within : (c : SoloCluster) (id : NodeId) (moment : ℕ) (call : NodeCall) → moment ≤ most → IsWithin config most c → IsWithin config most (call_node config id moment call c).after
   call_within c id moment call low is =
       record {
         nodes = λ n. call_leaves config c id moment call (λ solo after. solo.moment ≤ most → after.moment ≤ most) (λ solo old. old)
@@ -118,7 +116,7 @@ module _ (config : TenantConfig) (most : ℕ) where
         actors = is.actors;
       }
 
-  changed_within : (c : SoloCluster) (name : List ℕ) (a : Actor) → IsActorWithin most name a → IsWithin config most c → IsWithin config most (with_actor name a c)
+  pub changed_within : (c : SoloCluster) (name : List ℕ) (a : Actor) → IsActorWithin most name a → IsWithin config most c → IsWithin config most (with_actor name a c)
   changed_within c name a new is = changed (AreNodesWithin config most) (AreActorsWithin most) c [] is name a new
 
   module _ (c : SoloCluster) (is : IsWithin config most c) (name : List ℕ) (s : Session) (found : find_session name c ≡ Some s) where
@@ -139,7 +137,7 @@ module _ (config : TenantConfig) (most : ℕ) where
             let now : moment_after running step ≡ step.moment = ap After again in
             record { first = first; next = omega (arith, now); last = omega (arith, now) }
 
-    -- a version that is gone brings the node's moment
+    -- a version that is gone brings the node's timestamp
     gone_within : (number context : ℕ) (action : Action) (log : List LogStep) (moment : ℕ) (directed : Directed) → moment ≤ most →
         let running : Running = record { number = number; context = context; action = action; log = log } in
         let call = call_node config directed.node moment directed.call c in
@@ -157,7 +155,7 @@ module _ (config : TenantConfig) (most : ℕ) where
         let same = is_gone.now_is in
         omega (arith, same)
 
-    -- a step that calls leaves all moments within
+    -- a step that calls leaves all timestamps within
     called_within : (running : Running) (moment : ℕ) (directed : Directed) → s.running ≡ Some running → s.moment ≤ moment → moment ≤ most → request.next config (request_of s running) running.log moment ≡ Call directed →
         let call = call_node config directed.node moment directed.call c in IsWithin config most (session_stepped config name s running (record { moment = moment; outcome = Replied call.reply }) call.after).after
     called_within running moment directed runs first low e =
@@ -175,8 +173,8 @@ module _ (config : TenantConfig) (most : ℕ) where
         changed_within c name _
         (stepped_within most name s running step (session.progress config (request_of s running) running.log step) runs session_is (step_within running step first low (λ again now gone. cc))) is
 
-    -- of any moment that is handed in
-    moment_within : (moment : ℕ) → moment ≤ most → (s.moment ≤ moment_at moment s) × (moment_at moment s ≤ most)
+    -- of any timestamp that is passed
+    pub moment_within : (moment : ℕ) → moment ≤ most → (s.moment ≤ moment_at moment s) × (moment_at moment s ≤ most)
     moment_within moment low = let old = session_is.0 in (omega arith, omega arith)
 
   pub actor_step_within : (c : SoloCluster) (name : List ℕ) (moment : ℕ) → moment ≤ most → IsWithin config most c → IsWithin config most (actor_step config name moment c).after
@@ -202,7 +200,7 @@ module _ (config : TenantConfig) (most : ℕ) where
 
   -- ---- acts
 
-  abbrev Within : ActEffect → Type 0
+  abbrev pub Within : ActEffect → Type 0
   Within turn = IsWithin config most turn.after
 
   unless_within : (refusal : Option Fault) (c : SoloCluster) (turn : ActEffect) → IsWithin config most c → Within turn → Within (unless_refused refusal c turn)
@@ -222,11 +220,11 @@ module _ (config : TenantConfig) (most : ℕ) where
       changed_within c name (OfSession (request_begun number action s))
       ((session_is c is name s found).0, only_runs (λ (r : Running). IsAscending (attempt_of r.action r.log).steps s.moment) (run s.next_request number action []) tt) is
 
-  -- the act hands in no moment past this one
-  abbrev HandsIn : Act → Type 0
+  -- the act passes no timestamp past this one
+  abbrev pub HandsIn : Act → Type 0
   HandsIn act = (moment : ℕ) → moment_in act ≡ Some moment → moment ≤ most
 
-  act_within : (act : Act) (c : SoloCluster) → HandsIn act → IsWithin config most c → Within (cluster_step config act c)
+  pub act_within : (act : Act) (c : SoloCluster) → HandsIn act → IsWithin config most c → Within (cluster_step config act c)
   act_within (Open name dc) c low is = unless_within _ c _ is (joined (AreNodesWithin config most) (AreActorsWithin most) c [] is name (OfSession (new_session dc 1)) (omega arith, λ running runs. cc))
   act_within (Create name) c low is = on_within name c _ is (λ s found. unless_within _ c _ is (changed_within c name (OfSession (context_created s)) (session_is c is name s found) is))
   act_within (Delete name number) c low is = on_within name c _ is (λ s found. unless_within _ c _ is (changed_within c name (OfSession (context_deleted number s)) (session_is c is name s found) is))
@@ -238,13 +236,7 @@ module _ (config : TenantConfig) (most : ℕ) where
   act_within (Done name moment) c low is = steps_within (most_steps config) c name moment (low moment refl) is
   act_within (Collect dc shard moment) c low is = unless_within _ c _ is (call_within c (record { dc = dc; shard = shard }) moment node_call.Collect (low moment refl) is)
 
-  -- ---- runs
-
-  acts_within : (acts : List Act) (c : SoloCluster) → AllByRecursion HandsIn acts → IsWithin config most c → IsWithin config most (cluster_after config acts c)
-  acts_within [] c low is = is
-  acts_within (act ∷ acts) c low is = acts_within acts (cluster_step config act c).after low.1 (act_within act c low.0 is)
-
-  within_at_first : IsWithin config most (new_cluster config)
+  pub within_at_first : IsWithin config most (new_cluster config)
   within_at_first =
       record {
         nodes = λ n. subst (λ (solo : SoloNode). solo.moment ≤ most) (sym (new_nodes (config.data_centres * config.shards) n (new_node config.data_centres))) (omega arith);
@@ -254,14 +246,10 @@ module _ (config : TenantConfig) (most : ℕ) where
   abbrev pub AreUpTo : List ℕ → Type 0
   AreUpTo moments = AllByRecursion (λ (m : ℕ). m ≤ most) moments
 
-  handed_in : (acts : List Act) → AreUpTo (moments_in acts) → AllByRecursion HandsIn acts
+  pub handed_in : (acts : List Act) → AreUpTo (moments_in acts) → AllByRecursion HandsIn acts
   handed_in [] low = tt
   handed_in (act ∷ acts) low = let both = by_moment (moment_in act) low in (both.0, handed_in acts both.1)
     where
       by_moment : (o : Option ℕ) → AreUpTo (cons_option o (moments_in acts)) → ((moment : ℕ) → o ≡ Some moment → moment ≤ most) × AreUpTo (moments_in acts)
       by_moment None low = (λ moment e. cc, low)
       by_moment (Some m) low = (λ moment e. let same : m ≡ moment = cc in let high = low.0 in omega (arith, same), low.1)
-
-  -- after every list of acts
-  pub all_within : (acts : List Act) → AreUpTo (moments_in acts) → IsWithin config most (cluster_of config acts)
-  all_within acts low = acts_within acts (new_cluster config) (handed_in acts low) within_at_first

@@ -1,6 +1,6 @@
--- After every list of acts, where a record was committed all of its past was.
+-- After every list of acts, if a record was committed all of its past was.
 use Rattle.std.proofs.Common.{◌≡◌, ℕ, ◌+◌, ◌*◌, ◌<◌, true, List, [], ◌∷◌, map, inl, inr, refl, sym, ◌∙◌, ap, subst, arith}
-use Rattle.std.specs.Prelude.{Some, None, nat_lt}
+use Rattle.std.specs.Prelude.{Some, None, nat_lt, not, ◌==◌}
 use Rattle.std.specs.List.{list_all}
 use Rattle.std.proofs.lemmas.Bool.Decides.{nat_tests}
 use Rattle.cops_types.specs.declared.pairs.Pair.{Pair}
@@ -16,31 +16,25 @@ use Rattle.cops_model.specs.Place.{node_number, place_of}
 use Rattle.cops_model.specs.SoloNode.{new_node, SoloNode}
 use Rattle.cops_model.specs.Carrier.{Stream, ack_call, check, commit_call, pair_of_entry, pull}
 use Rattle.cops_model.specs.Request.{Action, Fetch, Write, next}
-use Rattle.cops_model.specs.Session.{Session, Running, OpenContext, obs_of, request_of}
-use Rattle.cops_model.specs.Causal.{Traced, put_by}
-use Rattle.cops_model.specs.Cluster.{SoloCluster, OfSession, find_session, call_node}
+use Rattle.cops_model.specs.Session.{Session, Running, OpenContext, obs_of, request_of, context_created, request_begun}
+use Rattle.cops_model.specs.Causal.{Traced, put_by, past_of_put}
+use Rattle.cops_model.specs.Cluster.{SoloCluster, OfSession, find_session, call_node, new_cluster, has_node}
 use Rattle.cops_causal.proofs.Closure.{IsHere, IsFoundHere, RepliesAreHere, IsAtHome, IsActorAtHome, IsClosed, PastsAreHere}
 use Rattle.cops_causal.proofs.ClosureMoves.{pasts_called, at_home-grown, found-grown, committing-closed}
 use Rattle.cops_causal.proofs.ClosureSteps.{mine, get_here}
 use Rattle.cops_causal.proofs.Histories.{past_in, puts_of, past_of_put-Among, Among-flat_map}
 use Rattle.cops_types.proofs.Elements.{Among, Every-at, Among-cases, Among-filter, and_right, all_true}
-use Rattle.cops_causal.proofs.Moves.{IsStream, Leads, Both, kept_both}
+use Rattle.cops_causal.proofs.Moves.{IsStream, Leads, Both}
 use Rattle.cops_node.proofs.NodeTurns.{entries, Stores}
 use Rattle.cops_causal.proofs.NodeEffects.{node_of, call_changes, entries_grow}
 use Rattle.cops_types.proofs.PairSets.{Among-holds, holds-Among}
 use Rattle.cops_causal.proofs.Provenance.{IsTraced, IsPutEntry, IsSession}
-use Rattle.std.specs.Prelude.{not, ◌==◌}
-use Rattle.cops_model.specs.Session.{context_created, request_begun}
-use Rattle.cops_model.specs.declared.acts.Act.{Act}
-use Rattle.cops_model.specs.Causal.{past_of_put}
-use Rattle.cops_model.specs.Cluster.{new_cluster, has_node}
-use Rattle.cops_model.specs.Laws.{cluster_of, history_of, entries_at, is_committed_at, HasCommittedPasts}
-use Rattle.cops_causal.proofs.AfterActs.{after_acts}
+use Rattle.cops_model.specs.Laws.{committed_entries, is_committed_in, AreCommittedPasts, AtEachNode}
 use Rattle.cops_repl.proofs.CarrierStages.{Stage}
 use Rattle.cops_causal.proofs.ClosureSessions.{get_home, put_home}
-use Rattle.cops_causal.proofs.Past.{traced_kept, traced_at_first, new_nodes}
+use Rattle.cops_causal.proofs.Past.{new_nodes}
 use Rattle.cops_session.proofs.RequestReplies.{put-next, get-stepped, get-late, get-begun, call_of}
-use Rattle.cops_causal.proofs.StreamMoves.{stage_now, stream_is, flowing_kept, flowing_at_first}
+use Rattle.cops_causal.proofs.StreamMoves.{stage_now, stream_is}
 use Rattle.cops_causal.proofs.Streams.{IsFlowing, Delivered}
 use Rattle.cops_causal.proofs.TracedCalls.{home-there, unput}
 use Rattle.cops_causal.proofs.TracedIdle.{session_of, fresh_context}
@@ -158,6 +152,7 @@ module _ (config : TenantConfig) (some : 0 < config.shards) (c : SoloCluster) (t
           stepped = session_stepped_home;
           late = by_late config ts name s this (λ running moment. Leaving c.nodes running (record { moment = moment; outcome = Late })) (λ number context keys log moment runs is.
               get_home config some c ts closed.nodes name s at_home number context keys log (record { moment = moment; outcome = Late }) is.in_open (get-late (IsFoundHere config c s.dc) keys log moment));
+          dropped = λ moment. record { contexts_here = at_home.contexts_here; replies_here = none_runs _ None refl };
         }
 
   -- all moves
@@ -184,14 +179,10 @@ closed_at_first config =
       actors = tt;
     }
 
--- after every list of acts
-pub closed : (config : TenantConfig) → 0 < config.shards → (acts : List Act) → Before config (cluster_of config acts) (history_of config acts)
-closed config some acts =
-    after_acts (kept_both (kept_both (traced_kept config some) (flowing_kept config some)) (closed_kept config some)) acts ((traced_at_first config, flowing_at_first config), closed_at_first config)
-
-pub has_committed_pasts : (config : TenantConfig) → 0 < config.shards → (acts : List Act) → HasCommittedPasts config acts
-has_committed_pasts config some acts dc shard within_dc within_shard =
-    all_true (λ e. list_all (is_committed_at config acts dc) (past_of_put (history_of config acts) (pair_of_entry e))) (entries_at config acts dc shard) (λ e at_e.
-    all_true (is_committed_at config acts dc) (past_of_put (history_of config acts) (pair_of_entry e)) (λ q past.
-    let here = (closed config some acts).1.nodes dc shard within_shard e at_e q past in
-    Among-holds (map pair_of_entry (entries_at config acts dc (shard_of q.key config.shards))) q here))
+-- of a cluster with whose records their pasts are
+pub committed_at : (config : TenantConfig) (c : SoloCluster) (ts : List Traced) → PastsAreHere config c.nodes ts → AtEachNode config (λ dc shard. AreCommittedPasts ts (is_committed_in config c dc) (committed_entries config c dc shard))
+committed_at config c ts pasts dc shard within_dc within_shard =
+    all_true (λ e. list_all (is_committed_in config c dc) (past_of_put ts (pair_of_entry e))) (committed_entries config c dc shard) (λ e at_e.
+    all_true (is_committed_in config c dc) (past_of_put ts (pair_of_entry e)) (λ q past.
+    let here = pasts dc shard within_shard e at_e q past in
+    Among-holds (map pair_of_entry (committed_entries config c dc (shard_of q.key config.shards))) q here))

@@ -13,16 +13,13 @@ use Rattle.cops_types.specs.TenantConfig.{TenantConfig}
 use Rattle.cops_types.specs.Version.{Timestamp, no_version, version_eq, version_le, version_lt, version_max, greatest}
 use Rattle.cops_types.proofs.VersionOrder.{version_eq-refl, version_le-trans, version_le-antisym, version_max-left, version_max-right, version_max_is_one, version_lt-le_trans, version_lt-irrefl}
 use Rattle.cops_model.specs.SoloNode.{SoloNode}
-use Rattle.cops_model.specs.declared.acts.Act.{Act}
 use Rattle.cops_model.specs.Cluster.{SoloCluster}
-use Rattle.cops_model.specs.Laws.{cluster_of, node_at, latest_entry, entries_of, IsConvergent}
+use Rattle.cops_model.specs.Laws.{AreConvergent, node_in, latest_entry, entries_of}
 use Rattle.cops_types.proofs.KeyTests.{key_eq-true, key_eq-refl}
 use Rattle.cops_node.proofs.Chains.{of_origin, IsChain, chain-distinct, chain-above, chain-left}
 use Rattle.cops_types.proofs.Elements.{Among, Among-filter, filter-Among, Among-map, map-Among}
 use Rattle.cops_node.proofs.NodeTurns.{entries}
 use Rattle.cops_causal.proofs.NodeEffects.{node_of}
-use Rattle.cops_causal.proofs.NodesKeep.{greatest_kept}
-use Rattle.cops_causal.proofs.StreamMoves.{flowing}
 use Rattle.cops_causal.proofs.StreamNodes.{held, IsStreamed}
 use Rattle.cops_causal.proofs.TracedCalls.{exact-is}
 
@@ -123,7 +120,7 @@ latest_of_some key solo orderly e at = by_greatest (greatest-of-some (of_key key
           greatest_is = λ f there. ap (version_le f.version) is.2 ∙ below f there;
         }
 
--- the latest entry, where a key has none
+-- the latest entry, if a key has none
 latest_of_none : (key : List ℕ) (solo : SoloNode) → ((e : Entry) → Among e (entries_of key solo) → ⊥) → latest_entry key solo ≡ None
 latest_of_none key solo none = by_latest (latest key solo.recs) refl
   where
@@ -153,7 +150,7 @@ same_latest key one other orderly_one orderly_other there back = by_entries (ent
 pub in_held : (solo : SoloNode) (e : Entry) → Among e (entries solo) → Among e (of_origin e.version.node (entries solo))
 in_held solo e at = filter-Among (λ (f : Entry). f.version.node == e.version.node) e (entries solo) at ((Decides-eqb e.version.node e.version.node).1 refl)
 
--- at each node whose greatest versions are kept, where the streams flow
+-- at each node whose greatest versions are kept, if the streams flow
 pub orderly_at : (config : TenantConfig) (c : SoloCluster) → IsStreamed config c → (n : ℕ) → KeepsGreatest (node_of config c n).recs → IsOrderly (node_of config c n)
 orderly_at config c streamed n keeps =
     record {
@@ -173,15 +170,13 @@ orderly_at config c streamed n keeps =
     chain : (m : ℕ) → IsChain no_version (held config c n m)
     chain m = let front = streamed.fronts n m in chain-left no_version (held config c n m) front.rest (subst (IsChain no_version) front.whole_is (streamed.chained m))
 
-pub orderly : (config : TenantConfig) → 0 < config.shards → (acts : List Act) (n : ℕ) → IsOrderly (node_of config (cluster_of config acts) n)
-orderly config some acts n = orderly_at config (cluster_of config acts) (flowing config some acts).1.streamed n (greatest_kept config acts n)
-
 permuted : (xs ys : List Entry) → IsPermutation xs ys → (e : Entry) → Among e xs → Among e ys
 permuted xs ys same e at = let there = Contains-permutation xs ys e same (Among-Contains xs e at) in Contains-Among ys e there.0 there.1 there.2
 
-pub is_convergent : (config : TenantConfig) → 0 < config.shards → (acts : List Act) → IsConvergent config acts
-is_convergent config some acts one other shard key same =
-    let first = node_at config acts one shard in
-    let second = node_at config acts other shard in
-    same_latest key first second (orderly config some acts (one * config.shards + shard)) (orderly config some acts (other * config.shards + shard))
+-- of a cluster whose nodes are orderly
+pub convergent_at : (config : TenantConfig) (c : SoloCluster) → ((n : ℕ) → IsOrderly (node_of config c n)) → AreConvergent config c
+convergent_at config c are one other shard key same =
+    let first = node_in config c one shard in
+    let second = node_in config c other shard in
+    same_latest key first second (are (one * config.shards + shard)) (are (other * config.shards + shard))
     (permuted (entries_of key first) (entries_of key second) same) (permuted (entries_of key second) (entries_of key first) (IsPermutation-sym (entries_of key first) (entries_of key second) same))

@@ -20,12 +20,10 @@ use Rattle.cops_model.specs.Request as request
 use Rattle.cops_model.specs.Session.{Session, Running, obs_of, has_restarted, moment_at, request_of, session_after, shown}
 use Rattle.cops_session.proofs.ReplyCounts.{gets-few, replies-push, attempt-push}
 use Rattle.cops_session.proofs.RequestReplies.{put-ends, replies_in, unspent, unanswered-within}
-use Rattle.cops_model.specs.declared.acts.Act.{Act}
 use Rattle.cops_model.specs.Causal.{Traced}
-use Rattle.cops_model.specs.Cluster.{ActEffect, Actor, OfCarrier, OfSession, SoloCluster, actor_step, actor_steps, call_node, carrier_stepped, find_actor, find_session, goes_on, most_steps, reply_of_progress, session_in, session_stepped}
-use Rattle.cops_model.specs.Laws.{cluster_of, history_of, HasEndingSteps}
+use Rattle.cops_model.specs.Cluster.{ActEffect, Actor, OfCarrier, OfSession, SoloCluster, actor_step, actor_steps, call_node, carrier_stepped, find_actor, find_session, goes_on, most_steps, new_cluster, reply_of_progress, session_in, session_stepped}
 use Rattle.cops_causal.proofs.ActorsKeep.{actor_found, find_actor-with_actor}
-use Rattle.cops_causal.proofs.AfterActs.{answer_ends, delivery_ends, after_acts}
+use Rattle.cops_causal.proofs.AfterActs.{answer_ends, delivery_ends}
 use Rattle.cops_causal.proofs.Limits.{IsWithinLimits, room, offered_few, limits_kept, limits_at_first}
 use Rattle.cops_causal.proofs.Moves.{IsKept, Both, kept_both, actor_step_keeps, history_after}
 use Rattle.cops_causal.proofs.Provenance.{IsRunning}
@@ -194,10 +192,10 @@ module _ (config : TenantConfig) (c : SoloCluster) (name : List ℕ) (k : Carrie
 -- ---- runs
 
 module _ (config : TenantConfig) (some : 0 < config.shards) where
-  abbrev Bounded : SoloCluster → List Traced → Type 0
+  abbrev pub Bounded : SoloCluster → List Traced → Type 0
   Bounded = Both (IsSound config) (IsWithinLimits config)
 
-  bounded_kept : IsKept config Bounded
+  pub bounded_kept : IsKept config Bounded
   bounded_kept = kept_both (sound_kept config some) (limits_kept config some)
 
   -- a step of any actor that goes on leaves one fewer
@@ -259,8 +257,9 @@ module _ (config : TenantConfig) (some : 0 < config.shards) where
       by_replies (r ∷ rs) near = omega arith
   left_at_first c ts inv name None found = tt
 
-  pub has_ending_steps : (acts : List Act) → HasEndingSteps config acts
-  has_ending_steps acts name moment =
-      let c = cluster_of config acts in
-      let inv = after_acts bounded_kept acts (sound_at_first config some, limits_at_first config) in
-      steps_end (most_steps config) c (history_of config acts) inv name moment (left_at_first c (history_of config acts) inv name (find_actor name c) refl)
+  -- from any cluster within the limits
+  pub ends_at : (c : SoloCluster) (ts : List Traced) → Bounded c ts → (name : List ℕ) (moment : ℕ) → goes_on (actor_steps (most_steps config) config name moment c).reply ≡ false
+  ends_at c ts inv name moment = steps_end (most_steps config) c ts inv name moment (left_at_first c ts inv name (find_actor name c) refl)
+
+  pub bounded_at_first : Bounded (new_cluster config) []
+  bounded_at_first = (sound_at_first config some, limits_at_first config)

@@ -1,4 +1,4 @@
--- In every interleaving each tenant is told what he is told alone.
+-- In every interleaving each tenant gets the replies that it gets alone.
 use Rattle.std.proofs.Common.{◌≡◌, ℕ, true, false, ◌==◌, List, [], ◌∷◌, refl, sym, ◌∙◌, ap}
 use Rattle.std.proofs.lemmas.Bool.Decides.{Decides-eqb}
 use Rattle.cops_types.specs.TenantConfig.{TenantConfig}
@@ -24,12 +24,12 @@ replies-world_replies configs slot (e ∷ events) clusters =
           rw is (ih ∙ ap (replies_from (configs slot) (own slot events)) elsewhere)
     ] refl
 
--- what a tenant is told among others is what he is told alone
+-- a tenant's replies among others are those that it gets alone
 pub replies_alone : (configs : ℕ → TenantConfig) (slot : ℕ) (events : List Event) →
     replies slot events (world_replies configs events (new_clusters configs)) ≡ solo_replies (configs slot) (own slot events)
 replies_alone configs slot events = replies-world_replies configs slot events (new_clusters configs)
 
--- lists of events that agree on a tenant's own give him the same replies
+-- lists of events that agree on a tenant's own give it the same replies
 pub replies_agree : (configs others : ℕ → TenantConfig) (slot place : ℕ) (events more : List Event) → configs slot ≡ others place → own slot events ≡ own place more →
     replies slot events (world_replies configs events (new_clusters configs)) ≡ replies place more (world_replies others more (new_clusters others))
 replies_agree configs others slot place events more same_config same_acts =

@@ -7,17 +7,13 @@ use Rattle.std.proofs.lemmas.List.{map-append}
 use Rattle.cops_types.specs.declared.pairs.Pair.{Pair}
 use Rattle.cops_types.specs.Key.{key_eq}
 use Rattle.cops_types.specs.Pairs.{holds}
-use Rattle.cops_types.specs.TenantConfig.{TenantConfig}
 use Rattle.cops_types.proofs.Elements.{Among, Among-left, Among-right, Among-cases, any_intro, any_elim, and_left, and_right, and_true, or_left, or_right, or_cases, slice_get-Among, slice_get-within}
 use Rattle.cops_types.proofs.KeyTests.{key_eq-true, key_eq-refl}
 use Rattle.cops_types.proofs.PairSets.{Within, holds-Among, Among-holds}
 use Rattle.cops_types.proofs.Successive.{EachAfter, each_after-push, each_after-at, Place, place_of, get-left, get-in_front, map-get, get-map}
-use Rattle.cops_model.specs.declared.acts.Act.{Act}
-use Rattle.cops_model.specs.Causal.{Operation, Traced, put_by, returned_by, leads_to, past_after, traced_from, operations}
-use Rattle.cops_model.specs.Laws.{history_of}
-use Rattle.cops_model.specs.Precedence.{PutsAt, ReturnsAt, AreInOneContext, Precedes, Earlier, Returned, Between, HasLeastPasts}
+use Rattle.cops_model.specs.Causal.{Operation, Traced, put_by, returned_by, leads_to, past_after, traced, traced_from}
+use Rattle.cops_model.specs.Precedence.{PutsAt, ReturnsAt, AreInOneContext, Precedes, Earlier, Returned, Between, AreLeastPasts}
 use Rattle.cops_causal.proofs.Answering.{IsNext}
-use Rattle.cops_causal.proofs.Consistent.{answering}
 use Rattle.cops_causal.proofs.Histories.{given, past_after-Among, Among-past_after, flat_map-Among, Among-flat_map}
 
 -- ---- the history, place by place
@@ -180,20 +176,18 @@ module _ (ts : List Traced) (past_is : EachAfter IsTracedBy [] ts) (next : EachA
       let put = subst (λ (o : Operation). Among p (put_by o.effect)) (sym found.2) (holds-Among (put_by puts.0.effect) p puts.2) in
       precedes-gives was.0 j was.2 found.0 t found.1 at_j p (Among-left p (put_by found.0.operation.effect) found.0.past put)
 
-pub has_least_pasts : (config : TenantConfig) → 0 < config.shards → (acts : List Act) → HasLeastPasts config acts
-has_least_pasts config some acts = (same, λ place t at_t pair. subst (λ os. PastIs os place t pair) same (past place t at_t pair))
+-- of operations each of which returned what was put before it
+pub least_pasts_of : (os : List Operation) → EachAfter IsNext [] (traced os) → AreLeastPasts os
+least_pasts_of all next = (same, λ place t at_t pair. subst (λ os. PastIs os place t pair) same (past place t at_t pair))
   where
     ts : List Traced
-    ts = history_of config acts
+    ts = traced all
 
-    same : map op_of ts ≡ operations config acts
-    same = operations-traced [] (operations config acts)
+    same : map op_of ts ≡ all
+    same = operations-traced [] all
 
     past_is : EachAfter IsTracedBy [] ts
-    past_is = traced_by [] (operations config acts) tt
-
-    next : EachAfter IsNext [] ts
-    next = (answering config some acts).1.nodes.ordered
+    past_is = traced_by [] all tt
 
     PastIs : List Operation → ℕ → Traced → Pair → Type 0
     PastIs os place t pair = IsTrue (holds t.past pair) ↔ ((before : ℕ) × PutsAt os before pair × Precedes os before place)

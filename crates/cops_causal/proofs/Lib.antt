@@ -1,6 +1,6 @@
 pub mod Interleavings
 pub mod ClusterMoments
-pub mod KeptCausality
+pub mod EndedOperations
 pub mod AfterActs
 pub mod ToldHistories
 pub mod ToldOperations
@@ -14,7 +14,6 @@ pub mod ClosureMoves
 pub mod ClosureSessions
 pub mod ClosureSteps
 pub mod Committed
-pub mod Consistent
 pub mod ContextPasts
 pub mod Convergence
 pub mod EndingSteps
@@ -50,3 +49,6 @@ pub mod RequestSteps
 pub mod ActorMoves
 pub mod ActorSteps
 pub mod StreamCalls
+pub mod Runs
+pub mod AfterTurns
+pub mod TurnCausality

@@ -101,7 +101,7 @@ module _ (config : TenantConfig) where
   roomy_first : IsRoomy []
   roomy_first = (omega arith, omega arith)
 
-  -- where a put may be, the limit is above 0
+  -- if a put may be, the limit is above 0
   putting : (obs : List Observation) (key : List ℕ) → IsRoomy obs → can_put config.quota.deps obs key ≡ true → 0 < config.quota.deps
   putting obs key is can = elim (or_cases (has_key (all_of obs) key) (nat_lt (length (all_of obs)) config.quota.deps) can) [
     | inl has ↦ (let some = some_pair (all_of obs) key has in let within = is.1 in omega arith)
@@ -317,6 +317,7 @@ module _ (config : TenantConfig) where
             called = λ running moment directed runs e. call_limited moment directed (session_ready config some c ts inv name s found running moment directed runs e).there (stored_few running moment directed runs e);
             stepped = λ running moment directed runs e. leaving _ running _ runs;
             late = λ running moment runs e. leaving _ running _ runs;
+            dropped = λ moment. record { contexts = room.contexts; alike = room.alike; running = none_runs _ None refl };
           }
 
     -- ---- carriers

@@ -27,9 +27,11 @@ use Rattle.cops_model.specs.declared.acts.Act.{Act}
 use Rattle.cops_model.specs.declared.acts.Act.TheVariants.{Step}
 use Rattle.cops_model.specs.declared.replies.Reply.{Reply}
 use Rattle.cops_model.specs.declared.replies.Reply.TheVariants.{Refused}
-use Rattle.cops_model.specs.Causal.{Traced, Operation, operation_by, operation_ended, effect_of, stepped_actor, past_after}
-use Rattle.cops_model.specs.Cluster.{ActEffect, Actor, OfCarrier, OfSession, SoloCluster, actor_refusal, actor_step, call_node, carrier_stepped, find_actor, find_session, has_node, on_found, on_session, reply_of_answer, reply_of_collect, reply_of_delivery, reply_with, session_stepped, unless_refused, with_actor, with_new_actor}
+use Rattle.cops_model.specs.Causal.{Traced, Operation, effect_of, stepped_actor, past_after}
+use Rattle.cops_model.specs.Cluster.{ActEffect, Actor, OfCarrier, OfSession, SoloCluster, actor_refusal, actor_step, call_node, carrier_stepped, find_actor, find_session, has_node, on_found, on_session, reply_of_answer, reply_of_collect, reply_of_delivery, reply_with, session_stepped, unless_refused, with_actor, with_new_actor, without_actor}
+use Rattle.cops_model.specs.Lacks.{request_dropped}
 use Rattle.cops_causal.proofs.ActorSteps.{as_session, by_step}
+use Rattle.cops_causal.proofs.EndedOperations.{operation_by, operation_ended}
 
 -- the history with one more operation, if there is one
 abbrev pub with_operation : List Traced → Option Operation → List Traced
@@ -84,6 +86,14 @@ pub record Leads (config : TenantConfig) (B P : SoloCluster → List Traced → 
       P (carrier_stepped name (carrier_after k step) (carrier.delivery_progress config.shards k step) call.after).after ts
   pub collected : (c : SoloCluster) (ts : List Traced) (id : NodeId) (moment : ℕ) → has_node config id.dc id.shard ≡ true →
       B c ts → P (call_node config id moment node_call.Collect c).after ts
+  -- memory was refused: the request of a session is over before its step made a call, or after a read, or a carrier is gone
+  pub dropped : (c : SoloCluster) (ts : List Traced) (name : List ℕ) (s : Session) (running : Running) (moment : ℕ) → find_session name c ≡ Some s → s.running ≡ Some running →
+      B c ts → P (with_actor name (OfSession (request_dropped moment s)) c) ts
+  pub read_dropped : (c : SoloCluster) (ts : List Traced) (name : List ℕ) (s : Session) (running : Running) (moment : ℕ) (directed : Directed) (keys : List (List ℕ)) →
+      find_session name c ≡ Some s → s.running ≡ Some running → running.action ≡ Fetch keys → request.next config (request_of s running) running.log moment ≡ Call directed →
+      B c ts → P (with_actor name (OfSession (request_dropped moment s)) (call_node config directed.node moment directed.call c).after) ts
+  pub carrier_dropped : (c : SoloCluster) (ts : List Traced) (name : List ℕ) (k : Carrier) → find_actor name c ≡ Some (OfCarrier k) →
+      B c ts → P (without_actor name c) ts
 
 -- a property that each move keeps
 abbrev pub IsKept : (config : TenantConfig) (P : SoloCluster → List Traced → Type 0) → Type 0
@@ -201,7 +211,7 @@ module _ {config : TenantConfig} {P : SoloCluster → List Traced → Type 0} (k
     carrier_ended = λ k ending found is. plainly c ts (Step name moment) (reply_with (reply_of_delivery ending) c) (plain_answer ending) p;
   })
 
--- ---- two properties, the second kept where the first holds
+-- ---- two properties, the second kept if the first holds
 
 abbrev pub Both : (P Q : SoloCluster → List Traced → Type 0) → SoloCluster → List Traced → Type 0
 Both P Q c ts = P c ts × Q c ts
@@ -220,6 +230,9 @@ kept_both p q =
       ended = λ c ts name s running moment answer a b d both. (p.ended c ts name s running moment answer a b d both.0, q.ended c ts name s running moment answer a b d both);
       carrier_called = λ c ts name k moment directed a b both. (p.carrier_called c ts name k moment directed a b both.0, q.carrier_called c ts name k moment directed a b both);
       collected = λ c ts id moment a both. (p.collected c ts id moment a both.0, q.collected c ts id moment a both);
+      dropped = λ c ts name s running moment a b both. (p.dropped c ts name s running moment a b both.0, q.dropped c ts name s running moment a b both);
+      read_dropped = λ c ts name s running moment directed keys a b d e both. (p.read_dropped c ts name s running moment directed keys a b d e both.0, q.read_dropped c ts name s running moment directed keys a b d e both);
+      carrier_dropped = λ c ts name k a both. (p.carrier_dropped c ts name k a both.0, q.carrier_dropped c ts name k a both);
     }
 
 -- what leads from less to more leads from more to less
@@ -238,4 +251,7 @@ leads_through config B C P Q from to leads =
       ended = λ c ts name s running moment answer a b d is. to _ _ (leads.ended c ts name s running moment answer a b d (from c ts is));
       carrier_called = λ c ts name k moment directed a b is. to _ _ (leads.carrier_called c ts name k moment directed a b (from c ts is));
       collected = λ c ts id moment a is. to _ _ (leads.collected c ts id moment a (from c ts is));
+      dropped = λ c ts name s running moment a b is. to _ _ (leads.dropped c ts name s running moment a b (from c ts is));
+      read_dropped = λ c ts name s running moment directed keys a b d e is. to _ _ (leads.read_dropped c ts name s running moment directed keys a b d e (from c ts is));
+      carrier_dropped = λ c ts name k a is. to _ _ (leads.carrier_dropped c ts name k a (from c ts is));
     }

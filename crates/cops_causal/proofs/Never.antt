@@ -1,5 +1,5 @@
 -- After every list of acts, no reply and no audit has said what is never said.
-use Rattle.std.proofs.Common.{◌≡◌, ℕ, ◌+◌, ◌*◌, ◌<◌, Bool, true, false, not, ◌&&◌, ◌==◌, List, [], ◌∷◌, ◌++◌, length, refl, sym, subst, ◌⊎◌, inl, inr}
+use Rattle.std.proofs.Common.{◌≡◌, ℕ, ◌+◌, ◌<◌, Bool, true, false, not, ◌&&◌, ◌==◌, List, [], ◌∷◌, ◌++◌, length, refl, sym, subst, ◌⊎◌, inl, inr}
 use Rattle.std.specs.Prelude.{Option, Some, None, max, nat_lt, nat_le, is_some}
 use Rattle.std.specs.List.{list_all}
 use Rattle.cops_types.specs.declared.faults.Fault.{Fault}
@@ -9,7 +9,6 @@ use Rattle.cops_types.specs.Key.{is_key}
 use Rattle.cops_types.specs.Search.{first_refusal}
 use Rattle.cops_types.specs.TenantConfig.{TenantConfig}
 use Rattle.cops_types.specs.Value.{is_value}
-use Rattle.cops_model.specs.declared.calls.AuditEntry.{AuditEntry}
 use Rattle.cops_model.specs.declared.calls.NodeCall.TheVariants as node_call
 use Rattle.cops_model.specs.declared.calls.NodeId.{NodeId}
 use Rattle.cops_model.specs.declared.calls.NodeReply.{NodeReply}
@@ -28,13 +27,10 @@ use Rattle.cops_model.specs.declared.acts.Act.{Act}
 use Rattle.cops_model.specs.declared.acts.Act.TheVariants.{Open, Create, Delete, Put, Get, Show, Carry, Step, Done, Collect}
 use Rattle.cops_model.specs.declared.replies.Reply.{Reply}
 use Rattle.cops_model.specs.declared.replies.Reply.TheVariants as reply
-use Rattle.cops_model.specs.Causal.{Traced, operation_ended}
+use Rattle.cops_model.specs.Causal.{Traced}
 use Rattle.cops_model.specs.Cluster.{ActEffect, OfCarrier, SoloCluster, actor_step, actor_steps, call_node, carrier_stepped, cluster_step, collect_at, find_actor, find_session, has_node, most_steps, new_cluster, on_found, on_session, reply_of_collect, reply_of_progress, unless_refused}
-use Rattle.cops_model.specs.Events.{replies_from}
-use Rattle.cops_model.specs.Laws.{is_expected_of_node, is_expected, node_at, IsAsExpected}
-use Rattle.cops_causal.proofs.AfterActs.{cluster_step_keeps, after_acts}
-use Rattle.cops_types.proofs.Elements.{and_true, Every-true}
-use Rattle.cops_causal.proofs.Moves.{IsKept, Both, kept_both, actor_step_keeps, with_operation, history_after}
+use Rattle.cops_model.specs.Laws.{is_expected}
+use Rattle.cops_causal.proofs.Moves.{IsKept, Both, kept_both, actor_step_keeps, history_after}
 use Rattle.cops_causal.proofs.NodeAnswers.{node_fault_expected, reply_asked}
 use Rattle.cops_node.proofs.NodeTurns.{IsRefusal}
 use Rattle.cops_causal.proofs.NodeEffects.{node_of}
@@ -45,7 +41,7 @@ use Rattle.cops_causal.proofs.Unbroken.{IsFineDelivery, shown_fine, ended_fine, 
 use Rattle.cops_causal.proofs.RequestSteps.{never_ended}
 use Rattle.cops_causal.proofs.ActorSteps.{as_session, by_step, by_steps}
 
-abbrev IsFine : Reply → Type 0
+abbrev pub IsFine : Reply → Type 0
 IsFine r = is_expected r ≡ true
 
 -- ---- refusals
@@ -138,7 +134,7 @@ module _ (config : TenantConfig) (some : 0 < config.shards) where
 
   -- ---- acts
 
-  act_fine : (act : Act) (c : SoloCluster) (ts : List Traced) → Whole config c ts → IsFine (cluster_step config act c).reply
+  pub act_fine : (act : Act) (c : SoloCluster) (ts : List Traced) → Whole config c ts → IsFine (cluster_step config act c).reply
   act_fine (Open name dc) c ts inv =
       guarded ((not (nat_lt dc config.data_centres), NoSuchPlace) ∷ (is_some (find_actor name c), NameTaken) ∷ (nat_le config.quota.actors (length c.actors), ActorsFull) ∷ []) c _ refl refl
   act_fine (Create name) c ts inv = found_fine name c _ (λ s.
@@ -168,20 +164,5 @@ module _ (config : TenantConfig) (some : 0 < config.shards) where
           collect_fine call.reply (reply_asked (place_of config id) (node_of config c n) call.reply node_call.Collect (node_of config call.after n) (called config c ts inv.0 inv.1 moment (record { node = id; call = node_call.Collect }) ready).change ready.ready)
       by_there false there = refl
 
-  -- ---- runs
-
-  replies_fine : (acts : List Act) (c : SoloCluster) (ts : List Traced) → Whole config c ts → list_all is_expected (replies_from config acts c) ≡ true
-  replies_fine [] c ts inv = refl
-  replies_fine (act ∷ acts) c ts inv =
-      let turn = cluster_step config act c in
-      and_true (is_expected turn.reply) (list_all is_expected (replies_from config acts turn.after)) (act_fine act c ts inv)
-      (replies_fine acts turn.after (with_operation ts (operation_ended c act turn.reply)) (cluster_step_keeps whole_kept act c ts inv))
-
   pub whole_at_first : Whole config (new_cluster config) []
   whole_at_first = (sound_at_first config some, served_at_first config)
-
-  pub is_as_expected : (acts : List Act) → IsAsExpected config acts
-  is_as_expected acts = (
-    replies_fine acts (new_cluster config) [] whole_at_first,
-    λ dc shard in_dcs in_shards. Every-true (λ (e : AuditEntry). is_expected_of_node e.reply) (node_at config acts dc shard).trail ((after_acts whole_kept acts whole_at_first).1.nodes (dc * config.shards + shard)),
-  )

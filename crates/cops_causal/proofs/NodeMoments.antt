@@ -1,4 +1,4 @@
--- What a call does to the moments of a node and of its records.
+-- What a call does to the timestamps of a node and of its records.
 use Rattle.std.proofs.Common.{◌≡◌, ℕ, ◌+◌, ◌≤◌, ◌<◌, Bool, true, false, cond, ◌||◌, List, [], ◌∷◌, ◌++◌, inl, inr, ◌⊎◌, refl, sym, ◌∙◌, subst, arith, append-nil, set, get_or-set_same, get_or-set_other, length-set}
 use Rattle.std.specs.Prelude.{length, max, nat_lt, ◌-◌, Option, Some, None}
 use Rattle.std.specs.List.{AllByRecursion}
@@ -30,9 +30,9 @@ use Rattle.cops_node.proofs.NodeTurns.{IsRefusal}
 use Rattle.cops_model.specs.Cluster.{SoloCluster, call_node, has_node}
 use Rattle.cops_causal.proofs.NodeEffects.{node_of, IsSized, number_within}
 
--- ---- what holds of the records and the moment after a call
+-- ---- what holds of the records and the timestamp after a call
 
--- the record joins at this moment
+-- the record joins at this timestamp
 abbrev joins : Entry → ℕ → Tracked
 joins entry now = record { record_of = record { entry = entry; at = now }; removed = false }
 
@@ -67,9 +67,9 @@ module _ (place : Place) (solo : SoloNode) (P : List Tracked → ℕ → Type 0)
   effect_leaves (Ack dc version) = ack_leaves dc version (front (queue place dc solo))
   effect_leaves Collect = swept
 
--- ---- records join at the present moment
+-- ---- records join at the present timestamp
 
--- from one moment to a later one, new records have joined since the first
+-- from one timestamp to a later one, new records have joined since the first
 pub record IsLater (recs : List Tracked) (now : ℕ) (after : List Tracked) (then_now : ℕ) : Type 0 where
   pub moment_is : now ≤ then_now
   pub more : List Record
@@ -140,9 +140,9 @@ turn_long_there place moment call solo are = by_room (nat_lt (length solo.trail)
         call
     by_room false = are
 
--- ---- the moment after a call
+-- ---- the timestamp after a call
 
--- the call was refused or came at its moment, which is the node's if that was not later
+-- the call was refused or came at its timestamp, which is the node's if that was not later
 pub record IsMomentAfter (moment : ℕ) (solo : SoloNode) (turn : CallEffect) : Type 0 where
   pub come : IsRefusal turn.reply ⊎ (moment ≤ turn.after.moment)
   pub within : (most : ℕ) → solo.moment ≤ most → moment ≤ most → turn.after.moment ≤ most
@@ -160,7 +160,7 @@ turn_moment place moment call solo = by_room (nat_lt (length solo.trail) place.q
     by_room true = record { come = inr (omega (arith, same)); within = λ most old new. omega (arith, same) }
     by_room false = record { come = inl (AuditFull, refl, refl); within = λ most old new. old }
 
--- a version that is gone is answered with the node's moment
+-- a version that is gone is answered with the node's timestamp
 latest_stays : (o : Option Record) (now : ℕ) → reply_latest o ≡ Gone now → ⊥
 latest_stays (Some r) now e = cc
 latest_stays None now e = cc

@@ -12,11 +12,8 @@ use Rattle.cops_model.specs.SoloNode.{SoloNode, new_node}
 use Rattle.cops_model.specs.Step.{node_step}
 use Rattle.cops_node.proofs.Greatest.{KeepsGreatest-push, KeepsGreatest-collected}
 use Rattle.cops_node.proofs.Turns.{after_turn}
-use Rattle.cops_model.specs.declared.acts.Act.{Act}
 use Rattle.cops_model.specs.Causal.{Traced}
 use Rattle.cops_model.specs.Cluster.{SoloCluster, new_cluster, call_node}
-use Rattle.cops_model.specs.Laws.{cluster_of}
-use Rattle.cops_causal.proofs.AfterActs.{after_acts}
 use Rattle.cops_causal.proofs.Moves.{IsKept}
 use Rattle.cops_causal.proofs.NodeEffects.{node_of}
 use Rattle.cops_causal.proofs.Past.{new_nodes}
@@ -53,9 +50,6 @@ module _ (config : TenantConfig) (P : SoloNode → Type 0) (keeps : (place : Pla
   pub each_at_first : P (new_node config.data_centres) → EachNode (new_cluster config) []
   each_at_first first n = subst P (sym (new_nodes (config.data_centres * config.shards) n (new_node config.data_centres))) first
 
-  pub each_node : P (new_node config.data_centres) → (acts : List Act) → (n : ℕ) → P (node_of config (cluster_of config acts) n)
-  each_node first acts = after_acts each_kept acts (each_at_first first)
-
 -- at each node the greatest version of each key is kept
 abbrev pub AllKeepGreatest : TenantConfig → SoloCluster → List Traced → Type 0
 AllKeepGreatest config c ts = (n : ℕ) → KeepsGreatest (node_of config c n).recs
@@ -68,6 +62,3 @@ greatest_stays config = each_kept config (λ solo. KeepsGreatest solo.recs) turn
 
 pub greatest_at_first : (config : TenantConfig) → AllKeepGreatest config (new_cluster config) []
 greatest_at_first config = each_at_first config (λ solo. KeepsGreatest solo.recs) turn_keeps (λ key. refl)
-
-pub greatest_kept : (config : TenantConfig) (acts : List Act) (n : ℕ) → KeepsGreatest (node_of config (cluster_of config acts) n).recs
-greatest_kept config acts = each_node config (λ solo. KeepsGreatest solo.recs) turn_keeps (λ key. refl) acts

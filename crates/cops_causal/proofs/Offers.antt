@@ -1,4 +1,4 @@
--- What a carrier was given and what it brought: an entry of its stream, and where that stands.
+-- What a carrier was given and what it brought: an entry of its stream, and the entry's place.
 use Rattle.std.proofs.Common.{◌≡◌, ◌≢◌, ℕ, ◌+◌, ◌*◌, ◌<◌, ◌≤◌, ◌%◌, ◌/◌, true, false, List, [], ◌∷◌, ◌++◌, length, drop, ◌⊎◌, inl, inr, sym, ◌∙◌, ap, subst, arith, true≢false, get_or-set_same, get_or-set_other, length-set}
 use Rattle.std.specs.Prelude.{Some, zero, suc, slice_get, slice_index, slice_set, nat_lt, ◌==◌}
 use Rattle.std.proofs.lemmas.Bool.Decides.{nat_tests, eqb_tells, leb_tells, Decides-eqb}

@@ -1,7 +1,7 @@
 -- After every list of acts, what is stored was put, and its deps are exactly those of its put.
 use Rattle.std.proofs.Common.{◌≡◌, ℕ, ◌+◌, ◌*◌, ◌<◌, true, List, [], ◌∷◌, map, inl, inr, refl, sym, subst, arith, replicate, length}
-use Rattle.std.specs.Prelude.{Some, slice_index_or}
-use Rattle.std.specs.List.{AllByRecursion}
+use Rattle.std.specs.Prelude.{Some, None, slice_index_or}
+use Rattle.std.specs.List.{AllByRecursion, list_all}
 use Rattle.std.proofs.lemmas.Bool.Decides.{leb_tells}
 use Rattle.std.proofs.lemmas.List.{length-replicate, get_or-replicate, get_or_past}
 use Rattle.cops_types.specs.declared.records.EntryParts.{EntryParts as Entry}
@@ -9,29 +9,27 @@ use Rattle.cops_types.specs.TenantConfig.{TenantConfig}
 use Rattle.cops_model.specs.Log.{Late, Replied, Directed, Call, Restart}
 use Rattle.cops_model.specs.Place.{node_number, place_of}
 use Rattle.cops_model.specs.SoloNode.{SoloNode, new_node}
-use Rattle.cops_model.specs.Carrier.{pair_of_entry}
-use Rattle.cops_model.specs.Request.{next}
+use Rattle.cops_model.specs.Carrier.{Carrier, pair_of_entry}
+use Rattle.cops_model.specs.Request.{Fetch, next}
 use Rattle.cops_model.specs.Session.{Session, Running, request_of}
-use Rattle.cops_model.specs.declared.acts.Act.{Act}
-use Rattle.cops_model.specs.Causal.{Traced, deps_of}
-use Rattle.cops_model.specs.Cluster.{SoloCluster, new_cluster, find_session, call_node, session_stepped}
-use Rattle.std.specs.List.{list_all}
+use Rattle.cops_model.specs.Causal.{Traced, deps_of, put_by}
+use Rattle.cops_model.specs.Cluster.{OfCarrier, OfSession, SoloCluster, new_cluster, find_actor, find_session, call_node, session_stepped, with_actor, without_actor}
+use Rattle.cops_model.specs.Lacks.{request_dropped}
+use Rattle.cops_causal.proofs.ActorsKeep.{known-without, left}
 use Rattle.cops_types.specs.Pairs.{holds}
-use Rattle.cops_model.specs.Causal.{put_by}
 use Rattle.cops_causal.proofs.Histories.{flat_map-Among}
 use Rattle.cops_types.proofs.Elements.{and_true, any_intro}
 use Rattle.cops_types.proofs.PairSets.{Among-holds}
-use Rattle.cops_model.specs.Laws.{was_put, cluster_of, history_of, entries_at, HasExactDeps}
-use Rattle.cops_causal.proofs.AfterActs.{after_acts}
+use Rattle.cops_model.specs.Laws.{committed_entries, AreExactDeps, AtEachNode, was_put}
 use Rattle.cops_causal.proofs.Moves.{IsKept, history_after}
 use Rattle.cops_node.proofs.NodeTurns.{entries}
 use Rattle.cops_causal.proofs.NodeEffects.{node_of, call_changes}
-use Rattle.cops_causal.proofs.Provenance.{IsPutEntry, IsFound, IsSession, IsTraced}
+use Rattle.cops_causal.proofs.Provenance.{HoldPuts, IsActorAt, IsPutEntry, IsFound, IsSession, IsTraced}
 use Rattle.cops_session.proofs.RequestReplies.{call_of, get-stepped, get-late}
-use Rattle.cops_causal.proofs.RequestSteps.{by_call, by_late, never_ended, put_sent}
+use Rattle.cops_causal.proofs.RequestSteps.{by_call, by_late, never_ended, none_runs, put_sent}
 use Rattle.cops_causal.proofs.TracedCalls.{traced-call, get_found, home-there}
 use Rattle.cops_causal.proofs.TracedCarriers.{traced-collected, traced-carrier_called}
-use Rattle.cops_causal.proofs.TracedIdle.{session_of, traced-opened, traced-carrier_begun, traced-context_created, traced-context_deleted, traced-put_begun, traced-get_begun}
+use Rattle.cops_causal.proofs.TracedIdle.{session_changed, session_of, traced-opened, traced-carrier_begun, traced-context_created, traced-context_deleted, traced-put_begun, traced-get_begun}
 use Rattle.cops_causal.proofs.TracedPuts.{put_stepped}
 use Rattle.cops_causal.proofs.TracedSteps.{get_stepped}
 
@@ -71,6 +69,29 @@ module _ (config : TenantConfig) (some : 0 < config.shards) (c : SoloCluster) (t
       (λ number context keys log moment runs is.
       get_stepped config c ts inv name s found number context keys log (record { moment = moment; outcome = Late }) runs is.in_open (get-late (IsFound ts) keys log moment))
 
+  -- a request is over, before its call or after a read
+  dropped_is : (moment : ℕ) → IsSession config ts name (request_dropped moment s)
+  dropped_is moment = record { placed = this.placed; contexts_are = this.contexts_are; numbered = this.numbered; running_is = none_runs _ None refl }
+
+  traced-dropped : (moment : ℕ) → IsTraced config (with_actor name (OfSession (request_dropped moment s)) c) ts
+  traced-dropped moment = session_changed config c ts inv name (request_dropped moment s) (dropped_is moment)
+
+  traced-read_dropped : (running : Running) (moment : ℕ) (directed : Directed) → s.running ≡ Some running → next config (request_of s running) running.log moment ≡ Call directed →
+      (keys : List (List ℕ)) → running.action ≡ Fetch keys → IsTraced config (with_actor name (OfSession (request_dropped moment s)) (call_node config directed.node moment directed.call c).after) ts
+  traced-read_dropped = by_call config ts name s this
+      (λ running moment directed. (keys : List (List ℕ)) → running.action ≡ Fetch keys → IsTraced config (with_actor name (OfSession (request_dropped moment s)) (call_node config directed.node moment directed.call c).after) ts)
+      (λ number context key value moment runs is keys fetches. cc)
+      (λ number context keys log moment q runs is at e others fetches.
+      let sent = call_of config s.dc q in
+      let call = call_node config sent.node moment sent.call c in
+      let called = call_changes config c sent.node moment sent.call (home-there config s.dc q.key some this.placed) inv.sized in
+      session_changed config call.after ts (traced-call called ts (λ e stores. absurd stores) inv) name (request_dropped moment s) (dropped_is moment))
+
+-- a carrier is gone
+traced-carrier_dropped : (config : TenantConfig) (c : SoloCluster) (ts : List Traced) → IsTraced config c ts → (name : List ℕ) (k : Carrier) → find_actor name c ≡ Some (OfCarrier k) → IsTraced config (without_actor name c) ts
+traced-carrier_dropped config c ts inv name k found =
+    record { stands = left (HoldPuts config) (IsActorAt config) c ts inv.stands name; known = λ t at. known-without c name t.operation.session k found (inv.known t at) }
+
 -- each move keeps that all is traced to its put
 pub traced_kept : (config : TenantConfig) → 0 < config.shards → IsKept config (IsTraced config)
 traced_kept config some =
@@ -86,6 +107,9 @@ traced_kept config some =
       ended = λ c ts name s running moment a found runs e inv. absurd (never_ended config ts name s (session_of config c ts inv name s found) running moment a runs e);
       carrier_called = λ c ts name k moment directed found e inv. traced-carrier_called config c ts inv name k found some moment directed e;
       collected = λ c ts id moment there inv. traced-collected config c ts inv id moment there;
+      dropped = λ c ts name s running moment found runs inv. traced-dropped config some c ts inv name s found moment;
+      read_dropped = λ c ts name s running moment directed keys found runs fetches e inv. traced-read_dropped config some c ts inv name s found running moment directed runs e keys fetches;
+      carrier_dropped = λ c ts name k found inv. traced-carrier_dropped config c ts inv name k found;
     }
 
 -- a new cluster holds nothing
@@ -111,9 +135,6 @@ traced_at_first config =
       known = λ t at. absurd at;
     }
 
-pub traced : (config : TenantConfig) → 0 < config.shards → (acts : List Act) → IsTraced config (cluster_of config acts) (history_of config acts)
-traced config some acts = after_acts (traced_kept config some) acts (traced_at_first config)
-
 -- the deps of each stored record are exactly those of its put
 exact_deps : (ts : List Traced) (es : List Entry) → AllByRecursion (IsPutEntry ts) es → map (λ (e : Entry). e.deps) es ≡ map (λ (e : Entry). deps_of ts (pair_of_entry e)) es
 exact_deps ts [] are = refl
@@ -126,7 +147,8 @@ all_put ts (e ∷ es) are =
     and_true (was_put ts (pair_of_entry e)) (list_all (λ (e : Entry). was_put ts (pair_of_entry e)) es)
     (any_intro (λ (t : Traced). holds (put_by t.operation.effect) (pair_of_entry e)) by.0 ts by.1 (Among-holds (put_by by.0.operation.effect) (pair_of_entry e) by.2)) (all_put ts es are.1)
 
-pub has_exact_deps : (config : TenantConfig) → 0 < config.shards → (acts : List Act) → HasExactDeps config acts
-has_exact_deps config some acts dc shard within_dc within_shard =
-    let are = (traced config some acts).entries_are (dc * config.shards + shard) in
-    (all_put (history_of config acts) (entries_at config acts dc shard) are, exact_deps (history_of config acts) (entries_at config acts dc shard) are)
+-- of a cluster in which all is traced
+pub exact_deps_at : (config : TenantConfig) (c : SoloCluster) (ts : List Traced) → IsTraced config c ts → AtEachNode config (λ dc shard. AreExactDeps ts (committed_entries config c dc shard))
+exact_deps_at config c ts inv dc shard within_dc within_shard =
+    let are = inv.entries_are (dc * config.shards + shard) in
+    (all_put ts (committed_entries config c dc shard) are, exact_deps ts (committed_entries config c dc shard) are)

@@ -40,7 +40,7 @@ length-greatest ps =
     let few = length-sorted_set key_cmp keys in
     omega arith
 
--- where a key is that is there
+-- the place of a key that is there
 key_place : (ps : List Pair) (key : List ℕ) → has_key ps key ≡ true → (i : ℕ) × (i < length ps) × ((d : Pair) → (get_or ps i d).key ≡ key)
 key_place [] key h = cc
 key_place (p ∷ ps) key h = elim (or_cases (key_eq p.key key) (has_key ps key) h) [
@@ -54,7 +54,7 @@ same_key key = is_equal (key_cmp key key) (sym (key_eq-tie key key) ∙ key_eq-r
     is_equal : (o : Ordering) → is_eq o ≡ true → o ≡ Equal
     is_equal o e = (Equal-is o).0 e
 
--- where there was room for the put of a key, the list is still within the limit
+-- if there was room for the put of a key, the list is still within the limit
 pub put_within : (limit : ℕ) (ps : List Pair) (p : Pair) → IsDeps ps → length ps ≤ limit → (has_key ps p.key || nat_lt (length ps) limit) ≡ true → length (greatest_per_key (ps ++ p ∷ [])) ≤ limit
 put_within limit ps p in_order within room = elim (or_cases (has_key ps p.key) (nat_lt (length ps) limit) room) [
   | inl has ↦

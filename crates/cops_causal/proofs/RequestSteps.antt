@@ -19,13 +19,14 @@ use Rattle.cops_model.specs.declared.requests.Progress.TheVariants as session_pr
 use Rattle.cops_model.specs.Request.{Action, Write, Fetch, answer, answer_in, unless_late, attempt_of, call_after, is_late, key_home, next}
 use Rattle.cops_model.specs.Session.{Running, Session, has_restarted, obs_of, request_of, session_after, shown}
 use Rattle.cops_model.specs.Transaction.{ReadRequest, gets}
-use Rattle.cops_model.specs.Causal.{Traced, Operation, Effect, Wrote, Returned, operation_by, past_after}
+use Rattle.cops_model.specs.Causal.{Traced, Operation, Effect, Wrote, Returned, past_after}
 use Rattle.cops_model.specs.Cluster.{SoloCluster, OfSession, find_session, with_actor, reply_of_answer, reply_of_progress, session_stepped}
 use Rattle.cops_node.proofs.NodeTurns.{entries, Change, IsRefused, Answers, Joined, Taken, Stores}
 use Rattle.cops_session.proofs.RequestReplies.{Follows, call_of, get-answer, get-next, put-next, put-refused, put-stored, replies_in}
 use Rattle.cops_causal.proofs.Moves.{history_after, with_operation}
 use Rattle.cops_causal.proofs.NodeEffects.{node_of, Called}
 use Rattle.cops_causal.proofs.Provenance.{IsRunning, IsSession}
+use Rattle.cops_causal.proofs.EndedOperations.{operation_by}
 
 -- a running request, by its parts
 abbrev pub run : ℕ → ℕ → Action → List LogStep → Running

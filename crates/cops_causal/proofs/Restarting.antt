@@ -1,4 +1,4 @@
--- A transaction begins again only where a moment was handed in that is late for its attempt.
+-- A transaction begins again only if a timestamp was passed that is late for its attempt.
 use Rattle.std.proofs.Common.{◌≡◌, ℕ, ◌+◌, ◌≤◌, ◌<◌, Bool, true, false, cond, not, ◌||◌, List, [], ◌∷◌, ◌++◌, map, length, inl, inr, refl, sym, ◌∙◌, ap, subst, arith}
 use Rattle.std.specs.Prelude.{Option, Some, None, zero, suc, max, filter, nat_lt, slice_get}
 use Rattle.std.specs.List.{AllByRecursion, list_all, list_any}
@@ -42,15 +42,13 @@ use Rattle.cops_model.specs.Carrier as carrier
 use Rattle.cops_model.specs.declared.acts.Act.{Act}
 use Rattle.cops_model.specs.declared.acts.Act.TheVariants.{Step, Done}
 use Rattle.cops_model.specs.Causal.{Traced}
-use Rattle.cops_model.specs.Cluster.{SoloCluster, OfSession, OfCarrier, find_actor, find_session, call_node, reply_of_progress, reply_of_delivery, carrier_stepped, actor_step, goes_on, most_steps}
-use Rattle.cops_model.specs.Laws.{cluster_of, history_of}
-use Rattle.cops_model.specs.Restarts.{ActorStep, RestartsOnlyLate, attempt_start, ends_attempt, ends_when_due, has_passed, moment_in, moments_in, steps_from, steps_of}
+use Rattle.cops_model.specs.Cluster.{SoloCluster, OfSession, OfCarrier, find_actor, find_session, call_node, reply_of_progress, reply_of_delivery, carrier_stepped, actor_step, goes_on, most_steps, new_cluster}
+use Rattle.cops_model.specs.Restarts.{ActorStep, attempt_start, ends_attempt, ends_when_due, has_passed, moment_in, moments_in, steps_from, steps_of}
 use Rattle.cops_causal.proofs.ActorsKeep.{actor_found, session_actor}
-use Rattle.cops_causal.proofs.AfterActs.{after_acts}
 use Rattle.cops_causal.proofs.Attempts.{Every-front, IsTimed, IsActorTimed, IsReadSince, NewerRecordsAreSince, reads_before, timed_kept, timed_at_first}
 use Rattle.cops_causal.proofs.Closure.{home_in, IsHere}
 use Rattle.cops_causal.proofs.ClosureSteps.{mine}
-use Rattle.cops_causal.proofs.ClusterMoments.{IsAscending, IsActorWithin, IsWithin, AreUpTo, actor_step_within, all_within}
+use Rattle.cops_causal.proofs.ClusterMoments.{IsAscending, IsActorWithin, IsWithin, AreUpTo, actor_step_within}
 use Rattle.cops_causal.proofs.Convergence.{found_by}
 use Rattle.cops_causal.proofs.Moves.{IsKept, Both, kept_both, actor_step_keeps, history_after}
 use Rattle.cops_causal.proofs.NodeAnswers.{reply_asked}
@@ -118,7 +116,7 @@ unread (key ∷ keys) = refl
 abbrev pub Timed : TenantConfig → SoloCluster → List Traced → Type 0
 Timed config = Both (IsSound config) (IsTimed config)
 
--- the attempt has a start, and each bound of the cluster's moments and of this one is past it by more than the time
+-- the attempt has a start, and each bound of the cluster's timestamps and of this one is past it by more than the time
 record IsDue (config : TenantConfig) (c : SoloCluster) (name : List ℕ) (moment : ℕ) : Type 0 where
   pub start : ℕ
   pub starts : attempt_start name c ≡ Some start
@@ -306,7 +304,7 @@ module _ (config : TenantConfig) (some : 0 < config.shards) (c : SoloCluster) (t
         let first = first_late running.action attempt.steps moment late in
         record { start = first.0.moment; starts = starts_at running (first.0 ∷ first.1) runs first.2; past = λ most within low. let high = first.3 in omega (arith, high, low) }
 
-    -- a step uses the greatest moment so far
+    -- a step uses the greatest timestamp so far
     later_due : (moment : ℕ) → IsDue config c name (moment_at moment s) → IsDue config c name moment
     later_due moment due =
         record {
@@ -355,7 +353,7 @@ module _ (config : TenantConfig) (some : 0 < config.shards) (c : SoloCluster) (t
 
 -- ---- runs
 
--- where no moment is past this one, all are up to it
+-- if no timestamp is past this one, all are up to it
 none_past : (config : TenantConfig) (most : ℕ) (moments : List ℕ) → list_any (nat_lt most) moments ≡ false → AreUpTo config most moments
 none_past config most [] none = tt
 none_past config most (m ∷ moments) none =
@@ -366,11 +364,11 @@ none_past config most (m ∷ moments) none =
     neither false b e = (refl, e)
 
 module _ (config : TenantConfig) (some : 0 < config.shards) where
-  timed_whole : IsKept config (Timed config)
+  pub timed_whole : IsKept config (Timed config)
   timed_whole = kept_both (sound_kept config some) (timed_kept config some)
 
   module _ (moments : List ℕ) (name : List ℕ) (moment : ℕ) (given : (most : ℕ) → AreUpTo config most moments → moment ≤ most) where
-    -- the moments of a cluster are within those that were handed in
+    -- the timestamps of a cluster are within those that were passed
     abbrev HasReached : SoloCluster → Type 0
     HasReached c = (most : ℕ) → AreUpTo config most moments → IsWithin config most c
 
@@ -403,8 +401,10 @@ module _ (config : TenantConfig) (some : 0 < config.shards) where
         by_goes true rest later = later
         by_goes false rest later = refl
 
-  act_due : (before : List Act) (act : Act) → list_all (ends_when_due config (moments_in (before ++ act ∷ []))) (steps_of config act (cluster_of config before)) ≡ true
-  act_due before act = by_act act refl
+  -- from any cluster that is timed, and has reached no timestamp past those that were passed
+  pub act_due : (before : List Act) (act : Act) (c : SoloCluster) (ts : List Traced) → Timed config c ts → ((most : ℕ) → AreUpTo config most (moments_in before) → IsWithin config most c) →
+      list_all (ends_when_due config (moments_in (before ++ act ∷ []))) (steps_of config act c) ≡ true
+  act_due before act c ts inv reached = by_act act refl
     where
       moments : List ℕ
       moments = moments_in (before ++ act ∷ [])
@@ -412,16 +412,14 @@ module _ (config : TenantConfig) (some : 0 < config.shards) where
       split : (most : ℕ) → AreUpTo config most moments → AreUpTo config most (moments_in before) × AreUpTo config most (moments_in (act ∷ []))
       split most low = Every-front (λ (m : ℕ). m ≤ most) (moments_in before) (moments_in (act ∷ [])) (subst (AreUpTo config most) (filter_map-append moment_in before (act ∷ [])) low)
 
-      due : (more : ℕ) (name : List ℕ) (moment : ℕ) → ((most : ℕ) → AreUpTo config most (moments_in (act ∷ [])) → moment ≤ most) → list_all (ends_when_due config moments) (steps_from more config name moment (cluster_of config before)) ≡ true
+      due : (more : ℕ) (name : List ℕ) (moment : ℕ) → ((most : ℕ) → AreUpTo config most (moments_in (act ∷ [])) → moment ≤ most) → list_all (ends_when_due config moments) (steps_from more config name moment c) ≡ true
       due more name moment given =
-          steps_due moments name moment (λ most low. given most (split most low).1) more (cluster_of config before) (history_of config before)
-          (after_acts timed_whole before (sound_at_first config some, timed_at_first config)) (λ most low. all_within config most before (split most low).0)
+          steps_due moments name moment (λ most low. given most (split most low).1) more c ts inv (λ most low. reached most (split most low).0)
 
-      by_act : (a : Act) → act ≡ a → list_all (ends_when_due config moments) (steps_of config a (cluster_of config before)) ≡ true
+      by_act : (a : Act) → act ≡ a → list_all (ends_when_due config moments) (steps_of config a c) ≡ true
       by_act (Step name moment) is = due 0 name moment (λ most low. (subst (λ a. AreUpTo config most (moments_in (a ∷ []))) is low).0)
       by_act (Done name moment) is = due (most_steps config) name moment (λ most low. (subst (λ a. AreUpTo config most (moments_in (a ∷ []))) is low).0)
       by_act a is = refl
 
-  -- in every list of acts
-  pub restarts_only_late : (acts : List Act) → RestartsOnlyLate config acts
-  restarts_only_late acts before after act is = act_due before act
+  pub timed_first : Timed config (new_cluster config) []
+  timed_first = (sound_at_first config some, timed_at_first config)

@@ -195,6 +195,7 @@ module _ (config : TenantConfig) (some : 0 < config.shards) (c : SoloCluster) (t
           called = λ running moment directed runs e. call_served config c ts inv served moment directed (session_ready config some c ts inv name s found running moment directed runs e);
           stepped = λ running moment directed runs e. leaving _ running _ (session_turn running moment directed runs e);
           late = λ running moment runs e. leaving _ running _ (session_late_turn running moment runs e);
+          dropped = λ moment. none_runs IsFineRun None refl;
         }
 
   -- ---- carriers

@@ -1,4 +1,4 @@
--- Where no queue holds an entry, equivalent nodes show the same latest entries.
+-- If no queue holds an entry, equivalent nodes show the same latest entries.
 use Rattle.std.proofs.Common.{◌≡◌, ◌≢◌, ℕ, ◌+◌, ◌*◌, ◌<◌, ◌≤◌, ◌%◌, true, false, List, [], ◌∷◌, ◌++◌, length, drop, ◌⊎◌, inl, inr, refl, sym, ◌∙◌, ap, subst, arith, length-append, append-nil}
 use Rattle.std.specs.Prelude.{zero, suc, slice_index, nat_lt, ◌==◌, Some}
 use Rattle.std.specs.List.{AllByRecursion}
@@ -18,22 +18,20 @@ use Rattle.cops_model.specs.Place.{node_number, own_number, place_of}
 use Rattle.cops_model.specs.SoloNode.{new_node}
 use Rattle.cops_model.specs.Carrier.{Stream, ack_call, check, commit_call, pull}
 use Rattle.cops_model.specs.Request.{next}
-use Rattle.cops_model.specs.declared.acts.Act.{Act}
 use Rattle.cops_model.specs.Causal.{Traced}
 use Rattle.cops_model.specs.Cluster.{SoloCluster, new_cluster, has_node, call_node}
-use Rattle.cops_model.specs.Laws.{cluster_of, history_of, node_at, HasEmptyQueues, IsSettled}
-use Rattle.cops_causal.proofs.AfterActs.{after_acts}
+use Rattle.cops_model.specs.Laws.{AreQueuesEmpty, AreSettled, node_in}
 use Rattle.cops_repl.proofs.CarrierStages.{Stage}
 use Rattle.cops_types.proofs.Elements.{Among, Among-left, Among-filter, Every-append, Every-at, and_left, and_right}
 use Rattle.cops_node.proofs.Chains.{IsFront}
-use Rattle.cops_causal.proofs.Convergence.{orderly, same_latest, in_entries, of_entries, in_held}
-use Rattle.cops_causal.proofs.Moves.{IsStream, Leads, Both, kept_both}
+use Rattle.cops_causal.proofs.Convergence.{IsOrderly, same_latest, in_entries, of_entries, in_held}
+use Rattle.cops_causal.proofs.Moves.{IsStream, Leads, Both}
 use Rattle.cops_node.proofs.NodeTurns.{entries, Change, IsRefused, Answers, Joined, Taken, Stores}
 use Rattle.cops_causal.proofs.NodeEffects.{node_of, Called, call_changes}
 use Rattle.cops_causal.proofs.Offers.{IsOffered, origin_of, of_origin-node}
-use Rattle.cops_causal.proofs.Past.{traced_kept, traced_at_first, new_nodes}
+use Rattle.cops_causal.proofs.Past.{new_nodes}
 use Rattle.cops_causal.proofs.Provenance.{IsTraced, IsSession}
-use Rattle.cops_causal.proofs.StreamMoves.{stage_now, stream_is, flowing_kept, flowing_at_first}
+use Rattle.cops_causal.proofs.StreamMoves.{stage_now, stream_is}
 use Rattle.cops_causal.proofs.StreamNodes.{held, IsStreamed}
 use Rattle.cops_causal.proofs.Streams.{IsFlowing, Delivered}
 use Rattle.cops_causal.proofs.TracedCalls.{next-above, home-there}
@@ -140,9 +138,6 @@ equivalent_kept config some = nodes_lead config (λ nodes. AreEquivalent config 
 pub equivalent_at_first : (config : TenantConfig) → AreEquivalent config (new_cluster config) []
 equivalent_at_first config n = subst (λ solo. AllByRecursion (IsEquivalent config n) (entries solo)) (sym (new_nodes (config.data_centres * config.shards) n (new_node config.data_centres))) tt
 
-all_kept : (config : TenantConfig) → 0 < config.shards → (acts : List Act) → Before config (cluster_of config acts) (history_of config acts)
-all_kept config some acts = after_acts (kept_both (kept_both (traced_kept config some) (flowing_kept config some)) (equivalent_kept config some)) acts ((traced_at_first config, flowing_at_first config), equivalent_at_first config)
-
 -- ---- empty queues
 
 dropped : {A : Type 0} (k : ℕ) (xs : List A) → drop k xs ≡ [] → length xs ≤ k
@@ -162,15 +157,9 @@ whole_front front whole is long e at = subst (Among e) (is.whole_is ∙ ap (λ e
     nothing [] e = refl
     nothing (x ∷ es) e = absurd (omega arith)
 
-module _ (config : TenantConfig) (some : 0 < config.shards) (acts : List Act) (idle : HasEmptyQueues config acts) (shard : ℕ) (in_shards : shard < config.shards) where
-  abbrev c : SoloCluster
-  c = cluster_of config acts
-
+module _ (config : TenantConfig) (some : 0 < config.shards) (c : SoloCluster) (streamed : IsStreamed config c) (placed : AreEquivalent config c []) (idle : AreQueuesEmpty config c) (shard : ℕ) (in_shards : shard < config.shards) where
   abbrev number : ℕ → ℕ
   number dc = dc * config.shards + shard
-
-  all_here : Before config c (history_of config acts)
-  all_here = all_kept config some acts
 
   shard-of : (dc : ℕ) → number dc % config.shards ≡ shard
   shard-of dc = mod-mul-add dc config.shards shard in_shards
@@ -180,11 +169,8 @@ module _ (config : TenantConfig) (some : 0 < config.shards) (acts : List Act) (i
   everywhere one other within e at =
       (Among-filter (λ (f : Entry). f.version.node == e.version.node) e (entries (node_of config c (number other))) (by_dc (eqb_tells is.dc other))).0
     where
-      streamed : IsStreamed config c
-      streamed = all_here.0.1.streamed
-
       is : IsEquivalent config (number one) e
-      is = Every-at (IsEquivalent config (number one)) e (entries (node_of config c (number one))) (all_here.1 (number one)) at
+      is = Every-at (IsEquivalent config (number one)) e (entries (node_of config c (number one))) (placed (number one)) at
 
       origin-is : e.version.node ≡ number is.dc
       origin-is = is.issued_at ∙ ap (λ s. is.dc * config.shards + s) (shard-of one)
@@ -207,10 +193,11 @@ module _ (config : TenantConfig) (some : 0 < config.shards) (acts : List Act) (i
       by_dc (inl same) = subst (λ k. Among e (held config c k e.version.node)) (origin-is ∙ ap number same.1) at_origin
       by_dc (inr apart) = subst (λ k. Among e (held config c (number other) k)) (sym origin-is) (there apart.1)
 
-pub is_settled : (config : TenantConfig) → 0 < config.shards → (acts : List Act) → IsSettled config acts
-is_settled config some acts idle one other shard in_one in_other in_shards key =
-    let first = node_at config acts one shard in
-    let second = node_at config acts other shard in
-    same_latest key first second (orderly config some acts (one * config.shards + shard)) (orderly config some acts (other * config.shards + shard))
-    (λ e at. let is = in_entries key first e at in of_entries key second e (everywhere config some acts idle shard in_shards one other in_other e is.0) is.1)
-    (λ e at. let is = in_entries key second e at in of_entries key first e (everywhere config some acts idle shard in_shards other one in_one e is.0) is.1)
+-- of a cluster whose streams flow and whose nodes are orderly
+pub settled_at : (config : TenantConfig) → 0 < config.shards → (c : SoloCluster) → IsStreamed config c → AreEquivalent config c [] → ((n : ℕ) → IsOrderly (node_of config c n)) → AreSettled config c
+settled_at config some c streamed placed are idle one other shard in_one in_other in_shards key =
+    let first = node_in config c one shard in
+    let second = node_in config c other shard in
+    same_latest key first second (are (one * config.shards + shard)) (are (other * config.shards + shard))
+    (λ e at. let is = in_entries key first e at in of_entries key second e (everywhere config some c streamed placed idle shard in_shards one other in_other e is.0) is.1)
+    (λ e at. let is = in_entries key second e at in of_entries key first e (everywhere config some c streamed placed idle shard in_shards other one in_one e is.0) is.1)

@@ -1,11 +1,8 @@
 -- All that each move keeps, together.
 use Rattle.std.proofs.Common.{◌<◌, List, []}
 use Rattle.cops_types.specs.TenantConfig.{TenantConfig}
-use Rattle.cops_model.specs.declared.acts.Act.{Act}
 use Rattle.cops_model.specs.Causal.{Traced}
 use Rattle.cops_model.specs.Cluster.{SoloCluster, new_cluster}
-use Rattle.cops_model.specs.Laws.{cluster_of, history_of}
-use Rattle.cops_causal.proofs.AfterActs.{after_acts}
 use Rattle.cops_causal.proofs.Closure.{IsClosed}
 use Rattle.cops_causal.proofs.Committed.{closed_kept, closed_at_first}
 use Rattle.cops_causal.proofs.Moves.{IsKept, Both, kept_both, leads_through}
@@ -53,7 +50,3 @@ module _ (config : TenantConfig) (some : 0 < config.shards) where
 
   pub sound_at_first : IsSound config (new_cluster config) []
   sound_at_first = record { traced = traced_at_first config; flowing = flowing_at_first config; closed = closed_at_first config; equivalent = equivalent_at_first config; keeps = greatest_at_first config }
-
-  -- after every list of acts
-  pub sound : (acts : List Act) → IsSound config (cluster_of config acts) (history_of config acts)
-  sound acts = after_acts sound_kept acts sound_at_first

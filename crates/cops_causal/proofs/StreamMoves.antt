@@ -14,7 +14,7 @@ use Rattle.cops_model.specs.declared.calls.NodeReply.{NodeReply}
 use Rattle.cops_model.specs.declared.calls.NodeReply.TheVariants.{Checked, Committed, Already}
 use Rattle.cops_model.specs.Log.{LogStep, Replied, Directed, Call}
 use Rattle.cops_model.specs.Place.{node_number, place_of}
-use Rattle.cops_model.specs.SoloNode.{SoloNode, queue, front}
+use Rattle.cops_model.specs.SoloNode.{SoloNode, queue, front, new_node}
 use Rattle.cops_model.specs.Step.{was_committed, reply_pull}
 use Rattle.cops_model.specs.declared.deliveries.Progress.{Progress}
 use Rattle.cops_model.specs.declared.deliveries.Progress.TheVariants as carrier_progress
@@ -23,12 +23,13 @@ use Rattle.cops_model.specs.Carrier as carrier
 use Rattle.cops_model.specs.Request.{next}
 use Rattle.cops_model.specs.Session.{Session, Running, obs_of, request_of}
 use Rattle.cops_model.specs.Causal.{Traced}
-use Rattle.cops_model.specs.Cluster.{SoloCluster, Actor, OfSession, OfCarrier, find_actor, with_actor, with_new_actor, without_actor, call_node, carrier_stepped, find_session}
+use Rattle.cops_model.specs.Cluster.{SoloCluster, Actor, OfSession, OfCarrier, find_actor, with_actor, with_new_actor, without_actor, call_node, carrier_stepped, find_session, new_cluster}
+use Rattle.cops_model.specs.Lacks.{request_dropped}
 use Rattle.cops_causal.proofs.ActorsKeep.{actor_found, each-with_actor, each-with_new, each-without}
 use Rattle.cops_repl.proofs.CarrierCalls.{carrier-next}
 use Rattle.cops_repl.proofs.CarrierStages.{Stage, stage, carrier-stepped}
 use Rattle.cops_node.proofs.Chains.{of_origin, IsChain, front-same, IsFront}
-use Rattle.cops_causal.proofs.Moves.{IsStream, Leads, Both, kept_both}
+use Rattle.cops_causal.proofs.Moves.{IsStream, Leads, Both}
 use Rattle.cops_node.proofs.NodeTurns.{entries, Change, IsRefused, Answers, Joined, Taken, Stores, Takes}
 use Rattle.cops_causal.proofs.NodeEffects.{node_of, Called, call_changes, entries_grow}
 use Rattle.cops_causal.proofs.Offers.{of_origin-node, IsOffered, IsArrived, origin_of, end_of, pulled-offered, committed-arrived, offered-joins, arrived-taken}
@@ -36,12 +37,7 @@ use Rattle.cops_causal.proofs.Provenance.{IsTraced, IsActor}
 use Rattle.cops_causal.proofs.StreamNodes.{held, MayJoin, streamed_called, held-here}
 use Rattle.cops_causal.proofs.TracedCalls.{home-there}
 use Rattle.cops_causal.proofs.TracedIdle.{session_of}
-use Rattle.cops_model.specs.SoloNode.{new_node}
-use Rattle.cops_model.specs.declared.acts.Act.{Act}
-use Rattle.cops_model.specs.Cluster.{new_cluster}
-use Rattle.cops_model.specs.Laws.{cluster_of, history_of}
-use Rattle.cops_causal.proofs.AfterActs.{after_acts}
-use Rattle.cops_causal.proofs.Past.{traced_kept, traced_at_first, new_nodes}
+use Rattle.cops_causal.proofs.Past.{new_nodes}
 use Rattle.cops_causal.proofs.Streams.{DeliveredBy, Delivered, OnStream, IsFlowing, committed-grown, offered-grown, arrived-grown, still_at, carriers_called, carriers_same, put-joins, on_stream-grown}
 use Rattle.std.proofs.lemmas.Bool.Decides.{leb_tells}
 use Rattle.cops_causal.proofs.RequestSteps.{by_call, put_sent}
@@ -63,6 +59,13 @@ module _ (config : TenantConfig) (some : 0 < config.shards) (c : SoloCluster) (t
       record {
         streamed = record { chained = inv.streamed.chained; fronts = inv.streamed.fronts; acked_held = inv.streamed.acked_held };
         carriers = (let after = with_new_actor name a c in each-with_new (OnStream config after) c name a is (carriers_same config c after.actors inv.carriers));
+      }
+
+  pub flowing-without : (name : List ℕ) → IsFlowing config (without_actor name c) ts
+  flowing-without name =
+      record {
+        streamed = record { chained = inv.streamed.chained; fronts = inv.streamed.fronts; acked_held = inv.streamed.acked_held };
+        carriers = (let after = without_actor name c in each-without (OnStream config after) c name (carriers_same config c after.actors inv.carriers));
       }
 
   -- a call that stores nothing and takes nothing
@@ -250,6 +253,10 @@ flowing_kept config some =
       collected = λ c ts id moment there inv.
           let call = call_node config id moment node_call.Collect c in
           flowing-called config some c ts inv.1 call.after id node_call.Collect call.reply (call_changes config c id moment node_call.Collect there inv.0.sized) (λ e stores. absurd stores) (λ acked takes. absurd takes);
+      dropped = λ c ts name s running moment found runs inv. flowing-session config some c ts inv.1 name (request_dropped moment s) ts;
+      read_dropped = λ c ts name s running moment directed keys found runs fetches e inv.
+          flowing-session config some (call_node config directed.node moment directed.call c).after ts (flowing-session_called config some c ts inv.1 inv.0 name s found running moment directed runs e) name (request_dropped moment s) ts;
+      carrier_dropped = λ c ts name k found inv. flowing-without config some c ts inv.1 name;
     }
 
 no_entries : (config : TenantConfig) (n m : ℕ) → held config (new_cluster config) n m ≡ []
@@ -274,7 +281,3 @@ flowing_at_first config =
       };
       carriers = tt;
     }
-
--- after every list of acts all is traced, and the streams flow
-pub flowing : (config : TenantConfig) → 0 < config.shards → (acts : List Act) → Both (IsTraced config) (IsFlowing config) (cluster_of config acts) (history_of config acts)
-flowing config some acts = after_acts (kept_both (traced_kept config some) (flowing_kept config some)) acts (traced_at_first config, flowing_at_first config)

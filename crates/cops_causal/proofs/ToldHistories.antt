@@ -1,7 +1,7 @@
--- The operations that a tenant reads off his acts and the replies to them are those of his cluster.
+-- The operations that a tenant derives from its acts and replies are those of its cluster.
 use Rattle.std.proofs.Common.{◌≡◌, ℕ, Bool, not, List, [], ◌∷◌, refl, sym, ◌∙◌, ap, subst}
 use Rattle.std.specs.Prelude.{Option, Some, None, max, nat_lt, length}
-use Rattle.std.specs.List.{cons_option, list_all}
+use Rattle.std.specs.List.{list_all}
 use Rattle.std.specs.Option.{option_map, option_and_then}
 use Rattle.cops_types.specs.declared.faults.Fault.{Fault}
 use Rattle.cops_types.specs.declared.faults.Fault.TheVariants.{Syntax, BadKey, ValueTooLong, NoSuchPlace}
@@ -25,26 +25,26 @@ use Rattle.cops_model.specs.declared.acts.Act.{Act}
 use Rattle.cops_model.specs.declared.acts.Act.TheVariants.{Open, Create, Delete, Put, Get, Show, Carry, Step, Done, Collect}
 use Rattle.cops_model.specs.declared.replies.Reply.{Reply}
 use Rattle.cops_model.specs.declared.replies.Reply.TheVariants.{Opened, Created, Deleted, Started, Lists}
-use Rattle.cops_model.specs.Causal.{Operation, Effect, effect_of, operation_by, operation_ended, operations, operations_from, stepped_actor}
-use Rattle.cops_model.specs.Cluster.{ActEffect, Actor, OfCarrier, OfSession, SoloCluster, actor_refusal, actor_step, actor_steps, call_node, carrier_stepped, cluster_step, collect_at, find_actor, find_session, has_node, has_stream, most_steps, new_cluster, on_found, reply_with, session_in, session_stepped, unless_refused, with_actor, with_new_actor}
-use Rattle.cops_model.specs.Events.{replies_from, solo_replies}
-use Rattle.cops_model.specs.Told.{Contexts, contexts_after, operation_of, operation_told, operations_told, operations_told_from, with_context}
+use Rattle.cops_model.specs.Causal.{Operation, Effect, effect_of, stepped_actor}
+use Rattle.cops_model.specs.Cluster.{ActEffect, Actor, OfCarrier, OfSession, SoloCluster, actor_refusal, actor_step, actor_steps, call_node, carrier_stepped, cluster_step, collect_at, find_actor, find_session, has_node, has_stream, most_steps, on_found, reply_with, session_in, session_stepped, unless_refused, with_actor, with_new_actor}
+use Rattle.cops_model.specs.Told.{Contexts, contexts_after, operation_of, operation_told, with_context}
 use Rattle.cops_causal.proofs.ActorsKeep.{EachActor, actor_found, each-with_actor, each-with_new, each-without, session_actor}
 use Rattle.cops_causal.proofs.AfterActs.{context_run, operation_by-context}
 use Rattle.cops_causal.proofs.ToldOperations.{Runs, actor_step_runs, actor_steps_run}
 use Rattle.cops_causal.proofs.ActorSteps.{by_step, by_steps}
+use Rattle.cops_causal.proofs.EndedOperations.{operation_by, operation_ended}
 
 -- the context of what an actor runs
-abbrev context_in : Actor → Option ℕ
+abbrev pub context_in : Actor → Option ℕ
 context_in (OfSession s) = option_map (λ (r : Running). r.context) s.running
 context_in (OfCarrier k) = None
 
 -- what an actor runs is of the context that is known
-abbrev IsKnownTo : Contexts → List ℕ → Actor → Type 0
+abbrev pub IsKnownTo : Contexts → List ℕ → Actor → Type 0
 IsKnownTo contexts name actor = (n : ℕ) → context_in actor ≡ Some n → contexts name ≡ Some n
 
 -- so is what each actor runs
-abbrev Knows : Contexts → SoloCluster → Type 0
+abbrev pub Knows : Contexts → SoloCluster → Type 0
 Knows contexts c = EachActor (IsKnownTo contexts) c
 
 context_found : (found : Option Actor) (n : ℕ) → option_map (λ (r : Running). r.context) (option_and_then (λ (s : Session). s.running) (option_and_then session_in found)) ≡ Some n →
@@ -62,7 +62,7 @@ known_context contexts c name n knows runs =
 -- ---- steps
 
 module _ (config : TenantConfig) (contexts : Contexts) (name : List ℕ) where
-  replaced_knows : (c : SoloCluster) (actor : Actor) → IsKnownTo contexts name actor → Knows contexts c → Knows contexts (with_actor name actor c)
+  pub replaced_knows : (c : SoloCluster) (actor : Actor) → IsKnownTo contexts name actor → Knows contexts c → Knows contexts (with_actor name actor c)
   replaced_knows c actor new knows = each-with_actor (IsKnownTo contexts) (IsKnownTo contexts) c name actor new (λ other a apart h. h) knows
 
   after_knows : (s : Session) (running : Running) (step : LogStep) (shown : Progress) → s.running ≡ Some running → IsKnownTo contexts name (OfSession s) →
@@ -85,7 +85,7 @@ module _ (config : TenantConfig) (contexts : Contexts) (name : List ℕ) where
   carrier_stepped_knows after carrier_progress.Working c knows = replaced_knows c (OfCarrier after) (idle_carrier after) knows
   carrier_stepped_knows after (carrier_progress.Done ending) c knows = each-without (IsKnownTo contexts) c name knows
 
-  step_knows : (moment : ℕ) (c : SoloCluster) → Knows contexts c → Knows contexts (actor_step config name moment c).after
+  pub step_knows : (moment : ℕ) (c : SoloCluster) → Knows contexts c → Knows contexts (actor_step config name moment c).after
   step_knows moment c knows = by_step config name moment c (λ turn. Knows contexts turn.after) (record {
     unknown = knows;
     idle = knows;
@@ -104,7 +104,7 @@ module _ (config : TenantConfig) (contexts : Contexts) (name : List ℕ) where
 -- ---- acts
 
 -- a turn after which what each actor runs is known
-abbrev KnowsAfter : Contexts → Act → ActEffect → Type 0
+abbrev pub KnowsAfter : Contexts → Act → ActEffect → Type 0
 KnowsAfter contexts act turn = Knows (contexts_after act turn.reply contexts) turn.after
 
 by_refusal : (refusal : Option Fault) (c : SoloCluster) (turn : ActEffect) (G : ActEffect → Type 0) → ((fault : Fault) → G (unless_refused (Some fault) c turn)) → G turn → G (unless_refused refusal c turn)
@@ -141,7 +141,7 @@ module _ (config : TenantConfig) (contexts : Contexts) (c : SoloCluster) (knows 
       (λ n e. rw (key_eq-refl name) (sym runs ∙ e))
       (λ other a apart known n e. rw apart (known n e)) knows
 
-knows_after : (config : TenantConfig) (contexts : Contexts) (act : Act) (c : SoloCluster) → Knows contexts c → KnowsAfter contexts act (cluster_step config act c)
+pub knows_after : (config : TenantConfig) (contexts : Contexts) (act : Act) (c : SoloCluster) → Knows contexts c → KnowsAfter contexts act (cluster_step config act c)
 knows_after config contexts (Open name dc) c knows = joins config contexts c knows (nat_lt dc config.data_centres) name (OfSession (new_session dc 1)) Opened (λ n e. cc)
 knows_after config contexts (Create name) c knows = stays config contexts c knows name context_created (λ s. Created s.next_context) (create_refusal config) (λ s. refl)
 knows_after config contexts (Delete name number) c knows = stays config contexts c knows name (context_deleted number) (λ s. Deleted) (context_refusal number) (λ s. refl)
@@ -176,8 +176,8 @@ knows_after config contexts (Collect dc shard moment) c knows =
 
 -- ---- the operation of each act
 
--- who is told the end of an operation runs it
-act_runs : (config : TenantConfig) (act : Act) (c : SoloCluster) (name : List ℕ) → stepped_actor act ≡ Some name → Runs c name (cluster_step config act c).reply
+-- a reply that ends an operation goes to an actor that runs it
+pub act_runs : (config : TenantConfig) (act : Act) (c : SoloCluster) (name : List ℕ) → stepped_actor act ≡ Some name → Runs c name (cluster_step config act c).reply
 act_runs config (Step other moment) c name is = let same : other ≡ name = cc in subst (λ n. Runs c n (actor_step config other moment c).reply) same (actor_step_runs config c other moment)
 act_runs config (Done other moment) c name is =
     let same : other ≡ name = cc in subst (λ n. Runs c n (actor_steps (most_steps config) config other moment c).reply) same (actor_steps_run (most_steps config) config c other moment)
@@ -190,7 +190,7 @@ act_runs config (Show other number) c name is = cc
 act_runs config (Carry other dc shard to_dc) c name is = cc
 act_runs config (Collect dc shard moment) c name is = cc
 
-told_is : (contexts : Contexts) (c : SoloCluster) (act : Act) (reply : Reply) → Knows contexts c → ((name : List ℕ) → stepped_actor act ≡ Some name → Runs c name reply) →
+pub told_is : (contexts : Contexts) (c : SoloCluster) (act : Act) (reply : Reply) → Knows contexts c → ((name : List ℕ) → stepped_actor act ≡ Some name → Runs c name reply) →
     operation_told contexts act reply ≡ operation_ended c act reply
 told_is contexts c act reply knows runs = by_effect (effect_of reply) refl
   where
@@ -210,17 +210,3 @@ told_is contexts c act reply knows runs = by_effect (effect_of reply) refl
         ≡ option_and_then (λ effect. option_and_then (operation_by c effect) (stepped_actor act)) found
     by_effect None e = refl
     by_effect (Some effect) e = by_actor effect (stepped_actor act) refl e
-
--- ---- all acts
-
-all_operations : (config : TenantConfig) (acts : List Act) (contexts : Contexts) (c : SoloCluster) → Knows contexts c →
-    operations_told_from acts (replies_from config acts c) contexts ≡ operations_from config acts c
-all_operations config [] contexts c knows = refl
-all_operations config (act ∷ acts) contexts c knows =
-    let turn = cluster_step config act c in
-    let first = told_is contexts c act turn.reply knows (act_runs config act c) in
-    let rest = all_operations config acts (contexts_after act turn.reply contexts) turn.after (knows_after config contexts act c knows) in
-    λ i. cons_option (first i) (rest i)
-
-pub operations_are_told : (config : TenantConfig) (acts : List Act) → operations_told acts (solo_replies config acts) ≡ operations config acts
-operations_are_told config acts = all_operations config acts (λ name. None) (new_cluster config) tt

@@ -1,6 +1,6 @@
--- The operations of a run are just those that the tenant was told the end of.
+-- The operations of a run are exactly those whose end is in the tenant's replies.
 use Rattle.std.proofs.Common.{◌≡◌, ℕ, List, [], ◌∷◌, map, refl, sym, ◌∙◌, ap, subst}
-use Rattle.std.specs.Prelude.{Option, Some, None, filter_map, max, not, nat_lt, length}
+use Rattle.std.specs.Prelude.{Option, Some, None, max, not, nat_lt, length}
 use Rattle.std.specs.List.{cons_option, list_all}
 use Rattle.std.specs.Option.{option_map, option_and_then}
 use Rattle.cops_types.specs.declared.faults.Fault.{Fault}
@@ -19,25 +19,23 @@ use Rattle.cops_model.specs.declared.acts.Act.{Act}
 use Rattle.cops_model.specs.declared.acts.Act.TheVariants.{Open, Create, Delete, Put, Get, Show, Carry, Step, Done, Collect}
 use Rattle.cops_model.specs.declared.replies.Reply.{Reply}
 use Rattle.cops_model.specs.declared.replies.Reply.TheVariants.{Opened, Created, Deleted, Started, Lists, Refused, Working}
-use Rattle.cops_model.specs.Causal.{Operation, Effect, effect_of, operation_by, operation_ended, operations_from, stepped_actor}
+use Rattle.cops_model.specs.Causal.{Operation, Effect, effect_of, stepped_actor}
 use Rattle.cops_model.specs.Cluster.{ActEffect, Actor, OfCarrier, OfSession, SoloCluster, actor_refusal, actor_step, actor_steps, call_node, cluster_step, collect_at, find_actor, find_session, has_node, has_stream, most_steps, on_found, on_session, reply_of_delivery, reply_with, session_in, unless_refused, with_actor, with_new_actor}
-use Rattle.cops_model.specs.Events.{replies_from}
-use Rattle.cops_model.specs.Laws.{HasToldOperations}
-use Rattle.cops_model.specs.Cluster.{new_cluster}
 use Rattle.cops_causal.proofs.AfterActs.{actor_step_context, context_run, operation_by-context}
 use Rattle.cops_causal.proofs.Moves.{plain_collect, plain_answer, plain_carrier}
 use Rattle.cops_causal.proofs.ActorSteps.{by_step, by_steps}
+use Rattle.cops_causal.proofs.EndedOperations.{operation_by, operation_ended}
 
--- ---- who is told that an operation ended runs a request
+-- ---- a reply that ends an operation goes to an actor that runs a request
 
--- where the reply is the end of an operation, the session of this name runs a request
+-- if the reply is the end of an operation, the session of this name runs a request
 abbrev pub Runs : SoloCluster → List ℕ → Reply → Type 0
 Runs c name reply = (effect : Effect) → effect_of reply ≡ Some effect → (n : ℕ) × (context_run name c ≡ Some n)
 
-no_end : (c : SoloCluster) (name : List ℕ) (reply : Reply) → effect_of reply ≡ None → Runs c name reply
+pub no_end : (c : SoloCluster) (name : List ℕ) (reply : Reply) → effect_of reply ≡ None → Runs c name reply
 no_end c name reply plain effect e = absurd (let clash : None ≡ Some effect = sym plain ∙ e in let no : ⊥ = cc in no)
 
--- a session whose request this is runs it, whatever is told
+-- a session whose request this is runs it, whatever the reply
 runs_in : (c : SoloCluster) (name : List ℕ) (s : Session) (running : Running) (reply : Reply) → find_actor name c ≡ Some (OfSession s) → s.running ≡ Some running → Runs c name reply
 runs_in c name s running reply found runs effect e = (
   running.context,
@@ -65,7 +63,7 @@ actor_steps_run more config c name moment =
 -- ---- the operation of each act
 
 -- the reply is the end of the operation that the act ended
-abbrev IsTold : SoloCluster → Act → Reply → Type 0
+abbrev pub IsTold : SoloCluster → Act → Reply → Type 0
 IsTold c act reply = option_map (λ (o : Operation). o.effect) (operation_ended c act reply) ≡ effect_of reply
 
 plainly_told : (c : SoloCluster) (act : Act) (reply : Reply) → effect_of reply ≡ None → IsTold c act reply
@@ -124,7 +122,7 @@ module _ (config : TenantConfig) (c : SoloCluster) where
       let shows : Session → ActEffect = λ s. reply_with (Lists (all_of (obs_of number s)) (near_of (obs_of number s))) c in
       plain_on (find_session name c) c (λ s. unless_refused (context_refusal number s) c (shows s)) (λ s. plain_unless (context_refusal number s) c (shows s) refl)
 
-act_told : (config : TenantConfig) (act : Act) (c : SoloCluster) → IsTold c act (cluster_step config act c).reply
+pub act_told : (config : TenantConfig) (act : Act) (c : SoloCluster) → IsTold c act (cluster_step config act c).reply
 act_told config (Open name dc) c =
     let act : Act = Open name dc in
     plainly_told c act (cluster_step config act c).reply
@@ -151,17 +149,6 @@ act_told config (Collect dc shard moment) c =
 
 -- ---- all acts
 
-map_cons : (o : Option Operation) (os : List Operation) → map (λ (o : Operation). o.effect) (cons_option o os) ≡ cons_option (option_map (λ (o : Operation). o.effect) o) (map (λ (o : Operation). o.effect) os)
+pub map_cons : (o : Option Operation) (os : List Operation) → map (λ (o : Operation). o.effect) (cons_option o os) ≡ cons_option (option_map (λ (o : Operation). o.effect) o) (map (λ (o : Operation). o.effect) os)
 map_cons None os = refl
 map_cons (Some o) os = refl
-
-all_told : (config : TenantConfig) (acts : List Act) (c : SoloCluster) → filter_map effect_of (replies_from config acts c) ≡ map (λ (o : Operation). o.effect) (operations_from config acts c)
-all_told config [] c = refl
-all_told config (act ∷ acts) c =
-    let turn = cluster_step config act c in
-    let rest = all_told config acts turn.after in
-    (λ i. cons_option (sym (act_told config act c) i) (rest i))
-    ∙ sym (map_cons (operation_ended c act turn.reply) (operations_from config acts turn.after))
-
-pub has_told_operations : (config : TenantConfig) (acts : List Act) → HasToldOperations config acts
-has_told_operations config acts = all_told config acts (new_cluster config)

@@ -35,7 +35,7 @@ front-Among : (es : List Entry) (e : Entry) → front es ≡ Some e → Among e 
 front-Among [] e is = cc
 front-Among (f ∷ es) e is = inl cc
 
--- what is at the front of a queue is among the entries
+-- the head of a queue is among the entries
 pub queued : (place : Place) (dc : ℕ) (solo : SoloNode) (e : Entry) → front (queue place dc solo) ≡ Some e → Among e (entries solo)
 queued place dc solo e is =
     (Among-filter (λ (e : Entry). e.version.node == own_number place) e (entries solo)

@@ -1,14 +1,18 @@
-ghost use Rattle.std.specs.Prelude.{◌≡◌, ◌<◌, ℕ, List};
+ghost use Rattle.std.specs.Prelude.{◌≡◌, ◌<◌, ℕ, List, length};
 ghost use Rattle.std.specs.List.{AllByRecursion};
+ghost use Rattle.cops_types.specs.declared.configs.Config.{Config};
 ghost use Rattle.cops_types.specs.TenantConfig.{TenantConfig};
 ghost use Rattle.cops_model.specs.declared.acts.Act.{Act};
 ghost use Rattle.cops_model.specs.declared.acts.Event.{Event};
-ghost use Rattle.cops_model.specs.Laws.{cluster_of};
+ghost use Rattle.cops_model.specs.declared.replies.Reply.{Reply};
+ghost use Rattle.cops_model.specs.Cluster.{SoloCluster, new_cluster};
+ghost use Rattle.cops_model.specs.Events.{IsSpared, config_at, new_clusters, own, replies, solo_replies, world_replies};
+ghost use Rattle.cops_model.specs.Goes.{Goes};
 ghost use Rattle.cops_model.specs.ListLimits.{HasFewInAudit};
-ghost use Rattle.cops_model.specs.Events.{own, replies, solo_replies, world_replies, new_clusters};
+ghost use Rattle.cops_model.specs.MainTheorem.{MainTheorem};
 
-/// In every interleaving of all tenants' events each tenant is told what he is told in a cluster
-/// of his own; so what he is told depends on his own events alone.
+/// Theorem: in every interleaving of all tenants' events each tenant gets the replies of a cluster
+/// of its own; so its replies depend on its own events alone.
 pub fn each_tenant_is_alone()
     ensures alone { (configs : ℕ → TenantConfig) (slot : ℕ) (events : List Event) →
         replies slot events (world_replies configs events (new_clusters configs)) ≡ solo_replies (configs slot) (own slot events) }
@@ -18,8 +22,21 @@ pub fn each_tenant_is_alone()
         ≡ replies place more (world_replies others more (new_clusters others)) }
 {}
 
-/// Whatever a tenant does in a cluster of his own, the lists in the audits of its nodes are within the
-/// limit of his lists.
+/// What follows from the main theorem for a tenant without an out-of-memory reply: its replies are
+/// those of a cluster of its own, and the same in any other run that agrees on its own events and
+/// on its configuration.
+pub fn tenants_with_memory_are_alone()
+    ensures alone { (config : Config) (events : List Event) (told : List Reply) (slot : ℕ) → MainTheorem config events told → slot < length config.tenants →
+        IsSpared (replies slot events told) → replies slot events told ≡ solo_replies (config_at config slot) (own slot events) }
+    ensures agree { (config other : Config) (events more : List Event) (told heard : List Reply) (slot place : ℕ) →
+        MainTheorem config events told → MainTheorem other more heard → slot < length config.tenants → place < length other.tenants →
+        config_at config slot ≡ config_at other place → own slot events ≡ own place more →
+        IsSpared (replies slot events told) → IsSpared (replies place more heard) → replies slot events told ≡ replies place more heard }
+{}
+
+/// Whatever a tenant does in a cluster of its own, and however often memory runs out, the lists in the
+/// audits of its nodes are within the limit of its lists.
 pub fn audited_lists_are_within_the_limit()
-    ensures { (config : TenantConfig) (acts : List Act) → 0 < config.shards → AllByRecursion (HasFewInAudit config) (cluster_of config acts).nodes }
+    ensures { (config : TenantConfig) (acts : List Act) (told : List Reply) (left : SoloCluster) → 0 < config.shards →
+        Goes config acts told (new_cluster config) left → AllByRecursion (HasFewInAudit config) left.nodes }
 {}

@@ -1,12 +1,13 @@
-//! The laws of a tenant's cluster: what holds of every list of its acts.
+//! The laws of a tenant's cluster, which hold for every list of its acts.
 #![tactic(auto)]
 
 mod causal;
 mod laws;
 
 pub use causal::{
-    answers_are_consistent, deps_are_exact, done_ends, equivalent_nodes_converge,
-    nothing_is_torn_or_out_of_order, operations_are_told, pasts_are_committed, pasts_are_least,
-    restarts_are_late, settled_nodes_agree,
+    ample_memory_is_a_run, every_run_is_causal, runs_tell_what_a_cluster_alone_tells,
+    stutters_leave_a_run,
 };
-pub use laws::{audited_lists_are_within_the_limit, each_tenant_is_alone};
+pub use laws::{
+    audited_lists_are_within_the_limit, each_tenant_is_alone, tenants_with_memory_are_alone,
+};

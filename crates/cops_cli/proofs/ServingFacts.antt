@@ -1,12 +1,14 @@
 -- What a service leaves, and how it ends.
 use Rattle.std.proofs.Common.{◌≡◌, ◌⊎◌, inl, inr, ℕ, ◌<◌, ◌∙◌, List, length, get_or, Option, Some, None, refl, sym, ap, subst}
-use Rattle.std.specs.Prelude.{IsTrue, IfSome, slice_get}
+use Rattle.std.specs.Prelude.{IsTrue, IfSome, IfErr, OnOk, Result, Ok, Err, slice_get}
 use Rattle.std.specs.Io.KnownBytes.{Appends, Keeps}
 use Rattle.std.proofs.lemmas.Option.{slice_get-get_or}
 use Rattle.cops_types.specs.declared.configs.Config.{Config}
 use Rattle.cops_types.specs.declared.faults.Fault.{Fault}
 use Rattle.cops_types.specs.declared.faults.Fault.TheVariants as fault
+use Rattle.cops_types.specs.Head.{Whole, head_of}
 use Rattle.cops_types.specs.HeadLines.{are_sizes}
+use Rattle.cops_types.specs.Lines.{lines_of}
 use Rattle.cops_types.specs.Sink.{AppendsFront}
 use Rattle.cops_node.specs.Clusters.{new_nodes}
 use Rattle.cops_node.specs.Parts.{Shared}
@@ -16,7 +18,7 @@ use Rattle.cops_replay.proofs.NodesOf.{nodes_with_sites}
 use Rattle.cops_service.specs.Left.{AreLeft}
 use Rattle.cops_service.proofs.Told.{left_count, left_in_place}
 use Rattle.cops_cli.specs.Faults.{ended_serving_by}
-use Rattle.cops_cli.specs.Runs.{AreServed, EndsServing, ServesClients}
+use Rattle.cops_cli.specs.Runs.{AreServed, EndsServing, ServesOrFails}
 use Rattle.cops_cli.specs.declared.faults.CliFault.{CliFault}
 use Rattle.cops_cli.specs.declared.faults.CliFault.TheVariants.{CommandLine, NoText, BadHead, BadLine, UnknownTenant, ClockTooGreat, OutOfMemory, ReadFault, WriteFault, Torn}
 
@@ -25,6 +27,11 @@ pub left_nodes : (config : Config) (nodes : List Shared) → IsTrue (are_sizes c
 left_nodes config nodes sizes left =
     nodes_with_sites config nodes (numbers_fit config sizes) (left_count config nodes left)
     (λ number node below is. left_in_place config number nodes node left (slice_get-get_or nodes number node below ∙ ap Some (sym is)))
+
+-- a head is read by a reader of its own, which has the same bytes before it
+pub served_from : (known old : Option (List ℕ)) (config : Config) (nodes : List Shared) → known ≡ old
+    → IfSome known (λ bytes. (lines : List (List ℕ)) × (head_of (lines_of bytes) ≡ Whole config lines)) → AreLeft (new_nodes config).nodes nodes → AreServed old config nodes
+served_from known old config nodes same head left = record { head = subst (λ bytes. IfSome bytes (λ it. (lines : List (List ℕ)) × (head_of (lines_of it) ≡ Whole config lines))) same head; left = left }
 
 -- what a service may end with
 abbrev IsStop : CliFault → Type 0
@@ -55,38 +62,52 @@ module _ (remaining old new : Option (List ℕ)) where
   stops WriteFault is written = record { of_run = tt; of_lines = tt; of_all = tt; written = written; bad = tt; unwritten = tt }
   stops Torn is written = record { of_run = tt; of_lines = tt; of_all = tt; written = written; bad = tt; unwritten = tt }
 
-  stops_by : (why : Fault) (ended : CliFault) → ended ≡ ended_serving_by why → IsStop (ended_serving_by why) → Written → EndsServing remaining old new ended
-  stops_by why ended is stop written = subst (EndsServing remaining old new) (sym is) (stops (ended_serving_by why) stop written)
-
-  -- an audit that isn't whole
-  pub ends_in_audit : (why : Fault) (ended : CliFault) (config : Config) (nodes written : List Shared) → ended ≡ ended_serving_by why → (why ≡ fault.OutOfMemory) ⊎ (why ≡ fault.WriteFault) → written ≡ nodes →
-      AreServed remaining config nodes → AppendsFront old new (audit_of config written) → EndsServing remaining old new ended
-  ends_in_audit why ended config nodes written is refused same served front =
-      let stop : IsStop (ended_serving_by why) = elim refused [
-        | inl lack ↦ subst (λ w. IsStop (ended_serving_by w)) (sym lack) tt
-        | inr failed ↦ subst (λ w. IsStop (ended_serving_by w)) (sym failed) tt
+  -- the audit is written, or a front of it
+  pub concludes : {T : Type 0} → (result : Result T CliFault) (config : Config) (nodes : List Shared) → AreServed remaining config nodes
+      → OnOk result (Appends old new (audit_of config nodes)) → AppendsFront old new (audit_of config nodes)
+      → IfErr result (λ fault. (fault ≡ OutOfMemory) ⊎ ((fault ≡ WriteFault) ⊎ (fault ≡ ReadFault))) → ServesOrFails remaining old new result
+  concludes (Ok done) config nodes served all front stopped = (config, nodes, served, all)
+  concludes (Err ended) config nodes served all front stopped =
+      let stop : IsStop ended = elim stopped [
+        | inl lack ↦ subst IsStop (sym lack) tt
+        | inr others ↦ elim others [
+          | inl failed ↦ subst IsStop (sym failed) tt
+          | inr lost ↦ subst IsStop (sym lost) tt
+        ]
       ] in
-      stops_by why ended is stop (inr (config, nodes, served, subst (λ ns. AppendsFront old new (audit_of config ns)) same front))
-
--- the whole audit
-pub serves_all : (remaining old new : Option (List ℕ)) (config : Config) (nodes written : List Shared) → written ≡ nodes → AreServed remaining config nodes → Appends old new (audit_of config written) → ServesClients remaining old new
-serves_all remaining old new config nodes written same served all = (config, nodes, served, subst (λ ns. Appends old new (audit_of config ns)) same all)
+      stops ended stop (inr (config, nodes, served, front))
 
 keeps : (known : Option (List ℕ)) → Keeps known known
 keeps None = tt
 keeps (Some bytes) = refl
 
 -- a service that ends early
-pub ends_early : (remaining contents : Option (List ℕ)) (why : Fault) (ended : CliFault) → ended ≡ ended_serving_by why → (why ≡ fault.OutOfMemory) ⊎ ((why ≡ fault.ReadFault) ⊎ (why ≡ fault.Torn)) → EndsServing remaining contents contents ended
-ends_early remaining contents why ended is refused =
-    let stop : IsStop (ended_serving_by why) = elim refused [
-      | inl lack ↦ subst (λ w. IsStop (ended_serving_by w)) (sym lack) tt
+pub ends_early : (remaining contents : Option (List ℕ)) (ended : CliFault) → (ended ≡ OutOfMemory) ⊎ ((ended ≡ ReadFault) ⊎ (ended ≡ Torn)) → EndsServing remaining contents contents ended
+ends_early remaining contents ended stopped =
+    let stop : IsStop ended = elim stopped [
+      | inl lack ↦ subst IsStop (sym lack) tt
       | inr others ↦ elim others [
-        | inl failed ↦ subst (λ w. IsStop (ended_serving_by w)) (sym failed) tt
-        | inr torn ↦ subst (λ w. IsStop (ended_serving_by w)) (sym torn) tt
+        | inl failed ↦ subst IsStop (sym failed) tt
+        | inr torn ↦ subst IsStop (sym torn) tt
       ]
     ] in
-    stops_by remaining contents contents why ended is stop (inl (keeps contents))
+    stops remaining contents contents ended stop (inl (keeps contents))
+
+-- the faults of a service
+pub of_service_stop : (why : Fault) (ended : CliFault) → ended ≡ ended_serving_by why → (why ≡ fault.OutOfMemory) ⊎ (why ≡ fault.Torn)
+    → (ended ≡ OutOfMemory) ⊎ ((ended ≡ ReadFault) ⊎ (ended ≡ Torn))
+of_service_stop why ended is refused = elim refused [
+  | inl lack ↦ inl (is ∙ ap ended_serving_by lack)
+  | inr torn ↦ inr (inr (is ∙ ap ended_serving_by torn))
+]
+
+-- the faults of an audit
+pub of_audit_stop : (why : Fault) (ended : CliFault) → ended ≡ ended_serving_by why → (why ≡ fault.OutOfMemory) ⊎ (why ≡ fault.WriteFault)
+    → (ended ≡ OutOfMemory) ⊎ ((ended ≡ WriteFault) ⊎ (ended ≡ ReadFault))
+of_audit_stop why ended is refused = elim refused [
+  | inl lack ↦ inl (is ∙ ap ended_serving_by lack)
+  | inr failed ↦ inr (inl (is ∙ ap ended_serving_by failed))
+]
 
 -- a write fault of the program was one of the audit
 pub of_audit : (P : Type 0) (why : Fault) (ended : CliFault) → ended ≡ ended_serving_by why → (why ≡ fault.OutOfMemory) ⊎ (why ≡ fault.WriteFault) → (why ≡ fault.WriteFault → P) → ended ≡ WriteFault → P

@@ -1,7 +1,8 @@
 -- The command line, as clap reads it.
-use Rattle.std.specs.Prelude.{◌≡◌, ◌⊎◌, ℕ, ◌<◌, ◌^◌, List, [], ◌∷◌, Option, Some, None, codes, option_map, true, unwrap_or}
+use Rattle.std.specs.Prelude.{◌≡◌, ◌⊎◌, ℕ, ◌<◌, ◌^◌, List, [], ◌∷◌, Option, Some, None, Bool, true, false, codes, option_map, unwrap_or}
 use Rattle.std.specs.Str.Parse.{IsNumeral, digits_value, without_leading_plus}
 use Rattle.clap.specs.Words.{App, Row, Rule, Text, first_of, new_app, new_rule, one_of, subcommand_of, with_rule, with_subcommand}
+use Rattle.clap.specs.declared.builder.action.ArgAction.TheVariants.{SetTrue}
 use Rattle.clap.specs.declared.builder.value_parser.ValueParser.TheVariants.{Unsigned}
 use Rattle.clap.specs.Simple.{on_top}
 use Rattle.cops_cli.specs.declared.command_line.Service.{Service}
@@ -29,12 +30,19 @@ migrate = new_app (codes "migrate")
 abbrev pub address : Rule
 address = record (new_rule (codes "ADDRESS")) { required = true }
 
--- a number from 1 to the greatest, and this text where none is given
-abbrev pub number : Text → ℕ → Text → Rule
-number id greatest given = record (new_rule id) { long = Some id; value_names = 1; parser = Some (Unsigned 1 greatest); defaults = given ∷ [] }
+-- a number from the least to the greatest, and this text where none is given
+abbrev pub number : Text → ℕ → ℕ → Text → Rule
+number id least greatest given = record (new_rule id) { long = Some id; value_names = 1; parser = Some (Unsigned least greatest); defaults = given ∷ [] }
+
+-- a word that may be given
+abbrev pub flag : Text → Rule
+flag id = record (new_rule id) { long = Some id; action = Some SetTrue }
+
+abbrev pub numbered_serve : App
+numbered_serve = with_rule (with_rule (with_rule (new_app (codes "serve")) address) (number (codes "workers") 1 16 (codes "4"))) (number (codes "connections") 1 4294967295 (codes "4294967295"))
 
 abbrev pub serve : App
-serve = with_rule (with_rule (with_rule (new_app (codes "serve")) address) (number (codes "workers") 16 (codes "4"))) (number (codes "connections") 4294967295 (codes "4294967295"))
+serve = with_rule (with_rule numbered_serve (number (codes "idle") 0 4294967295 (codes "0"))) (flag (codes "verbose"))
 
 -- one of the subcommands has to be named
 abbrev pub with_run : App
@@ -86,11 +94,18 @@ abbrev pub IsSpelledBy : Option Text → ℕ → Type 0
 IsSpelledBy None n = Unit {0}
 IsSpelledBy (Some text) n = IsNumeral 10 (without_leading_plus text) → digits_value 10 (without_leading_plus text) < 2 ^ 64 → n ≡ digits_value 10 (without_leading_plus text)
 
+-- the flag is given where its text is `true`, and not where it is `false` or there is none
+abbrev pub IsFlagged : Option Text → Bool → Type 0
+IsFlagged found given =
+    (found ≡ None → given ≡ false) × (found ≡ Some (codes "true") → given ≡ true) × (found ≡ Some (codes "false") → given ≡ false)
+
 -- this is what the words after `serve` ask for
 pub record IsServiceIn (rows : List Row) (service : Service) : Type 0 where
   pub address_is : service.address.now ≡ address_in rows
   pub workers_are : IsSpelledBy (one_of (codes "workers") rows) service.workers
   pub connections_are : IsSpelledBy (one_of (codes "connections") rows) service.connections
+  pub idle_is : IsSpelledBy (one_of (codes "idle") rows) service.idle
+  pub verbose_is : IsFlagged (one_of (codes "verbose") rows) service.is_verbose
 
 -- words ask for this service
 pub record IsServedBy (words : List Text) (service : Service) : Type 0 where

@@ -1,10 +1,10 @@
-//! What the words of the command line ask for.
+//! Reads the command line.
 ghost use Rattle.std.specs.Prelude.{◌≡◌, ℕ, List, [], ◌∷◌, codes, map, false, IfOk, IfErr, MatchResult};
 ghost use Rattle.clap.specs.Matches.{found_of};
 ghost use Rattle.clap.specs.Walk.{rows_of};
 ghost use Rattle.clap.specs.Words.{app_of, new_app, one_of, rule_of};
 ghost use Rattle.clap.specs.declared.builder.command.Command.TheViews.{out-Command};
-ghost use Rattle.cops_cli.specs.CommandLine.{IsAskedBy, IsServiceIn, IsSpelledBy, address, audit, cops, migrate, number, replay, run, serve, solo, tenant, tenant_word, with_audit, with_migrate, with_replay, with_run, with_solo};
+ghost use Rattle.cops_cli.specs.CommandLine.{IsAskedBy, IsServiceIn, IsSpelledBy, address, audit, cops, flag, migrate, number, numbered_serve, replay, run, serve, solo, tenant, tenant_word, with_audit, with_migrate, with_replay, with_run, with_solo};
 ghost use Rattle.cops_cli.specs.Faults.{IsOfWords};
 
 use crate::faults::CliFault;
@@ -12,29 +12,31 @@ use crate::help_texts::{
     AUDIT_HELP, COPS_HELP, MIGRATE_HELP, REPLAY_HELP, RUN_HELP, SERVE_HELP, SOLO_HELP,
 };
 use clap::builder::ValueParser;
-use clap::{Arg, ArgMatches, Command};
+use clap::{Arg, ArgAction, ArgMatches, Command};
 use std::alloc::{AllocError, Global};
 use std::convert::AsStr;
 
-/// What is to be served.
+/// The options of `serve`.
 #[derive(Clone, Copy)]
 pub(crate) struct Service<'a> {
     pub(crate) address: &'a str,
     pub(crate) workers: u64,
     pub(crate) connections: u64,
+    pub(crate) idle: u64,
+    pub(crate) is_verbose: bool,
 }
 
 #[derive(Clone, Copy)]
 pub(crate) enum Task<'a> {
     /// Answers a script.
     Run,
-    /// Answers a script for the tenant of this name alone.
+    /// Answers a script for one tenant alone.
     Solo(&'a str),
     /// Writes the audit of a script.
     Audit,
-    /// Replays the records of the tenant of this name in an audit.
+    /// Replays one tenant's records of an audit.
     Replay(&'a str),
-    /// Brings an audit of layout 1 to layout 2.
+    /// Migrates an audit of layout 1 to layout 2.
     Migrate,
     /// Serves clients.
     Serve(Service<'a>),
@@ -48,14 +50,21 @@ const WORKERS: &str = "workers";
 
 const CONNECTIONS: &str = "connections";
 
-/// How many workers there are where nobody says.
+const IDLE: &str = "idle";
+
+const VERBOSE: &str = "verbose";
+
+/// How many workers there are by default.
 const SOME_WORKERS: u64 = 4;
 
 /// How many workers there may be.
 const MOST_WORKERS: u64 = 16;
 
-/// How many connections may be served, and are where nobody says.
+/// How many connections may be served, and are by default.
 const MOST_CONNECTIONS: u64 = 4294967295;
+
+/// How many seconds `--idle` takes, at most. The default is 0, which is no limit.
+const MOST_IDLE: u64 = 4294967295;
 
 fn run_command<'a>(alloc: Global) -> Command<'a>
     ensures app { app_of result ≡ run }
@@ -66,7 +75,7 @@ fn run_command<'a>(alloc: Global) -> Command<'a>
         .after_help(RUN_HELP)
 }
 
-/// Whom a command is for.
+/// The tenant's name.
 fn tenant_argument<'a>(alloc: Global) -> Arg<'a>
     ensures rule { rule_of result ≡ tenant }
     ensures local { result.global ≡ false }
@@ -128,26 +137,39 @@ fn address_argument<'a>(alloc: Global) -> Arg<'a>
         .required(true)
 }
 
-/// A number from 1 to the greatest, with this text where none is given.
+/// A number from the least to the greatest, with this default.
 fn number_argument<'a>(
     alloc: Global,
     id: &'a str,
+    least: u64,
     greatest: u64,
     given: &'a str,
+    unit: &'a str,
     help: &'a str,
 ) -> Arg<'a>
-    ensures rule { rule_of result ≡ number id.entry.now greatest given.entry.now }
+    ensures rule { rule_of result ≡ number id.entry.now least greatest given.entry.now }
     ensures local { result.global ≡ false }
 {
     Arg::new(alloc, id)
         .help(help)
         .long(id)
-        .value_name("N")
-        .value_parser(ValueParser::unsigned(1, greatest))
+        .value_name(unit)
+        .value_parser(ValueParser::unsigned(least, greatest))
         .default_value(given)
 }
 
-/// What it does, without its arguments.
+/// A flag.
+fn flag_argument<'a>(alloc: Global, id: &'a str, help: &'a str) -> Arg<'a>
+    ensures rule { rule_of result ≡ flag id.entry.now }
+    ensures local { result.global ≡ false }
+{
+    Arg::new(alloc, id)
+        .help(help)
+        .long(id)
+        .action(ArgAction::SetTrue)
+}
+
+/// `serve` without its arguments.
 fn bare_serve_command<'a>(alloc: Global) -> Command<'a>
     ensures app { app_of result ≡ new_app (codes "serve") }
     ensures no_globals { (out-Command result).has_globals ≡ false }
@@ -157,20 +179,40 @@ fn bare_serve_command<'a>(alloc: Global) -> Command<'a>
         .after_help(SERVE_HELP)
 }
 
-/// With an address, and two numbers that may be left out.
-fn serve_command<'a>(alloc: Global) -> Result<Command<'a>, AllocError>
-    ensures app { IfOk result (λ command. app_of command ≡ serve) }
+/// `serve` with an address and two numbers.
+fn numbered_serve_command<'a>(alloc: Global) -> Result<Command<'a>, AllocError>
+    ensures app { IfOk result (λ command. app_of command ≡ numbered_serve) }
     ensures no_globals { IfOk result (λ command. (out-Command command).has_globals ≡ false) }
 {
     let address = address_argument(alloc);
     let help = "How many clients are served at once";
-    let workers = number_argument(alloc, WORKERS, MOST_WORKERS, "4", help);
+    let workers = number_argument(alloc, WORKERS, 1, MOST_WORKERS, "4", "N", help);
     let help = "After how many connections it ends";
-    let connections = number_argument(alloc, CONNECTIONS, MOST_CONNECTIONS, "4294967295", help);
+    let connections = number_argument(
+        alloc,
+        CONNECTIONS,
+        1,
+        MOST_CONNECTIONS,
+        "4294967295",
+        "N",
+        help,
+    );
     bare_serve_command(alloc)
         .arg(address)?
         .arg(workers)?
         .arg(connections)
+}
+
+/// `serve` with all its options.
+fn serve_command<'a>(alloc: Global) -> Result<Command<'a>, AllocError>
+    ensures app { IfOk result (λ command. app_of command ≡ serve) }
+    ensures no_globals { IfOk result (λ command. (out-Command command).has_globals ≡ false) }
+{
+    let help = "After how many idle seconds a connection is ended; 0 is never";
+    let idle = number_argument(alloc, IDLE, 0, MOST_IDLE, "0", "SECONDS", help);
+    let help = "Say on standard error why a connection failed";
+    let verbose = flag_argument(alloc, VERBOSE, help);
+    numbered_serve_command(alloc)?.arg(idle)?.arg(verbose)
 }
 
 /// With one subcommand so far.
@@ -227,21 +269,21 @@ fn command_line<'a>(alloc: Global) -> Result<Command<'a>, AllocError>
     migrate_commands(alloc)?.subcommand(serve)
 }
 
-/// The tenant that the words after a subcommand name.
+/// Returns the tenant that the words after a subcommand name.
 fn tenant_in<'a>(matches: &ArgMatches<'a>) -> &'a str
     ensures { result.now ≡ tenant_word (rows_of (found_of matches.now)) }
 {
     matches.get_str(TENANT).unwrap_or("")
 }
 
-/// The number under this id, or another where there is none.
+/// Returns the number under this id, or another one if there is none.
 fn number_in(matches: &ArgMatches, id: &str, other: u64) -> u64
     ensures { IsSpelledBy (one_of id.now (rows_of (found_of matches.now))) result }
 {
     matches.get_one::<u64>(id).unwrap_or(other)
 }
 
-/// What the words after `serve` ask for.
+/// Returns the options of `serve`.
 fn service_in<'a>(serve: &ArgMatches<'a>) -> Service<'a>
     ensures { IsServiceIn (rows_of (found_of serve.now)) result }
 {
@@ -249,10 +291,12 @@ fn service_in<'a>(serve: &ArgMatches<'a>) -> Service<'a>
         address: serve.get_str(ADDRESS).unwrap_or(""),
         workers: number_in(serve, WORKERS, SOME_WORKERS),
         connections: number_in(serve, CONNECTIONS, MOST_CONNECTIONS),
+        idle: number_in(serve, IDLE, 0),
+        is_verbose: serve.get_flag(VERBOSE),
     }
 }
 
-/// The first word is the program's name.
+/// Reads the words, of which the first is the program's name. Fails if clap refuses them, or memory runs out.
 pub(crate) fn read_words<'a, S: AsStr>(alloc: Global, words: &'a [S]) -> Result<Task<'a>, CliFault>
     ensures asked { IfOk result (IsAskedBy (map S.text words.now)) }
     ensures run { (program : List ℕ) → map S.text words.now ≡ program ∷ codes "run" ∷ [] →

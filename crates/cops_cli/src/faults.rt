@@ -1,4 +1,4 @@
-//! Why the program ends with another status than 0.
+//! The faults that the program ends with.
 ghost use Rattle.std.specs.Prelude.{◌≡◌};
 ghost use Rattle.cops_cli.specs.Faults.{RefusesWords, ended_alone_by, ended_by, ended_migrating_by, ended_replay_by, ended_serving_by};
 ghost use Rattle.cops_cli.specs.Statuses.{fault_status};
@@ -11,10 +11,10 @@ use cops_types::Fault;
 use std::alloc::AllocError;
 use thiserror::Error;
 
-/// Its text is what standard error gets, newlines and all.
+/// A fault, with the text for standard error.
 #[derive(Debug, Drop, Error)]
 pub(crate) enum CliFault {
-    /// The words are none that the program takes, or they ask for help or the version.
+    /// Clap refuses the words, or they ask for help or the version.
     #[error("{0}")]
     CommandLine(clap::Error),
     #[error("cops: a word of the command line isn't text\n")]
@@ -27,7 +27,7 @@ pub(crate) enum CliFault {
     BadLine(Fault, u64),
     #[error("cops: {}\n", Fault::UnknownTenant)]
     UnknownTenant,
-    /// An audit of layout 1 has a clock of the tenant that is none of today's.
+    /// An audit of layout 1 has a clock of the tenant that is too great for layout 2.
     #[error("cops: {}\n", Fault::ClockTooGreat)]
     ClockTooGreat,
     #[error("cops: {}\n", Fault::OutOfMemory)]
@@ -42,7 +42,7 @@ pub(crate) enum CliFault {
 }
 
 impl CliFault {
-    /// What a service ended with, or an audit. A listener that fails is a reader.
+    /// Returns the fault of a service or an audit. A listener that fails counts as a reader.
     pub(crate) fn of_service(fault: Fault) -> CliFault
         ensures { result ≡ ended_serving_by fault }
     {
@@ -54,7 +54,7 @@ impl CliFault {
         }
     }
 
-    /// The status that the program ends with.
+    /// Returns the program's exit status.
     pub(crate) fn status(&self) -> u8
         ensures { result ≡ fault_status self.now }
     {

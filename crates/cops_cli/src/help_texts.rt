@@ -1,63 +1,63 @@
-//! What `--help` tells of each command below its arguments.
+//! The text of `--help` for each command, below its arguments.
 
 pub(crate) const COPS_HELP: &str =
-    "'cops COMMAND --help' tells what a command reads and writes, and how it ends.";
+    "'cops COMMAND --help' says what a command reads and writes, and how it ends.";
 
 pub(crate) const RUN_HELP: &str =
-    "Reads a script from standard input: a head, and then one event to a line. The
-line '+ ..' admits a tenant, with the words of a line of the head; '- NAME'
+    "Reads a script from standard input: a head, and then one event a line. A line
+'+ ...' admits a tenant, with the words of a tenant's line in the head; '- NAME'
 closes one.
-Writes one line of reply to standard output for each line after the head.
+Writes one reply line to standard output for each line after the head.
 
 Status  Standard error              When
 0                                   all was read and answered
-1       cops: E23                   memory was refused
+1       cops: E23                   out of memory
 1       cops: E26                   reading failed
 1       cops: E27                   writing failed
 2       cops: configuration line N  the head is bad; nothing is written
-2       this, or what is wrong      help was asked for, or cops takes no such words
+2       this, or what is wrong      --help was given, or the arguments are wrong
 
-With status 1 the first of the replies may be written.
+With status 1 some first replies may have been written.
 
 Example:
   cops run < demo/tenants.script";
 
 pub(crate) const SOLO_HELP: &str =
-    "Reads a script from standard input: a head, and then one event to a line.
-Writes one line of reply to standard output for each line of this tenant: what
-'cops run' writes where no other tenant is in the head, is admitted or sends a
-line. A tenant who is closed and admitted again begins anew.
+    "Reads a script from standard input: a head, and then one event a line.
+Writes one reply line to standard output for each line of this tenant: the
+replies of 'cops run' if no other tenant is in the head, is admitted or sends a
+line. A tenant that is closed and admitted again starts anew.
 
 Status  Standard error              When
 0                                   all was read, and the tenant answered
-1       cops: E23                   memory was refused
+1       cops: E23                   out of memory
 1       cops: E26                   reading failed
 1       cops: E27                   writing failed
 2       cops: configuration line N  the head is bad; nothing is written
 2       cops: E02                   all was read, and no such tenant was ever open;
                                     nothing is written
-2       this, or what is wrong      help was asked for, or cops takes no such words
+2       this, or what is wrong      --help was given, or the arguments are wrong
 
-With status 1 the first of the replies may be written.
+With status 1 some first replies may have been written.
 
 Example:
   cops solo acme < demo/tenants.script";
 
 pub(crate) const AUDIT_HELP: &str =
-    "Reads a script from standard input: a head, and then one event to a line.
-Writes the audit of it to standard output: the layout, a head of the tenants who
-are open at the end, and then each of their calls of a node with its reply, one
-to a line.
+    "Reads a script from standard input: a head, and then one event a line.
+Writes its audit to standard output: the layout, a head with the tenants that
+are open at the end, and then each of their node calls with its reply, one a
+line.
 
 Status  Standard error              When
 0                                   all was read, and the audit is written
-1       cops: E23                   memory was refused, to cops or by a reply
+1       cops: E23                   out of memory, in cops or in a reply
 1       cops: E26                   reading failed
 1       cops: E27                   writing failed
 2       cops: configuration line N  the head is bad; nothing is written
-2       this, or what is wrong      help was asked for, or cops takes no such words
+2       this, or what is wrong      --help was given, or the arguments are wrong
 
-With status 1 a front of the audit may be written.
+With status 1 a prefix of the audit may have been written.
 
 Example:
   cops audit < demo/tenants.script";
@@ -65,21 +65,21 @@ Example:
 pub(crate) const REPLAY_HELP: &str =
     "Reads an audit of layout 1 or 2 from standard input, and computes this tenant's
 replies again, on nodes of its own. Writes one line to standard output:
-'same N' where none of its N lines differs, or 'differs PLACE', the place of the
-first that does among its lines, counted from 1.
+'same N' if none of its N lines differs, or 'differs PLACE', the place of the
+first that differs among its lines, counted from 1.
 
 Status  Standard error              When
 0                                   all was read, and that line is written
-1       cops: E23                   memory was refused
+1       cops: E23                   out of memory
 1       cops: E26                   reading failed
 1       cops: E27                   writing failed
 2       cops: configuration line N  the head is bad; nothing is written
 2       cops: E02                   the head has no such tenant; nothing is written
 2       cops: E29                   layout 1, and a clock of this tenant is too
                                     great for layout 2; nothing is written
-2       this, or what is wrong      help was asked for, or cops takes no such words
+2       this, or what is wrong      --help was given, or the arguments are wrong
 
-With status 1 a front of that line may be written.
+With status 1 a prefix of that line may have been written.
 
 Example:
   cops audit < demo/tenants.script | cops replay acme";
@@ -90,25 +90,31 @@ Writes it to standard output as an audit of layout 2.
 
 Status  Standard error              When
 0                                   all was read and is written
-1       cops: E23                   memory was refused
+1       cops: E23                   out of memory
 1       cops: E26                   reading failed
 1       cops: E27                   writing failed
-2       cops: configuration line N  line N can't stand in a head of layout 1
+2       cops: configuration line N  line N is not valid in a head of layout 1
 2       cops: E01 line N            line N is no record of layout 1
 2       cops: E29 line N            a clock in line N is too great for layout 2
-2       this, or what is wrong      help was asked for, or cops takes no such words
+2       this, or what is wrong      --help was given, or the arguments are wrong
 
-With status 1 a front of the audit may be written, and with status 2 a front of
-what comes before line N.
+With status 1 a prefix of the audit may have been written, and with status 2 a
+prefix of what comes before line N.
 
 Example:
   examples/read input an_old_audit_is_migrated | cops migrate";
 
 pub(crate) const SERVE_HELP: &str =
-    "Reads a head from standard input: the lines of a script up to 'begin', and
-nothing after it. Then it serves clients, who each name one of the tenants by
-its token. After so many connections it writes the audit of all calls to
-standard output, and ends.
+    "Reads a head from standard input: the lines of a script up to 'begin'. Then it
+serves clients, who each name one of the tenants by its token. It ends after so
+many connections, or at a line 'end' on standard input, and writes the audit of
+all calls to standard output. The end of standard input ends nothing.
+
+At 'end' it stops accepting. Open connections may finish for as many seconds as
+a connection may be idle, or for 5. A connection is idle if it sends nothing,
+takes nothing, or doesn't finish a frame.
+
+Standard error says where it listens, what it served, and before E26 why.
 
 Status  Standard error              When
 0                                   the audit is written
@@ -120,7 +126,8 @@ Status  Standard error              When
 2       cops: configuration line N  the head is bad; nothing is written
 2       this, or what is wrong      help was asked for, or cops takes no such words
 
-With status 1 a front of the audit may be written.
+With status 1 a front of the audit may be written; all of it if the listener
+failed.
 
 Example:
   head -4 demo/tenants.script | cops serve 127.0.0.1:7000 --connections 1 > audit.txt

@@ -1,5 +1,4 @@
-//! The program `cops`: answers a script of tenants' events, writes its audit, or replays an audit, from
-//! standard input to standard output, or serves clients.
+//! The program `cops`. It answers a script, writes its audit, replays or migrates an audit, or serves clients.
 #![tactic(auto)]
 
 ghost use Rattle.std.specs.Prelude.{◌≡◌};
@@ -7,11 +6,15 @@ ghost use Rattle.std.specs.Process.{exit_status};
 ghost use Rattle.cops_cli.specs.Statuses.{status_of};
 
 mod command_line;
+mod control;
 mod faults;
+mod heads;
 mod help_texts;
+mod moments;
 mod program;
 mod serve;
 
+use control::Hosted;
 use cops_types::{Sink, Source};
 use faults::CliFault;
 use program::answer;
@@ -24,7 +27,7 @@ use std::thread::Threads;
 use std::time::Clock;
 use std::{env, io};
 
-/// The words of the command line, the program's name first.
+/// Returns the words of the command line, the program's name first.
 fn words_of<R: Env + AllocGlobal>(rt: &R) -> Result<Vec<String>, CliFault> {
     let words = match env::args(rt) {
         Ok(words) => words,
@@ -34,10 +37,10 @@ fn words_of<R: Env + AllocGlobal>(rt: &R) -> Result<Vec<String>, CliFault> {
     words.collect(rt.alloc()).map_err(|_| CliFault::OutOfMemory)
 }
 
-/// Does what the command line asks for.
+/// Runs the command that the words name.
 fn run<R>(rt: &R) -> Result<(), CliFault>
 where
-    R: Env + Input + Print + AllocGlobal,
+    R: Env + Input + Print + Eprint + AllocGlobal + Hosted,
     R: Net<Listener = TcpListener, Stream = TcpStream> + Threads + Wait + Clock + Sync,
 {
     let words = words_of(rt)?;
@@ -46,7 +49,7 @@ where
     answer(rt, rt.alloc(), words.as_slice(), &mut source, &mut sink)
 }
 
-/// Writes the text of a fault to standard error, and gives the status.
+/// Writes the text of a fault to standard error, and returns the exit status.
 fn end<R: Eprint>(rt: &R, outcome: Result<(), CliFault>) -> ExitCode
     ensures { exit_status result ≡ status_of outcome }
 {

@@ -9,6 +9,7 @@ ghost use Rattle.cops_cli.specs.Faults.{IfOfWords, UnlessOfWords};
 ghost use Rattle.cops_cli.specs.Runs.{Audits, Migrates, Replays, Runs, RunsAlone, ServesOrFails};
 
 use crate::command_line::{Task, read_words};
+use crate::control::Hosted;
 use crate::faults::CliFault;
 use crate::serve::serve;
 use cops_replay::{audit_text, migrate_text, replay_text};
@@ -39,7 +40,7 @@ fn run<R: Read, O: Write>(
     Ok(())
 }
 
-/// Answers a script for the tenant of this name alone.
+/// Answers a script for one tenant alone.
 fn solo<R: Read, O: Write>(
     alloc: Global,
     source: &mut Source<R>,
@@ -74,7 +75,7 @@ fn audit<R: Read, O: Write>(
     Ok(())
 }
 
-/// Replays the records of the tenant of this name in an audit.
+/// Replays one tenant's records of an audit.
 fn replay<R: Read, O: Write>(
     alloc: Global,
     source: &mut Source<R>,
@@ -92,7 +93,7 @@ fn replay<R: Read, O: Write>(
     Ok(())
 }
 
-/// Brings an audit of layout 1 to layout 2.
+/// Migrates an audit of layout 1 to layout 2.
 fn migrate<R: Read, O: Write>(
     alloc: Global,
     source: &mut Source<R>,
@@ -109,7 +110,7 @@ fn migrate<R: Read, O: Write>(
     Ok(())
 }
 
-/// Does what the words ask for. The first is the program's name.
+/// Runs the command that the words name. The first word is the program's name.
 pub(crate) fn answer<T, S: AsStr, R: Read, O: Write>(
     rt: &T,
     alloc: Global,
@@ -119,6 +120,7 @@ pub(crate) fn answer<T, S: AsStr, R: Read, O: Write>(
 ) -> Result<(), CliFault>
 where
     T: Net<Listener = TcpListener, Stream = TcpStream> + Threads + Wait + Clock + Sync,
+    T: Hosted + Eprint,
     ensures runs { (program : List ℕ) → map S.text words.now ≡ program ∷ codes "run" ∷ [] →
         Runs (R.remaining (source_reader source.old)) (R.remaining (source_reader source.new))
         (O.contents (sink_writer sink.old)) (O.contents (sink_writer sink.new)) result }

@@ -1,42 +1,198 @@
-//! Serving clients, and the audit of what is left.
-ghost use Rattle.std.specs.Prelude.{◌≡◌, ◌⊎◌, ◌^◌, IsErrOf};
+//! Serves clients, and writes the audit.
+ghost use Rattle.std.specs.Prelude.{◌≡◌, ◌⊎◌, IsErrOf, IsTrue, IfErr, IfOk, OnOk};
+ghost use Rattle.std.specs.Io.KnownBytes.{Appends};
 ghost use Rattle.cops_types.specs.Counts.{HasRisen};
-ghost use Rattle.cops_types.specs.Sink.{sink_failures, sink_writer};
+ghost use Rattle.cops_types.specs.HeadLines.{are_sizes};
+ghost use Rattle.cops_types.specs.Sink.{AppendsFront, sink_failures, sink_writer};
 ghost use Rattle.cops_types.specs.Source.{source_reader};
+ghost use Rattle.cops_node.specs.Clusters.{new_nodes};
+ghost use Rattle.cops_node.specs.Parts.{are_clocks};
+ghost use Rattle.cops_replay.specs.AuditText.{AreNodesOf, audit_of};
+ghost use Rattle.cops_service.specs.Left.{AreLeft};
 ghost use Rattle.cops_cli.specs.Runs.{ServesOrFails};
 
 use crate::command_line::Service;
+use crate::control::{Hosted, follow_input};
 use crate::faults::CliFault;
+use crate::heads::ByteReader;
+use crate::moments::SteadyMoments;
 use cops_replay::write_audit;
-use cops_script::read_config;
-use cops_service::serve_at;
-use cops_types::{Sink, Source};
-use cops_wire::Moments;
-use std::alloc::Global;
+use cops_script::{BadConfig, RunFault, read_config};
+use cops_service::{Cause, Counts, Options, Reports, Served, ServiceEnd, Stop, serve_with};
+use cops_types::{Config, Sink, Source};
+use std::alloc::{AllocError, Global};
 use std::io::{Read, Write};
-use std::net::{Net, TcpListener, TcpStream};
-use std::sync::Wait;
+use std::net::{Net, SocketAddr, TcpListener, TcpStream};
+use std::sync::{Arc, Wait};
 use std::thread::Threads;
 use std::time::Clock;
 
-/// The milliseconds of the system's clock since 1970, and 0 where it can't be read.
-#[derive_where(Clone, Copy)]
-struct SystemMoments<'a, R: Clock> {
-    clock: &'a R,
+/// Writes a service's reports to standard error.
+#[derive(Drop)]
+struct Told<'a, R> {
+    rt: &'a R,
+    is_verbose: bool,
 }
 
-impl<R: Clock> Moments for SystemMoments<'_, R> {
-    ghost Gives = { λ _ _ _. Unit {0} };
+impl<R: Eprint> Reports for Told<'_, R> {
+    fn ended(&self, peer: &SocketAddr, cause: Cause) {
+        if self.is_verbose {
+            let _ = eprintln!(self.rt; "cops: connection {peer}: {}", text_of(cause));
+        }
+    }
 
-    fn now(&mut self) -> u64 {
-        match self.clock.since_1970() {
-            Ok(time) => u64::try_from(time.as_millis()).unwrap_or(0),
-            Err(_) => 0,
+    fn accepts_again(&self, failures: u64) {
+        let _ = eprintln!(self.rt; "cops: accepting again after {failures} failures");
+    }
+}
+
+fn text_of(cause: Cause) -> &'static str {
+    match cause {
+        Cause::Refused => "refused",
+        Cause::BrokenFrame => "broken frame",
+        Cause::CutOff => "cut off",
+        Cause::Idle => "idle",
+        Cause::ReadingFailed => "reading failed",
+        Cause::WritingFailed => "writing failed",
+        Cause::OutOfMemory => "out of memory",
+    }
+}
+
+/// Says why the head wasn't read.
+fn tell_of_head<R: Eprint>(rt: &R, fault: &RunFault<BadConfig>) {
+    if matches!(fault, RunFault::ReadFault) {
+        let _ = eprintln!(rt; "cops: cannot read standard input");
+    }
+}
+
+/// Listens at the address, and says where.
+fn listen<R>(rt: &R, address: &str) -> Result<TcpListener, CliFault>
+where
+    R: Net<Listener = TcpListener, Stream = TcpStream> + Eprint,
+    ensures { IfErr result (λ fault. fault ≡ CliFault.ReadFault) }
+{
+    let Ok(listener) = TcpListener::bind(rt, address) else {
+        let _ = eprintln!(rt; "cops: cannot listen on {address}");
+        return Err(CliFault::ReadFault);
+    };
+    if let Ok(bound) = listener.local_addr() {
+        let _ = eprintln!(rt; "cops: listening on {bound}");
+    }
+    Ok(listener)
+}
+
+/// Lets a line of standard input end the service that listens here. So many lines have come before.
+fn stop_of<R>(
+    rt: &R,
+    alloc: Global,
+    listener: &TcpListener,
+    lines: u64,
+) -> Result<Arc<Stop, Global>, CliFault>
+where
+    R: Threads + Hosted + Eprint,
+    ensures { IfErr result (λ fault. (fault ≡ CliFault.OutOfMemory) ⊎ (fault ≡ CliFault.ReadFault)) }
+{
+    let Ok(stop) = Stop::of(listener) else {
+        let _ = eprintln!(rt; "cops: the listener failed");
+        return Err(CliFault::ReadFault);
+    };
+    let stop = match Arc::new(alloc, stop) {
+        Ok(stop) => stop,
+        Err(refused) => return Err(CliFault::from(AllocError::from(refused))),
+    };
+    if follow_input(rt, &stop, lines).is_err() {
+        let _ = eprintln!(rt; "cops: cannot start a thread");
+        return Err(CliFault::ReadFault);
+    }
+    Ok(stop)
+}
+
+/// Serves clients at the address. So many lines of standard input have come before.
+fn serve_clients<R>(
+    rt: &R,
+    alloc: Global,
+    service: &Service<'_>,
+    config: &Config,
+    lines: u64,
+) -> Result<Served, CliFault>
+where
+    R: Net<Listener = TcpListener, Stream = TcpStream> + Threads + Wait + Clock + Sync,
+    R: Hosted + Eprint,
+    requires sizes { IsTrue (are_sizes config.now) }
+    requires clocks { IsTrue (are_clocks config.now) }
+    ensures left { IfOk result (λ served. AreLeft (new_nodes config.now).nodes served.nodes.items) }
+    ensures stopped { IfErr result (λ fault. (fault ≡ CliFault.OutOfMemory) ⊎ (fault ≡ CliFault.ReadFault) ⊎ (fault ≡ CliFault.Torn)) }
+{
+    let listener = listen(rt, service.address)?;
+    let stop = stop_of(rt, alloc, &listener, lines)?;
+    let options = Options {
+        workers: service.workers,
+        connections: service.connections,
+        idle: service.idle,
+    };
+    let told = Told {
+        rt,
+        is_verbose: service.is_verbose,
+    };
+    let moments = SteadyMoments::new(rt);
+    let served = serve_with(rt, alloc, config, &listener, options, &stop, &told, moments);
+    match served {
+        Ok(served) => told_end(rt, served),
+        Err(fault) => Err(CliFault::of_service(fault)),
+    }
+}
+
+/// Says what was served. Fails if a thread couldn't be started, since nothing was served then.
+fn told_end<R: Eprint>(rt: &R, served: Served) -> Result<Served, CliFault>
+    ensures same { IfOk result (λ told. told ≡ served) }
+    ensures stopped { IfErr result (λ fault. fault ≡ CliFault.ReadFault) }
+{
+    let Counts {
+        connections,
+        requests,
+        refused,
+    } = served.counts;
+    let _ = eprintln!(rt;
+        "cops: served {connections} connections, {requests} requests, {refused} refused"
+    );
+    match served.end {
+        ServiceEnd::NoThread => {
+            let _ = eprintln!(rt; "cops: cannot start a thread");
+            Err(CliFault::ReadFault)
+        }
+        _ => Ok(served),
+    }
+}
+
+/// Writes the audit of the nodes that are left. Then fails if the listener was lost.
+fn conclude<R: Eprint, O: Write>(
+    rt: &R,
+    alloc: Global,
+    sink: &mut Sink<O>,
+    config: &Config,
+    served: &Served,
+) -> Result<(), CliFault>
+    requires sizes { IsTrue (are_sizes config.now) }
+    requires nodes { AreNodesOf config.now served.now.nodes.items }
+    ensures ok { OnOk result (Appends (O.contents (sink_writer sink.old)) (O.contents (sink_writer sink.new)) (audit_of config.now served.now.nodes.items)) }
+    ensures front { AppendsFront (O.contents (sink_writer sink.old)) (O.contents (sink_writer sink.new)) (audit_of config.now served.now.nodes.items) }
+    ensures stopped { IfErr result (λ fault. (fault ≡ CliFault.OutOfMemory) ⊎ (fault ≡ CliFault.WriteFault) ⊎ (fault ≡ CliFault.ReadFault)) }
+    ensures write_fault { IsErrOf result CliFault.WriteFault → HasRisen (sink_failures sink.old) (sink_failures sink.new) }
+{
+    match write_audit(alloc, sink, config, served.nodes.as_slice()) {
+        Ok(()) => (),
+        Err(fault) => return Err(CliFault::of_service(fault)),
+    }
+    match served.end {
+        ServiceEnd::Done => Ok(()),
+        _ => {
+            let _ = eprintln!(rt; "cops: the listener failed");
+            Err(CliFault::ReadFault)
         }
     }
 }
 
-/// Reads a head, serves clients at an address, and writes the audit of the nodes that are left.
+/// Reads a head, serves clients at an address, and writes the audit.
 pub(crate) fn serve<R, I: Read, O: Write>(
     rt: &R,
     alloc: Global,
@@ -46,25 +202,22 @@ pub(crate) fn serve<R, I: Read, O: Write>(
 ) -> Result<(), CliFault>
 where
     R: Net<Listener = TcpListener, Stream = TcpStream> + Threads + Wait + Clock + Sync,
+    R: Hosted + Eprint,
     ensures serves { ServesOrFails (I.remaining (source_reader source.old)) (O.contents (sink_writer sink.old)) (O.contents (sink_writer sink.new)) result }
     ensures write_fault { IsErrOf result CliFault.WriteFault → HasRisen (sink_failures sink.old) (sink_failures sink.new) }
 {
-    let config = read_config(alloc, source)?;
-    let served = serve_at(
-        rt,
-        alloc,
-        &config,
-        service.address,
-        service.workers,
-        service.connections,
-        SystemMoments { clock: rt },
-    );
-    let nodes = match served {
-        Ok(nodes) => nodes,
-        Err(fault) => return Err(CliFault::of_service(fault)),
+    let mut head = Source::new(ByteReader::new(source));
+    let config = match read_config(alloc, &mut head) {
+        Ok(config) => config,
+        Err(fault) => {
+            tell_of_head(rt, &fault);
+            return Err(CliFault::from(fault));
+        }
     };
-    match write_audit(alloc, sink, &config, nodes.as_slice()) {
-        Ok(()) => Ok(()),
-        Err(fault) => Err(CliFault::of_service(fault)),
-    }
+    let lines = head.into_inner().lines();
+    let served = match serve_clients(rt, alloc, service, &config, lines) {
+        Ok(served) => served,
+        Err(fault) => return Err(fault),
+    };
+    conclude(rt, alloc, sink, &config, &served)
 }

@@ -40,7 +40,7 @@ module _ {A : Type 0} where
   at_end (x ∷ xs) a b zero e = inl e
   at_end (x ∷ xs) a b (suc j) e = ⊎_elim inl (λ (t : (j ≡ length xs) × (a ≡ b)). let n = t.0 in inr (omega arith, t.1)) (at_end xs a b j e)
 
-  -- a fact of each element, where one is replaced
+  -- a fact of each element, if one is replaced
   each_set : (F : ℕ → A → Type 0) (l : List A) (i : ℕ) (b : A) → F i b → ((j : ℕ) (a : A) → j ≢ i → get_elem? l j ≡ some a → F j a) → (j : ℕ) (a : A) → get_elem? (set l i b) j ≡ some a → F j a
   each_set F l i b here else j a e = ⊎_elim (λ (t : (j ≡ i) × (b ≡ a)). subst (λ (x : ℕ × A). F x.0 x.1) (λ k. (sym t.0 k, t.1 k)) here)
       (λ (t : (j ≢ i) × (get_elem? l j ≡ some a)). else j a t.0 t.1) (at_set l i j b a e)
@@ -483,7 +483,7 @@ module _ {M C R P : Type 0} (turns : M → ℕ → ℕ → C → R → M → Typ
   opens_with t none_yet slots h state empty is machine same most =
       subst (λ (hs : List H). Rule (opening (t ∷ t ∷ []) hs (newcomer from))) (sym (is ∙ ap (λ (l : List H). l ++ h ∷ []) empty)) (opens t h (machine ∙ ap (λ (b : Beginning M). Some b.state) (sym same)) (ap (λ (b : Beginning M). b.ticket) (sym same)) most)
 
-  -- where all tickets were served, the machine is one that a history leaves which begins with all that the seat has seen
+  -- if all tickets were served, the machine is one that a history leaves which begins with all that the seat has seen
   abbrev Left : M → ℕ → List (Turn C R) → ℕ → Bool → M → Type 0
   Left state ticket seen number spent m =
       (log : List (Turn C R)) × StartsWith log seen × Leads turns state log m × (turns_of number log ≡ turns_of number seen) × (spent ≡ true → ticket + length log ≡ 2 ^ 62)

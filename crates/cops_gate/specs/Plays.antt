@@ -1,4 +1,4 @@
--- What each step on the table tells the seat that makes it.
+-- What each step on the table tells the seat that takes it.
 use Rattle.std.specs.Prelude.{◌≡◌, ◌≢◌, ℕ, ◌+◌, ◌^◌, ◌≤◌, true, false, [], ◌∷◌, ◌++◌, List, length, Option, Some, None}
 use Rattle.atomic_table.specs.Table.{Me, Step}
 use Rattle.atomic_table.specs.Seated.{TableId}
@@ -35,14 +35,14 @@ module _ {M C R : Type 0} where
       (w.opening ≡ v.opening) × (w.number ≡ v.number) × (w.numbered ≡ true) × (w.spent ≡ v.spent)
       × StartsWith w.seen v.seen × StartsWith w.seen v.told × (turns_of v.number w.seen ≡ turns_of v.number v.seen)
 
-  -- what a new seat knows that was cut from v: it has seen the same, and made no turn
+  -- the knowledge of a new seat, split from v: it has seen the same, and made no turn
   abbrev pub fresh_view : View M C R → View M C R
   fresh_view v = record { opening = v.opening; number = 0; numbered = false; seen = v.seen; told = v.told; stage = Idle; spent = v.spent }
 
   abbrev pub numbered_view : ℕ → View M C R → View M C R
   numbered_view n v = record { opening = v.opening; number = n; numbered = true; seen = v.seen; told = v.told; stage = v.stage; spent = v.spent }
 
-  -- v, told of what w has seen
+  -- v, after it learned what w has seen
   abbrev pub told_view : View M C R → View M C R → View M C R
   told_view v w = record { opening = v.opening; number = v.number; numbered = v.numbered; seen = v.seen; told = w.seen; stage = v.stage; spent = v.spent }
 
@@ -54,15 +54,15 @@ module _ {M C R : Type 0} where
   abbrev pub ended_view : View M C R
   ended_view = record { opening = None; number = 0; numbered = false; seen = []; told = []; stage = Idle; spent = false }
 
-  -- a new seat is told its number
+  -- a new seat learns its number
   abbrev pub learned : Step (Option M) → Sat M C R → ℕ → Sat M C R → Type 0
   learned st m r m' = (m'.1 ≡ m.1) × ((n : ℕ) × (m'.0 ≡ numbered_view n m.0) × (turns_of n m.0.seen ≡ []))
 
-  -- a seat between two turns, which knows of itself what v says
+  -- a seat between two turns, which knows about itself what v says
   abbrev pub IsIdle : View M C R → Sat M C R → Type 0
   IsIdle v m = (m.1 ≡ []) × (m.0.stage ≡ Idle) × (m.0.numbered ≡ true) × (m.0.opening ≡ v.opening) × (m.0.number ≡ v.number) × (m.0.spent ≡ v.spent)
 
-  -- the number found is the ticket where it is the one expected
+  -- the number found is the ticket if it is the expected one
   abbrev pub drawn : Step (Option M) → Sat M C R → ℕ → Sat M C R → Type 0
   drawn st m r m' =
       (m'.1 ≡ m.1) × (r ≤ 2 ^ 62) × (m.0.spent ≡ true → r ≡ 2 ^ 62) × HasRoom m.0.opening m.0.seen
@@ -70,7 +70,7 @@ module _ {M C R : Type 0} where
       × (r ≢ st.first → r ≢ 2 ^ 62 → m'.0 ≡ m.0)
       × (r ≢ st.first → r ≡ 2 ^ 62 → m'.0 ≡ spent_view m.0)
 
-  -- the slot comes back with the seat's turn done
+  -- the slot is returned with the seat's turn done
   abbrev pub published : Option (Entry C R) → Step (Option M) → Sat M C R → ℕ → Sat M C R → Type 0
   published e st m r m' =
       ((h : Option M) → m.1 ≡ (0, h) ∷ [] → (m'.1 ≡ []) × (m'.0 ≡ published_view e m.0))
@@ -89,6 +89,6 @@ module _ {M C R P : Type 0} (turns : M → ℕ → ℕ → C → R → M → Typ
   abbrev pub glanced : Step (Option M) → Sat M C R → ℕ → Sat M C R → Type 0
   glanced st m r m' = (m'.1 ≡ m.1) × SeesOn m.0 m'.0 × (m'.0.stage ≡ Idle) × ((opening : Beginning M) → m.0.opening ≡ Some opening → IsLegal turns opening.state m'.0.seen) × HasRoom m.0.opening m'.0.seen
 
-  -- where the ticket is served, the seat has the slot
+  -- if the ticket is served, the seat has the slot
   abbrev pub looked : Step (Option M) → Sat M C R → ℕ → Sat M C R → Type 0
   looked st m r m' = (opening : Beginning M) (t : ℕ) → m.0.opening ≡ Some opening → m.0.stage ≡ Waits t → m.0.numbered ≡ true → (r ≡ t → Gets opening.state t m m') × (r ≢ t → m' ≡ m)

@@ -7,7 +7,7 @@ use Rattle.cops_gate.specs.declared.history.Entry.{Entry}
 use Rattle.cops_gate.specs.declared.history.Turn.{Turn}
 use Rattle.cops_gate.specs.History.{turns_of, entry, StartsWith, Leads, Grows, LeavesLacking}
 
--- which gate it is, the state that it opened with and the number of its first ticket
+-- the identity of a gate, the state that it opened with, and the number of its first ticket
 pub record Origin (M : Type 0) : Type 0 where
   pub table : TableId
   pub opening : M
@@ -28,11 +28,12 @@ pub record Known (M C R : Type 0) : Type 0 where
   pub history : List (Turn C R)
   pub spent : Bool
 
--- the seat has made one turn more, which is blank where there is no entry
+-- the seat has made one turn more, a no-op turn if there is no entry
 abbrev pub Extends : {M C R : Type 0} → (M → ℕ → ℕ → C → R → M → Type 0) → M → Known M C R → Option (Entry C R) → Known M C R → Type 0
 Extends turns opening old e new = Grows turns opening old.number old.history e new.history
 
--- What a call was told, where `spent` is the reply that tickets are spent: that, and the history stays; or a turn of the machine, which is blank where memory was refused, and a seat that has met 2^62 makes none
+-- The outcome of a call, if `spent` is the reply for exhausted tickets. Either that is the reply and the history stays; or the machine made a
+-- turn, a no-op turn if memory ran out. A seat that has met 2^62 makes none
 abbrev pub IsToldOrSpent : {M C R : Type 0} → (M → ℕ → ℕ → C → R → M → Type 0) → (M → ℕ → C → Type 0) → M → R → ℕ → ℕ → C → Known M C R → Known M C R → Result R AllocError → Type 0
 IsToldOrSpent turns may_lack opening spent slot moment call old new told =
     (told ≡ Ok spent) × (new.history ≡ old.history) × (new.spent ≡ true)
@@ -40,8 +41,8 @@ IsToldOrSpent turns may_lack opening spent slot moment call old new told =
     × IfOk told (λ reply. Extends turns opening old (Some (entry slot moment call reply)) new)
     × OnErr told (Extends turns opening old None new × LeavesLacking turns may_lack opening old.number slot call new.history)
 
--- The machine is one that a history leaves which begins with all that the seat has seen, and has no other turn of it.
--- Where the seat has met the ticket word at 2^62, each ticket below that had its turn
+-- A history leaves this machine that has all that the seat has seen as a prefix, and no other turn of the seat. If the seat has met the ticket
+-- word at 2^62, each ticket below that had its turn
 abbrev pub ClosesWith : {M C R : Type 0} → (M → ℕ → ℕ → C → R → M → Type 0) → Origin M → Known M C R → M → Type 0
 ClosesWith {M} {C} {R} turns gate seat machine =
     (log : List (Turn C R)) × StartsWith log seat.history × Leads turns gate.opening log machine

@@ -1,5 +1,5 @@
-//! The table that the threads share.
-//! Word 0 is the next ticket to be drawn, and word 1 the ticket that is served. The one slot holds the machine.
+//! The table that the threads share. Word 0 is the next ticket to draw, and word 1 the ticket that
+//! is served. The one slot holds the machine.
 use crate::history::Turn;
 use atomic_table::{Seat, Table, TableRule};
 use cops_types::Machine;
@@ -12,16 +12,16 @@ pub(crate) const TICKET: usize = 0;
 
 pub(crate) const SERVING: usize = 1;
 
-// The ticket word's last value. Nobody draws it.
+// The ticket word's last value. No one draws it.
 pub(crate) const LAST: u64 = 1 << 62;
 
-/// How a gate begins: the machine, and the number of the first ticket.
+/// The start of a gate: the machine, and the number of the first ticket.
 pub struct Beginning<M> {
     pub state: M,
     pub ticket: u64,
 }
 
-/// How far a seat is with its turn.
+/// A seat's progress with its turn.
 pub enum Stage {
     Idle,
     /// It has drawn this ticket.
@@ -30,18 +30,18 @@ pub enum Stage {
     Holds(u64),
 }
 
-/// What a seat knows. No value of it is made.
+/// A seat's knowledge. No value of it is ever made.
 pub struct View<M, C, R> {
-    /// How the gate began. A seat that has ended does not know.
+    /// How the gate began. A seat that has ended does not know it.
     pub opening: Option<Beginning<M>>,
     pub number: u64,
-    /// Whether the seat knows its number. Until then it has made no turn.
+    /// `true` if the seat knows its number. Until then it has made no turn.
     pub numbered: bool,
     pub seen: LinkedList<Turn<C, R>>,
-    /// What it was told of.
+    /// The turns that it has learned of.
     pub told: LinkedList<Turn<C, R>>,
     pub stage: Stage,
-    /// It met the ticket word at its last value.
+    /// `true` if it met the ticket word at its last value.
     pub spent: bool,
 }
 

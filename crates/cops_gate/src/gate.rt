@@ -17,7 +17,8 @@ use std::marker::Model;
 use std::snapshot::Snapshot;
 use std::sync::Wait;
 
-/// A machine behind a gate. Contracts see which gate it is, and the state that it opened with.
+/// A machine behind a gate. Contracts see the identity of the gate, and the state that it opened
+/// with.
 #[derive(Drop)]
 pub struct Gate<M: Machine> {
     board: Board<M>,
@@ -32,7 +33,8 @@ impl<M: Machine> Model for Gate<M> {
     ghost invariant = { λ g. (g.board.shared.table_id.words ≡ 2) × (g.board.shared.table_id.slots ≡ 1) };
 }
 
-/// The right to make turns at a gate. Contracts see its number, the history that it has seen, and whether it has met the last ticket.
+/// The right to make turns at a gate. Contracts see its number, the history that it has seen, and
+/// whether it has met the last ticket.
 pub struct GateSeat<M: Machine> {
     place: BoardSeat<M>,
 }
@@ -46,7 +48,8 @@ impl<M: Machine> Model for GateSeat<M> {
 }
 
 impl<M: Machine> Gate<M> {
-    /// A gate that opens with this state, and its first seat. Without memory the state comes back.
+    /// Opens a gate with this state. Returns the gate and its first seat. Fails with `OutOfMemory`
+    /// if memory runs out, and returns the state.
     pub fn first(alloc: Global, state: M) -> Result<(Gate<M>, GateSeat<M>), (Fault, M)>
         ensures ok { IfOk result (λ r. (r.0.opening ≡ state) × (r.0.ticket ≡ 0) × (r.1 ≡ first_seat r.0)) }
         ensures refused { IfErr result (λ r. (r.0 ≡ OutOfMemory) × (r.1 ≡ state)) }
@@ -54,7 +57,7 @@ impl<M: Machine> Gate<M> {
         Gate::first_at(alloc, state, 0)
     }
 
-    /// The same, where the first ticket has this number.
+    /// Does the same with a number for the first ticket.
     pub fn first_at(
         alloc: Global,
         state: M,
@@ -83,7 +86,7 @@ impl<M: Machine> Gate<M> {
         }
     }
 
-    /// Makes one turn, and waits for the turns of earlier tickets.
+    /// Makes one turn, after the turns of earlier tickets.
     pub fn step<R: Wait>(
         &self,
         rt: &R,
@@ -125,8 +128,8 @@ impl<M: Machine> Gate<M> {
         }
     }
 
-    /// Makes one turn as `step` does. That memory was refused is the only error: where the tickets are spent, the reply
-    /// tells so which `S` has for that.
+    /// Makes one turn as `step` does, but returns `S`'s reply for exhausted tickets. Fails with
+    /// `AllocError` only if memory runs out.
     #[inline(always)]
     pub fn step_or_reply<R: Wait, S: SpentReply<M::Reply>>(
         &self,
@@ -160,7 +163,7 @@ impl<M: Machine> Gate<M> {
         )
     }
 
-    /// A new seat, which has seen the same and has made no turn.
+    /// Returns a new seat (fork), which has seen the same and has made no turn.
     pub fn split(&self, seat: &mut GateSeat<M>) -> GateSeat<M>
         requires { seat.old.gate ≡ gate_home self.now }
         ensures same { seat.new ≡ seat.old }
@@ -172,7 +175,7 @@ impl<M: Machine> Gate<M> {
         GateSeat { place }
     }
 
-    /// The second seat sees all that the first has seen.
+    /// Lets the second seat see all that the first has seen (join).
     pub fn meet(&self, from: &mut GateSeat<M>, to: &mut GateSeat<M>)
         requires from { from.old.gate ≡ gate_home self.now }
         requires to { to.old.gate ≡ gate_home self.now }
@@ -189,7 +192,7 @@ impl<M: Machine> Gate<M> {
 }
 
 impl<M: Machine + Drop> Gate<M> {
-    /// The machine, if each ticket that was drawn has been served.
+    /// Closes the gate. Returns the machine, if each ticket that was drawn has been served.
     pub fn close(self, seat: GateSeat<M>) -> Option<M>
         requires { seat.gate ≡ gate_home self }
         ensures history { IfSome result (λ m. ClosesWith M.turns self seat m) }
@@ -220,7 +223,7 @@ impl<M: Machine> Drop for GateSeat<M> {
     }
 }
 
-// The machine of a table that was not made.
+// Returns the machine of a table that was not made.
 fn only_machine<M>(mut slots: Vec<Option<M>>) -> M
     requires { (m : _) × (slots.items ≡ Some m ∷ []) }
     ensures { slots.items ≡ Some result ∷ [] }

@@ -1,5 +1,6 @@
-//! A ticket gate: threads that share a machine take turns at it, in the order of the tickets that they drew.
-//! What each thread has seen is a beginning of one history of turns, which is legal from the state that the gate opened with.
+//! A ticket gate: threads that share a machine take turns at it, in the order in which they drew
+//! their tickets. Each thread has seen a prefix of one history of turns, which is legal from the
+//! state that the gate opened with.
 #![tactic(auto)]
 
 mod board;

@@ -1,4 +1,4 @@
-//! How seats are cut from others, and how one learns what another has seen.
+//! Splitting of seats, and how one seat learns what another has seen.
 ghost use Rattle.std.specs.Prelude.{◌≡◌, true, false, [], Some};
 ghost use Rattle.cops_gate.specs.declared.board.Stage.TheVariants.{Idle};
 ghost use Rattle.cops_gate.specs.History.{turns_of, IsLegal};
@@ -8,7 +8,7 @@ use crate::board::{Board, BoardSeat};
 use crate::plays::{Glance, Learn, Share, Tell};
 use cops_types::Machine;
 
-// A seat that has seen the same, and does not know its number.
+// Returns a seat that has seen the same, and does not know its number.
 pub(crate) fn note<M: Machine>(board: &Board<M>, place: &mut BoardSeat<M>) -> BoardSeat<M>
     requires { IsSeatOf board.now.shared.table_id place.old }
     ensures same { (place.new.table_id ≡ place.old.table_id) × (place.new.id ≡ place.old.id) × (place.new.me ≡ place.old.me) }
@@ -17,7 +17,7 @@ pub(crate) fn note<M: Machine>(board: &Board<M>, place: &mut BoardSeat<M>) -> Bo
     board.shared.split_seat::<Share>(place)
 }
 
-// Tells a new seat its number.
+// Gives a new seat its number.
 pub(crate) fn learn<M: Machine>(board: &Board<M>, place: &mut BoardSeat<M>)
     requires board { IsSeatOf board.now.shared.table_id place.old }
     requires new { place.old.me.0.numbered ≡ false }
@@ -27,7 +27,7 @@ pub(crate) fn learn<M: Machine>(board: &Board<M>, place: &mut BoardSeat<M>)
     board.shared.load::<Learn>(place, 0);
 }
 
-// Takes in what a note has seen, and all turns so far.
+// Adds what a note has seen, and all turns so far.
 pub(crate) fn hear<M: Machine>(board: &Board<M>, place: &mut BoardSeat<M>, told: BoardSeat<M>)
     requires board { IsSeatOf board.now.shared.table_id place.old }
     requires idle { (place.old.me.0.stage ≡ Idle) × (place.old.me.0.numbered ≡ true) }

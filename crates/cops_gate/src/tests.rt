@@ -19,7 +19,7 @@ struct Counter {
 #[derive(Clone, Copy)]
 enum Ask {
     Go,
-    // The turn is so long that those who wait for it sleep.
+    // A turn so long that the threads that wait for it sleep.
     Linger,
     Refuse,
 }
@@ -95,7 +95,7 @@ fn a_turn_without_memory_is_blank(rt: HostRuntime) -> Result<(), Fail> {
     Ok(())
 }
 
-// For runs in which one request for memory is refused: the state comes back, and is as it was.
+// For runs in which one allocation fails: the state is returned, unchanged.
 #[test]
 fn refused_memory_hands_the_state_back(rt: HostRuntime) {
     let made = match Gate::first(rt.alloc(), Counter { count: 7 }) {
@@ -111,10 +111,10 @@ fn refused_memory_hands_the_state_back(rt: HostRuntime) {
     assert!(rt; gate.step(&rt, &mut seat, 0, 0, Ask::Go) == Ok(8));
 }
 
-// How many turns each thread makes.
+// The number of turns of each thread.
 const TURNS: usize = 100;
 
-// Makes the turns of one thread, and gives the replies.
+// Makes the turns of one thread, and returns the replies.
 fn go<R: Wait>(
     rt: &R,
     alloc: Global,
@@ -187,7 +187,7 @@ fn two_threads_take_turns(rt: HostRuntime) -> Result<(), Fail> {
     Ok(())
 }
 
-// The replies of four threads that make turns, each with a seat.
+// Returns the replies of four threads that make turns, each with a seat.
 fn go_four<R: Threads + Wait + Sync>(
     rt: &R,
     alloc: Global,

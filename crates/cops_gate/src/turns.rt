@@ -1,5 +1,6 @@
-//! The parts of one turn: a ticket is drawn, waited for, and published.
-//! The first try of a draw and of a wait stands apart from the loop behind it: alone at a gate, a turn needs no more.
+//! The parts of one turn: drawing a ticket, waiting for it, and publishing the turn. The first try
+//! of a draw and of a wait is separate from the loop behind it: alone at a gate, a turn needs no
+//! more.
 ghost use Rattle.std.specs.Prelude.{◌≡◌, ◌+◌, ◌^◌, ◌<◌, true, [], ◌∷◌, ◌++◌, ◌≤◌, length, Some, None, OnErr, IfSome, IfNone, IfOk};
 ghost use Rattle.cops_gate.specs.declared.board.Stage.TheVariants.{Idle, Waits, Holds};
 ghost use Rattle.cops_gate.specs.History.{entry, turn, Leads, Grows, LeavesLacking};
@@ -44,7 +45,7 @@ pub(crate) fn draw<M: Machine, R: Wait>(
     draw_again(rt, board, place, found)
 }
 
-// Draws the next ticket where another thread has drawn the likely one.
+// Draws the next ticket after another thread drew the likely one.
 #[cold]
 #[inline(never)]
 fn draw_again<M: Machine, R: Wait>(
@@ -77,7 +78,7 @@ fn draw_again<M: Machine, R: Wait>(
     unreachable!()
 }
 
-// Waits until the ticket is served. The slot then goes to the seat.
+// Waits until the ticket is served. Then the seat gets the slot.
 pub(crate) fn wait<M: Machine, R: Wait>(
     rt: &R,
     board: &Board<M>,
@@ -96,7 +97,7 @@ pub(crate) fn wait<M: Machine, R: Wait>(
     }
 }
 
-// Waits where an earlier ticket is served still.
+// Waits while an earlier ticket is served.
 #[cold]
 #[inline(never)]
 fn wait_on<M: Machine, R: Wait>(
@@ -124,7 +125,7 @@ fn wait_on<M: Machine, R: Wait>(
     unreachable!()
 }
 
-// Makes a turn of the machine, where it stands in the slot that the seat holds.
+// Makes a turn of the machine, in place in the slot that the seat holds.
 fn turn_in_slot<M: Machine>(
     board: &Board<M>,
     place: &mut BoardSeat<M>,
@@ -145,7 +146,7 @@ fn turn_in_slot<M: Machine>(
     }
 }
 
-// Gives the slot back with the machine in it, and serves the next ticket.
+// Returns the slot with the machine in it, and serves the next ticket.
 fn publish<M: Machine, T: Said<M::Call, M::Reply>>(
     board: &Board<M>,
     place: &mut BoardSeat<M>,
@@ -167,10 +168,11 @@ fn publish<M: Machine, T: Said<M::Call, M::Reply>>(
     board.shared.store::<Publish<T>>(place, SERVING, ticket + 1);
 }
 
-// Makes the turn of the ticket that is served. Without memory it is a blank one. `drawn` is the seat before it waited.
+// Makes the turn of the ticket that is served; without memory it is a no-op turn. `drawn` is the
+// seat before it waited.
 //
-// The answer is given back as it comes. Where it were looked at, or came on two ways, its parts would be copied once
-// more; so they would be at each call that may wait, so none is made here.
+// The answer is returned as it comes, and no call is made here that may wait. Looking at the
+// answer, joining two branches or waiting would copy its parts once more.
 pub(crate) fn serve<M: Machine>(
     board: &Board<M>,
     sleepers: &Sleepers,

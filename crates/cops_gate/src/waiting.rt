@@ -1,5 +1,5 @@
-//! How a thread waits for the machine: it looks again, and then sleeps until a turn ends.
-//! The words are read without a seat, so nothing here changes what a seat knows.
+//! How a thread waits for the machine: it looks again, and then sleeps until a turn ends. It reads
+//! the words without a seat, so nothing here changes what a seat knows.
 ghost use Rattle.std.specs.Prelude.{◌≡◌, ◌<◌, ◌≤◌, ◌^◌, IfOk};
 
 use crate::board::{Board, LAST, SERVING, TICKET};
@@ -9,37 +9,39 @@ use std::sync::Wait;
 use std::sync::atomic::AtomicU64;
 use std::sync::atomic::Ordering::SeqCst;
 
-// How many pauses a thread that holds back makes between two looks. Where turns are short it thus looks at each second or
-// third of them: who makes one turn after another keeps the machine for some, with all of its memory in one cache.
+// The pauses of a thread that holds back, between two looks. With short turns it looks at each
+// second or third of them: a thread that makes one turn after another keeps the machine for some,
+// with all of its memory in one cache.
 const PAUSES: u32 = 64;
 
-// How many times a thread that holds back looks until it sleeps.
+// The looks of a thread that holds back, until it sleeps.
 const LOOKS: u32 = 64;
 
-// How many times it looks each time that it has slept. They are few: where threads are more than processors, one that
-// looks takes a processor from one that could make a turn.
+// The looks after each sleep. They are few: with more threads than processors, a looking thread
+// takes a processor from one that could make a turn.
 const LOOKS_AGAIN: u32 = 2;
 
-// A thread past which others have made more turns than this sleeps sooner: turns are so short here that it costs less to
-// be woken than to keep a processor.
+// A thread sleeps sooner once others have made more turns than this: turns are then so short that
+// waking it costs less than a busy processor.
 const MOST_PASSED: u64 = 16;
 
-// How many tries a thread in line stays awake, each twice as long as the one before, until it sleeps.
+// The tries of a thread in line until it sleeps. Each lasts twice as long as the one before.
 const TRIES_IN_LINE: u32 = 12;
 
-// A thread that has slept so often no longer holds back: it draws its ticket and waits in line.
+// A thread that has slept this often no longer holds back: it draws its ticket and waits in line.
 const SLEEPS: u32 = 16;
 
-/// Who waits until a turn ends. A turn that finds nobody asleep, or somebody awake who may go on, makes no system call.
+/// The threads that wait until a turn ends. A turn makes no system call if no thread sleeps, or if
+/// one that may go on is awake.
 #[derive(Drop)]
 pub(crate) struct Sleepers {
-    /// How many sleep that have a ticket. They sleep on the serving word.
+    /// The number of sleeping threads with a ticket. They sleep on the serving word.
     in_line: AtomicU64,
-    /// 1 where threads without a ticket may sleep, which they do on this word. It is 0 where none does, and from the end
-    /// of a turn that wakes one until that one goes on.
+    /// 1 while threads without a ticket may sleep, which they do on this word. It is 0 if none
+    /// does, and from the end of a turn that wakes one until that thread goes on.
     held_back: AtomicU64,
-    /// How many are awake without a ticket and look whether they may go on, of those who began while others could sleep.
-    /// While there are any, none of those who hold back is woken.
+    /// The number of threads that look, awake and without a ticket, and that began while others
+    /// could sleep. While there are any, no thread that holds back is woken.
     awake: AtomicU64,
 }
 
@@ -52,9 +54,11 @@ impl Sleepers {
         }
     }
 
-    /// Waits a while with a ticket, the longer the more tries there were. `seen` is the ticket that was served at the last look.
+    /// Waits for a while with a ticket, longer after more tries. `seen` is the ticket that was
+    /// served at the last look.
     ///
-    /// The thread is counted before the word is read again, and a turn ends before the count is read, so no end is missed.
+    /// The thread is counted before the word is read again, and a turn ends before the count is
+    /// read, so no end is missed.
     pub(crate) fn wait_in_line<M: Machine, R: Wait>(
         &self,
         rt: &R,
@@ -73,8 +77,9 @@ impl Sleepers {
         }
     }
 
-    // Looks for so many tries at most, and is counted as awake meanwhile if others may sleep. Where nobody sleeps the count
-    // isn't asked for, and to write it would take its line from the cache of the thread whose turn ends.
+    // Looks at most this many times, and is counted as awake meanwhile if others may sleep. If no
+    // thread sleeps, the count is not needed, and writing it would take its line from the cache of
+    // the thread whose turn ends.
     fn look<M: Machine>(&self, board: &Board<M>, most: u32) -> Result<u64, u64>
         requires { board.now.shared.table_id.words ≡ 2 }
         ensures { IfOk result (λ ticket. ticket < 2 ^ 62) }
@@ -88,8 +93,9 @@ impl Sleepers {
         found
     }
 
-    // Sleeps without a ticket, unless a turn has ended since the last look, which saw that this ticket was served.
-    // A turn that ended after that look is seen here, or finds the word at 1. Nobody falls asleep once it has taken that down.
+    // Sleeps without a ticket, unless a turn has ended since the last look, which saw this ticket
+    // served. A turn that ended after that look is seen here, or finds the word at 1. No thread
+    // falls asleep once the turn has taken that down.
     fn sleep<M: Machine, R: Wait>(&self, rt: &R, board: &Board<M>, seen: u64)
         requires { board.now.shared.table_id.words ≡ 2 }
     {
@@ -99,14 +105,16 @@ impl Sleepers {
         }
     }
 
-    // Said by a thread that is about to sleep, and by one that slept before it goes on: it alone was woken.
+    // A thread says this before it sleeps. A thread that slept says it before it goes on:
+    // it alone was woken.
     fn others_may_sleep(&self) {
         self.held_back.store(1, SeqCst);
     }
 
-    /// Wakes who may go on, now that `serving` is served: those in line, since one of them may have this ticket, and one
-    /// of those who hold back, unless somebody is awake who sees this end and wakes others by the end of a turn of its
-    /// own. Behind the last ticket no turn follows, so all of these are woken.
+    /// Wakes the threads that may go on, now that `serving` is served: all in line, since one of
+    /// them may have this ticket, and one of those that hold back. It wakes none of the latter if a
+    /// thread is awake that sees this end and wakes others by the end of its own turn. No turn
+    /// follows the last ticket, so it then wakes all of them.
     pub(crate) fn wake<M: Machine>(&self, board: &Board<M>, serving: u64)
         requires { board.now.shared.table_id.words ≡ 2 }
     {
@@ -120,7 +128,7 @@ impl Sleepers {
         }
     }
 
-    // Wakes all who hold back.
+    // Wakes all threads that hold back.
     #[cold]
     #[inline(never)]
     fn wake_held_back(&self) {
@@ -128,7 +136,7 @@ impl Sleepers {
         self.held_back.wake_all();
     }
 
-    // Wakes one of those who hold back, unless another thread has done so.
+    // Wakes one of the threads that hold back, unless another thread has done so.
     #[cold]
     #[inline(never)]
     fn wake_one(&self) {
@@ -147,10 +155,10 @@ fn wake_in_line<M: Machine>(board: &Board<M>)
     board.shared.wake_all(SERVING);
 }
 
-/// Holds back while others are at the machine, and gives the ticket that is likely to be the next.
+/// Holds back while others are at the machine, and returns the likely next ticket.
 ///
-/// A ticket that is drawn while others are out is served by a thread that has to be awake just then.
-/// So where threads are more than processors, each turn would wait for the system to wake the right one.
+/// A ticket that is drawn while others are out is served by a thread that must be awake just then.
+/// With more threads than processors, each turn would wait for the system to wake the right one.
 pub(crate) fn hold_back<M: Machine, R: Wait>(rt: &R, board: &Board<M>, sleepers: &Sleepers) -> u64
     requires { board.now.shared.table_id.words ≡ 2 }
     ensures { result < 2 ^ 62 }
@@ -161,7 +169,7 @@ pub(crate) fn hold_back<M: Machine, R: Wait>(rt: &R, board: &Board<M>, sleepers:
     hold_back_long(rt, board, sleepers)
 }
 
-// Holds back where others are at the machine.
+// Holds back because others are at the machine.
 #[cold]
 #[inline(never)]
 fn hold_back_long<M: Machine, R: Wait>(rt: &R, board: &Board<M>, sleepers: &Sleepers) -> u64
@@ -184,7 +192,8 @@ fn hold_back_long<M: Machine, R: Wait>(rt: &R, board: &Board<M>, sleepers: &Slee
     below_last(board.shared.peek(TICKET))
 }
 
-// The ticket that is likely to be the next, where no other is out or none is left, or else the one that is served.
+// Returns the likely next ticket if no other is out or none remains, and otherwise the one that is
+// served.
 fn free_ticket<M: Machine>(board: &Board<M>) -> Result<u64, u64>
     requires { board.now.shared.table_id.words ≡ 2 }
     ensures { IfOk result (λ ticket. ticket < 2 ^ 62) }
@@ -198,7 +207,7 @@ fn free_ticket<M: Machine>(board: &Board<M>) -> Result<u64, u64>
     }
 }
 
-// Looks until no ticket is out, but only so many times, and only until others have made some turns.
+// Looks until no ticket is out, but only this often, and only until others have made some turns.
 fn look_for_free<M: Machine>(board: &Board<M>, most: u32) -> Result<u64, u64>
     requires { board.now.shared.table_id.words ≡ 2 }
     ensures { IfOk result (λ ticket. ticket < 2 ^ 62) }
@@ -220,14 +229,15 @@ fn look_for_free<M: Machine>(board: &Board<M>, most: u32) -> Result<u64, u64>
     Err(seen)
 }
 
-// Where the tickets are spent any number is as good as another.
+// Returns the ticket; with exhausted tickets any number does.
 fn below_last(ticket: u64) -> u64
     ensures { result < 2 ^ 62 }
 {
     if ticket < LAST { ticket } else { 0 }
 }
 
-// Looks until a turn has ended, but `2 ^ tries` times at most. Nobody else can make a turn meanwhile, so it looks often.
+// Looks until a turn has ended, but at most `2 ^ tries` times. No other thread can make a turn
+// meanwhile, so it looks often.
 fn look_in_line<M: Machine>(board: &Board<M>, tries: u32, seen: u64)
     requires words { board.now.shared.table_id.words ≡ 2 }
     requires tries { tries < 32 }

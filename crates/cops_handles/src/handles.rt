@@ -6,7 +6,7 @@ use cops_types::Fault;
 use std::alloc::AllocError;
 use std::marker::{Model, PhantomData};
 
-/// What a table keeps under its numbers, and the tag that its handles have on the wire.
+/// What a table stores under its numbers, and the tag of its handles on the wire.
 pub trait Kind {
     type Row: Drop;
 
@@ -15,7 +15,7 @@ pub trait Kind {
     ghost TAG: { ℕ };
 }
 
-/// The number of a row, of a table of this kind alone. Contracts see the number.
+/// The number of a row in a table of this kind. Contracts see the number.
 pub struct Handle<K: Kind> {
     number: u64,
     kind: PhantomData<K>,
@@ -44,7 +44,7 @@ impl<K: Kind> Clone for Handle<K> {
 impl<K: Kind> Copy for Handle<K> {}
 
 impl<K: Kind> Handle<K> {
-    /// The handle of a number, which may be open or not.
+    /// Returns the handle of a number, whether or not it is open.
     pub fn of_number(number: u64) -> Self
         ensures { result ≡ number }
     {
@@ -54,14 +54,14 @@ impl<K: Kind> Handle<K> {
         }
     }
 
-    /// The number.
+    /// Returns the number.
     pub fn number(self) -> u64
         ensures { result ≡ self }
     {
         self.number
     }
 
-    /// The tag of the kind, and then the number.
+    /// Returns the tag of the kind, followed by the number.
     pub fn to_wire(self) -> [u8; 9]
         ensures { result ≡ wire_of K.TAG self }
     {
@@ -69,7 +69,8 @@ impl<K: Kind> Handle<K> {
         [K::TAG, a, b, c, d, e, f, g, h]
     }
 
-    /// The handle that these bytes write.
+    /// Returns the handle that these bytes encode. Fails with `NoContext` if the tag is of another
+    /// kind.
     pub fn from_wire(bytes: [u8; 9]) -> Result<Self, Fault>
         ensures { result ≡ (if slice_index bytes 0 == K.TAG then Ok (from_be_bytes w64 (drop 1 bytes)) else Err Fault.NoContext) }
     {

@@ -1,21 +1,17 @@
--- What an operation depends on, from the operations themselves and not from stored lists.
+-- The dependencies of an operation, computed from the operations themselves and not from stored lists.
 use Rattle.std.specs.Prelude.{ℕ, Bool, true, ◌==◌, ◌&&◌, ◌||◌, List, [], ◌∷◌, ◌++◌, is_some, Option, Some, None, if◌then◌else◌}
-use Rattle.std.specs.Option.{option_map, option_and_then}
-use Rattle.std.specs.List.{list_any, list_all, flat_map, cons_option}
+use Rattle.std.specs.List.{list_any, list_all, flat_map}
 use Rattle.cops_types.specs.declared.contexts.ReadParts.{ReadParts as Read}
 use Rattle.cops_types.specs.declared.pairs.Pair.{Pair}
 use Rattle.cops_types.specs.Key.{key_eq}
 use Rattle.cops_types.specs.Pairs.{holds, greatest_per_key}
-use Rattle.cops_types.specs.TenantConfig.{TenantConfig}
 use Rattle.cops_types.specs.Version.{version_le}
-use Rattle.cops_model.specs.Session.{Session, Running}
 use Rattle.cops_model.specs.declared.acts.Act.{Act}
 use Rattle.cops_model.specs.declared.acts.Act.TheVariants.{Step, Done}
 use Rattle.cops_model.specs.declared.replies.Reply.{Reply}
 use Rattle.cops_model.specs.declared.replies.Reply.TheVariants.{Stored, Values}
-use Rattle.cops_model.specs.Cluster.{SoloCluster, new_cluster, find_session, cluster_step}
 
--- an operation that ended well: its session and context, and the pair that it put or the reads that it returned
+-- an operation that succeeded: its session and context, and the pair that it put or the reads that it returned
 pub data Effect : Type 0 where
   Wrote : Pair → Effect
   Returned : List Read → Effect
@@ -25,7 +21,7 @@ pub record Operation : Type 0 where
   pub context : ℕ
   pub effect : Effect
 
--- ---- the operations of a run, in the order of their ends
+-- ---- the operation that a reply ends
 
 abbrev pub effect_of : Reply → Option Effect
 effect_of (Stored pair) = Some (Wrote pair)
@@ -37,25 +33,6 @@ abbrev pub stepped_actor : Act → Option (List ℕ)
 stepped_actor (Step name moment) = Some name
 stepped_actor (Done name moment) = Some name
 stepped_actor act = None
-
--- the request that the session of this name runs, as an operation with this effect
-abbrev pub operation_by : SoloCluster → Effect → List ℕ → Option Operation
-operation_by cluster effect name =
-    option_map (λ (r : Running). record { session = name; context = r.context; effect = effect })
-    (option_and_then (λ (s : Session). s.running) (find_session name cluster))
-
--- the operation that the act ended with this reply, if it ended one
-abbrev pub operation_ended : SoloCluster → Act → Reply → Option Operation
-operation_ended cluster act reply = option_and_then (λ effect. option_and_then (operation_by cluster effect) (stepped_actor act)) (effect_of reply)
-
-abbrev pub operations_from : TenantConfig → List Act → SoloCluster → List Operation
-operations_from config [] cluster = []
-operations_from config (act ∷ acts) cluster =
-    let turn = cluster_step config act cluster in
-    cons_option (operation_ended cluster act turn.reply) (operations_from config acts turn.after)
-
-abbrev pub operations : TenantConfig → List Act → List Operation
-operations config acts = operations_from config acts (new_cluster config)
 
 -- ---- what precedes an operation
 
@@ -72,7 +49,7 @@ abbrev pub returned_by : Effect → List Pair
 returned_by (Wrote pair) = []
 returned_by (Returned reads) = flat_map pair_read reads
 
--- of an earlier operation and a later one: they are of one context, or the later one returned what the earlier one put
+-- an earlier operation leads to a later one: they are of one context, or the later one returned what the earlier one put
 abbrev pub leads_to : Operation → Operation → Bool
 leads_to earlier later =
     key_eq earlier.session later.session && earlier.context == later.context
@@ -83,7 +60,7 @@ pub record Traced : Type 0 where
   pub operation : Operation
   pub past : List Pair
 
--- `past`: what the operations that lead to this one put, and what precedes those
+-- `past`: what the operations that lead to this one put, and the pasts of those
 abbrev pub past_after : List Traced → Operation → List Pair
 past_after earlier operation = flat_map (λ t. if leads_to t.operation operation then put_by t.operation.effect ++ t.past else []) earlier
 
@@ -95,21 +72,21 @@ traced_from earlier (o ∷ later) = traced_from (earlier ++ record { operation =
 abbrev pub traced : List Operation → List Traced
 traced ops = traced_from [] ops
 
--- the past of the put of this pair, empty where there is none
+-- the past of the put of this pair; empty if no operation put it
 abbrev pub past_of_put : List Traced → Pair → List Pair
 past_of_put ts pair = flat_map (λ t. if holds (put_by t.operation.effect) pair then t.past else []) ts
 
--- ---- what follows for stored records and for answers
+-- ---- consequences for stored records and for answers
 
 -- `deps_of`: for each key in the past of the put, its greatest version there
 abbrev pub deps_of : List Traced → Pair → List Pair
 deps_of ts pair = greatest_per_key (past_of_put ts pair)
 
--- no version in the past of the key that was read is greater than the one read
+-- the past has no greater version of the key than the one read
 abbrev pub is_not_older : List Pair → Read → Bool
 is_not_older past read = list_all (λ p. if key_eq p.key read.key then version_le p.version read.version else true) past
 
--- a causally consistent answer: no value is older than what the transaction's past holds
+-- a causally consistent answer: no value is older than the transaction's past allows
 abbrev pub answers_consistently : Traced → Effect → Bool
 answers_consistently t (Wrote pair) = true
 answers_consistently t (Returned reads) = list_all (is_not_older t.past) reads

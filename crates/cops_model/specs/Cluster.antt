@@ -88,7 +88,7 @@ with_new_actor name actor cluster = record cluster { actors = cluster.actors ++ 
 abbrev pub without_actor : List ℕ → SoloCluster → SoloCluster
 without_actor name cluster = record cluster { actors = filter (λ a. not (key_eq a.name name)) cluster.actors }
 
--- the act on the session, or E03 where there is none
+-- the act on the session; E03 if there is none
 abbrev pub on_found : Option Session → SoloCluster → (Session → ActEffect) → ActEffect
 on_found (Some s) cluster act = act s
 on_found None cluster act = reply_with (Refused UnknownName) cluster
@@ -117,13 +117,13 @@ reply_of_progress session_progress.Working = Working
 reply_of_progress (session_progress.Restarted times) = Restarted times
 reply_of_progress (session_progress.Done ended) = reply_of_answer ended
 
--- the session after a step with this outcome, and what it shows
+-- the session after a step with this outcome, and what the step shows
 abbrev pub session_stepped : TenantConfig → List ℕ → Session → Running → LogStep → SoloCluster → ActEffect
 session_stepped config name s running step cluster =
     let shown = session.progress config (request_of s running) running.log step in
     reply_with (reply_of_progress shown) (with_actor name (OfSession (session_after s running step shown)) cluster)
 
--- a running request does what comes next: a node call, or none where the moment is late
+-- a running request does what comes next: it calls a node, or makes no call if the timestamp is late
 abbrev pub request_does : TenantConfig → List ℕ → Session → Running → ℕ → SoloCluster → Next Answer → ActEffect
 request_does config name s running moment cluster (Call directed) =
     let turn = call_node config directed.node moment directed.call cluster in
@@ -131,7 +131,7 @@ request_does config name s running moment cluster (Call directed) =
 request_does config name s running moment cluster Restart = session_stepped config name s running (record { moment = moment; outcome = Late }) cluster
 request_does config name s running moment cluster (Ended ended) = reply_with (reply_of_answer ended) cluster
 
--- the running request takes a step, at the greatest moment so far
+-- the running request takes a step, at the greatest timestamp so far
 abbrev pub running_step : TenantConfig → List ℕ → Session → ℕ → SoloCluster → Option Running → ActEffect
 running_step config name s moment cluster (Some running) =
     request_does config name s running (moment_at moment s) cluster (request.next config (request_of s running) running.log (moment_at moment s))
@@ -180,7 +180,7 @@ goes_on Working = true
 goes_on (Restarted times) = true
 goes_on reply = false
 
--- steps at one moment until the reply is neither working nor restarted, at most `more` after the first
+-- steps at one timestamp until the reply is neither working nor restarted; at most `more` after the first
 abbrev pub actor_steps : ℕ → TenantConfig → List ℕ → ℕ → SoloCluster → ActEffect
 actor_steps zero config name moment cluster = actor_step config name moment cluster
 actor_steps (suc more) config name moment cluster =
@@ -191,16 +191,16 @@ actor_steps (suc more) config name moment cluster =
 abbrev pub most_steps : TenantConfig → ℕ
 most_steps config = (config.restarts + 1) * (2 * 32 + 1) + config.quota.deps + 3
 
--- ---- where an act may be
+-- ---- limits on where an act may take place
 
 abbrev pub has_node : TenantConfig → ℕ → ℕ → Bool
 has_node config dc shard = nat_lt dc config.data_centres && nat_lt shard config.shards
 
--- the node is there, and the other data centre
+-- the node exists, and so does the other data centre
 abbrev pub has_stream : TenantConfig → ℕ → ℕ → ℕ → Bool
 has_stream config dc shard to_dc = has_node config dc shard && nat_lt to_dc config.data_centres && not (dc == to_dc)
 
--- what refuses a new actor of the name
+-- the reason to refuse a new actor of this name
 abbrev pub actor_refusal : TenantConfig → Bool → List ℕ → SoloCluster → Option Fault
 actor_refusal config exists name cluster = first_refusal (
     (not exists, NoSuchPlace)
@@ -218,7 +218,7 @@ collect_at config id moment cluster =
     let turn = call_node config id moment node_call.Collect cluster in
     reply_with (reply_of_collect turn.reply) turn.after
 
--- ---- what is asked of a session: what refuses it, and else the reply and the session after it
+-- ---- an act on a session: what refuses it, and otherwise the reply and the session after it
 
 pub record SessionAct : Type 0 where
   pub refusal : Option Fault
@@ -250,7 +250,7 @@ session_shows cluster act = unless_refused act.refusal cluster (reply_with act.r
 
 -- ---- all acts
 
--- the first refusal that holds is the reply, and else the act takes effect
+-- the reply is the first refusal that holds; if none holds, the act takes effect
 abbrev pub cluster_step : TenantConfig → Act → SoloCluster → ActEffect
 cluster_step config (Open name dc) cluster =
     unless_refused (actor_refusal config (nat_lt dc config.data_centres) name cluster) cluster

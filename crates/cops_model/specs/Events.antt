@@ -1,4 +1,4 @@
--- Events of many tenants, and each tenant's part of them.
+-- Events of many tenants, and each tenant's projection of them.
 use Rattle.std.specs.Prelude.{◌≡◌, Bool, true, false, IsFalse, ℕ, List, [], ◌∷◌, ◌++◌, map, filter, slice_index_or, ◌==◌, if◌then◌else◌}
 use Rattle.std.specs.List.{list_any}
 use Rattle.cops_types.specs.declared.faults.Fault.TheVariants.{OutOfMemory}
@@ -14,7 +14,7 @@ use Rattle.cops_model.specs.Cluster.{SoloCluster, new_cluster, cluster_step}
 abbrev pub own : ℕ → List Event → List Act
 own slot events = map (λ e. e.act) (filter (λ e. e.slot == slot) events)
 
--- the replies at the places of the tenant's events
+-- the replies to the tenant's events, in order
 abbrev pub replies : ℕ → List Event → List Reply → List Reply
 replies slot [] rs = []
 replies slot (e ∷ events) [] = []
@@ -35,14 +35,13 @@ cluster_after config (act ∷ acts) cluster = cluster_after config acts (cluster
 abbrev pub solo_replies : TenantConfig → List Act → List Reply
 solo_replies config acts = replies_from config acts (new_cluster config)
 
--- the tenant was told this in a cluster of his own, which is then his part of the world
-pub record ToldAlone (config : TenantConfig) (cluster : SoloCluster) (acts : List Act) (told : List Reply) (Stands : SoloCluster → Type 0) : Type 0 where
-  pub same : told ≡ replies_from config acts cluster
-  pub stands : Stands (cluster_after config acts cluster)
+-- the cluster of its own that these acts leave
+abbrev pub cluster_of : TenantConfig → List Act → SoloCluster
+cluster_of config acts = cluster_after config acts (new_cluster config)
 
--- ---- many tenants at once, each with a cluster of his own
+-- ---- many tenants at once, each with a cluster of its own
 
--- what concerns the tenant of a slot; of a slot without a tenant, nothing is allowed
+-- the configuration of a slot without a tenant: nothing is allowed
 abbrev pub no_config : TenantConfig
 no_config =
     record {
@@ -57,11 +56,11 @@ no_config =
 abbrev pub config_at : Config → ℕ → TenantConfig
 config_at config slot = slice_index_or (map (tenant_config config) config.tenants) slot no_config
 
--- the clusters with the tenant's replaced
+-- the clusters with the one of this tenant replaced
 abbrev pub with_cluster : ℕ → SoloCluster → (ℕ → SoloCluster) → ℕ → SoloCluster
 with_cluster slot after clusters other = if slot == other then after else clusters other
 
--- the reply to each event, in order: each acts on its own tenant's cluster
+-- the reply to each event, in order: each event acts on the cluster of its own tenant
 abbrev pub world_replies : (ℕ → TenantConfig) → List Event → (ℕ → SoloCluster) → List Reply
 world_replies configs [] clusters = []
 world_replies configs (e ∷ events) clusters =
@@ -71,7 +70,7 @@ world_replies configs (e ∷ events) clusters =
 abbrev pub new_clusters : (ℕ → TenantConfig) → ℕ → SoloCluster
 new_clusters configs slot = new_cluster (configs slot)
 
--- no reply says that memory was refused
+-- the reply is out of memory
 abbrev pub is_out_of_memory : Reply → Bool
 is_out_of_memory (Refused OutOfMemory) = true
 is_out_of_memory reply = false
@@ -79,11 +78,11 @@ is_out_of_memory reply = false
 abbrev pub IsSpared : List Reply → Type 0
 IsSpared rs = IsFalse (list_any is_out_of_memory rs)
 
--- the replies before the first that says so
+-- the replies before the first that is out of memory
 abbrev pub before_lack : List Reply → List Reply
 before_lack [] = []
 before_lack (r ∷ rs) = if is_out_of_memory r then [] else r ∷ before_lack rs
 
--- the second list begins with the first
+-- the first list is a prefix of the second
 abbrev pub IsFrontOf : {A : Type 0} → List A → List A → Type 0
 IsFrontOf {A = A} front whole = (rest : List A) × (whole ≡ front ++ rest)

@@ -10,9 +10,11 @@ pub mod Cluster
 pub mod Events
 pub mod Causal
 pub mod Precedence
-pub mod Laws
-pub mod Restarts
 pub mod Told
+pub mod Restarts
+pub mod Lacks
+pub mod Goes
+pub mod Laws
 pub mod MainTheorem
 pub mod ListLimits
 pub mod Same

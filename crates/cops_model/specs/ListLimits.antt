@@ -1,4 +1,4 @@
--- Lists of pairs within the limit of the tenant's lists.
+-- Lists of pairs are within the limit of the tenant's lists.
 use Rattle.std.specs.Prelude.{◌≤◌, length}
 use Rattle.std.specs.List.{AllByRecursion}
 use Rattle.cops_types.specs.declared.records.EntryParts.{EntryParts as Entry}
@@ -19,7 +19,7 @@ module _ (config : TenantConfig) where
   HasFewInCall (Commit e) = HasFewPairs e
   HasFewInCall call = Unit {0}
 
-  -- and only a get finds, and only a pull brings
+  -- only a get replies found, and only a pull replies with an entry
   abbrev pub HasFewInReply : NodeReply → NodeCall → Type 0
   HasFewInReply (Found f) (Get key wanted) = length f.deps ≤ config.quota.deps
   HasFewInReply (Found f) call = ⊥
@@ -31,6 +31,6 @@ module _ (config : TenantConfig) where
     pub asked : HasFewInCall entry.call
     pub told : HasFewInReply entry.reply entry.call
 
-  -- each call and reply in the audit of a node
+  -- the limit holds for each call and reply in the audit of a node
   abbrev pub HasFewInAudit : SoloNode → Type 0
   HasFewInAudit solo = AllByRecursion HasFew solo.trail

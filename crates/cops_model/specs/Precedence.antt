@@ -1,10 +1,8 @@
--- Which operations of a run precede which: the least relation that the words say.
+-- Precedence between the operations of a run: the least relation closed under three rules.
 use Rattle.std.specs.Prelude.{◌≡◌, ℕ, ◌<◌, List, map, slice_get, Some, IsTrue, ◌↔◌}
 use Rattle.cops_types.specs.declared.pairs.Pair.{Pair}
 use Rattle.cops_types.specs.Pairs.{holds}
-use Rattle.cops_types.specs.TenantConfig.{TenantConfig}
-use Rattle.cops_model.specs.declared.acts.Act.{Act}
-use Rattle.cops_model.specs.Causal.{Operation, Traced, put_by, returned_by, operations, traced}
+use Rattle.cops_model.specs.Causal.{Operation, Traced, put_by, returned_by, traced}
 
 -- the operation at this place put the pair
 abbrev pub PutsAt : List Operation → ℕ → Pair → Type 0
@@ -19,18 +17,15 @@ abbrev pub AreInOneContext : List Operation → ℕ → ℕ → Type 0
 AreInOneContext ops one other =
     (a b : Operation) × (slice_get ops one ≡ Some a) × (slice_get ops other ≡ Some b) × (a.session ≡ b.session) × (a.context ≡ b.context)
 
--- one is earlier than the other in the same context, or put a pair that the other returned, or there is a third between them
+-- one operation is earlier than the other in the same context, or put a pair that the other returned, or a third lies between them
 pub data Precedes (ops : List Operation) : ℕ → ℕ → Type 0 where
   Earlier : (one other : ℕ) → one < other → AreInOneContext ops one other → Precedes ops one other
   Returned : (one other : ℕ) (pair : Pair) → PutsAt ops one pair → ReturnsAt ops other pair → Precedes ops one other
   Between : (one third other : ℕ) → Precedes ops one third → Precedes ops third other → Precedes ops one other
 
--- the past of each operation has just the pairs that were put by operations which precede it
+-- the past of each operation consists of exactly the pairs put by the operations that precede it
 abbrev pub AreLeastPasts : List Operation → Type 0
 AreLeastPasts ops =
     (map (λ t. t.operation) (traced ops) ≡ ops)
     × ((place : ℕ) (t : Traced) → slice_get (traced ops) place ≡ Some t → (pair : Pair) →
     IsTrue (holds t.past pair) ↔ ((before : ℕ) × PutsAt ops before pair × Precedes ops before place))
-
-abbrev pub HasLeastPasts : TenantConfig → List Act → Type 0
-HasLeastPasts config acts = AreLeastPasts (operations config acts)

@@ -1,6 +1,6 @@
--- When the attempt of a transaction ends so that it begins again: only at a moment that is late for it.
-use Rattle.std.specs.Prelude.{◌≡◌, ℕ, Bool, true, false, ◌+◌, nat_lt, IsTrue, List, [], ◌∷◌, ◌++◌, filter_map, zero, suc, Option, Some, None, if◌then◌else◌}
-use Rattle.std.specs.List.{list_all, list_any}
+-- Restarts: an attempt of a transaction ends in a restart only at a timestamp that is late for it.
+use Rattle.std.specs.Prelude.{ℕ, Bool, true, false, ◌+◌, nat_lt, List, [], ◌∷◌, filter_map, zero, suc, Option, Some, None, if◌then◌else◌}
+use Rattle.std.specs.List.{list_any}
 use Rattle.std.specs.Option.{option_and_then}
 use Rattle.cops_types.specs.declared.faults.Fault.TheVariants.{Overrun}
 use Rattle.cops_types.specs.TenantConfig.{TenantConfig}
@@ -11,10 +11,9 @@ use Rattle.cops_model.specs.declared.acts.Act.TheVariants.{Step, Done, Collect}
 use Rattle.cops_model.specs.declared.replies.Reply.{Reply}
 use Rattle.cops_model.specs.declared.replies.Reply.TheVariants.{Restarted, Refused}
 use Rattle.cops_model.specs.Cluster.{SoloCluster, find_session, actor_step, goes_on, most_steps}
-use Rattle.cops_model.specs.Laws.{cluster_of}
 use Rattle.cops_model.specs.Log.{first_moment}
 
--- the moment that an act hands in, and those of a list of acts
+-- the timestamp that an act passes, and those of a list of acts
 abbrev pub moment_in : Act → Option ℕ
 moment_in (Step name moment) = Some moment
 moment_in (Done name moment) = Some moment
@@ -26,7 +25,7 @@ moments_in acts = filter_map moment_in acts
 
 -- ---- the steps of an act
 
--- a step of the actor of this name, at this moment, from this cluster
+-- a step of the actor of this name, at this timestamp, from this cluster
 pub record ActorStep : Type 0 where
   pub name : List ℕ
   pub moment : ℕ
@@ -35,14 +34,14 @@ pub record ActorStep : Type 0 where
 abbrev pub reply_to : TenantConfig → ActorStep → Reply
 reply_to config step = (actor_step config step.name step.moment step.from).reply
 
--- the steps at one moment until the reply is neither working nor restarted, at most `more` after the first
+-- the steps at one timestamp until the reply is neither working nor restarted; at most `more` after the first
 abbrev pub steps_from : ℕ → TenantConfig → List ℕ → ℕ → SoloCluster → List ActorStep
 steps_from zero config name moment cluster = record { name = name; moment = moment; from = cluster } ∷ []
 steps_from (suc more) config name moment cluster =
     let turn = actor_step config name moment cluster in
     record { name = name; moment = moment; from = cluster } ∷ elim (goes_on turn.reply) [ true ↦ steps_from more config name moment turn.after | false ↦ [] ]
 
--- `step` is one step, and `done` is as many as it takes
+-- `step` is one step; `done` is as many as it takes
 abbrev pub steps_of : TenantConfig → Act → SoloCluster → List ActorStep
 steps_of config (Step name moment) cluster = steps_from 0 config name moment cluster
 steps_of config (Done name moment) cluster = steps_from (most_steps config) config name moment cluster
@@ -50,7 +49,7 @@ steps_of config act cluster = []
 
 -- ---- attempts
 
--- the attempt of a transaction is over and it begins again, or has begun again too often
+-- the attempt of a transaction ended: the transaction restarted, or used up its restarts
 abbrev pub ends_attempt : Reply → Bool
 ends_attempt (Restarted times) = true
 ends_attempt (Refused Overrun) = true
@@ -62,18 +61,12 @@ attempt_start name cluster =
     option_and_then (λ (r : Running). first_moment (attempt_of r.action r.log).steps)
     (option_and_then (λ (s : Session). s.running) (find_session name cluster))
 
--- one of the moments is past the start by more than this time
+-- one of the timestamps is past the start by more than this time
 abbrev pub has_passed : ℕ → List ℕ → Option ℕ → Bool
 has_passed trans_time moments (Some start) = list_any (nat_lt (start + trans_time)) moments
 has_passed trans_time moments None = false
 
--- a step ends an attempt only where one of the moments is past the attempt's start by more than `trans_time`
+-- a step ends an attempt only if one of the timestamps is past the attempt's start by more than `trans_time`
 abbrev pub ends_when_due : TenantConfig → List ℕ → ActorStep → Bool
 ends_when_due config moments step =
     if ends_attempt (reply_to config step) then has_passed config.trans_time moments (attempt_start step.name step.from) else true
-
--- so it is for each step of each act, and the moments handed in up to and by that act
-abbrev pub RestartsOnlyLate : TenantConfig → List Act → Type 0
-RestartsOnlyLate config acts =
-    (before after : List Act) (act : Act) → acts ≡ before ++ act ∷ after →
-    IsTrue (list_all (ends_when_due config (moments_in (before ++ act ∷ []))) (steps_of config act (cluster_of config before)))

@@ -1,4 +1,4 @@
--- Tests that tell whether two calls or two replies are the same.
+-- Tests for the equality of two calls or two replies.
 use Rattle.std.specs.Prelude.{◌≡◌, ◌&&◌, ◌==◌, Bool, true, false, nat_eq, Some}
 use Rattle.std.proofs.Common.{refl, sym, ap, ◌∙◌, true≢false}
 use Rattle.std.specs.Cmp.{first_so, second_so}

@@ -7,50 +7,50 @@ pub struct NodeId {
     pub shard: u64,
 }
 
-/// Which version of a key is asked for.
+/// The version of a key to read.
 #[derive(Clone, Copy, Debug)]
 pub enum Wanted {
-    /// The greatest.
+    /// The greatest version.
     Latest,
-    /// This one and no other.
+    /// Exactly this version.
     Exactly(Version),
 }
 
-/// What a session or a carrier asks of a node.
+/// A call from a session or a carrier to a node.
 #[derive(Debug, Drop)]
 pub enum NodeCall {
-    /// What is stored under the key?
+    /// Reads what is stored under the key.
     Get(Key, Wanted),
-    /// Store the value, which depends on these pairs, under a new version of the key.
+    /// Stores the value under a new version of the key; the put depends on these pairs.
     Put(Key, Value, Deps, Near),
-    /// Has this version of the key been committed here?
+    /// Asks if this version of the key has been committed here.
     DepCheck(Key, Version),
-    /// What is the next entry for this data centre?
+    /// Reads the next entry for this data centre.
     Pull(u64),
-    /// Store what another data centre sent.
+    /// Stores an entry from another data centre.
     Commit(Entry),
-    /// This data centre has committed the entry of this version.
+    /// Acknowledges that this data centre has committed the entry of this version.
     Ack(u64, Version),
-    /// Remove what has been stale for too long.
+    /// Removes records that have been stale for too long.
     Collect,
 }
 
-/// What a node answers.
+/// A node's reply.
 #[derive(Debug, Drop)]
 pub enum NodeReply {
     /// The version, its value and its dependencies.
     Found(Found),
     /// The key has no value.
     Absent,
-    /// The version was here and is collected; the node's `now`.
+    /// The version was here and has been collected; carries the node's `now`.
     Gone(u64),
-    /// The version has not come here.
+    /// The version has not arrived here.
     NotYet,
     /// The put has this version.
     Stored(Version),
-    /// Whether the version has been committed.
+    /// `true` if the version has been committed.
     Checked(bool),
-    /// The front of the queue.
+    /// The head of the queue.
     Pulled(Entry),
     /// The queue is empty.
     Nothing,
@@ -58,19 +58,19 @@ pub enum NodeReply {
     Committed,
     /// The entry was committed before.
     Already,
-    /// The entry before it is missing; the version that was committed last of that origin.
+    /// The entry before it is missing; carries the last committed version of that origin.
     OutOfOrder(Version),
-    /// The front was taken out.
+    /// The head was removed.
     Acked,
-    /// The front has another version, or there is none.
+    /// The head has another version, or the queue is empty.
     NotFront,
-    /// How many records were removed.
+    /// The number of removed records.
     Removed(u64),
-    /// Why nothing was done.
+    /// The reason why nothing was done.
     Refused(Fault),
 }
 
-/// One call in the audit: the moment as it was handed in, the call and the reply.
+/// One call in the audit: its timestamp as passed, the call and the reply.
 #[derive(Debug, Drop)]
 pub struct AuditEntry {
     pub moment: u64,

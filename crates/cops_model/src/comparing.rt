@@ -1,4 +1,4 @@
-//! Whether two calls or two replies are the same. No list is unpacked for it, and nothing is allocated.
+//! Compares two calls or two replies. No list is unpacked, and nothing is allocated.
 ghost use Rattle.std.specs.Prelude.{◌≡◌, ◌↔◌, IsTrue};
 ghost use Rattle.std.specs.Cmp.{partial_equiv_from_equiv};
 ghost use Rattle.cops_types.specs.Same.{same_equivalence};

@@ -1,7 +1,7 @@
-//! How carriers go on and end.
+//! How carriers progress and end.
 use cops_types::{Fault, Pair, Version};
 
-/// How a carrier ended.
+/// The end of a carrier.
 #[derive(Debug, Drop)]
 pub enum Delivery {
     /// The queue is empty.
@@ -11,18 +11,18 @@ pub enum Delivery {
     /// The entry is at the destination.
     Carried {
         pair: Pair,
-        /// It was committed now, and not before.
+        /// `true` if it was committed now, and not before.
         fresh: bool,
-        /// It was taken out of the queue now, and not before.
+        /// `true` if it was removed from the queue now, and not before.
         acked: bool,
     },
-    /// The entry before it is missing; the version that was committed last.
+    /// The entry before it is missing; carries the version that was committed last.
     OutOfOrder(Version),
-    /// Why it failed.
+    /// The reason for the failure.
     Refused(Fault),
 }
 
-/// What one step of a carrier shows.
+/// The outcome of one step of a carrier.
 #[derive(Debug, Drop)]
 pub enum Progress {
     /// The carrier goes on.

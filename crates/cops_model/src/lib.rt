@@ -1,4 +1,4 @@
-//! What a tenant does and is told, and the definitions of a cluster that a tenant has to itself.
+//! A tenant's acts and replies, and the definitions of a cluster that one tenant has to itself.
 #![tactic(auto)]
 
 mod acts;

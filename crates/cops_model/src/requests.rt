@@ -1,23 +1,23 @@
-//! How requests of sessions go on and end.
+//! How requests of sessions progress and end.
 use cops_types::{Fault, Pair, Reads};
 
-/// How a request ended.
+/// The end of a request.
 #[derive(Debug, Drop)]
 pub enum Answer {
     /// The pair that was put.
     Stored(Pair),
-    /// What was read, in the order asked.
+    /// The reads, in the requested order.
     Values(Reads),
-    /// Why it failed.
+    /// The reason for the failure.
     Refused(Fault),
 }
 
-/// What one step of a request shows.
+/// The outcome of one step of a request.
 #[derive(Debug, Drop)]
 pub enum Progress {
     /// The request goes on.
     Working,
-    /// The transaction begins again, for the nth time.
+    /// The transaction restarted for the nth time.
     Restarted(u64),
     /// The request has ended.
     Done(Answer),

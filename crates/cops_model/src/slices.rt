@@ -1,11 +1,11 @@
-//! Bytes that acts borrow.
+//! Byte strings that acts borrow.
 ghost use Rattle.std.specs.Prelude.{◌≡◌, [], ◌∷◌, MatchOption};
 ghost use Rattle.cops_types.specs.Words.{no_words, parts_at, space};
 
 use cops_types::words::split_word;
 use std::marker::Model;
 
-/// Bytes that are borrowed, and may be no key and no value. Contracts see the list.
+/// Borrowed bytes, which may be no valid key or value. Contracts see the list.
 #[derive(Debug, Drop)]
 pub struct ByteSlice<'a> {
     bytes: &'a [u8],
@@ -19,16 +19,16 @@ impl<'a> Model for ByteSlice<'a> {
     ghost view = { λ s. s.bytes.now };
 }
 
-/// Several of them, in order. Contracts see the list.
+/// Several byte strings, in order. Contracts see the list.
 #[derive(Debug, Drop)]
 pub struct ByteSlices<'a> {
     form: Form<'a>,
 }
 
-/// How several are given.
+/// The form in which the byte strings are given.
 #[derive(Debug, Drop)]
 enum Form<'a> {
-    /// As the words of a part of a line, between single spaces, or none.
+    /// The words of a part of a line, between single spaces, or none.
     InLine(Option<&'a [u8]>),
     /// One by one.
     Listed(&'a [ByteSlice<'a>]),
@@ -44,14 +44,14 @@ impl<'a> Model for ByteSlices<'a> {
 }
 
 impl<'a> ByteSlice<'a> {
-    /// These bytes.
+    /// Returns these bytes as a slice of an act.
     pub fn of(bytes: &'a [u8]) -> Self
         ensures { result ≡ bytes.now }
     {
         ByteSlice { bytes }
     }
 
-    /// The bytes.
+    /// Returns the bytes.
     pub fn as_slice(&self) -> &'a [u8]
         ensures { result.now ≡ self.now }
     {
@@ -60,7 +60,7 @@ impl<'a> ByteSlice<'a> {
 }
 
 impl<'a> ByteSlices<'a> {
-    /// These, in order.
+    /// Returns these byte strings, in order.
     pub fn of(slices: &'a [ByteSlice<'a>]) -> Self
         ensures { result ≡ slices.now }
     {
@@ -69,7 +69,7 @@ impl<'a> ByteSlices<'a> {
         }
     }
 
-    /// The words of this line, between single spaces.
+    /// Returns the words of this line, between single spaces.
     pub fn in_line(line: &'a [u8]) -> Self
         ensures { result ≡ parts_at space line.now }
     {
@@ -78,7 +78,7 @@ impl<'a> ByteSlices<'a> {
         }
     }
 
-    /// The same, to be gone through apart.
+    /// Returns the same byte strings, to be iterated separately.
     pub fn again(&self) -> Self
         ensures { result ≡ self.now }
     {
@@ -90,7 +90,7 @@ impl<'a> ByteSlices<'a> {
         }
     }
 
-    /// Takes the first away.
+    /// Removes and returns the first byte string.
     pub fn next_slice(&mut self) -> Option<&'a [u8]>
         ensures { MatchOption result ((self.old ≡ []) × (self.new ≡ [])) (λ slice. self.old ≡ slice.now ∷ self.new) }
     {
@@ -108,7 +108,7 @@ impl<'a> ByteSlices<'a> {
         }
     }
 
-    /// Whether there is none.
+    /// Returns `true` if there are none.
     pub fn is_empty(&self) -> bool
         ensures { result ≡ no_words self.now }
     {

@@ -1,4 +1,4 @@
--- What is kept of all slots where a tenant comes or goes.
+-- The state of all slots when a tenant comes or goes.
 use Rattle.std.proofs.Common.{◌≡◌, ◌≢◌, ℕ, zero, suc, ◌+◌, ◌-◌, ◌<◌, ◌≤◌, max, Bor, Bool, true, false, ◌||◌, List, [], ◌∷◌, ◌++◌, length, refl, sym, ap, ◌∙◌, subst, arith, true≢false, get_or, set}
 use Rattle.std.specs.Prelude.{Option, None, Some, is_some, replicate}
 use Rattle.std.specs.List.{AllByRecursion}
@@ -149,7 +149,7 @@ no_calls_at : (place : Place) (parts : List (Option Part)) (slot : ℕ) (p : Opt
 no_calls_at place parts slot p all none =
     subst (AllByRecursion (AllFit place)) (sym (map-set trail_in parts slot p)) (all_set_at (AllFit place) (trails_of parts) slot (trail_in p) all (subst (AllFit place) (sym none) tt))
 
--- a tenant comes: his part is fresh
+-- a tenant comes: its part is fresh
 pub IsNode-admitted : (home : Home) (slot : ℕ) (parts : List (Option Part)) (part : Part) (store : Contents) (outbox : Queues) → IsNode home parts store outbox → slot < length parts → get_or parts slot None ≡ None
     → IsFresh home.shape.data_centres part → part.terms.first_clock ≤ last_clock → IsNode home (set parts slot (Some part)) store outbox
 IsNode-admitted home slot parts part store outbox h within free fresh clock =
@@ -167,7 +167,7 @@ IsNode-admitted home slot parts part store outbox h within free fresh clock =
     IsHis None = Unit {0}
     IsHis (Some q) = StandsForTrail slot home q store outbox
 
--- a tenant goes: nothing of him is left
+-- a tenant goes: nothing of it remains
 pub IsNode-closed : (home : Home) (slot : ℕ) (parts : List (Option Part)) (store store' : Contents) (outbox outbox' : Queues) → IsNode home parts store outbox → slot < length parts
     → rows_of slot store' ≡ [] → ((dc : ℕ) → queue_of slot dc outbox' ≡ []) → OthersStay slot store outbox store' outbox' → IsNode home (set parts slot None) store' outbox'
 IsNode-closed home slot parts store store' outbox outbox' h within rows queues others =

@@ -10,7 +10,7 @@ use Rattle.std.proofs.lemmas.Option.{get_or_from_slice_get, slice_get-map}
 use Rattle.std.proofs.Math.ListN.{length-set}
 use Rattle.std.proofs.Math.Seq.{map-set_same}
 use Rattle.cops_types.specs.declared.configs.Config.{Config}
-use Rattle.cops_types.specs.declared.faults.Fault.TheVariants.{OutOfMemory, AuditFull}
+use Rattle.cops_types.specs.declared.faults.Fault.TheVariants.{OutOfMemory, AuditFull, UnknownTenant}
 use Rattle.cops_types.specs.Layout.{NODES}
 use Rattle.cops_types.specs.declared.configs.Tenant.{Tenant}
 use Rattle.cops_types.specs.TenantConfig.{TenantConfig, tenant_config}
@@ -18,7 +18,7 @@ use Rattle.cops_model.specs.declared.calls.NodeCall.{NodeCall}
 use Rattle.cops_model.specs.declared.calls.NodeId.{NodeId}
 use Rattle.cops_model.specs.declared.calls.NodeReply.{NodeReply}
 use Rattle.cops_model.specs.declared.calls.NodeReply.TheVariants.{Refused}
-use Rattle.cops_node.specs.Clusters.{Cluster, nodes_of, HasTenant, solo_at, turn_at, IsTurnOf, IsCall, IsCluster, id_of, new_shared, new_nodes, shape_of, HoldsNodes}
+use Rattle.cops_node.specs.Clusters.{Cluster, HasTenant, HoldsNodes, IsCall, IsCluster, IsTurnOf, IsVacantAt, id_of, new_nodes, new_shared, nodes_of, shape_of, solo_at, turn_at}
 use Rattle.cops_node.specs.declared.Home.{Home}
 use Rattle.cops_node.specs.Parts.{Shared, home_of, opening_terms, place_at, place_under, site_in, terms_of, trail_of, solo_of, left_by, has_audit_room, IsSoloTurn, IsTurn, AllFit, AuditFits, IsAudited}
 use Rattle.cops_model.specs.Place.{Place, fits, node_number, place_of}
@@ -143,15 +143,23 @@ module _ (shape : Shape) (nodes : List Shared) (id : NodeId) (slot moment : ℕ)
   turn_of None at = inr (λ config same_shards has. absurd (true≢false (sym (ap is_some (sym at ∙ found config has)))))
   turn_of (Some place) at = which place at (turn place at)
 
-  -- a turn of the slot is the turn of his solo node
+  -- a turn of the slot is the turn of its solo node
   pub turned : ((place : Place) → place_at slot node ≡ Some place → IsSoloTurn slot moment call reply place node next)
       → (config : TenantConfig) → config.shards ≡ shape.shards → HasTenant config slot old → IsTurnOf config id slot moment call reply old new
   turned done config same_shards has = let at = found config has in by_tenant (place_of config node.home.id) at (done (place_of config node.home.id) at) config same_shards has
 
-  pub call_is : IsCall old id slot moment call reply new
-  call_is = record {
+  -- the node has no tenant there, and is as it was
+  refused_vacant : (place_at slot node ≡ None → (reply ≡ Refused UnknownTenant) × (next ≡ node)) → IsVacantAt slot id old → (reply ≡ Refused UnknownTenant) × (new ≡ old)
+  refused_vacant refuses (it, is, at) =
+      let same : node ≡ it = read ∙ get_or_from_slice_get nodes number it node is in
+      let told = refuses (ap (place_at slot) same ∙ at) in
+      (told.0, ap (λ ns. record { shape = shape; nodes = ns }) (ap (set nodes number) (told.1 ∙ read) ∙ set-get_or nodes number node))
+
+  pub call_is : (place_at slot node ≡ None → (reply ≡ Refused UnknownTenant) × (next ≡ node)) → IsCall old id slot moment call reply new
+  call_is refuses = record {
     turn = turn_of (place_at slot node) refl;
     full = λ config same_shards has. refused_full (place_of config node.home.id) (found config has) config same_shards has;
+    vacant = refused_vacant refuses;
     others = others;
     tenants = tenants;
     sites = sites;
@@ -221,7 +229,7 @@ place_new config slot tenant number found =
     (get_or_from_slice_get (opening_terms config) slot (Some (terms_of tenant)) None
     (slice_get-map (λ (t : Tenant). Some (terms_of t)) config.tenants slot ∙ ap (option_map (λ (t : Tenant). Some (terms_of t))) found))
 
--- each tenant of the configuration has his slot
+-- each tenant of the configuration has its slot
 pub tenant_new : (config : Config) (slot : ℕ) (tenant : Tenant) → slice_get config.tenants slot ≡ Some tenant → HasTenant (tenant_config config tenant) slot (new_nodes config)
 tenant_new config slot tenant found = each (range_with_len 0 (config.data_centres * config.shards))
   where
@@ -229,7 +237,7 @@ tenant_new config slot tenant found = each (range_with_len 0 (config.data_centre
     each [] = tt
     each (number ∷ numbers) = (place_new config slot tenant number found, each numbers)
 
--- and his solo nodes are new
+-- and its solo nodes are new
 pub solos_new : (config : Config) (slot : ℕ) (tenant : Tenant) → nodes_of (tenant_config config tenant) slot (new_nodes config) ≡ replicate (config.data_centres * config.shards) (new_node config.data_centres)
 solos_new config slot tenant = each 0 (config.data_centres * config.shards)
   where

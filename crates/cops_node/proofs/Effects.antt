@@ -1,4 +1,4 @@
--- What each call does to what is kept of a slot.
+-- The effect of each call on the state of a slot.
 use Rattle.std.proofs.Common.{◌≡◌, ◌≢◌, ℕ, zero, suc, ◌+◌, ◌/◌, ◌%◌, ◌<◌, ◌≤◌, Bool, true, false, not, ◌&&◌, ◌||◌, List, [], ◌∷◌, ◌++◌, length, map, refl, sym, ap, ◌∙◌, subst, arith, true≢false, nat_eq, max, get_or, set, length-append, IsTrue}
 use Rattle.std.specs.Prelude.{if◌then◌else◌, ◌==◌, nat_le, filter, drop, Option, Some, None, Ok, ok_or}
 use Rattle.std.specs.List.{AllByRecursion, fold, list_any, range_with_len}
@@ -27,7 +27,7 @@ use Rattle.cops_node.proofs.MarkLaws.{ever-collected}
 
 -- ---- one more record
 
--- what a record adds to the queues: its entry, where this node issued it
+-- what a record adds to the queues: its entry, if this node issued it
 abbrev pub sent : Place → Entry → List Entry
 sent place entry = if entry.version.node == own_number place then entry ∷ [] else []
 
@@ -69,7 +69,7 @@ StandsAt-committed slot place counters counters' store store' outbox outbox' sol
       late = NoneLater-push solo.moment solo.recs r h.late (omega arith);
     }
 
--- ---- a later moment
+-- ---- a later timestamp
 pub StandsAt-raised : (slot : ℕ) (place : Place) (counters : Counters) (store : Contents) (outbox : Queues) (solo : SoloNode) (now : ℕ) → StandsAt slot place counters store outbox solo → solo.moment ≤ now → StandsAt slot place counters store outbox (record solo { moment = now })
 StandsAt-raised slot place counters store outbox solo now h le = record {
   home_is = h.home_is;
@@ -206,7 +206,7 @@ any_within p q a (suc n) h =
     let rest : list_any p (range_with_len (a + 1) n) ≡ list_any q (range_with_len (a + 1) n) = any_within p q (a + 1) n (λ i lt. h i (omega arith)) in
     (λ j. h a (omega arith) j || rest j)
 
--- the outbox is full where a queue of the definition is
+-- the outbox is full if a queue of the definition is
 pub full_is : (slot : ℕ) (place : Place) (counters : Counters) (store : Contents) (outbox : Queues) (solo : SoloNode) → StandsAt slot place counters store outbox solo → is_full slot place.quota.outbox outbox ≡ is_outbox_full place solo
 full_is slot place counters store outbox solo h =
     ap (λ n. list_any (λ dc. not (dc == outbox.own) && nat_le place.quota.outbox (length (queue_of slot dc outbox))) (range_with_len 0 n)) h.all_queues

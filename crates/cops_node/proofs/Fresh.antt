@@ -100,7 +100,7 @@ none_of (x ∷ xs) h = absurd (omega arith)
 pub no_rows : (rows : List Dated) → StandsFor rows [] → rows ≡ []
 no_rows rows h = none_of rows (sym (length_permutation rows [] h.records))
 
--- the part of a tenant before any call, where nothing is kept of the slot
+-- the part of a tenant before any call, if the slot is empty
 pub fresh_part : (home : Home) (slot : ℕ) (part : Part) (store : Contents) (outbox : Queues) → IsHome home → IsFresh home.shape.data_centres part → part.terms.first_clock ≤ last_clock
     → slot < store.tenants → slot < outbox.tenants → outbox.own ≡ home.id.dc → length outbox.queues ≡ home.shape.data_centres → StandsFor (rows_of slot store) [] → ((dc : ℕ) → queue_of slot dc outbox ≡ [])
     → StandsForTrail slot home part store outbox

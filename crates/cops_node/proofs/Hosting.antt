@@ -71,7 +71,7 @@ module _ (old : Shared) (slot moment : ℕ) (tenant : Tenant) where
   abbrev home : Home
   home = old.home
 
-  -- not where there is one, or no such slot
+  -- not if there is one, or no such slot
   refuses : (b : Bool) → nat_le MOST_SLOTS slot ≡ b → (p : Option Place) → place_at slot old ≡ p → (b || is_some p) ≡ true →
       (told.Refused NoSlot ≡ (admit_turn home slot tenant (slot_holds slot old)).reply) × (slot_holds slot old ≡ (admit_turn home slot tenant (slot_holds slot old)).after)
   refuses b past (Some place) is taken =
@@ -92,7 +92,7 @@ module _ (old : Shared) (slot moment : ℕ) (tenant : Tenant) where
     home = refl;
   }
 
-  -- else the slot is his
+  -- else the slot is the tenant's
   pub admitted_turn : (new : Shared) → is_taken slot old ≡ false → place_at slot new ≡ Some (place_for old.home tenant.first_clock tenant.quota) → trail_of slot new.audit ≡ [] →
       ((other : ℕ) → other ≢ slot → IsSlotKept other old new) → new.home ≡ old.home → IsSlotTurn old slot moment (Admit tenant) told.Admitted new
   admitted_turn new free place empty others same =

@@ -152,7 +152,7 @@ AreMarks-push home marks recs r h within shard_is above = record {
         subst (λ n. mark_in home (set marks (r.entry.version.node / home.shape.shards) r.entry.version) n ≡ mark n (recs ++ record { record_of = r; removed = false } ∷ [])) ((Decides-eqb r.entry.version.node node).0 is) own
     by node false is = other_mark home marks r.entry.version node shard_is is ∙ h.each node ∙ sym (mark_other node recs r is)
 
--- ---- moments
+-- ---- timestamps
 
 pub NoneLater-push : (now : ℕ) (recs : List Tracked) (r : Record) → NoneLater now recs → r.at ≤ now → NoneLater now (recs ++ record { record_of = r; removed = false } ∷ [])
 NoneLater-push now [] r h le = (le, tt)

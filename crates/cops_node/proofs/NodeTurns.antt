@@ -134,7 +134,7 @@ module _ (place : Place) where
   effect_changes Collect solo =
       Answers (ap (map (λ (r : Record). r.entry)) (ever-collected place.trans_time solo.moment solo.recs)) refl (collectable place.trans_time solo.moment solo.recs, refl)
 
-  -- a raised moment changes none of this
+  -- a raised timestamp changes none of this
   abbrev at_moment : ℕ → SoloNode → SoloNode
   at_moment moment solo = record solo { moment = moment }
 

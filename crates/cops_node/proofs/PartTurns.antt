@@ -86,7 +86,7 @@ pub open_room : (slot : ℕ) (home : Home) (p : Part) (store : Contents) (outbox
     → full ≡ not (nat_lt (length p.trail.calls) p.terms.quota.audit) → full ≡ false → HasPartRoom home p
 open_room slot home p store outbox full h test open_is = audit_room slot home p store outbox h ∙ not_not _ (sym test ∙ open_is)
 
--- some solo node is what the slot stands for, at the raised moment
+-- some solo node is what the slot stands for, at the raised timestamp
 pub raised_solo : (slot now moment : ℕ) (home : Home) (p : Part) (store : Contents) (outbox : Queues) → StandsForTrail slot home p store outbox → now ≡ max p.moment moment → HasSolo slot now (place_under home p.terms) p.counters store outbox
 raised_solo slot now moment home p store outbox old now_is =
     let solo : SoloNode = solo_in home p in

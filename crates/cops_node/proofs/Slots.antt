@@ -68,7 +68,7 @@ pub step_open : (place : Place) (moment : ℕ) (call : NodeCall) (solo : SoloNod
     → node_step place moment call solo ≡ audited moment call (effect place call (record solo { moment = max solo.moment moment }))
 step_open place moment call solo e = ap (λ b. if b then audited moment call (effect place call (record solo { moment = max solo.moment moment })) else unchanged (Refused AuditFull) solo) e
 
--- what a call does leaves the moment as it was raised
+-- what a call does leaves the timestamp as it was raised
 branch : (b : Bool) (one other : CallEffect) (moment : ℕ) → one.after.moment ≡ moment → other.after.moment ≡ moment → (cond b one other).after.moment ≡ moment
 branch true one other moment p q = p
 branch false one other moment p q = q
@@ -158,7 +158,7 @@ view_of home parts = record { home = home; terms = terms_in parts; audit = trail
 abbrev pub terms_in_part : Part → Terms
 terms_in_part part = part.terms
 
--- where memory may lack, the audit has room
+-- if memory may lack, the audit has room
 pub has_room : (place : Place) (slot : ℕ) (node : Shared) (call : NodeCall) → place_at slot node ≡ Some place → MayLack node slot call → IsTrue (has_audit_room slot place node)
 has_room place slot node call is may = subst (λ p. IsTrue (has_audit_room slot p node)) (some_same may.0 place (sym may.1 ∙ is)) may.2
 
@@ -174,7 +174,7 @@ none_shown home parts slot read = ap (option_map (place_under home)) (map_read (
 pub place_read : (home : Home) (parts : List (Option Part)) (slot : ℕ) (place : Place) (part : Part) → place_at slot (view_of home parts) ≡ Some place → get_or parts slot None ≡ Some part → place ≡ place_under home part.terms
 place_read home parts slot place part is read = some_same place (place_under home part.terms) (sym is ∙ place_shown home parts slot part read)
 
--- a slot has a part where it shows a place
+-- a slot has a part if it shows a place
 pub is_some_shown : (home : Home) (parts : List (Option Part)) (slot : ℕ) → is_some (place_at slot (view_of home parts)) ≡ is_some (get_or parts slot None)
 is_some_shown home parts slot = ap (λ t. is_some (option_map (place_under home) t)) (map_read (option_map terms_in_part) parts slot None) ∙ by (get_or parts slot None)
   where
@@ -297,7 +297,7 @@ solo_trail home slot parts store outbox place part node read found =
     subst (λ t. part.trail.calls ≡ (left_by place t).trail) calls
     (subst (λ (p : Place). part.trail.calls ≡ (left_by p part.trail.calls).trail) (sym is) (sym (node.each slot part read).trail_is))
 
--- where memory was refused at the part, it may be at the node
+-- if memory was refused at the part, it may be at the node
 pub lack_shown : (home : Home) (slot : ℕ) (call : NodeCall) (parts : List (Option Part)) (part : Part) → get_or parts slot None ≡ Some part → HasPartRoom home part → MayLack (view_of home parts) slot call
 lack_shown home slot call parts part read room =
     let calls : trail_of slot (trails_of parts) ≡ part.trail.calls = trail_read parts slot part read in

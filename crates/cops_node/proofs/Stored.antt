@@ -1,4 +1,4 @@
--- What puts and commits that nothing refuses do to what is kept of a slot.
+-- The effect of puts and commits that nothing refuses on the state of a slot.
 use Rattle.std.proofs.Common.{◌≡◌, ◌≢◌, ℕ, ◌+◌, ◌*◌, ◌/◌, ◌%◌, ◌<◌, ◌≤◌, Bool, true, false, not, ◌&&◌, List, [], ◌∷◌, ◌++◌, length, refl, sym, ap, ◌∙◌, subst, arith, true≢false, nat_lt, max, set, append-nil, IsTrue}
 use Rattle.std.specs.Prelude.{if◌then◌else◌, ◌==◌, drop, Option, Some, None}
 use Rattle.std.proofs.lemmas.Bool.Decides.{Decides-eqb, nat_tests}

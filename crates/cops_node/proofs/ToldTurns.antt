@@ -1,4 +1,4 @@
--- A turn of a node, as its reply is told.
+-- A turn of a node, by its reply.
 use Rattle.std.proofs.Common.{◌≡◌, ◌≢◌, ◌<◌, List, ap, get_or, inl, inr, length, refl, set}
 use Rattle.std.specs.Prelude.{ℕ, false, IsSome, IfOk, OnErr, Result, Ok, Err, Some}
 use Rattle.std.specs.declared.alloc.AllocError.{AllocError}

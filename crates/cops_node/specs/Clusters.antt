@@ -1,8 +1,8 @@
--- A cluster of nodes as contracts see it, and what a call at one of them does for each tenant.
-use Rattle.std.specs.Prelude.{◌≡◌, ◌≢◌, ℕ, ◌*◌, ◌/◌, ◌%◌, ◌<◌, ◌≤◌, ◌⊎◌, false, nat_lt, List, map, length, slice_index_or, slice_set, Some}
+-- A cluster of nodes as contracts see it, and the effect of a call at one of them for each tenant.
+use Rattle.std.specs.Prelude.{◌≡◌, ◌≢◌, ℕ, ◌*◌, ◌/◌, ◌%◌, ◌<◌, ◌≤◌, ◌⊎◌, false, nat_lt, List, map, length, slice_get, slice_index_or, slice_set, None, Some}
 use Rattle.std.specs.List.{AllByRecursion, range_with_len}
 use Rattle.cops_types.specs.declared.configs.Config.{Config}
-use Rattle.cops_types.specs.declared.faults.Fault.TheVariants.{OutOfMemory, AuditFull}
+use Rattle.cops_types.specs.declared.faults.Fault.TheVariants.{OutOfMemory, AuditFull, UnknownTenant}
 use Rattle.cops_types.specs.Layout.{NODES}
 use Rattle.cops_types.specs.TenantConfig.{TenantConfig}
 use Rattle.cops_model.specs.declared.calls.NodeCall.{NodeCall}
@@ -37,7 +37,7 @@ new_nodes config = record { shape = shape_of config; nodes = map (new_shared con
 
 -- ---- one tenant's part of it
 
--- the solo nodes that the slot of a tenant stands for, by node number
+-- the solo nodes that the tenant's slot represents, by node number
 abbrev pub nodes_of : TenantConfig → ℕ → Cluster → List SoloNode
 nodes_of config slot cluster = map (λ node. solo_of slot (place_of config node.home.id) node) cluster.nodes
 
@@ -53,15 +53,20 @@ solo_at config id slot cluster = slice_index_or (nodes_of config slot cluster) (
 abbrev pub turn_at : TenantConfig → NodeId → ℕ → ℕ → NodeCall → Cluster → CallEffect
 turn_at config id slot moment call cluster = node_step (place_of config id) moment call (solo_at config id slot cluster)
 
--- the reply is that of the tenant's solo node, which alone of his nodes changes
+-- the reply is that of the tenant's solo node; of the tenant's nodes only this one changes
 pub record IsTurnOf (config : TenantConfig) (id : NodeId) (slot moment : ℕ) (call : NodeCall) (reply : NodeReply) (old new : Cluster) : Type 0 where
   pub reply_is : reply ≡ (turn_at config id slot moment call old).reply
   pub after : nodes_of config slot new ≡ slice_set (nodes_of config slot old) (node_number config.shards id) (turn_at config id slot moment call old).after
 
--- a call at a node for the tenant of a slot: the turn of his solo node, or memory was refused and nothing changed; other tenants' nodes stay; where his audit is full that is the reply, whatever memory there is
+-- the node of this id has no tenant at the slot
+abbrev pub IsVacantAt : ℕ → NodeId → Cluster → Type 0
+IsVacantAt slot id cluster = (node : Shared) × (slice_get cluster.nodes (node_number cluster.shape.shards id) ≡ Some node) × (place_at slot node ≡ None)
+
+-- a call at a node for the tenant of a slot: the turn of his solo node, or memory was refused and nothing changed; other tenants' nodes stay; if his audit is full that is the reply, whatever memory there is; without a tenant it is refused, and nothing changes
 pub record IsCall (old : Cluster) (id : NodeId) (slot moment : ℕ) (call : NodeCall) (reply : NodeReply) (new : Cluster) : Type 0 where
   pub turn : ((reply ≡ Refused OutOfMemory) × (new ≡ old)) ⊎ ((config : TenantConfig) → config.shards ≡ old.shape.shards → HasTenant config slot old → IsTurnOf config id slot moment call reply old new)
   pub full : (config : TenantConfig) → config.shards ≡ old.shape.shards → HasTenant config slot old → nat_lt (length (solo_at config id slot old).trail) config.quota.audit ≡ false → reply ≡ Refused AuditFull
+  pub vacant : IsVacantAt slot id old → (reply ≡ Refused UnknownTenant) × (new ≡ old)
   pub others : (config : TenantConfig) (other : ℕ) → other ≢ slot → nodes_of config other new ≡ nodes_of config other old
   pub tenants : (config : TenantConfig) (other : ℕ) → HasTenant config other old → HasTenant config other new
   pub sites : map site_in new.nodes ≡ map site_in old.nodes

@@ -1,4 +1,4 @@
--- What a slot of a node holds where tenants come and go, and what a turn does to it.
+-- The content of a node's slot when tenants come and go, and the effect of a turn on it.
 use Rattle.std.specs.Prelude.{◌≡◌, ◌≢◌, ℕ, ◌≤◌, nat_le, IsTrue, List, [], ◌∷◌, Option, None, Some, if◌then◌else◌}
 use Rattle.std.specs.Option.{option_map}
 use Rattle.cops_types.specs.declared.configs.Tenant.{Tenant}
@@ -19,7 +19,7 @@ use Rattle.cops_model.specs.Step.{node_step}
 
 -- ---- what a slot holds
 
--- the place of a tenant at the node, and his solo node
+-- the place of a tenant at the node, and its solo node
 pub record Held : Type 0 where
   pub place : Place
   pub solo : SoloNode
@@ -38,18 +38,18 @@ pub record SlotEffect : Type 0 where
   pub reply : SlotReply
   pub after : Option Held
 
--- a call of the tenant is one of his solo node
+-- a call of the tenant is a call of its solo node
 abbrev pub own_turn : ℕ → NodeCall → Option Held → SlotEffect
 own_turn moment call None = record { reply = told.Own (node_reply.Refused UnknownTenant); after = None }
 own_turn moment call (Some held) =
     let turn = node_step held.place moment call held.solo in
     record { reply = told.Own turn.reply; after = Some (record { place = held.place; solo = turn.after }) }
 
--- a new tenant's place, and a solo node to which no call has come
+-- a new tenant's place, and a solo node before any call
 abbrev pub newly_held : Home → Tenant → Held
 newly_held home tenant = record { place = place_for home tenant.first_clock tenant.quota; solo = new_node home.shape.data_centres }
 
--- a slot without a tenant, of the most that a node has, is given to this one
+-- a slot without a tenant, below the node's limit, is given to this one
 abbrev pub admit_turn : Home → ℕ → Tenant → Option Held → SlotEffect
 admit_turn home slot tenant (Some held) = record { reply = told.Refused NoSlot; after = Some held }
 admit_turn home slot tenant None =
@@ -57,7 +57,7 @@ admit_turn home slot tenant None =
     then record { reply = told.Refused NoSlot; after = None }
     else record { reply = told.Admitted; after = Some (newly_held home tenant) }
 
--- a tenant goes, and nothing of him is left
+-- a tenant leaves, and nothing of it remains
 abbrev pub close_turn : Option Held → SlotEffect
 close_turn None = record { reply = told.Refused UnknownTenant; after = None }
 close_turn (Some held) = record { reply = told.Closed; after = None }
@@ -69,14 +69,14 @@ slot_turn home slot moment Close held = close_turn held
 
 -- ---- turns of a machine
 
--- the turn of what the slot holds; what another slot holds stays, and the node is the same
+-- the turn of what the slot holds; other slots and the node stay the same
 pub record IsSlotTurn (old : Shared) (slot moment : ℕ) (call : SlotCall) (reply : SlotReply) (new : Shared) : Type 0 where
   pub reply_is : reply ≡ (slot_turn old.home slot moment call (slot_holds slot old)).reply
   pub after : slot_holds slot new ≡ (slot_turn old.home slot moment call (slot_holds slot old)).after
   pub others : (other : ℕ) → other ≢ slot → slot_holds other new ≡ slot_holds other old
   pub home : new.home ≡ old.home
 
--- A tenant's call may come to this node. Every node may be asked to admit a tenant with a first clock that a clock has, and to close
+-- A tenant's call must fit this node. Every node accepts an admission with a valid first clock, and a close
 abbrev pub FitsSlot : Home → ℕ → SlotCall → Type 0
 FitsSlot home slot (Own call) = IsTrue (fits (place_in home.shape home.id) call)
 FitsSlot home slot (Admit tenant) = tenant.first_clock ≤ last_clock
@@ -84,17 +84,17 @@ FitsSlot home slot Close = Unit {0}
 
 -- ---- calls in a row
 
--- a call of a slot with the moment that is handed in
+-- a call of a slot, with the timestamp that is passed
 pub record TimedSlotCall : Type 0 where
   pub moment : ℕ
   pub call : SlotCall
 
--- what the calls leave in the slot
+-- the content of the slot after the calls
 abbrev pub slot_after : Home → ℕ → List TimedSlotCall → Option Held → Option Held
 slot_after home slot [] held = held
 slot_after home slot (c ∷ calls) held = slot_after home slot calls (slot_turn home slot c.moment c.call held).after
 
--- the reply to each, in order
+-- the reply to each call, in order
 abbrev pub slot_replies : Home → ℕ → List TimedSlotCall → Option Held → List SlotReply
 slot_replies home slot [] held = []
 slot_replies home slot (c ∷ calls) held = let turn = slot_turn home slot c.moment c.call held in turn.reply ∷ slot_replies home slot calls turn.after

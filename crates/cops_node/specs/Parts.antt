@@ -1,4 +1,4 @@
--- What a node holds of all tenants, and what it stands for.
+-- The state of a node for all tenants, and what it represents.
 use Rattle.std.specs.Prelude.{◌≡◌, ◌≢◌, ℕ, ◌*◌, ◌/◌, ◌%◌, ◌<◌, ◌≤◌, ◌==◌, ◌||◌, ◌&&◌, nat_eq, nat_le, nat_lt, Bool, false, IsTrue, is_some, IsSome, Option, None, Some, List, [], ◌∷◌, ◌++◌, length, map, slice_index, slice_index_or, slice_set, ◌⊎◌, replicate, if◌then◌else◌}
 use Rattle.std.specs.List.{list_all, AllByRecursion}
 use Rattle.std.specs.Option.{option_map}
@@ -30,13 +30,14 @@ use Rattle.cops_model.specs.Step.{node_step, effect}
 
 -- ---- a node as contracts see it
 
--- the home, which nothing changes; the terms of each slot that has a tenant, which no call changes; and the trail of each slot: its calls, in order. Among slots there is no order.
+-- the home, which nothing changes; the terms of each slot that has a tenant, which no call changes; and the trail of each slot: its calls, in
+-- order. Slots have no order among them.
 pub record Shared : Type 0 where
   pub home : Home
   pub terms : List (Option Terms)
   pub audit : List (List AuditEntry)
 
--- what no call of a tenant changes of a node
+-- the part of a node that no call of a tenant changes
 pub record Site : Type 0 where
   pub home : Home
   pub terms : List (Option Terms)
@@ -64,11 +65,11 @@ place_for home first_clock quota =
 abbrev pub place_under : Home → Terms → Place
 place_under home terms = place_for home terms.first_clock terms.quota
 
--- the terms of the tenant of a slot, where it has one
+-- the terms of the tenant of a slot, if it has one
 abbrev pub terms_at : ℕ → Shared → Option Terms
 terms_at slot node = slice_index_or node.terms slot None
 
--- and his place
+-- and the tenant's place
 abbrev pub place_at : ℕ → Shared → Option Place
 place_at slot node = option_map (place_under node.home) (terms_at slot node)
 
@@ -80,7 +81,7 @@ trail_of slot audit = slice_index_or audit slot []
 abbrev pub no_calls : ℕ → List (List AuditEntry)
 no_calls slots = replicate slots []
 
--- these calls of a trail could each come to a node at this place
+-- each of these calls of a trail could come to a node at this place
 abbrev pub AllFit : Place → List AuditEntry → Type 0
 AllFit place trail = AllByRecursion (λ (entry : AuditEntry). IsTrue (fits place entry.call)) trail
 
@@ -92,7 +93,7 @@ AuditFits node = AllByRecursion (AllFit (place_in node.home.shape node.home.id))
 abbrev pub left_by : Place → List AuditEntry → SoloNode
 left_by place trail = node_after place (calls_in_trail trail) (new_node place.data_centres)
 
--- the solo node that a slot stands for: the one that its audit leaves
+-- the solo node that a slot represents: the one that its audit leaves
 abbrev pub solo_of : ℕ → Place → Shared → SoloNode
 solo_of slot place node = left_by place (trail_of slot node.audit)
 
@@ -116,7 +117,7 @@ opening_terms config = map (λ tenant. Some (terms_of tenant)) config.tenants
 abbrev pub site_of : Config → NodeId → Site
 site_of config id = record { home = home_of config id; terms = opening_terms config }
 
--- each tenant's first clock is a number that a clock has
+-- each tenant's first clock is a valid clock
 abbrev pub are_clocks : Config → Bool
 are_clocks config = list_all (λ (tenant : Tenant). nat_le tenant.first_clock last_clock) config.tenants
 
@@ -126,12 +127,12 @@ pub record IsHome (home : Home) : Type 0 where
   pub shard_exists : home.id.shard < home.shape.shards
   pub numbers_fit : home.shape.data_centres * home.shape.shards ≤ NODES
 
--- a turn of a slot: it is the turn of the solo node
+-- a turn of a slot is the turn of its solo node
 abbrev pub IsSoloTurn : ℕ → ℕ → NodeCall → NodeReply → Place → Shared → Shared → Type 0
 IsSoloTurn slot moment call reply place old new =
     (reply ≡ (node_step place moment call (solo_of slot place old)).reply) × (solo_of slot place new ≡ (node_step place moment call (solo_of slot place old)).after)
 
--- the same, or memory was refused and nothing changed
+-- the same, or memory ran out and nothing changed
 abbrev pub IsTurn : ℕ → ℕ → NodeCall → NodeReply → Place → Shared → Shared → Type 0
 IsTurn slot moment call reply place old new = ((reply ≡ Refused OutOfMemory) × (new ≡ old)) ⊎ IsSoloTurn slot moment call reply place old new
 
@@ -143,25 +144,25 @@ has_audit_room slot place node = nat_lt (length (solo_of slot place node).trail)
 abbrev pub noted : ℕ → AuditEntry → List (List AuditEntry) → List (List AuditEntry)
 noted slot entry audit = slice_set audit slot (trail_of slot audit ++ entry ∷ [])
 
--- the slot's trail is longer by exactly this call and reply, or it was full, and nothing changed
+-- this call and reply were appended to the slot's trail, or the trail was full and nothing changed
 abbrev pub JoinsTrail : ℕ → ℕ → NodeCall → NodeReply → Shared → Shared → Type 0
 JoinsTrail slot moment call reply old new =
     ((reply ≡ Refused AuditFull) × (new ≡ old))
     ⊎ (new.audit ≡ noted slot (record { moment = moment; call = call; reply = reply }) old.audit)
 
--- the slot's trail is longer by exactly this call and reply, or the call was refused before it, and nothing changed
+-- this call and reply were appended to the slot's trail, or the call was refused before that and nothing changed
 abbrev pub IsAudited : ℕ → ℕ → NodeCall → NodeReply → Shared → Shared → Type 0
 IsAudited slot moment call reply old new =
     (((reply ≡ Refused OutOfMemory) ⊎ (reply ≡ Refused AuditFull)) × (new ≡ old))
     ⊎ (new.audit ≡ noted slot (record { moment = moment; call = call; reply = reply }) old.audit)
 
--- ---- what is kept of a slot
+-- ---- the state of a slot
 
--- the mark of a node in a list by data centre: a node of another shard has none
+-- the high-water mark of a node in a list by data centre; a node of another shard has none
 abbrev pub mark_in : Home → List Timestamp → ℕ → Timestamp
 mark_in home marks node = if node % home.shape.shards == home.id.shard then slice_index_or marks (node / home.shape.shards) no_version else no_version
 
--- the list has the marks of this node and of each equivalent one, by data centre; no other node has a record
+-- the list has the high-water marks of this node and of each equivalent one, by data centre; no other node has a record
 pub record AreMarks (home : Home) (marks : List Timestamp) (recs : List Tracked) : Type 0 where
   pub all : length marks ≡ home.shape.data_centres
   pub each : (node : ℕ) → mark_in home marks node ≡ mark node recs
@@ -170,7 +171,7 @@ pub record AreMarks (home : Home) (marks : List Timestamp) (recs : List Tracked)
 abbrev pub home_at : Place → Home
 home_at place = record { id = place.id; shape = record { data_centres = place.data_centres; shards = place.shards }; trans_time = place.trans_time }
 
--- what is kept of a slot is what the solo node has
+-- the state of a slot is that of the solo node
 pub record StandsAt (slot : ℕ) (place : Place) (counters : Counters) (store : Contents) (outbox : Queues) (solo : SoloNode) : Type 0 where
   pub home_is : IsHome (home_at place)
   pub stored : slot < store.tenants
@@ -186,11 +187,11 @@ pub record StandsAt (slot : ℕ) (place : Place) (counters : Counters) (store : 
   pub marks : AreMarks (home_at place) counters.marks.items solo.recs
   pub late : NoneLater solo.moment solo.recs
 
--- some solo node with the moment `now` is what the slot stands for
+-- the slot represents some solo node with the timestamp `now`
 abbrev pub HasSolo : ℕ → ℕ → Place → Counters → Contents → Queues → Type 0
 HasSolo slot now place counters store outbox = (solo : SoloNode) × (solo.moment ≡ now) × StandsAt slot place counters store outbox solo
 
--- what is kept of other slots is as it was
+-- the state of other slots stays the same
 pub record OthersStay (slot : ℕ) (store : Contents) (outbox : Queues) (store' : Contents) (outbox' : Queues) : Type 0 where
   pub rows : (other : ℕ) → other ≢ slot → rows_of other store' ≡ rows_of other store
   pub queues : (other dc : ℕ) → other ≢ slot → queue_of other dc outbox' ≡ queue_of other dc outbox
@@ -199,14 +200,14 @@ pub record OthersStay (slot : ℕ) (store : Contents) (outbox : Queues) (store' 
   pub queued : outbox'.tenants ≡ outbox.tenants
   pub data_centres : length outbox'.queues ≡ length outbox.queues
 
--- what is kept is as it was, but for room that was made
+-- the state stays the same, except for reserved room
 pub record IsUnchanged (counters : Counters) (store : Contents) (outbox : Queues) (counters' : Counters) (store' : Contents) (outbox' : Queues) : Type 0 where
   pub counters_are : counters' ≡ counters
   pub rows : store'.rows ≡ store.rows
   pub tenants : store'.tenants ≡ store.tenants
   pub outbox_is : outbox' ≡ outbox
 
--- the call has the definition's reply and effect, whatever solo node with the moment `now` the slot stood for
+-- the call has the definition's reply and effect, whichever solo node with the timestamp `now` the slot represented
 abbrev pub IsDone : ℕ → ℕ → Place → NodeCall → NodeReply → Counters → Contents → Queues → Counters → Contents → Queues → Type 0
 IsDone slot now place call reply counters store outbox counters' store' outbox' =
     (solo : SoloNode) → solo.moment ≡ now → StandsAt slot place counters store outbox solo →
@@ -218,7 +219,7 @@ IsDone slot now place call reply counters store outbox counters' store' outbox' 
 abbrev pub terms_in : List (Option Part) → List (Option Terms)
 terms_in parts = map (option_map (λ (part : Part). part.terms)) parts
 
--- the trail of each slot; one without a tenant has none
+-- the trail of each slot; a slot without a tenant has none
 abbrev pub trail_in : Option Part → List AuditEntry
 trail_in None = []
 trail_in (Some part) = part.trail.calls
@@ -230,13 +231,13 @@ trails_of parts = map trail_in parts
 abbrev pub solo_in : Home → Part → SoloNode
 solo_in home part = left_by (place_under home part.terms) part.trail.calls
 
--- what is kept of a slot stands for what its trail leaves
+-- the state of a slot represents what its trail leaves
 pub record StandsForTrail (slot : ℕ) (home : Home) (part : Part) (store : Contents) (outbox : Queues) : Type 0 where
   pub stands : StandsAt slot (place_under home part.terms) part.counters store outbox (solo_in home part)
   pub moment : (solo_in home part).moment ≡ part.moment
   pub trail_is : (solo_in home part).trail ≡ part.trail.calls
 
--- nothing is kept of a slot, and nothing of it waits
+-- the slot has no records and no queued entries
 pub record IsUnused (slot : ℕ) (store : Contents) (outbox : Queues) : Type 0 where
   pub rows : rows_of slot store ≡ []
   pub queues : (dc : ℕ) → queue_of slot dc outbox ≡ []
@@ -255,20 +256,20 @@ pub record IsNode (home : Home) (parts : List (Option Part)) (store : Contents) 
   pub vacant : (slot : ℕ) → slice_index_or parts slot None ≡ None → IsUnused slot store outbox
   pub fitting : AllByRecursion (AllFit (place_in home.shape home.id)) (trails_of parts)
 
--- a part before any call, at a node of so many data centres
+-- a part before any call, at a node of this many data centres
 pub record IsFresh (data_centres : ℕ) (part : Part) : Type 0 where
   pub moment : part.moment ≡ 0
   pub clock_is : part.counters.clock ≡ part.terms.first_clock
   pub marks : part.counters.marks.items ≡ replicate data_centres no_version
   pub trail : part.trail.calls ≡ []
 
--- the turn of the solo node that a part stands for
+-- the turn of the solo node that a part represents
 abbrev pub IsPartTurn : Home → ℕ → NodeCall → NodeReply → Part → Part → Type 0
 IsPartTurn home moment call reply old new =
     (reply ≡ (node_step (place_under home old.terms) moment call (solo_in home old)).reply)
     × (left_by (place_under home old.terms) new.trail.calls ≡ (node_step (place_under home old.terms) moment call (solo_in home old)).after)
 
--- the call and its reply come behind the calls, unless the audit was full
+-- the call and its reply join the calls, unless the audit was full
 abbrev pub JoinsCalls : ℕ → NodeCall → NodeReply → Part → Part → Type 0
 JoinsCalls moment call reply old new =
     ((reply ≡ Refused AuditFull) × (new.trail.calls ≡ old.trail.calls))
@@ -284,15 +285,15 @@ HasPartRoom home part = IsTrue (nat_lt (length (solo_in home part).trail) part.t
 abbrev pub MOST_SLOTS : ℕ
 MOST_SLOTS = 64
 
--- the slot has a tenant, or isn't one that a node has
+-- the slot has a tenant, or is beyond the node's limit
 abbrev pub is_taken : ℕ → Shared → Bool
 is_taken slot node = nat_le MOST_SLOTS slot || is_some (place_at slot node)
 
--- why the slot can't be given to a tenant
+-- why the slot cannot be given to a tenant
 abbrev pub admit_refusal : ℕ → Shared → Option Fault
 admit_refusal slot node = refused_if (is_taken slot node) NoSlot
 
--- another slot is as it was: its tenant and its calls, so what it stands for
+-- another slot stays the same: its tenant, its calls, and so what it represents
 abbrev pub IsSlotKept : ℕ → Shared → Shared → Type 0
 IsSlotKept other old new = (place_at other new ≡ place_at other old) × (trail_of other new.audit ≡ trail_of other old.audit)
 
@@ -308,7 +309,8 @@ is_opened_as tenant (Some terms) = nat_eq terms.first_clock tenant.first_clock &
 
 -- ---- turns of a machine
 
--- the turn of a slot's solo node, which joins the slot's trail unless that is full, and changes no other slot; without a tenant there is none, and nothing changes
+-- the turn of a slot's solo node, which joins the slot's trail unless that is full, and changes no other slot; without a tenant there is no turn,
+-- and nothing changes
 pub record IsMachineTurn (old : Shared) (slot moment : ℕ) (call : NodeCall) (reply : NodeReply) (new : Shared) : Type 0 where
   pub own : (place : Place) → place_at slot old ≡ Some place → IsSoloTurn slot moment call reply place old new
   pub noted : IsSome (place_at slot old) → JoinsTrail slot moment call reply old new
@@ -317,6 +319,6 @@ pub record IsMachineTurn (old : Shared) (slot moment : ℕ) (call : NodeCall) (r
   pub home : new.home ≡ old.home
   pub terms : new.terms ≡ old.terms
 
--- the call may come to this node, for whatever slot
+-- the call may come to this node, for any slot
 abbrev pub FitsNode : Home → ℕ → NodeCall → Type 0
 FitsNode home slot call = IsTrue (fits (place_in home.shape home.id) call)

@@ -1,4 +1,4 @@
--- The calls and replies that rows of an audit stand for.
+-- The calls and replies that rows of an audit represent.
 use Rattle.std.specs.Prelude.{true, false}
 use Rattle.cops_types.specs.Founds.{found_in}
 use Rattle.cops_model.specs.declared.calls.NodeCall.TheVariants.{Get, Put, DepCheck, Pull, Commit, Ack, Collect}
@@ -8,7 +8,7 @@ use Rattle.cops_node.specs.declared.rows.Exchange.{Exchange}
 use Rattle.cops_node.specs.declared.rows.Packing.{Packing}
 use Rattle.cops_node.specs.declared.rows.Packing.TheVariants.{PutStored, LatestFound, ExactFound, LatestAbsent, NotCome, WasCommitted, WasNotCommitted, EntryPulled, NothingPulled, EntryCommitted, CommittedBefore, EntryOutOfOrder, FrontAcked, FrontNotAcked, Collected, InFull}
 
--- an entry has all that a put says and what it gets, and all that a get finds
+-- an entry has all parts of a put and its reply, and all that a get finds
 abbrev pub exchange_of : Packing → Exchange
 exchange_of (PutStored entry) = record { call = Put entry.key entry.value entry.deps entry.near; reply = Stored entry.version }
 exchange_of (LatestFound entry) = record { call = Get entry.key Latest; reply = Found (found_in entry) }

@@ -1,4 +1,4 @@
-//! What a call is answered, and what the audit keeps of it.
+//! The reply to a call, and its audit record.
 ghost use Rattle.std.specs.Prelude.{◌≡◌, IfOk};
 
 use crate::rows::PackedExchange;
@@ -6,7 +6,7 @@ use crate::{NodeCall, NodeReply};
 use cops_types::{Fault, Key, Version};
 use std::alloc::{AllocError, Global};
 
-// The reply that the caller is told, and the call with its reply for the audit.
+// The reply to the caller, and the call with its reply for the audit.
 #[derive(Debug, Drop)]
 pub(crate) struct Answered {
     pub(crate) told: NodeReply,
@@ -14,7 +14,7 @@ pub(crate) struct Answered {
 }
 
 impl Answered {
-    // The call is refused.
+    // Refuses the call.
     pub(crate) fn refused(alloc: Global, call: NodeCall, fault: Fault) -> Result<Self, AllocError>
         ensures told { IfOk result (λ answered. answered.told ≡ NodeReply.Refused fault) }
         ensures kept { IfOk result (λ answered. answered.kept ≡ record { call = call; reply = answered.told }) }
@@ -25,7 +25,7 @@ impl Answered {
         })
     }
 
-    // Whether the version was committed.
+    // Replies whether the version was committed.
     pub(crate) fn checked(
         alloc: Global,
         key: &Key,
@@ -41,7 +41,7 @@ impl Answered {
         })
     }
 
-    // How many records were removed.
+    // Replies how many records were removed.
     pub(crate) fn removed(count: u64) -> Self
         ensures told { result.told ≡ NodeReply.Removed count }
         ensures kept { result.kept ≡ record { call = NodeCall.Collect; reply = result.told } }

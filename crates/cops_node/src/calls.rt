@@ -1,4 +1,4 @@
-//! What a call does to what a node keeps of a slot.
+//! The effect of a call on a slot's state.
 ghost use Rattle.std.specs.Prelude.{◌≡◌, IsTrue, IfOk, OnErr};
 ghost use Rattle.cops_node.specs.Parts.{HasSolo, IsDone, IsUnchanged, OthersStay, place_under};
 ghost use Rattle.cops_model.specs.Place.{fits};
@@ -10,7 +10,7 @@ use cops_outbox::Outbox;
 use cops_store::Store;
 use std::alloc::{AllocError, Global};
 
-// Does what the call asks for. All memory that it takes is there before the first change.
+// Does what the call requests. Allocates all memory before the first change.
 pub(crate) fn act(
     alloc: Global,
     home: &Home,

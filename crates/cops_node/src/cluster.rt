@@ -25,7 +25,7 @@ use cops_types::{Config, Fault, Quota};
 use std::alloc::{AllocError, Global};
 use std::marker::Model;
 
-/// The nodes of a cluster by number: by data centre, and then by shard.
+/// The nodes of a cluster by number: by data centre, then by shard.
 #[derive(Drop)]
 pub struct Cluster0 {
     data_centres: u64,
@@ -43,7 +43,7 @@ impl Model for Cluster0 {
     ghost invariant = { λ c. HoldsNodes (record { data_centres = c.data_centres; shards = c.shards }) c.nodes.items };
 }
 
-// How many nodes there are.
+// Returns the number of nodes.
 fn count_of(config: &Config) -> u64
     requires { IsTrue (are_sizes config.now) }
     ensures value { result ≡ config.now.data_centres * config.now.shards }
@@ -53,7 +53,8 @@ fn count_of(config: &Config) -> u64
 }
 
 impl Cluster0 {
-    /// The nodes of a configuration, before any call.
+    /// Returns the nodes of a configuration, before any call. Fails with `AllocError` if memory
+    /// runs out.
     pub fn new(alloc: Global, config: &Config) -> Result<Self, AllocError>
         requires sizes { IsTrue (are_sizes config.now) }
         requires clocks { IsTrue (are_clocks config.now) }
@@ -77,7 +78,7 @@ impl Cluster0 {
         })
     }
 
-    /// The nodes, by number.
+    /// Returns the nodes, by number.
     pub fn nodes(&self) -> &[Node]
         ensures value { result.now ≡ self.now.nodes }
         ensures in_order { IsCluster self.now.shape self.now.nodes }
@@ -86,8 +87,9 @@ impl Cluster0 {
         self.nodes.as_slice()
     }
 
-    /// Gives a slot that no node has a tenant at to one with this first clock, at most
-    /// `Version::LAST_CLOCK`, and quota: at all nodes, or at none. It is in nobody's audit.
+    /// Gives a free slot to a tenant with this first clock, at most `Version::LAST_CLOCK`, and
+    /// quota: at all nodes, or at none. No audit records it. Fails with `NoSlot` if a node's slot
+    /// is not free, and with `OutOfMemory` if memory runs out.
     pub fn admit(&mut self, slot: u64, first_clock: u64, quota: Quota) -> Result<(), Fault>
         requires { first_clock ≤ last_clock }
         ensures answer { IsAnswer (refused_if (list_any (is_taken slot) self.old.nodes) NoSlot) result }
@@ -102,8 +104,8 @@ impl Cluster0 {
         admit_at_all(&mut self.nodes, slot, first_clock, quota)
     }
 
-    /// Drops all that the nodes have of a slot's tenant. It asks for no memory, and is in nobody's
-    /// audit. Where the slot has no tenant nothing is dropped.
+    /// Drops a slot's tenant and all its data at every node; without a tenant, nothing. Allocates
+    /// nothing. No audit records it.
     pub fn close(&mut self, slot: u64)
         ensures closed { AtEach (IsClosed slot) self.old.nodes self.new.nodes }
         ensures shape { self.new.shape ≡ self.old.shape }
@@ -117,7 +119,7 @@ impl Nodes for Cluster0 {
 
     ghost Answers = { IsCall };
 
-    /// What is answered is the solo node's reply. Where memory is refused no node changes.
+    /// The reply is the solo node's. If memory runs out no node changes.
     fn step(
         &mut self,
         id: NodeId,

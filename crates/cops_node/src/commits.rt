@@ -1,4 +1,4 @@
-//! Commits of entries, a node's own and those that other data centres sent.
+//! Commits of entries: a node's own, and those from other data centres.
 ghost use Rattle.std.specs.Prelude.{◌≡◌, ◌≢◌, ℕ, ◌/◌, ◌<◌, ◌≤◌, max, length, slice_set, List, [], ◌∷◌, ◌++◌, None, false, IsTrue, IfOk, OnOk, OnErr};
 ghost use Rattle.cops_types.specs.Records.{Tracked, StandsFor};
 ghost use Rattle.cops_types.specs.Version.{last_clock};
@@ -29,7 +29,7 @@ pub(crate) fn reserve(store: &mut Store, slot: usize, key: &Key) -> Result<(), A
     }
 }
 
-// Keeps an entry for which there is room.
+// Stores an entry into reserved room.
 pub(crate) fn keep(
     home: &Home,
     terms: &Terms,
@@ -59,7 +59,7 @@ pub(crate) fn keep(
     }
 }
 
-// A call `Commit`.
+// Handles a call `Commit`.
 pub(crate) fn commit(
     alloc: Global,
     home: &Home,

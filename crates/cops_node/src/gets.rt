@@ -1,4 +1,4 @@
-//! What a node answers for a key.
+//! The replies of a node for a key.
 ghost use Rattle.std.specs.Prelude.{◌≡◌, List, None, IfOk};
 ghost use Rattle.cops_types.specs.Records.{Tracked, StandsFor, latest as latest_record, exact as exact_record};
 ghost use Rattle.cops_store.specs.Contents.{rows_of};
@@ -14,7 +14,7 @@ use cops_store::Store;
 use cops_types::{Found, Key, Record, Version};
 use std::alloc::{AllocError, Global};
 
-// The reply that a record is found.
+// Returns the reply that a record was found.
 #[inline(always)]
 fn found(alloc: Global, stored: &Record) -> Result<NodeReply, AllocError>
     ensures { IfOk result (λ reply. reply ≡ found_reply stored.now) }
@@ -22,7 +22,7 @@ fn found(alloc: Global, stored: &Record) -> Result<NodeReply, AllocError>
     Ok(NodeReply::Found(Found::of(stored.entry.copy(alloc)?)))
 }
 
-// What a slot answers for the greatest version of a key.
+// Returns a slot's reply for the greatest version of a key.
 fn latest(alloc: Global, store: &Store, slot: usize, key: &Key) -> Result<Answered, AllocError>
     requires { (tracked : List Tracked) × StandsFor (rows_of slot store.now) tracked }
     ensures told { IfOk result (λ answered. (tracked : List Tracked) → StandsFor (rows_of slot store.now) tracked → answered.told ≡ reply_latest (latest_record key.now tracked)) }
@@ -44,7 +44,7 @@ fn latest(alloc: Global, store: &Store, slot: usize, key: &Key) -> Result<Answer
     }
 }
 
-// What a slot answers for a version of a key that it doesn't keep.
+// Returns a slot's reply for a version of a key that it does not store.
 fn missing(
     alloc: Global,
     key: &Key,
@@ -68,7 +68,7 @@ fn missing(
     })
 }
 
-// What a slot answers for one version of a key.
+// Returns a slot's reply for one version of a key.
 fn exactly(
     alloc: Global,
     store: &Store,
@@ -95,7 +95,7 @@ fn exactly(
     }
 }
 
-// A call `Get`.
+// Handles a call `Get`.
 pub(crate) fn get(
     alloc: Global,
     home: &Home,

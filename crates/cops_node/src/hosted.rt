@@ -1,4 +1,4 @@
-//! Nodes at which tenants come and go while calls are made.
+//! Nodes whose tenants come and go between calls.
 ghost use Rattle.std.specs.Prelude.{◌≡◌};
 
 use crate::{Home, Node, NodeCall, NodeReply};
@@ -6,31 +6,32 @@ use cops_types::{Fault, Machine, Tenant};
 use std::alloc::AllocError;
 use std::marker::Model;
 
-/// What is asked of a slot of a node: by a session or a carrier of its tenant, or by the host.
+/// A call to a slot of a node: from a session or a carrier of its tenant, or from the host.
 #[derive(Debug, Drop)]
 pub enum SlotCall {
     /// A call of the slot's tenant.
     Own(NodeCall),
-    /// Give the slot to this tenant. Its name and token are of no concern to a node.
+    /// Gives the slot to this tenant. A node ignores its name and token.
     Admit(Tenant),
-    /// Drop all that the node has of the slot's tenant.
+    /// Drops the slot's tenant and all its data on the node.
     Close,
 }
 
-/// What is answered.
+/// The reply to a call of a slot.
 #[derive(Debug, Drop)]
 pub enum SlotReply {
     /// The node's reply to a call of the tenant.
     Own(NodeReply),
-    /// The slot is the tenant's.
+    /// The slot now belongs to the tenant.
     Admitted,
-    /// The slot has no tenant any more.
+    /// The slot no longer has a tenant.
     Closed,
-    /// Why the host's call did nothing.
+    /// The reason why the host's call did nothing.
     Refused(Fault),
 }
 
-/// A node at which tenants come and go. For a gate each coming and going is one turn, as a call is.
+/// A node whose tenants come and go. For a gate each admission and closing is one turn, as a call
+/// is.
 #[derive(Drop)]
 pub struct HostedNode {
     node: Node,
@@ -45,21 +46,21 @@ impl Model for HostedNode {
 }
 
 impl HostedNode {
-    /// The node, with the tenants that it has.
+    /// Wraps the node, with its tenants.
     pub fn of(node: Node) -> Self
         ensures { result ≡ node }
     {
         HostedNode { node }
     }
 
-    /// The node.
+    /// Returns the node.
     pub fn node(&self) -> &Node
         ensures { result.now ≡ self.now }
     {
         &self.node
     }
 
-    /// The node alone.
+    /// Returns the node alone.
     pub fn into_node(self) -> Node
         ensures { result ≡ self }
     {

@@ -1,4 +1,4 @@
-//! A node: one shard of one data centre. This crate has the calls, the replies, and what a call does.
+//! A node: one shard of one data centre. This crate has the code of its calls.
 #![tactic(auto)]
 
 mod answered;
@@ -43,15 +43,15 @@ pub use parts::{Counters, Part};
 pub use rows::{AuditRow, Exchange, Packing};
 pub use trails::Trail;
 
-/// The sizes of a cluster: how many data centres there are, and how many shards in each.
+/// The sizes of a cluster: the number of data centres, and of shards in each.
 #[derive(Clone, Copy, Debug)]
 pub struct Shape {
     pub data_centres: u64,
     pub shards: u64,
 }
 
-/// What never changes of a node, whatever tenants it has: which one it is, the sizes of the cluster,
-/// and for how many milliseconds a stale version stays.
+/// The constants of a node, whatever its tenants: its identity, the sizes of the cluster, and for
+/// how many milliseconds it stores a stale version.
 #[derive(Clone, Copy, Debug)]
 pub struct Home {
     pub id: NodeId,
@@ -59,7 +59,7 @@ pub struct Home {
     pub trans_time: u64,
 }
 
-/// What never changes of a tenant at a node: his first clock and his quota.
+/// The constants of a tenant at a node: its first clock and its quota.
 #[derive(Clone, Copy, Debug)]
 pub struct Terms {
     pub first_clock: u64,

@@ -1,4 +1,4 @@
-//! Tenants that come and go, at all nodes of a cluster or at none.
+//! Admission and closing of tenants, at all nodes of a cluster or at none.
 ghost use Rattle.std.specs.Prelude.{◌≡◌, ◌≤◌, IfErr, OnErr, OnOk, false};
 ghost use Rattle.std.specs.List.{AllByRecursion, list_any};
 ghost use Rattle.cops_types.specs.Version.{last_clock};
@@ -9,14 +9,14 @@ ghost use Rattle.cops_node.specs.Lives.{AtEach, IsAdmitted, IsClosed};
 use crate::node::Node;
 use cops_types::{Fault, Quota};
 
-// Whether a node has a tenant at the slot, or hasn't such a slot.
+// Returns `true` if a node has a tenant in the slot, or lacks the slot.
 pub(crate) fn is_taken_at_any(nodes: &[Node], slot: u64) -> bool
     ensures { result ≡ list_any (is_taken slot) nodes.now }
 {
     nodes.iter().any(|node| node.is_taken(slot))
 }
 
-// Drops all that each node has of a slot's tenant. It asks for no memory.
+// Drops a slot's tenant and all its data at each node. Allocates nothing.
 pub(crate) fn close_at_all(nodes: &mut Vec<Node>, slot: u64)
     ensures { AtEach (IsClosed slot) nodes.old.items nodes.new.items }
 {
@@ -26,8 +26,8 @@ pub(crate) fn close_at_all(nodes: &mut Vec<Node>, slot: u64)
     }
 }
 
-// Gives a slot that no node has a tenant at to one with this first clock and quota: at all nodes, or,
-// where memory is refused at one of them, at none.
+// Gives a slot that is free at all nodes to a tenant with this first clock and quota: at all nodes,
+// or at none if memory runs out at one of them.
 pub(crate) fn admit_at_all(
     nodes: &mut Vec<Node>,
     slot: u64,

@@ -1,4 +1,4 @@
-//! A node for many tenants: one store and one outbox for all, and a trail of the calls of each.
+//! A node for many tenants: one store and one outbox for all, and a trail of calls for each.
 ghost use Rattle.std.specs.Prelude.{◌≡◌, ◌≢◌, ℕ, ◌<◌, ◌≤◌, ◌+◌, max, length, map, slice_get, slice_index_or, false, [], List, None, Some, Ok, Err, IsTrue, IsSome, IsOk, IfOk, OnOk, OnErr};
 ghost use Rattle.std.specs.List.{AllByRecursion};
 ghost use Rattle.std.specs.Option.{option_copied};
@@ -18,16 +18,17 @@ use cops_types::{Config, Fault, Key, Machine, Quota, Seeds, Tenant};
 use std::alloc::{AllocError, Global};
 use std::marker::Model;
 
-/// The most slots of a node, so the most tenants that it has at once.
+/// The most slots of a node, and so the most tenants at once.
 const MOST_SLOTS: u64 = 64;
 
 /// A node. Contracts see its home, which nothing changes, the terms of each slot that has a tenant,
-/// which no call changes, and the audit: the trail of each slot. A slot with a tenant stands for the solo node that its own trail leaves.
+/// which no call changes, and the audit: the trail of each slot. A slot with a tenant represents
+/// the solo node that its own trail leaves.
 #[derive(Drop)]
 pub struct Node {
     alloc: Global,
     home: Home,
-    /// What is kept of each slot that has a tenant.
+    /// The state of each slot that has a tenant.
     parts: Vec<Option<Part>>,
     store: Store,
     outbox: Outbox,
@@ -44,7 +45,8 @@ impl Model for Node {
 }
 
 impl Node {
-    /// A node of a configuration that no call has reached.
+    /// Returns a node of a configuration, before any call. Fails with `AllocError` if memory runs
+    /// out.
     pub fn new(alloc: Global, config: &Config, id: NodeId) -> Result<Self, AllocError>
         requires dc_exists { id.dc < config.now.data_centres }
         requires shard_exists { id.shard < config.now.shards }
@@ -76,28 +78,28 @@ impl Node {
         })
     }
 
-    /// How many slots there are: those that had a tenant, and all before them.
+    /// Returns the number of slots: those that ever had a tenant, and all before them.
     pub fn slots(&self) -> u64
         ensures { result ≡ length self.now.terms }
     {
         self.parts.len() as u64
     }
 
-    // Whether the key is placed on this shard.
+    // Returns `true` if this shard stores the key.
     fn is_home(&self, key: &Key) -> bool
         ensures { result ≡ is_home (place_in self.now.home.shape self.now.home.id) key.now }
     {
         key.shard(self.home.shape.shards) == self.home.id.shard
     }
 
-    // Whether the data centre is another one of the cluster.
+    // Returns `true` if the data centre is another one of the cluster.
     fn is_other_dc(&self, dc: u64) -> bool
         ensures { result ≡ is_other_dc (place_in self.now.home.shape self.now.home.id) dc }
     {
         dc < self.home.shape.data_centres && dc != self.home.id.dc
     }
 
-    // Whether the node of this number has this shard in another data centre.
+    // Returns `true` if the node of this number has this shard in another data centre.
     fn is_other_equivalent(&self, node: u64) -> bool
         ensures { result ≡ is_other_equivalent (place_in self.now.home.shape self.now.home.id) node }
     {
@@ -105,7 +107,7 @@ impl Node {
             && node % self.home.shape.shards == self.home.id.shard
     }
 
-    /// Whether the call may come to this node.
+    /// Returns `true` if the call may come to this node.
     pub fn fits(&self, call: &NodeCall) -> bool
         ensures { result ≡ fits (place_in self.now.home.shape self.now.home.id) call.now }
     {
@@ -122,7 +124,7 @@ impl Node {
         }
     }
 
-    /// How many calls are in the trail of a slot.
+    /// Returns the number of calls in the trail of a slot.
     pub fn audit_len(&self, slot: u64) -> u64
         ensures calls { result ≡ length (trail_of slot self.now.audit) }
         ensures solo { (place : Place) → place_at slot self.now ≡ Some place → result ≡ length (solo_of slot place self.now).trail }
@@ -133,10 +135,11 @@ impl Node {
         }
     }
 
-    /// The call at a place of the trail of a slot.
+    /// Returns the call at an index of the trail of a slot.
     pub fn audit(&self, slot: u64, place: u64) -> Option<&AuditRow>
         ensures call { option_copied result ≡ slice_get (trail_of slot self.now.audit) place }
         ensures solo { (own : Place) → place_at slot self.now ≡ Some own → option_copied result ≡ slice_get (solo_of slot own self.now).trail place }
+        ensures vacant { place_at slot self.now ≡ None → result ≡ None }
     {
         match parts::of(&self.parts, slot) {
             Some(part) => part.trail.get(place),
@@ -144,14 +147,14 @@ impl Node {
         }
     }
 
-    /// Each call in the audit could come to this node.
+    /// Theorem: each call in the audit could come to this node.
     pub fn audit_fits(&self)
         ensures { AuditFits self.now }
     {
         let _parts = &self.parts;
     }
 
-    /// Whether the slot has a tenant with this one's first clock and quota.
+    /// Returns `true` if the slot has a tenant with this one's first clock and quota.
     pub fn opened_as(&self, slot: u64, tenant: &Tenant) -> bool
         ensures { result ≡ is_opened_as tenant.now (terms_at slot self.now) }
     {
@@ -161,15 +164,16 @@ impl Node {
         }
     }
 
-    // Whether the slot has a tenant, or isn't one that a node has.
+    // Returns `true` if the slot has a tenant, or is beyond the node's limit.
     pub(crate) fn is_taken(&self, slot: u64) -> bool
         ensures { result ≡ is_taken slot self.now }
     {
         slot >= MOST_SLOTS || parts::of(&self.parts, slot).is_some()
     }
 
-    /// Gives a slot without a tenant to one with this first clock, at most `Version::LAST_CLOCK`, and
-    /// quota. He begins with an empty node of his own. It is in nobody's audit.
+    /// Gives a free slot to a tenant with this first clock, at most `Version::LAST_CLOCK`, and
+    /// quota. The tenant starts with an empty node. The call is not audited. Fails with a `Fault`
+    /// if the slot is not free, or if memory runs out.
     pub fn admit(&mut self, slot: u64, first_clock: u64, quota: Quota) -> Result<(), Fault>
         requires { first_clock ≤ last_clock }
         ensures answer { IsAnswer (admit_refusal slot self.old) result }
@@ -196,8 +200,8 @@ impl Node {
         Ok(())
     }
 
-    /// Drops all of a slot's tenant: records, what waits, clock, marks and audit. It asks for no memory,
-    /// and is in nobody's audit.
+    /// Drops a slot's tenant: its records, queues, clock, marks and audit. Allocates nothing. The
+    /// call is not audited. Fails with `UnknownTenant` if the slot has no tenant.
     pub fn close(&mut self, slot: u64) -> Result<(), Fault>
         ensures vacant { place_at slot self.old ≡ None → result ≡ Err Fault.UnknownTenant }
         ensures open { IsSome (place_at slot self.old) → IsOk result }
@@ -218,9 +222,9 @@ impl Node {
         Ok(())
     }
 
-    /// Makes a call for the tenant of a slot. Where it has none or the audit is full, that is the reply and
-    /// nothing changes; a full audit comes first, whatever memory there is. Nothing changes either where
-    /// memory is refused, which is the error.
+    /// Makes a call for the tenant of a slot. If the slot has no tenant or its audit is full, that
+    /// is the reply and nothing changes; a full audit comes first, however much memory there is.
+    /// Fails with `AllocError` if memory runs out; then nothing changed.
     pub fn step(&mut self, slot: u64, moment: u64, call: NodeCall) -> Result<NodeReply, AllocError>
         requires { IsTrue (fits (place_in self.old.home.shape self.old.home.id) call) }
         ensures turn { IfOk result (λ reply. (place : Place) → place_at slot self.old ≡ Some place → IsSoloTurn slot moment call reply place self.old self.new) }

@@ -1,4 +1,4 @@
-//! One call at what a node keeps of one slot.
+//! One call on a node's state of one slot.
 ghost use Rattle.std.specs.Prelude.{◌≡◌, IsTrue, IfOk, OnErr};
 ghost use Rattle.cops_node.specs.Parts.{HasPartRoom, IsPartTurn, JoinsCalls, OthersStay, StandsForTrail, place_under};
 ghost use Rattle.cops_model.specs.Place.{fits};
@@ -10,8 +10,8 @@ use cops_store::Store;
 use cops_types::Fault;
 use std::alloc::{AllocError, Global};
 
-// Makes a call at the part of a slot. Where the audit is full that is the reply, and nothing changes.
-// Nothing changes either where memory is refused.
+// Makes a call on the part of a slot. If the audit is full, that is the reply. Nothing changes
+// then, nor if memory runs out.
 pub(crate) fn turn(
     alloc: Global,
     home: &Home,

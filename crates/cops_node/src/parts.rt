@@ -1,4 +1,4 @@
-//! What a node keeps of one tenant beside the store and the outbox.
+//! A node's state of one tenant, beside the store and the outbox.
 ghost use Rattle.std.specs.Prelude.{◌≡◌, ◌+◌, ◌/◌, ◌^◌, ◌<◌, ◌≤◌, false, max, not, nat_lt, length, slice_set, slice_index_or, replicate, List, None, Some, IfOk, IfSome};
 ghost use Rattle.std.specs.Option.{option_copied};
 ghost use Rattle.std.specs.List.{AllByRecursion};
@@ -13,15 +13,15 @@ use crate::{Home, Terms};
 use cops_types::{Config, Tenant, Version};
 use std::alloc::{AllocError, Global};
 
-/// The clock of a slot, and its marks: the version committed last of each data centre's node with
-/// this shard.
+/// The clock of a slot, and its high-water marks: the version committed last of each data centre's
+/// node with this shard.
 #[derive(Debug, Drop)]
 pub struct Counters {
     pub clock: u64,
     pub marks: Vec<Version>,
 }
 
-/// What a node keeps of one slot: its terms, its `now`, its counters and its calls.
+/// A node's state of one slot: its terms, its `now`, its counters and its calls.
 #[derive(Debug, Drop)]
 pub struct Part {
     pub terms: Terms,
@@ -30,7 +30,7 @@ pub struct Part {
     pub trail: Trail,
 }
 
-// The part of a tenant before any call, at a node of so many data centres.
+// Returns the part of a tenant before any call, at a node of this many data centres.
 pub(crate) fn fresh(alloc: Global, data_centres: u64, terms: Terms) -> Result<Part, AllocError>
     ensures fresh { IfOk result (IsFresh data_centres) }
     ensures terms { IfOk result (λ part. part.terms ≡ terms) }
@@ -45,7 +45,7 @@ pub(crate) fn fresh(alloc: Global, data_centres: u64, terms: Terms) -> Result<Pa
     })
 }
 
-// The terms of a tenant.
+// Returns the terms of a tenant.
 fn terms_for(tenant: &Tenant) -> Terms
     ensures { result ≡ terms_of tenant.now }
 {
@@ -55,7 +55,7 @@ fn terms_for(tenant: &Tenant) -> Terms
     }
 }
 
-// The parts of all tenants before any call.
+// Returns the parts of all tenants before any call.
 pub(crate) fn fresh_parts(alloc: Global, config: &Config) -> Result<Vec<Option<Part>>, AllocError>
     ensures fresh { IfOk result (λ parts. AllByRecursion (λ p. IfSome p (IsFresh config.now.data_centres)) parts.items) }
     ensures terms { IfOk result (λ parts. terms_in parts.items ≡ opening_terms config.now) }
@@ -69,7 +69,7 @@ pub(crate) fn fresh_parts(alloc: Global, config: &Config) -> Result<Vec<Option<P
     Ok(parts)
 }
 
-// That many slots without a tenant.
+// Returns this many slots without a tenant.
 pub(crate) fn vacant(alloc: Global, slots: usize) -> Result<Vec<Option<Part>>, AllocError>
     ensures { IfOk result (λ parts. parts.items ≡ replicate slots None) }
 {
@@ -80,7 +80,7 @@ pub(crate) fn vacant(alloc: Global, slots: usize) -> Result<Vec<Option<Part>>, A
     Ok(parts)
 }
 
-// The part of a slot, where it has a tenant.
+// Returns the part of a slot, if it has a tenant.
 pub(crate) fn of(parts: &[Option<Part>], slot: u64) -> Option<&Part>
     ensures { option_copied result ≡ slice_index_or parts.now slot None }
 {
@@ -90,7 +90,7 @@ pub(crate) fn of(parts: &[Option<Part>], slot: u64) -> Option<&Part>
     }
 }
 
-// Whether the part is that of a tenant with this first clock and quota.
+// Returns `true` if the part is that of a tenant with this first clock and quota.
 pub(crate) fn is_of(part: &Part, tenant: &Tenant) -> bool
     ensures { result ≡ is_opened_as tenant.now (Some part.now.terms) }
 {
@@ -106,7 +106,7 @@ pub(crate) fn is_of(part: &Part, tenant: &Tenant) -> bool
         && own.audit == quota.audit
 }
 
-// Whether the audit of the part is full.
+// Returns `true` if the audit of the part is full.
 pub(crate) fn is_audit_full(part: &Part) -> bool
     ensures full { result ≡ not (nat_lt (length part.now.trail.calls) part.now.terms.quota.audit) }
     ensures countable { result ≡ false → length part.now.trail.calls + 1 < 2 ^ 64 }
@@ -115,7 +115,7 @@ pub(crate) fn is_audit_full(part: &Part) -> bool
     part.trail.len() >= quota.audit
 }
 
-// The node's number.
+// Returns the node's number.
 pub(crate) fn own_number(home: &Home) -> u64
     requires { IsHome home.now }
     ensures value { result ≡ node_number home.now.shape.shards home.now.id }
@@ -126,7 +126,7 @@ pub(crate) fn own_number(home: &Home) -> u64
     id.dc * shards + id.shard
 }
 
-// The mark of the node of this number. A node of another shard has none.
+// Returns the high-water mark of the node of this number. A node of another shard has none.
 fn mark_of(home: &Home, counters: &Counters, node: u64) -> Version
     requires { IsHome home.now }
     ensures { result ≡ mark_in home.now counters.now.marks.items node }
@@ -142,7 +142,7 @@ fn mark_of(home: &Home, counters: &Counters, node: u64) -> Version
     }
 }
 
-// Whether a version was committed: the mark of its node has reached it.
+// Returns `true` if a version was committed: the mark of its node has reached it.
 pub(crate) fn was_committed(home: &Home, counters: &Counters, version: Version) -> bool
     requires { IsHome home.now }
     ensures { (recs : List Tracked) → AreMarks home.now counters.now.marks.items recs → result ≡ version_le version (mark version.node recs) }
@@ -150,7 +150,7 @@ pub(crate) fn was_committed(home: &Home, counters: &Counters, version: Version) 
     version <= mark_of(home, counters, version.node())
 }
 
-// The mark of a version's node.
+// Returns the high-water mark of a version's node.
 pub(crate) fn mark_for(home: &Home, counters: &Counters, version: Version) -> Version
     requires { IsHome home.now }
     ensures { (recs : List Tracked) → AreMarks home.now counters.now.marks.items recs → result ≡ mark version.node recs }
@@ -158,7 +158,7 @@ pub(crate) fn mark_for(home: &Home, counters: &Counters, version: Version) -> Ve
     mark_of(home, counters, version.node())
 }
 
-// The node's own mark.
+// Returns the node's own high-water mark.
 pub(crate) fn own_mark(home: &Home, counters: &Counters) -> Version
     requires { IsHome home.now }
     ensures { (recs : List Tracked) → AreMarks home.now counters.now.marks.items recs → result ≡ mark ((node_number home.now.shape.shards home.now.id)) recs }
@@ -166,7 +166,7 @@ pub(crate) fn own_mark(home: &Home, counters: &Counters) -> Version
     mark_of(home, counters, own_number(home))
 }
 
-// Counts a version that is committed: the clock is raised to its clock, and it is the mark of its node.
+// Records a committed version: raises the clock to its clock, and makes it the mark of its node.
 pub(crate) fn raise(home: &Home, counters: &mut Counters, version: Version)
     requires home { IsHome home.now }
     requires data_centre { version.node / home.now.shape.shards < length counters.old.marks.items }

@@ -23,7 +23,7 @@ use cops_store::Store;
 use cops_types::{Deps, Entry, EntryParts, Fault, Key, Near, Quota, Value, Version};
 use std::alloc::{AllocError, Global};
 
-// The version that a put with these dependencies gets.
+// Returns the version that a put with these dependencies gets.
 fn next_version(home: &Home, counters: &Counters, deps: &Deps) -> Result<Version, Fault>
     requires home { IsHome home.now }
     requires clock_fits { counters.now.clock ≤ last_clock }
@@ -34,7 +34,7 @@ fn next_version(home: &Home, counters: &Counters, deps: &Deps) -> Result<Version
     Version::next(counters.clock, deps_clock, node)
 }
 
-// The version of a put, or why it is refused.
+// Returns the version of a put, or why the put is refused.
 fn version_for(
     home: &Home,
     terms: &Terms,
@@ -63,7 +63,7 @@ fn version_for(
     Ok(version)
 }
 
-// A call `Put`.
+// Handles a call `Put`.
 pub(crate) fn put(
     alloc: Global,
     home: &Home,

@@ -1,4 +1,4 @@
-//! What a node answers of its queues.
+//! The replies of a node about its queues.
 ghost use Rattle.std.specs.Prelude.{◌≡◌, ◌<◌, length, IfOk};
 ghost use Rattle.cops_model.specs.Step.{reply_pull};
 ghost use Rattle.cops_outbox.specs.Queues.{queue_of};
@@ -11,7 +11,7 @@ use cops_outbox::{Ack, Outbox};
 use cops_types::Version;
 use std::alloc::{AllocError, Global};
 
-// A call `Pull`.
+// Handles a call `Pull`.
 pub(crate) fn pull(
     alloc: Global,
     outbox: &Outbox,
@@ -35,7 +35,7 @@ pub(crate) fn pull(
     }
 }
 
-// The answer to a call `Ack`.
+// Returns the answer to a call `Ack`.
 pub(crate) fn acknowledged(answer: Ack, dc: u64, version: Version) -> Answered
     ensures acked { answer ≡ Ack.Acked → result.told ≡ NodeReply.Acked }
     ensures not_front { answer ≡ Ack.NotFront → result.told ≡ NodeReply.NotFront }

@@ -1,4 +1,4 @@
-//! The rows of an audit: calls and replies in little memory.
+//! The rows of an audit: compact calls and replies.
 ghost use Rattle.cops_types.specs.Founds.{found_in};
 ghost use Rattle.std.specs.Prelude.{◌≡◌, IfOk};
 ghost use Rattle.cops_node.specs.Rows.{exchange_of};
@@ -16,7 +16,8 @@ pub struct Exchange {
     pub reply: NodeReply,
 }
 
-/// How a call and its reply are packed. What is rare, or has a long key, stands apart.
+/// The compact form of a call and its reply. Rare ones, and those with a long key, have a block of
+/// their own.
 #[derive(Debug, Drop)]
 pub enum Packing {
     PutStored(Entry),
@@ -37,8 +38,8 @@ pub enum Packing {
     InFull(Box<Exchange>),
 }
 
-/// A call and its reply in 32 bytes. An entry that the call or the reply has is shared with those who
-/// have it too. Contracts see the call and the reply.
+/// A call and its reply in 32 bytes. It shares an entry with the entry's other owners. Contracts
+/// see the call and the reply.
 #[derive(Debug, Drop)]
 pub(crate) struct PackedExchange {
     packing: Packing,
@@ -54,7 +55,7 @@ impl Model for PackedExchange {
     ghost view = { λ p. exchange_of p.packing };
 }
 
-/// One call in an audit, in 40 bytes. Contracts see the moment, the call and the reply.
+/// One call in an audit, in 40 bytes. Contracts see the timestamp, the call and the reply.
 #[derive(Debug, Drop)]
 pub struct AuditRow {
     moment: u64,
@@ -71,7 +72,7 @@ impl Model for AuditRow {
 
 const _: () = prove!(size_of::<AuditRow>() == 40);
 
-// The put of which this is the entry.
+// Returns the put of this entry.
 fn put_of(alloc: Global, entry: &Entry) -> Result<NodeCall, AllocError>
     ensures { IfOk result (λ call. call ≡ NodeCall.Put entry.now.key entry.now.value entry.now.deps entry.now.near) }
 {
@@ -83,7 +84,7 @@ fn put_of(alloc: Global, entry: &Entry) -> Result<NodeCall, AllocError>
     ))
 }
 
-// The reply that the entry is found.
+// Returns the reply that the entry was found.
 fn found_of(alloc: Global, entry: &Entry) -> Result<NodeReply, AllocError>
     ensures { IfOk result (λ reply. reply ≡ NodeReply.Found (found_in entry.now)) }
 {
@@ -91,7 +92,7 @@ fn found_of(alloc: Global, entry: &Entry) -> Result<NodeReply, AllocError>
 }
 
 impl PackedExchange {
-    // The put of an entry, which got the entry's version.
+    // Packs the put of an entry, which got the entry's version.
     pub(crate) fn stored(entry: Entry) -> Self
         ensures { result ≡ record { call = NodeCall.Put entry.key entry.value entry.deps entry.near; reply = NodeReply.Stored entry.version } }
     {
@@ -100,7 +101,7 @@ impl PackedExchange {
         }
     }
 
-    // A get of the greatest version of a key, which found the entry.
+    // Packs a get of the greatest version of a key, which found the entry.
     pub(crate) fn found_latest(entry: Entry) -> Self
         ensures { result ≡ record { call = NodeCall.Get entry.key Wanted.Latest; reply = NodeReply.Found (found_in entry) } }
     {
@@ -109,7 +110,7 @@ impl PackedExchange {
         }
     }
 
-    // A get of the entry's version, which found the entry.
+    // Packs a get of the entry's version, which found the entry.
     pub(crate) fn found_exactly(entry: Entry) -> Self
         ensures { result ≡ record { call = NodeCall.Get entry.key (Wanted.Exactly entry.version); reply = NodeReply.Found (found_in entry) } }
     {
@@ -118,7 +119,7 @@ impl PackedExchange {
         }
     }
 
-    // A get of a key with no value.
+    // Packs a get of a key without a value.
     pub(crate) fn absent(alloc: Global, key: &Key) -> Result<Self, AllocError>
         ensures { IfOk result (λ packed. packed ≡ record { call = NodeCall.Get key.now Wanted.Latest; reply = NodeReply.Absent }) }
     {
@@ -134,7 +135,7 @@ impl PackedExchange {
         }
     }
 
-    // A get of a version that has not come.
+    // Packs a get of a version that has not come.
     pub(crate) fn not_yet(alloc: Global, key: &Key, version: Version) -> Result<Self, AllocError>
         ensures { IfOk result (λ packed. packed ≡ record { call = NodeCall.Get key.now (Wanted.Exactly version); reply = NodeReply.NotYet }) }
     {
@@ -150,7 +151,7 @@ impl PackedExchange {
         }
     }
 
-    // A check whether the version was committed.
+    // Packs a check whether the version was committed.
     pub(crate) fn checked(
         alloc: Global,
         key: &Key,
@@ -175,7 +176,7 @@ impl PackedExchange {
         }
     }
 
-    // A pull for a data centre, for which the entry is the next.
+    // Packs a pull for a data centre, whose next entry this is.
     pub(crate) fn pulled(dc: u64, entry: Entry) -> Self
         ensures { result ≡ record { call = NodeCall.Pull dc; reply = NodeReply.Pulled entry } }
     {
@@ -184,7 +185,7 @@ impl PackedExchange {
         }
     }
 
-    // A pull for a data centre, for which there is none.
+    // Packs a pull for a data centre without a next entry.
     pub(crate) fn nothing(dc: u64) -> Self
         ensures { result ≡ record { call = NodeCall.Pull dc; reply = NodeReply.Nothing } }
     {
@@ -193,7 +194,7 @@ impl PackedExchange {
         }
     }
 
-    // A commit that was done.
+    // Packs a commit that was made.
     pub(crate) fn committed(entry: Entry) -> Self
         ensures { result ≡ record { call = NodeCall.Commit entry; reply = NodeReply.Committed } }
     {
@@ -202,7 +203,7 @@ impl PackedExchange {
         }
     }
 
-    // A commit that was done before.
+    // Packs a commit that had been made before.
     pub(crate) fn already(entry: Entry) -> Self
         ensures { result ≡ record { call = NodeCall.Commit entry; reply = NodeReply.Already } }
     {
@@ -211,7 +212,7 @@ impl PackedExchange {
         }
     }
 
-    // A commit before that of the entry before it.
+    // Packs a commit that came before that of the preceding entry.
     pub(crate) fn out_of_order(entry: Entry, mark: Version) -> Self
         ensures { result ≡ record { call = NodeCall.Commit entry; reply = NodeReply.OutOfOrder mark } }
     {
@@ -220,7 +221,7 @@ impl PackedExchange {
         }
     }
 
-    // An acknowledgement of the front.
+    // Packs an acknowledgement of the head.
     pub(crate) fn acked(dc: u64, version: Version) -> Self
         ensures { result ≡ record { call = NodeCall.Ack dc version; reply = NodeReply.Acked } }
     {
@@ -229,7 +230,7 @@ impl PackedExchange {
         }
     }
 
-    // An acknowledgement of what is not the front.
+    // Packs an acknowledgement of an entry other than the head.
     pub(crate) fn not_front(dc: u64, version: Version) -> Self
         ensures { result ≡ record { call = NodeCall.Ack dc version; reply = NodeReply.NotFront } }
     {
@@ -238,7 +239,7 @@ impl PackedExchange {
         }
     }
 
-    // A collection that removed so many records.
+    // Packs a collection that removed this many records.
     pub(crate) fn removed(count: u64) -> Self
         ensures { result ≡ record { call = NodeCall.Collect; reply = NodeReply.Removed count } }
     {
@@ -247,7 +248,7 @@ impl PackedExchange {
         }
     }
 
-    // Any call and reply, which take memory of their own.
+    // Packs any call and reply, with memory of their own.
     pub(crate) fn in_full(
         alloc: Global,
         call: NodeCall,
@@ -260,7 +261,7 @@ impl PackedExchange {
         })
     }
 
-    // The call.
+    // Returns the call.
     fn call(&self, alloc: Global) -> Result<NodeCall, AllocError>
         ensures { IfOk result (λ call. call ≡ self.now.call) }
     {
@@ -289,7 +290,7 @@ impl PackedExchange {
         }
     }
 
-    // The reply.
+    // Returns the reply.
     fn reply(&self, alloc: Global) -> Result<NodeReply, AllocError>
         ensures { IfOk result (λ reply. reply ≡ self.now.reply) }
     {
@@ -315,28 +316,29 @@ impl PackedExchange {
 }
 
 impl AuditRow {
-    // The row of a call that came at a moment.
+    // Returns the row of a call at a timestamp.
     pub(crate) fn new(moment: u64, exchange: PackedExchange) -> Self
         ensures { result ≡ record { moment = moment; call = exchange.call; reply = exchange.reply } }
     {
         AuditRow { moment, exchange }
     }
 
-    /// The moment as it was handed in.
+    /// Returns the timestamp as it was passed.
     pub fn moment(&self) -> u64
         ensures { result ≡ self.now.moment }
     {
         self.moment
     }
 
-    /// The call and the reply as they are kept, to be read in place.
+    /// Returns the compact call and reply, for reading in place.
     pub fn packing(&self) -> &Packing
         ensures { exchange_of result.now ≡ record { call = self.now.call; reply = self.now.reply } }
     {
         &self.exchange.packing
     }
 
-    /// The moment, the call and the reply as they were. Values, lists and entries share their memory.
+    /// Returns the timestamp, the call and the reply in full. Values, lists and entries share their
+    /// memory. Fails with `AllocError` if memory runs out.
     pub fn entry(&self, alloc: Global) -> Result<AuditEntry, AllocError>
         ensures { IfOk result (λ entry. entry ≡ self.now) }
     {

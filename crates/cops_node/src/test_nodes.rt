@@ -1,4 +1,4 @@
-//! Nodes and calls in few words, and replies in short.
+//! Nodes and calls in few words, and short forms of replies.
 use crate::{Node, NodeCall, NodeId, NodeReply, Wanted, has_clocks};
 use cops_types::{
     Config, Deps, Entry, EntryParts, Fault, Key, Name, Near, Quota, Tenant, Tenants, Value, Version,
@@ -59,7 +59,7 @@ pub(crate) fn config(
     }
 }
 
-/// The node of a data centre of two.
+/// Returns the node of a data centre of two.
 pub(crate) fn one_of_two(
     rt: &impl Abort,
     alloc: Global,
@@ -79,7 +79,7 @@ pub(crate) fn one_of_two(
     Node::new(alloc, &config, NodeId { dc, shard: 0 }).expect(rt, "memory")
 }
 
-/// The one node of a cluster that has acme alone.
+/// Returns the one node of a cluster that has acme alone.
 pub(crate) fn with_acme_alone(rt: &impl Abort, alloc: Global) -> Node {
     let mut tenants = Tenants::new(alloc);
     join(rt, &mut tenants, tenant(rt, b"acme", 1, 0, QUOTA));
@@ -94,7 +94,7 @@ pub(crate) fn with_acme_alone(rt: &impl Abort, alloc: Global) -> Node {
     Node::new(alloc, &config, NodeId { dc: 0, shard: 0 }).expect(rt, "memory")
 }
 
-/// Admits a tenant, again where memory was refused.
+/// Admits a tenant, again if memory ran out.
 pub(crate) fn admit(rt: &impl Abort, node: &mut Node, slot: u64) -> Result<(), Fault> {
     match node.admit(slot, 0, QUOTA) {
         Err(Fault::OutOfMemory) => node.admit(slot, 0, QUOTA),
@@ -143,12 +143,12 @@ pub(crate) fn latest(rt: &impl Abort, name: &[u8]) -> NodeCall {
     NodeCall::Get(key(rt, name), Wanted::Latest)
 }
 
-/// Asks whether this version of x is here.
+/// Checks whether this version of x is here.
 pub(crate) fn check(rt: &impl Abort, clock: u64) -> NodeCall {
     NodeCall::DepCheck(key(rt, b"x"), version(rt, clock, 0))
 }
 
-/// The second data centre has committed the entry at this clock.
+/// Acknowledges the entry at this clock for the second data centre.
 pub(crate) fn acknowledge(rt: &impl Abort, clock: u64) -> NodeCall {
     NodeCall::Ack(1, version(rt, clock, 0))
 }
@@ -169,7 +169,7 @@ pub(crate) fn get(rt: &impl Abort, name: &[u8], clock: u64, node: u64) -> NodeCa
     NodeCall::Get(key(rt, name), Wanted::Exactly(version(rt, clock, node)))
 }
 
-/// A reply in short: its form, and the number of what it gives, or 0.
+/// A reply in short: its form, and its number, or 0.
 pub(crate) type Short = (&'static str, u64);
 
 pub(crate) fn in_short(reply: &NodeReply) -> Short {
@@ -196,12 +196,12 @@ pub(crate) fn refused(fault: Fault) -> Short {
     ("refused", fault.number() as u64)
 }
 
-/// Makes a call at moment 0 and asserts what is said.
+/// Makes a call at timestamp 0 and asserts the reply.
 pub(crate) fn says(rt: &impl Abort, node: &mut Node, slot: u64, call: NodeCall, said: Short) {
     says_at(rt, node, slot, 0, call, said);
 }
 
-/// Makes a call and asserts what is said.
+/// Makes a call and asserts the reply.
 pub(crate) fn says_at(
     rt: &impl Abort,
     node: &mut Node,

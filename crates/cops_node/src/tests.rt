@@ -30,8 +30,8 @@ fn copy_of(rt: &impl Abort, alloc: Global, call: &NodeCall) -> NodeCall {
     }
 }
 
-/// Makes the call and asserts what is said. Where memory was refused, which leaves the node as it
-/// was, the call is made again.
+/// Makes the call and asserts the reply. If memory runs out, which leaves the node as it was, makes
+/// the call again.
 fn insists(
     rt: &impl Abort,
     alloc: Global,
@@ -51,7 +51,7 @@ fn insists(
     }
 }
 
-/// Each allocation inside the calls may be refused, and then the call is made again.
+/// Returns each allocation of the calls may fail; then the call is made again.
 #[test]
 fn calls_under_want_of_memory(rt: HostRuntime) {
     let alloc = rt.alloc();
@@ -108,7 +108,7 @@ fn calls_under_want_of_memory(rt: HostRuntime) {
     );
 }
 
-/// Each allocation inside the calls may be refused, and then the call is made again.
+/// Returns each allocation of the calls may fail; then the call is made again.
 #[test]
 fn commits_under_want_of_memory(rt: HostRuntime) {
     let alloc = rt.alloc();
@@ -131,7 +131,7 @@ fn commits_under_want_of_memory(rt: HostRuntime) {
     );
 }
 
-/// The reply at a place of the audit. Where memory was refused for it, it is asked for again.
+/// Returns the reply at an index of the audit; tries again if memory runs out.
 fn audited(rt: &impl Abort, alloc: Global, node: &Node, place: u64) -> Short {
     assert!(rt; 0 < node.slots());
     let row = node.audit(0, place).expect(rt, "a call");
@@ -141,7 +141,7 @@ fn audited(rt: &impl Abort, alloc: Global, node: &Node, place: u64) -> Short {
     }
 }
 
-/// A row with a long key, and one of a refusal, ask for memory of their own, which may be refused.
+/// A row with a long key, and one of a refusal, allocate memory, and this may fail.
 #[test]
 fn rows_in_full_under_want_of_memory(rt: HostRuntime) {
     let alloc = rt.alloc();
@@ -165,7 +165,7 @@ fn rows_in_full_under_want_of_memory(rt: HostRuntime) {
     assert_eq!(rt; audited(&rt, alloc, &node, 2), ("not yet", 0));
 }
 
-/// No request for memory comes before the test on the audit.
+/// No allocation comes before the test on the audit.
 #[test]
 fn a_full_audit_under_want_of_memory(rt: HostRuntime) {
     let alloc = rt.alloc();
@@ -178,7 +178,7 @@ fn a_full_audit_under_want_of_memory(rt: HostRuntime) {
     assert_eq!(rt; audit_len(&rt, &node, 0), 1);
 }
 
-/// A node to which x was sent twice, the second entry first.
+/// Returns a node to which x was sent twice, the second entry first.
 fn after_two_commits(rt: &impl Abort, alloc: Global) -> Node {
     let mut node = one_of_two(rt, alloc, 1, 0, QUOTA);
     let early = commit(rt, alloc, 2, 1);
@@ -206,4 +206,16 @@ fn commits_are_known_to_checks(rt: HostRuntime) {
     says(&rt, &mut node, 0, check(&rt, 3), ("checked", 0));
     says(&rt, &mut node, 1, check(&rt, 2), ("checked", 0));
     says(&rt, &mut node, 0, get(&rt, b"x", 3, 0), ("not yet", 0));
+}
+
+/// The first version is stale once the second is there. It is collected when no transaction can ask for
+/// it any more; whoever asks later is answered that it is gone, and at which timestamp.
+#[test]
+fn a_collected_version_is_gone(rt: HostRuntime) {
+    let mut node = after_two_commits(&rt, rt.alloc());
+    says(&rt, &mut node, 0, get(&rt, b"x", 1, 0), ("found", 65536));
+    says_at(&rt, &mut node, 0, 5000, NodeCall::Collect, ("removed", 0));
+    says_at(&rt, &mut node, 0, 5001, NodeCall::Collect, ("removed", 1));
+    says_at(&rt, &mut node, 0, 7, get(&rt, b"x", 1, 0), ("gone", 5001));
+    says(&rt, &mut node, 0, get(&rt, b"x", 2, 0), ("found", 131072));
 }

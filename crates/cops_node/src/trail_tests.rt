@@ -7,7 +7,8 @@ fn row(moment: u64) -> AuditRow {
     AuditRow::new(moment, PackedExchange::removed(moment))
 }
 
-/// Notes a call of this moment. Where memory is refused, which leaves the trail as it was, it is asked for again.
+/// Appends a call of this timestamp. If memory runs out, which leaves the trail as it was, tries
+/// again.
 fn note(rt: &impl Abort, trail: &mut Trail, moment: u64) {
     let before = trail.len();
     if trail.reserve().is_err() {
@@ -22,7 +23,7 @@ fn moment_at(rt: &impl Abort, trail: &Trail, place: u64) -> u64 {
     trail.get(place).expect(rt, "a call").moment()
 }
 
-/// A trail with calls of these moments, from 0 on.
+/// Returns a trail with calls of these timestamps, from 0 on.
 fn trail_of(rt: &impl Abort, alloc: Global, calls: u64) -> Trail {
     let mut trail = Trail::empty(alloc);
     for moment in 0..calls {
@@ -31,7 +32,7 @@ fn trail_of(rt: &impl Abort, alloc: Global, calls: u64) -> Trail {
     trail
 }
 
-/// Each request for memory may be refused, also that for a new block.
+/// Each allocation may fail, also that of a new block.
 #[test]
 fn calls_keep_their_places_over_blocks(rt: HostRuntime) {
     let trail = trail_of(&rt, rt.alloc(), 100);

@@ -1,4 +1,4 @@
-//! The calls that a node keeps of one slot.
+//! The calls of one slot at a node.
 ghost use Rattle.std.specs.Prelude.{◌≡◌, ◌+◌, ◌^◌, ◌<◌, [], ◌∷◌, ◌++◌, length, slice_get, OnOk, OnErr};
 ghost use Rattle.std.specs.Option.{option_copied};
 
@@ -7,12 +7,12 @@ use std::alloc::{AllocError, Global};
 use std::marker::Model;
 use std::mem;
 
-/// How many calls a full block has.
+/// The number of calls in a full block.
 const BLOCK: usize = 32;
 
-/// The calls of a slot in order, with their replies. They stand in blocks: where the last is full, the
-/// next call asks for a new one, so no call is moved but those of a first block that still grows.
-/// Contracts see the calls, and how many more can be noted without memory.
+/// The calls of a slot in order, with their replies. They are stored in blocks: if the last is
+/// full, the next call allocates a new one, so only the calls of a growing first block are ever
+/// moved. Contracts see the calls, and how many more can be appended without allocation.
 #[derive(Debug, Drop)]
 pub struct Trail {
     full: Vec<Vec<AuditRow>>,
@@ -32,7 +32,7 @@ impl Model for Trail {
 }
 
 impl Trail {
-    /// No calls. It takes no memory.
+    /// Returns an empty trail. Allocates nothing.
     pub fn empty(alloc: Global) -> Self
         ensures { result.calls ≡ [] }
     {
@@ -43,14 +43,14 @@ impl Trail {
         }
     }
 
-    /// How many calls there are.
+    /// Returns the number of calls.
     pub fn len(&self) -> u64
         ensures { result ≡ length self.now.calls }
     {
         self.count
     }
 
-    /// The call at a place, which counts from 0.
+    /// Returns the call at an index, which counts from 0.
     pub fn get(&self, place: u64) -> Option<&AuditRow>
         ensures { option_copied result ≡ slice_get self.now.calls place }
     {
@@ -61,7 +61,7 @@ impl Trail {
         }
     }
 
-    /// Takes the memory for one more call.
+    /// Reserves memory for one more call. Fails with `AllocError` if memory runs out.
     pub fn reserve(&mut self) -> Result<(), AllocError>
         ensures ok { OnOk result (0 < self.new.spare) }
         ensures calls { self.new.calls ≡ self.old.calls }
@@ -78,7 +78,7 @@ impl Trail {
         Ok(())
     }
 
-    /// Notes one more call, for which there is memory.
+    /// Appends a call, into reserved memory.
     pub fn push(&mut self, row: AuditRow)
         requires room { 0 < self.old.spare }
         requires countable { length self.old.calls + 1 < 2 ^ 64 }
@@ -89,7 +89,7 @@ impl Trail {
         self.count += 1;
     }
 
-    /// Gives all calls back, with their memory. It takes none.
+    /// Drops all calls, and frees their memory. Allocates nothing.
     pub fn clear(&mut self)
         ensures { self.new.calls ≡ [] }
     {

@@ -26,7 +26,7 @@ chain_unique rows slot last (suc n) (suc m) at h k = ap suc (chain_unique rows s
 row_kept : (rows rows' : List (Option Row)) (slot at : ℕ) → cell_at rows' at ≡ cell_at rows at → IsRowOf rows slot at → IsRowOf rows' slot at
 row_kept rows rows' slot at same h = (h.0, same ∙ h.1, h.2)
 
--- a chain stays where its rows stay
+-- a chain stays if its rows stay
 pub chain_kept : (rows rows' : List (Option Row)) (slot last n at : ℕ) → ((m x : ℕ) → m < n → IsQueueChain rows slot last (suc m) x → cell_at rows' x ≡ cell_at rows x) → IsQueueChain rows slot last n at
     → IsQueueChain rows' slot last n at × (entries_from rows' n at ≡ entries_from rows n at)
 chain_kept rows rows' slot last zero at same h = (tt, refl)

@@ -81,7 +81,7 @@ empty_entries rows span none = ap (λ n. entries_from rows n span.first) none
 pub test_false : (a b : ℕ) → a ≢ b → (a == b) ≡ false
 test_false a b h = grind (arith, nat_tests)
 
--- what is told of the places of all data centres
+-- the places of all data centres
 module _ (rows rows' : List (Option Row)) (own slot at : ℕ) (entry : Entry) (line line' : Line)
     (h : IsLine rows own (length line.waits.items) slot line)
     (is : IsAdded rows rows' slot line.last line.kept.count at entry)
@@ -147,7 +147,7 @@ module _ (rows rows' : List (Option Row)) (own slot at : ℕ) (entry : Entry) (l
     itself = empty_entries rows' (span_at own line') own_none ∙ sym (empty_entries rows (span_at own line) h.itself);
   }
 
-  -- where there is another data centre, each row is still needed
+  -- if there is another data centre, each row is still needed
   pub needed_longer : (dc : ℕ) × (dc < length line.waits.items) × (dc ≢ own) → IsNeeded line → IsNeeded line'
   needed_longer some needed = elim (cases_eq line.kept.count 0) [
     | inl none ↦ inr (some.0, let one : (span_at some.0 line').count ≡ (span_at some.0 line).count + 1 = ap (λ (s : Span). s.count) (longer_at some.0 some.1 some.2) in let le = h.within some.0 in let more : line'.kept.count ≡ line.kept.count + 1 = ap (λ (s : Span). s.count) kept_is in omega arith)

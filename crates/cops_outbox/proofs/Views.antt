@@ -349,7 +349,7 @@ module _ (rows : List (Option Row)) (own tenants data_centres : ℕ) (lines more
     needed = λ s l lt is. at_line (λ s l. IsNeeded l) s l is (omega arith) (h.needed s l) (λ empty. inl (ap (λ (k : Span). k.count) empty.kept));
   }
 
-  -- each queue is as before, and empty where the slot is new
+  -- each queue is as before, and empty if the slot is new
   pub queue_past : (s dc : ℕ) → get_or (get_or (queues_in rows (lines ++ more) data_centres) dc []) s [] ≡ get_or (get_or (queues_in rows lines data_centres) dc []) s []
   queue_past s dc = at 0 data_centres dc
     where

@@ -11,7 +11,7 @@ use cops_types::{Entry, Version};
 use slab::Slab;
 use std::alloc::{AllocError, Global};
 
-/// An entry of a slot, and where the slot's next one is.
+/// An entry of a slot, and the place of the slot's next one.
 #[derive(Debug, Drop)]
 pub struct Row {
     pub slot: usize,
@@ -19,15 +19,15 @@ pub struct Row {
     pub next: usize,
 }
 
-/// Some last rows of a line: where the first of them is, and how many there are.
+/// The last rows of a line: the place of the first of them, and their number.
 #[derive(Clone, Copy, Debug)]
 pub struct Span {
     pub first: usize,
     pub count: usize,
 }
 
-/// The rows of a slot: where the last is, all that are kept, and those that each data centre has
-/// yet to acknowledge.
+/// The rows of a slot: the place of the last, the span of all stored rows, and those that each data
+/// centre has not acknowledged.
 #[derive(Debug, Drop)]
 pub struct Line {
     pub last: usize,
@@ -35,7 +35,7 @@ pub struct Line {
     pub waits: Vec<Span>,
 }
 
-// A line with no rows.
+// Returns a line without rows.
 pub(crate) fn empty(alloc: Global, data_centres: usize) -> Result<Line, AllocError>
     ensures { IfOk result (IsEmpty data_centres) }
 {
@@ -47,7 +47,7 @@ pub(crate) fn empty(alloc: Global, data_centres: usize) -> Result<Line, AllocErr
     })
 }
 
-// That many lines with no rows.
+// Returns this many lines without rows.
 pub(crate) fn empty_lines(
     alloc: Global,
     data_centres: usize,
@@ -63,7 +63,7 @@ pub(crate) fn empty_lines(
     Ok(lines)
 }
 
-// The span with one more row behind it.
+// Returns the span with one more row at its end.
 fn extended(span: Span, at: usize) -> Span
     requires { span.count + 1 < 2 ^ 64 }
     ensures { result ≡ span_with at span }
@@ -74,7 +74,7 @@ fn extended(span: Span, at: usize) -> Span
     }
 }
 
-// A row joins what waits for each data centre but the own.
+// Adds a row to those that wait for each data centre except the own.
 fn extend_all(waits: &mut [Span], own: u64, at: usize)
     requires { (dc : ℕ) (d : Span) → dc < length waits.old → (slice_index_or waits.old dc d).count + 1 < 2 ^ 64 }
     ensures { (dc : ℕ) (d : Span) → dc < length waits.old → slice_index_or waits.new dc d ≡ (if dc == own then slice_index_or waits.old dc d else span_with at (slice_index_or waits.old dc d)) }
@@ -86,7 +86,7 @@ fn extend_all(waits: &mut [Span], own: u64, at: usize)
     }
 }
 
-// Puts an entry of the slot into the table, and links it to the last one of the line.
+// Stores an entry of the slot in the table, and links it to the last one of the line.
 fn link(rows: &mut Slab<Row>, line: &Line, slot: usize, entry: Entry) -> usize
     requires room { HasRoomFor rows.old 1 }
     requires line { IsQueueChain rows.old.slots slot line.now.last line.now.kept.count line.now.kept.first }
@@ -105,7 +105,7 @@ fn link(rows: &mut Slab<Row>, line: &Line, slot: usize, entry: Entry) -> usize
     at
 }
 
-// Adds an entry of the slot behind the line, where there is room for it.
+// Appends an entry of the slot to the line, into reserved room.
 pub(crate) fn add(rows: &mut Slab<Row>, line: &mut Line, own: u64, slot: usize, entry: Entry)
     requires room { HasRoomFor rows.old 1 }
     requires line { IsLine rows.old.slots own (length line.old.waits.items) slot line.old }
@@ -123,7 +123,7 @@ pub(crate) fn add(rows: &mut Slab<Row>, line: &mut Line, own: u64, slot: usize, 
     line.last = at;
 }
 
-// Takes the first row of a line out of the table, and gives the rest of the line.
+// Removes the first row of a line from the table, and returns the rest of the line.
 fn release(rows: &mut Slab<Row>, kept: Span) -> Span
     requires row { (slot : ℕ) × IsRowOf rows.old.slots slot kept.first }
     requires some { 0 < kept.count }
@@ -138,14 +138,14 @@ fn release(rows: &mut Slab<Row>, kept: Span) -> Span
     }
 }
 
-// Whether a data centre has yet to acknowledge that many.
+// Returns `true` if a data centre has not acknowledged exactly this many.
 fn is_waited_for(waits: &[Span], count: usize) -> bool
     ensures { result ≡ list_any (λ (s : Span). s.count == count) waits.now }
 {
     waits.iter().any(|span| span.count == count)
 }
 
-// The span without its first row.
+// Returns the span without its first row.
 fn shortened(rows: &Slab<Row>, span: Span) -> Span
     requires row { (slot : ℕ) × IsRowOf rows.now.slots slot span.first }
     requires some { 0 < span.count }
@@ -158,7 +158,7 @@ fn shortened(rows: &Slab<Row>, span: Span) -> Span
     }
 }
 
-// The data centre goes on to the next entry, and one that all have passed leaves the table.
+// Advances the data centre to the next entry; one that all have passed leaves the table.
 pub(crate) fn pass(rows: &mut Slab<Row>, line: &mut Line, dc: usize)
     requires dc { dc < length line.old.waits.items }
     requires some { 0 < (span_at dc line.old).count }
@@ -173,7 +173,7 @@ pub(crate) fn pass(rows: &mut Slab<Row>, line: &mut Line, dc: usize)
     }
 }
 
-// No data centre waits for a row.
+// Leaves no row waiting for any data centre.
 fn forget_all(waits: &mut [Span])
     ensures { (dc : ℕ) (d : Span) → dc < length waits.old → slice_index_or waits.new dc d ≡ nowhere }
 {
@@ -182,7 +182,7 @@ fn forget_all(waits: &mut [Span])
     }
 }
 
-// Takes all rows of a line out of the table.
+// Removes all rows of a line from the table.
 pub(crate) fn clear(rows: &mut Slab<Row>, line: &mut Line)
     requires line { (own slot : ℕ) × IsLine rows.old.slots own (length line.old.waits.items) slot line.old }
     ensures cleared { (own slot : ℕ) → IsLine rows.old.slots own (length line.old.waits.items) slot line.old → IsCleared rows.old.slots rows.new.slots own slot line.old line.new }
@@ -193,7 +193,7 @@ pub(crate) fn clear(rows: &mut Slab<Row>, line: &mut Line)
     }
 }
 
-// The first entry that waits for a data centre.
+// Returns the first entry that waits for a data centre.
 pub(crate) fn first<'a>(rows: &'a Slab<Row>, line: &Line, dc: usize) -> Option<&'a Entry>
     requires dc { dc < length line.now.waits.items }
     requires line { (own slot : ℕ) × IsLine rows.now.slots own (length line.now.waits.items) slot line.now }
@@ -207,7 +207,7 @@ pub(crate) fn first<'a>(rows: &'a Slab<Row>, line: &Line, dc: usize) -> Option<&
     Some(&row.entry)
 }
 
-// Whether the first entry that waits for a data centre has this version.
+// Returns `true` if the first entry that waits for a data centre has this version.
 pub(crate) fn is_first(rows: &Slab<Row>, line: &Line, dc: usize, version: Version) -> bool
     requires dc { dc < length line.now.waits.items }
     requires line { (own slot : ℕ) × IsLine rows.now.slots own (length line.now.waits.items) slot line.now }
@@ -219,7 +219,7 @@ pub(crate) fn is_first(rows: &Slab<Row>, line: &Line, dc: usize, version: Versio
     }
 }
 
-// How many entries wait for a data centre.
+// Returns how many entries wait for a data centre.
 pub(crate) fn count(line: &Line, dc: usize) -> usize
     requires { dc < length line.now.waits.items }
     ensures { result ≡ (span_at dc line.now).count }
@@ -228,7 +228,7 @@ pub(crate) fn count(line: &Line, dc: usize) -> usize
     span.count
 }
 
-// Whether as many entries as that wait for a data centre but the own.
+// Returns `true` if `limit` entries wait for a data centre except the own.
 pub(crate) fn is_any_full(waits: &[Span], own: u64, limit: u64) -> bool
     ensures { result ≡ list_any (λ dc. not (dc == own) && nat_le limit (slice_index_or waits.now dc nowhere).count) (range_with_len 0 (length waits.now)) }
 {

@@ -1,4 +1,4 @@
--- How many node replies a carrier has.
+-- The number of node replies of a carrier.
 use Rattle.std.specs.Prelude.{◌≡◌, ℕ, ◌+◌, ◌≤◌, List, [], ◌∷◌, length}
 use Rattle.cops_types.specs.declared.pairs.Pair.{Pair}
 use Rattle.cops_model.specs.declared.calls.NodeReply.{NodeReply}
@@ -7,7 +7,7 @@ use Rattle.cops_model.specs.Log.{LogStep, replies_of}
 use Rattle.cops_model.specs.declared.deliveries.Progress.TheVariants.{Working}
 use Rattle.cops_model.specs.Carrier.{Stream, carrier_next, progress_of}
 
--- the near pairs of the entry that was pulled, none before
+-- the near pairs of the pulled entry; none before the pull
 abbrev pub near_in : List NodeReply → List Pair
 near_in (Pulled entry ∷ replies) = entry.near
 near_in replies = []

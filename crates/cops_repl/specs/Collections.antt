@@ -1,4 +1,4 @@
--- Collections on all nodes.
+-- Garbage collections on all nodes.
 use Rattle.std.specs.Prelude.{◌≡◌, ℕ, ◌+◌, ◌^◌, ◌<◌, ◌≤◌, List, [], ◌∷◌, ◌++◌, map, length, sum, Some, Result, Ok, Err}
 use Rattle.std.specs.List.{flat_map, range_with_len}
 use Rattle.std.specs.declared.alloc.AllocError.{AllocError}
@@ -26,17 +26,17 @@ Collected answers slot moment [] (reply ∷ replies) old new = ⊥
 Collected {S = S} answers slot moment (id ∷ ids) (reply ∷ replies) old new =
     (between : S) × answers old id slot moment Collect reply between × Collected answers slot moment ids replies between new
 
--- beside such a sum the reply ends it with a fault: it is no count, or the sum would pass the largest number
+-- with this sum, the reply ends the collection with a fault: it is no count, or the sum would exceed the largest number
 abbrev pub StopsAt : ℕ → NodeReply → Fault → Type 0
 StopsAt total (Removed count) fault = (2 ^ 64 ≤ total + count) × (fault ≡ Torn)
 StopsAt total reply fault = fault_in Collect reply ≡ Some fault
 
--- added to a sum: what all of these nodes removed, or the fault of the last reply, where all before it are counts whose sum fits
+-- added to a sum: what all of these nodes removed; or the fault of the last reply, if all before it are counts whose sum fits
 abbrev pub IsTotal : ℕ → List NodeId → List NodeReply → Result ℕ Fault → Type 0
 IsTotal start ids replies (Ok total) = (counts : List ℕ) × (length counts ≡ length ids) × (replies ≡ map Removed counts) × (total ≡ start + sum counts)
 IsTotal start ids replies (Err fault) = (counts : List ℕ) × (last : NodeReply) × (replies ≡ map Removed counts ++ last ∷ []) × (start + sum counts < 2 ^ 64) × StopsAt (start + sum counts) last fault
 
--- what is told of a sum: where a node was refused memory, the fault that says so
+-- the result for a sum; if a node ran out of memory, the fault that says so
 abbrev pub told_total : Result (Result ℕ Fault) AllocError → Result ℕ Fault
 told_total (Ok total) = total
 told_total (Err error) = Err OutOfMemory

@@ -14,12 +14,12 @@ use std::alloc::AllocError;
 use std::marker::Model;
 use std::mem;
 
-/// A carrier: it takes the front of one stream to another data centre. It pulls the entry, checks at
-/// the destination each pair that the entry nearest depends on, commits the entry there, and then
-/// acknowledges it at its origin.
+/// A carrier (replicator) takes the head of one stream to another data centre. It pulls the entry,
+/// checks each of the entry's nearest dependencies at the destination, commits the entry there, and
+/// then acknowledges it at its origin.
 ///
-/// Contracts see its stream, the number of shards, the greatest moment that was handed to it, and how
-/// far it has come.
+/// Contracts see its stream, the number of shards, the greatest timestamp that it was passed, and
+/// its stage.
 #[derive(Debug, Drop)]
 pub struct Carrier {
     route: Route,
@@ -38,7 +38,8 @@ impl Model for Carrier {
 }
 
 impl Carrier {
-    /// A carrier of the stream from a node to another data centre. Its steps need that both exist.
+    /// Returns a carrier of the stream from a node to another data centre. Its steps need that both
+    /// exist.
     pub fn new(config: &Config, origin: NodeId, to_dc: u64) -> Self
         ensures stands { CarrierStandsFor config.now.shards result (new_carrier (record { origin = origin; to_dc = to_dc })) }
         ensures goes_on { has_ended result ≡ false }
@@ -54,15 +55,15 @@ impl Carrier {
         }
     }
 
-    /// Whether it has ended.
+    /// Returns `true` if it has ended.
     pub fn ended(&self) -> bool
         ensures { result ≡ has_ended self.now }
     {
         matches!(self.stage, Stage::Over)
     }
 
-    /// Takes the next step: one call at a node, for the tenant of a slot. It takes no memory itself:
-    /// that the node was refused memory is the error, and ends the carrier.
+    /// Takes the next step: one call at a node, for the tenant of a slot. Allocates nothing itself.
+    /// Fails with `AllocError` if the node runs out of memory, which ends the carrier.
     pub fn step<N: Nodes>(
         &mut self,
         nodes: &mut N,
@@ -72,8 +73,8 @@ impl Carrier {
         requires goes_on { has_ended self.old ≡ false }
         requires stream { RunsIn (N.shape nodes.old) self.old.shards self.old.stream }
 
-        // One call is made. For each carrier of the definition that this one stood for, it is the next
-        // call, and the step is the definition's.
+        // One call is made. For each carrier of the definition that this one represented, it is the
+        // next call, and the step is the definition's.
         ensures called { (directed : Directed) × (reply : NodeReply)
             × N.Answers nodes.old directed.node slot (max self.old.moment moment) directed.call reply nodes.new
             × ((shards : ℕ) (solo : Solo) → CarrierStandsFor shards self.old solo →
@@ -83,7 +84,7 @@ impl Carrier {
         ensures moment { self.new.moment ≡ max self.old.moment moment }
         ensures ended { has_ended self.new ≡ is_done (told_progress result) }
 
-        // Where memory is refused, the node was refused it, which leaves its nodes as they were.
+        // If memory runs out, it was the node's, which leaves the nodes as they were.
         ensures err { OnErr result (has_ended self.new ≡ true) }
         ensures refused { OnErr result ((directed : Directed) × N.Answers nodes.old directed.node slot (max self.old.moment moment) directed.call (Refused OutOfMemory) nodes.new) }
         ensures shape { N.shape nodes.new ≡ N.shape nodes.old }

@@ -6,7 +6,7 @@ use cops_node::{NodeCall, NodeId, NodeReply, Nodes};
 use cops_types::{Config, Fault};
 use std::alloc::AllocError;
 
-/// The sum with what a collection removed.
+/// Adds the count of a collection's reply to the sum.
 fn add_removed(total: u64, reply: &NodeReply) -> Result<u64, Fault>
     ensures value { MatchResult result
         (λ sum. (count : ℕ) × (reply.now ≡ Removed count) × (sum ≡ total + count))
@@ -21,7 +21,7 @@ fn add_removed(total: u64, reply: &NodeReply) -> Result<u64, Fault>
     }
 }
 
-/// Collects on each node of a data centre, and adds what they removed to a sum.
+/// Collects on each node of a data centre, and adds their counts to a sum.
 fn collect_in<N: Nodes>(
     nodes: &mut N,
     dc: u64,
@@ -46,10 +46,10 @@ fn collect_in<N: Nodes>(
     Ok(Ok(total))
 }
 
-/// Collects for the tenant of a slot on every node, in number order, and answers how many records were
-/// removed. The first refusal ends it, and that a node was refused memory is the error. A reply that
-/// was not asked for, and a sum past the largest number, end it with `Torn`. Collections that were made
-/// before stand.
+/// Collects for the tenant of a slot on every node, in number order, and returns the number of
+/// removed records. Fails with the first refusal, with `Torn` if a reply does not match the call or
+/// the sum exceeds the largest number, and with `AllocError` if a node runs out of memory. Earlier
+/// collections stand.
 pub fn collect_all<N: Nodes>(
     nodes: &mut N,
     config: &Config,

@@ -1,4 +1,4 @@
-//! How far a carrier has come, and the call that each stage makes.
+//! The stages of a carrier, and the call that each stage makes.
 ghost use Rattle.std.specs.Prelude.{◌≡◌, ℕ, ◌<◌, ◌^◌, ◌==◌, length, false, IfOk, OnErr};
 ghost use Rattle.cops_types.specs.declared.faults.Fault.TheVariants.{OutOfMemory};
 ghost use Rattle.cops_model.specs.declared.calls.NodeReply.{NodeReply};
@@ -16,10 +16,10 @@ use cops_node::{NodeCall, NodeId, NodeReply, Nodes};
 use cops_types::{Entry, Fault, Pair};
 use std::alloc::AllocError;
 
-/// How far a carrier has come.
+/// The progress of a carrier.
 #[derive(Debug, Drop)]
 pub enum Stage {
-    /// The front of the stream is to be pulled.
+    /// The head of the stream is to be pulled.
     Pulling,
     /// The entry is carried, and this many of its near pairs are checked.
     Carrying { entry: Entry, checked: usize },
@@ -38,7 +38,7 @@ pub enum After {
     Ends(Delivery),
 }
 
-/// A stream, and how many shards a data centre has.
+/// A stream, and the number of shards of a data centre.
 #[derive(Clone, Copy, Debug)]
 pub struct Route {
     pub origin: NodeId,
@@ -47,7 +47,7 @@ pub struct Route {
 }
 
 impl Route {
-    /// Makes the call of a stage.
+    /// Makes the call of a stage. Fails with `AllocError` if memory runs out.
     pub fn step<N: Nodes>(
         &self,
         nodes: &mut N,
@@ -79,7 +79,7 @@ impl Route {
         }
     }
 
-    /// Whether the node of this number is the origin.
+    /// Returns `true` if the node of this number is the origin.
     fn is_origin(&self, node: u64) -> bool
         requires { self.now.origin.shard < self.now.shards }
         ensures { result ≡ (node == node_number self.now.shards self.now.origin) }
@@ -87,8 +87,8 @@ impl Route {
         node / self.shards == self.origin.dc && node % self.shards == self.origin.shard
     }
 
-    /// Whether an entry is not of this stream: its key is of another shard, or its version of another
-    /// node than the origin.
+    /// Returns `true` if an entry is not of this stream: its key belongs to another shard, or its
+    /// version to another node than the origin.
     fn is_foreign(&self, entry: &Entry) -> bool
         requires { self.now.origin.shard < self.now.shards }
         ensures { result ≡ is_foreign self.now.shards (stream_of self.now) entry.now }
@@ -97,7 +97,7 @@ impl Route {
             || !self.is_origin(entry.version().node())
     }
 
-    /// Pulls the front of the queue at the origin.
+    /// Pulls the head of the queue at the origin.
     fn pull<N: Nodes>(&self, nodes: &mut N, slot: u64, moment: u64) -> Result<After, AllocError>
         requires stream { RunsIn (N.shape nodes.old) self.now.shards (stream_of self.now) }
         ensures called { (directed : Directed) × (reply : NodeReply)
@@ -218,7 +218,7 @@ impl Route {
     }
 }
 
-/// The end that the reply to a check of a near pair brings, unless the pair is committed.
+/// Returns the end that the reply to a check of a near pair causes, unless the pair is committed.
 fn end_of_check(pair: Pair, reply: &NodeReply) -> Option<Delivery>
     ensures { (shards : ℕ) (stream : Stream) → result ≡ end_of shards stream (DepCheck pair.key pair.version) reply.now }
 {
@@ -230,7 +230,7 @@ fn end_of_check(pair: Pair, reply: &NodeReply) -> Option<Delivery>
     }
 }
 
-/// What follows the commit of the pair.
+/// Returns what follows the commit of the pair.
 fn after_commit(pair: Pair, reply: &NodeReply) -> After
     ensures follows { (shards : ℕ) (stream : Stream) (entry : EntryParts) → pair ≡ pair_of_entry entry →
         FollowsReply shards stream (Carrying entry (length entry.near)) reply.now result }
@@ -245,7 +245,7 @@ fn after_commit(pair: Pair, reply: &NodeReply) -> After
     }
 }
 
-/// What follows the acknowledgement of the pair.
+/// Returns what follows the acknowledgement of the pair.
 fn after_acknowledge(pair: Pair, fresh: bool, reply: &NodeReply) -> After
     ensures follows { (shards : ℕ) (stream : Stream) → FollowsReply shards stream (Stored pair fresh) reply.now result }
     ensures sound { (shards : ℕ) (stream : Stream) → IsSoundAfter shards stream result }

@@ -88,7 +88,7 @@ before_differs first tenants slot tenant apart e = by_test (bytes_eq first.name 
     absurd (omega (arith, only, size, most)))
     (λ is. is)
 
--- no tenant after one has his name
+-- no tenant after one has its name
 after_differ : (first : Tenant) (tenants : List Tenant) → AreApart (first ∷ tenants) → of_name first.name tenants ≡ []
 after_differ first tenants apart =
     let all : of_name first.name (first ∷ tenants) ≡ first ∷ of_name first.name tenants = rw (same_bytes first.name) refl in
@@ -110,7 +110,7 @@ place_of_name (first ∷ tenants) (suc slot) tenant apart e =
     let found = later.0 in
     (rw differs (omega (arith, found)), omega arith)
 
--- a tenant is found by his name
+-- a tenant is found by its name
 pub named_at : (tenants : List Tenant) (slot : ℕ) (tenant : Tenant) → AreApart tenants → slice_get tenants slot ≡ Some tenant → slot_of_name tenants tenant.name ≡ Some slot
 named_at tenants slot tenant apart e =
     let place = place_of_name tenants slot tenant apart e in
@@ -135,7 +135,7 @@ his_lines name records = map (record_line name) records
 begins_with : (name : List ℕ) (told : Record) → IsTrue (is_name name) → first_word (record_line name told) ≡ name
 begins_with name told named = first_word-more name (spaced (node_text told.node ∷ decimal told.moment ∷ call_words told.call ++ codes "=" ∷ reply_words told.reply)) (name_lacks space space_foreign name named)
 
--- so all are his
+-- so all are the tenant's
 all_his : (name : List ℕ) (records : List Record) → IsTrue (is_name name) → alone_lines name (his_lines name records) ≡ his_lines name records
 all_his name [] named = refl
 all_his name (told ∷ records) named =
@@ -211,7 +211,7 @@ module _ (config : Config) (nodes : TenantConfig → ℕ → List SoloNode) wher
       ++ only_his (slot + 1) tenants k tenant named.1 (others_apart first tenants apart) e i)
       ∙ ap (λ n. his_lines tenant.name (his_records config nodes n tenant)) there
 
-  -- those of one tenant are those of his records
+  -- those of one tenant are those of its records
   pub lines_his : (slot : ℕ) (tenant : Tenant) → AreKnown config.tenants → AreFormed config nodes → slice_get config.tenants slot ≡ Some tenant →
       alone_lines tenant.name (lines_of (tenants_text config nodes 0 config.tenants)) ≡ his_lines tenant.name (his_records config nodes slot tenant)
   lines_his slot tenant known formed e =

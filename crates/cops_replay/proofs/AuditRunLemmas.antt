@@ -36,11 +36,11 @@ module _ (world : KeptWorld) (bytes : List ℕ) (left : IsLeftBy open_setup HasO
   abbrev setup : Setup
   setup = world.setup
 
-  -- who is open there has the cluster that his life's lines leave
+  -- an open tenant has the cluster after its life's lines
   stands : (slot : ℕ) (tenant : Tenant) → open_at slot setup.tenants ≡ Some tenant → HasOpenCluster world slot (cluster_left left.config left.lines (life_left left.config left.lines slot))
   stands slot tenant e = left.clusters slot (ap (λ (s : Setup). is_open_at s slot) (sym left.setup_is) ∙ ap is_some e)
 
-  -- and his configuration
+  -- and its configuration
   his_config : (slot : ℕ) (tenant : Tenant) → open_at slot setup.tenants ≡ Some tenant → config_in setup slot ≡ tenant_config setup.head tenant
   his_config slot tenant e = ap (config_of setup.head) e
 
@@ -72,7 +72,7 @@ module _ (world : KeptWorld) (bytes : List ℕ) (left : IsLeftBy open_setup HasO
   pub writes_front : (old_contents new_contents : Option (List ℕ)) → AppendsFront old_contents new_contents (audit_text (open_config world) (open_nodes world)) → WritesAuditFront bytes old_contents new_contents
   writes_front old_contents new_contents written = subst (AppendsFront old_contents new_contents) (sym (ap text_in out_is)) written
 
-  -- what holds of each tenant who is open, and of his nodes, holds of those that are left
+  -- what holds of each open tenant, and of its nodes, holds of those that remain
   of_left : (P : TenantConfig → Tenant → List SoloNode → Type 0) → ((place : ℕ) (tenant : Tenant) → slice_get (open_config world).tenants place ≡ Some tenant → P (tenant_config setup.head tenant) tenant (open_nodes world (tenant_config setup.head tenant) place)) →
       (place : ℕ) (tenant : Tenant) → slice_get (left_config left.config left.lines).tenants place ≡ Some tenant → P (tenant_config left.config tenant) tenant (left_nodes left.config left.lines (tenant_config left.config tenant) place)
   of_left P each =
@@ -90,7 +90,7 @@ module _ (world : KeptWorld) (bytes : List ℕ) (left : IsLeftBy open_setup HasO
       subst AreFormedFor (sym left.head) (of_left (λ config tenant nodes. AllByRecursion (λ (told : Record). IsTrue (is_record told)) (records_of config nodes))
       (λ place tenant e. formed place tenant e))
 
--- the same, where the bytes of the reader may be known
+-- the same, if the bytes of the reader may be known
 pub tenants_read : (world : KeptWorld) (old_remaining new_remaining : Option (List ℕ)) → IsLeftByRead open_setup HasOpenCluster old_remaining new_remaining world → HasItsTenants world
 tenants_read world old_remaining new_remaining read = world_tenants world read.bytes read.left
 

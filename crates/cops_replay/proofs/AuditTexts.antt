@@ -105,7 +105,7 @@ each_at P (y ∷ xs) (suc i) x h e = each_at P xs i x h.1 e
 pub numbered : (config : Config) (nodes : List Shared) (i : ℕ) (node : Shared) → IsCluster (shape_of config) nodes → i < length nodes → node ≡ get_or nodes i node → node.home.id ≡ id_of config.shards i
 numbered config nodes i node are below is = (are.each i node below is).0
 
--- a tenant's slot has his place there
+-- a tenant's slot has its place there
 pub place_there : (config : Config) (tenant : TenantConfig) (slot : ℕ) (nodes : List Shared) (i : ℕ) (node : Shared) → IsCluster (shape_of config) nodes → i < length nodes → node ≡ get_or nodes i node →
     HasTenant tenant slot (record { shape = shape_of config; nodes = nodes }) → place_at slot node ≡ Some (place_of tenant (id_of config.shards i))
 place_there config tenant slot nodes i node are below is has =
@@ -178,7 +178,7 @@ tenants_text_one_more config nodes tenants i tenant e =
     ∙ ap (λ n. tenants_text config nodes 0 (take i tenants) ++ tenants_text config nodes n (tenant ∷ [])) here
     ∙ ap (λ l. tenants_text config nodes 0 (take i tenants) ++ l) (append-nil (records_text tenant.name (records_of (tenant_config config tenant) (nodes (tenant_config config tenant) i))))
 
--- where each tenant has the same nodes, the records are the same
+-- if each tenant has the same nodes, the records are the same
 pub tenants_text-same : (config : Config) (one other : TenantConfig → ℕ → List SoloNode) (slot : ℕ) (tenants : List Tenant) →
     ((k : ℕ) (tenant : Tenant) → slice_get tenants k ≡ Some tenant → one (tenant_config config tenant) (slot + k) ≡ other (tenant_config config tenant) (slot + k)) →
     tenants_text config one slot tenants ≡ tenants_text config other slot tenants

@@ -1,4 +1,4 @@
--- A line says a record exactly where each of its words is good.
+-- A line writes a record exactly if each of its words is good.
 use Rattle.std.proofs.Common.{◌≡◌, ℕ, Bool, true, false, cond, List, [], ◌∷◌, refl, sym, ap, ◌∙◌}
 use Rattle.std.specs.Prelude.{Option, Some, None, codes}
 use Rattle.std.specs.Option.{is_some, option_map}

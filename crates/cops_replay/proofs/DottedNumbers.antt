@@ -1,4 +1,4 @@
--- Two numbers with a dot between, where a word is split at its first dot.
+-- Two numbers with a dot between, if a word is split at its first dot.
 use Rattle.std.proofs.Common.{◌≡◌, ℕ, ◌≢◌, true, false, not, List, [], ◌∷◌, ◌++◌, length, refl, sym, subst, ap, ◌∙◌, arith}
 use Rattle.std.specs.Prelude.{All, Option, Some, None}
 use Rattle.std.specs.List.{join_with_byte}

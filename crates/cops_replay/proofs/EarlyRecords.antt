@@ -1,4 +1,4 @@
--- What layout 1 reads of a line, where no clock is too great, today's layout reads too.
+-- What layout 1 reads of a line, if no clock is too great, today's layout reads too.
 use Rattle.std.proofs.Common.{◌≡◌, ℕ, zero, suc, ◌+◌, ◌≤◌, Bool, true, false, ◌&&◌, ◌||◌, cond, List, [], ◌∷◌, ◌⊎◌, inl, inr, length, refl, sym, subst, ap, ◌∙◌, arith}
 use Rattle.std.specs.Prelude.{Option, Some, None, IsTrue, codes, nat_le, nat_lt, slice_get}
 use Rattle.std.specs.List.{AllByRecursion, list_all, list_any}
@@ -176,7 +176,7 @@ module _ (v w : Versions) (versions : (word : List ℕ) → Below (v word) (w wo
   records : (text : List ℕ) → Below (record_by v text) (record_by w text)
   records text = whole_line (read_line v (parts_at space text)) (read_line w (parts_at space text)) (line (parts_at space text))
 
--- ---- layout 1, where no clock is too great
+-- ---- layout 1, if no clock is too great
 
 early_versions : (word : List ℕ) → Below (early_version_of word) (version_in word)
 early_versions word = by_found (version_in word)

@@ -157,7 +157,7 @@ right_holds : (a b : Bool) → (a && b) ≡ true → b ≡ true
 right_holds true b e = e
 right_holds false b e = absurd cc
 
--- a front of a key has bytes of keys alone
+-- a prefix of a key has bytes of keys alone
 pub key_front_known : (last bytes : List ℕ) (same : ℕ) → is_key last ≡ true → take same last ≡ take same bytes → list_all is_key_byte (take same bytes) ≡ true
 key_front_known last bytes same key front =
     ap (list_all is_key_byte) (sym front) ∙ left_holds (list_all is_key_byte (take same last)) (list_all is_key_byte (drop same last))

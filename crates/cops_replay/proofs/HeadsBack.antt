@@ -262,7 +262,7 @@ lines_of-more (line ∷ lines) more all =
     ap lines_of (append_assoc (line ++ newline ∷ []) rest more ∙ append_assoc line (newline ∷ []) (rest ++ more))
     ∙ line_first line (rest ++ more) all.0 ∙ ap (λ others. line ∷ others) (lines_of-more lines more all.1)
 
--- and all its lines, where nothing else comes
+-- and all its lines, if nothing else comes
 pub lines_of-lines : (lines : List (List ℕ)) → AllByRecursion (Lacks newline) lines → lines_of (flat_map (λ line. line ++ newline ∷ []) lines) ≡ lines
 unfolding lines_of
 lines_of-lines lines all = ap lines_of (sym (append-nil (flat_map (λ line. line ++ newline ∷ []) lines))) ∙ lines_of-more lines [] all ∙ append-nil lines

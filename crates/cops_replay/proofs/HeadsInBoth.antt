@@ -44,7 +44,7 @@ tenant_today line tenant e early =
     let is = tenant_in_to-is last_old_clock line tenant e in
     tenant_in-finds line tenant (record { token = is.token; spelled = is.spelled; one_word = is.one_word; parses = is.parses; within = tenant_fits_today tenant is.within early })
 
--- where a line leads in layout 1 it leads today
+-- if a line leads in layout 1 it leads today
 front_today : (front : Front) (line : List ℕ) (next : Front) → old_front_after front line ≡ Some next → IsTrue (has_clocks_to last_early_clock (Some next)) → front_after front line ≡ Some next
 front_today AtStart line next e fine = by_cluster (cluster_in line) e
   where

@@ -1,4 +1,4 @@
--- Heads of layout 1: to which front a line leads, and how long it is.
+-- Heads of layout 1: the state to which a line leads, and the length of the line.
 use Rattle.std.proofs.Common.{◌≡◌, ℕ, ◌+◌, ◌<◌, ◌≤◌, ◌^◌, ◌⊎◌, inl, inr, Bool, true, false, cond, List, [], ◌∷◌, ◌++◌, length, refl, sym, subst, ap, ◌∙◌, length-append, arith}
 use Rattle.std.specs.Prelude.{IsTrue, codes, decimal, nat_lt, nat_le, Option, Some, None}
 use Rattle.std.specs.Option.{option_map, option_and_then}

@@ -144,7 +144,7 @@ free_there [] slot below vacant = absurd (omega arith)
 free_there (t ∷ tenants) zero below vacant = ap Some vacant
 free_there (t ∷ tenants) (suc slot) below vacant = free_there tenants slot (omega arith) vacant
 
--- nobody who is open has his name, or his token
+-- no open tenant has its name, or its token
 fresh_to : (tenants : List (Option Tenant)) (slot : ℕ) (tenant : Tenant) → admission_refusal tenants slot tenant ≡ None → (list_any (has_name tenant.name) tenants ≡ false) × (list_any (has_token tenant.token) tenants ≡ false)
 fresh_to tenants slot tenant e = by (list_any (has_name tenant.name) tenants) (list_any (has_token tenant.token) tenants) (nat_lt slot most_tenants && is_none (open_at slot tenants)) e
   where
@@ -224,7 +224,7 @@ past_stands : (tenants : List (Option Tenant)) (lines : List (List ℕ)) → Can
 past_stands tenants [] can = can
 past_stands tenants (line ∷ lines) can = past_stands (tenants_after tenants (said_in tenants line)) lines (after_stands tenants can line)
 
--- ---- who is open, in a head of his own
+-- ---- who is open, in a head of its own
 
 fit_open : (tenants : List (Option Tenant)) → AllByRecursion IsFitThere tenants → AreFit (open_tenants tenants)
 fit_open [] fit = tt
@@ -250,7 +250,7 @@ module _ (text_of : Tenant → List ℕ) where
   apart_open (None ∷ tenants) apart = apart_open tenants apart
   apart_open (Some t ∷ tenants) apart = (none_open (text_of t) tenants apart.0, apart_open tenants apart.1)
 
-  -- one among them has another text than one before him
+  -- one among them has another text than one before it
   differs : (text : List ℕ) (front : List Tenant) (tenant : Tenant) (more : List Tenant) → list_any (has_text text_of text) (map Some (front ++ tenant ∷ more)) ≡ false → bytes_eq (text_of tenant) text ≡ false
   differs text [] tenant more h = left_fails (bytes_eq (text_of tenant) text) (list_any (has_text text_of text) (map Some more)) h
   differs text (x ∷ front) tenant more h = differs text front tenant more (right_fails (bytes_eq (text_of x) text) (list_any (has_text text_of text) (map Some (front ++ tenant ∷ more))) h)

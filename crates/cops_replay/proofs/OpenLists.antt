@@ -106,7 +106,7 @@ slot_where_none tenants i None e is = no_more_slot tenants i e
 
 -- ---- their nodes
 
--- where each open tenant has his slot in the nodes, each place has it
+-- if each open tenant has its slot in the nodes, each place has it
 pub nodes_of_open : (config : Config) (tenants : List (Option Tenant)) (nodes : List Shared) → IsCluster (shape_of config) nodes →
     ((slot : ℕ) (tenant : Tenant) → open_at slot tenants ≡ Some tenant → HasTenant (tenant_config config tenant) slot (record { shape = shape_of config; nodes = nodes })) →
     AreNodesAt config (open_tenants tenants) (open_slots tenants) nodes
@@ -116,7 +116,7 @@ nodes_of_open config tenants nodes by_number each = record {
   each_tenant = λ place tenant e. each (slice_index_or (open_slots tenants) place 0) tenant (open_there tenants place tenant e);
 }
 
--- ---- of a configuration's own tenants, each at the slot of his place
+-- ---- of a configuration's own tenants, each in the slot of its place
 
 all_same : (xs : List ℕ) → map (λ x. x) xs ≡ xs
 all_same [] = refl

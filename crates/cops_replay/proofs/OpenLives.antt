@@ -1,4 +1,4 @@
--- The cluster that a script leaves an open tenant is one of his configuration.
+-- The cluster that a script leaves an open tenant is one of its configuration.
 use Rattle.std.proofs.Common.{◌≡◌, ℕ, List, [], ◌∷◌}
 use Rattle.std.specs.Prelude.{Option, Some}
 use Rattle.cops_types.specs.declared.configs.Config.{Config}
@@ -21,7 +21,7 @@ past_numbered config tenants lives (line ∷ lines) numbered of =
     let said = said_in tenants line in
     past_numbered config (tenants_after tenants said) (lives_after lives said) lines (next_numbered config tenants lives said numbered (said_in-placed tenants line) of.0) of.1
 
--- his life has his configuration
+-- its life has its configuration
 pub config_of_life : (config : Config) (lines : List (List ℕ)) (slot : ℕ) (tenant : Tenant) → open_at slot (setup_left config lines).tenants ≡ Some tenant →
     config_at (with_all_lives config (said_by_lines config lines)) (life_left config lines slot) ≡ tenant_config config tenant
 config_of_life config lines slot tenant there =

@@ -1,4 +1,4 @@
--- The audit of given tenants is that of a world, where they are open there.
+-- The audit of given tenants is that of a world, if they are open there.
 use Rattle.std.proofs.Common.{◌≡◌, ℕ, List, refl, sym, subst}
 use Rattle.cops_types.specs.declared.configs.Config.{Config}
 use Rattle.cops_types.specs.declared.configs.Tenant.{Tenant}

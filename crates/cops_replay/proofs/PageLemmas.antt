@@ -53,7 +53,7 @@ Puts-then first text old mid done (Err fault) new p q = (
   subst (λ n. FailsBy fault n new.failures) p.1 q.1,
 )
 
--- a text that ended early is a front of what goes on from it
+-- a text that ended early is a prefix of what goes on from it
 pub Puts-more : (text more : List ℕ) (old : Page) (fault : Fault) (new : Page) → PutsText {T = Unit {0}} text old (Err fault) new → PutsText {T = Unit {0}} (text ++ more) old (Err fault) new
 Puts-more text more old fault new p = (
   subst (AppendsFront old.contents new.contents) (append_assoc old.waiting text more) (AppendsFront-more old.contents new.contents (old.waiting ++ text) more p.0),
@@ -77,7 +77,7 @@ pub Puts-line : (text waiting now : List ℕ) (contents : Option (List ℕ)) (fa
 Puts-line text waiting now contents failures r new e p =
     subst (λ l. PutsText {T = Unit {0}} l (page waiting contents failures) r new) (append-nil text) (Puts-pushed text [] waiting now contents failures r new e p)
 
--- where nothing waited, a front of it is one of what goes on from it
+-- if nothing waited, a prefix of it is one of what goes on from it
 pub front_of_put : (text more waiting : List ℕ) (old_contents : Option (List ℕ)) (failures : ℕ) (fault : Fault) (new : Page) → waiting ≡ [] →
     PutsText {T = Unit {0}} text (page waiting old_contents failures) (Err fault) new → AppendsFront old_contents new.contents (text ++ more)
 front_of_put text more waiting old_contents failures fault new none p =

@@ -64,7 +64,7 @@ same_own name line short = same_first_at longest_record (omega arith) name line 
 capped_more : (n : ℕ) → counted (told_number n) ≡ told_number (n + 1)
 capped_more n = grind arith
 
--- what was found, as it is told
+-- the result, as it is written
 abbrev pub TellsAs : Replayed → Replayed → Type 0
 TellsAs told found = replayed_text told ≡ replayed_text found
 
@@ -112,14 +112,14 @@ tells_line layout config line lines old mid new h p = record {
         )
 
 module _ (name : List ℕ) (layout : Layout) where
-  -- a line of the tenant's is one of his lines, and another is not
+  -- a line of the tenant is one of its lines, and another is not
   own_first : (line : List ℕ) (lines : List (List ℕ)) → bytes_eq (first_word line) name ≡ true → alone_lines name (line ∷ lines) ≡ line ∷ alone_lines name lines
   own_first line lines e = ap (λ b. cond b (line ∷ alone_lines name lines) (alone_lines name lines)) e
 
   others_first : (line : List ℕ) (lines : List (List ℕ)) → bytes_eq (first_word line) name ≡ false → alone_lines name (line ∷ lines) ≡ alone_lines name lines
   others_first line lines e = ap (λ b. cond b (line ∷ alone_lines name lines) (alone_lines name lines)) e
 
-  -- a clock is too great in a line of his
+  -- a clock is too great in a line of the tenant
   pub any_great : (passed : List (List ℕ)) (line : List ℕ) (rest : List (List ℕ)) → bytes_eq (first_word line) name ≡ true → is_great_in layout line ≡ true → list_any (is_great_in layout) (alone_lines name (passed ++ line ∷ rest)) ≡ true
   any_great [] line rest own great = ap (list_any (is_great_in layout)) (own_first line rest own) ∙ ap (λ b. b || list_any (is_great_in layout) (alone_lines name rest)) great
   any_great (first ∷ passed) line rest own great = by_test (bytes_eq (first_word first) name)

@@ -47,7 +47,7 @@ by_test {C} false holds fails = fails refl
 
 -- ---- the first line
 
--- a line tells today's layout where what is seen of it does
+-- a line tells today's layout if what is seen of it does
 cut_layout : (line : List ℕ) → bytes_eq (cut_line longest_record line) layout_line ≡ bytes_eq line layout_line
 cut_layout line = by_test (bytes_eq line layout_line)
     (λ is. ap (λ l. bytes_eq (cut_line longest_record l) layout_line) (bytes_from_test line layout_line is) ∙ sym is)
@@ -64,7 +64,7 @@ cut_layout line = by_test (bytes_eq line layout_line)
 layout_first : (line : List ℕ) (lines : List (List ℕ)) (t : Bool) → bytes_eq line layout_line ≡ t → layout_of (line ∷ lines) ≡ cond t Today Early
 layout_first line lines t e = ap (λ b. cond b Today Early) e
 
--- where the next line isn't such a first line, the file is of layout 1
+-- if the next line isn't such a first line, the file is of layout 1
 layout_unless : (others : List (List ℕ)) → TellsNot Early 0 others → layout_of others ≡ Early
 layout_unless [] h = refl
 layout_unless (line ∷ others) h = layout_first line others false (sym (cut_layout line) ∙ h)
@@ -90,7 +90,7 @@ module _ (name : List ℕ) where
   old_file line lines text state isnt (InHead next later n still at same silent reads) = BeforeRecords Early next later n still at same silent (λ others apart. layout_first line (lines ++ others) false isnt) reads
   old_file line lines text state isnt (PastHead config rest s replay named at same starts run reads) = AmongRecords Early config rest s replay named at same starts run (λ others. layout_first line (lines ++ others) false isnt) reads
 
-  -- the first line, where it tells today's layout
+  -- the first line, if it tells today's layout
   first_answered : (stage : ReplayStage) (n line text : List ℕ) (new : ReplayStage) → IsHeadBy Early AtStart 0 stage → bytes_eq line layout_line ≡ true → replay_answers_in n stage line text new → (text ≡ []) × IsHeadBy Today AtStart 1 new
   first_answered (OldHead head) n line text new here is h =
       let told : tells_today head line ≡ true = ap (λ (k : ℕ). nat_eq k 0 && bytes_eq line layout_line) here.1 ∙ is in

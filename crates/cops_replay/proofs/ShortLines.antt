@@ -13,7 +13,7 @@ use Rattle.cops_model.specs.declared.calls.NodeId.{NodeId}
 use Rattle.cops_node.specs.Clusters.{id_of}
 use Rattle.cops_model.specs.SoloNode.{SoloNode}
 use Rattle.cops_model.specs.Events.{config_at, own}
-use Rattle.cops_model.specs.Laws.{cluster_of}
+use Rattle.cops_model.specs.Events.{cluster_of}
 use Rattle.cops_script.specs.Lives.{of_lives, with_all_lives}
 use Rattle.cops_model.specs.ListLimits.{HasFew, HasFewInAudit}
 use Rattle.cops_causal.proofs.AuditLists.{audits_few}
@@ -86,7 +86,7 @@ left_short lines rest config head formed place tenant e =
     subst (λ (c : TenantConfig). AllByRecursion (HasFewInAudit his) (cluster_of c acts).nodes) (sym same) (audits_few his (shards_of (written_head left) left [] stands) acts) in
     nodes_short his (few_deps (written_head left) left [] place tenant stands e) tenant.name named his.shards 0 (left_nodes config rest his place) (formed place tenant e) few
 
--- each record has a line where it has a form and its line is not too long
+-- each record has a line if it has a form and its line is not too long
 lines_of_both : (tenant : List ℕ) (records : List Record) → AllByRecursion (λ (told : Record). IsTrue (is_record told)) records →
     AllByRecursion (λ (told : Record). IsTrue (nat_le (length (record_line tenant told)) longest_record)) records → AllByRecursion (HasLine tenant) records
 lines_of_both tenant [] formed short = tt

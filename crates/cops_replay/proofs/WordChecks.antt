@@ -1,4 +1,4 @@
--- Words that say a value or a list of pairs, where neither is made.
+-- Words that say a value or a list of pairs, if neither is made.
 use Rattle.std.proofs.Common.{◌≡◌, ℕ, ◌+◌, ◌*◌, ◌%◌, ◌<◌, ◌≤◌, Bool, true, false, ◌&&◌, ◌==◌, List, [], ◌∷◌, length, refl, sym, ap, ◌∙◌, arith}
 use Rattle.std.specs.Prelude.{Option, Some, None, nat_le}
 use Rattle.std.specs.Option.{is_some, option_and_then, option_map}
@@ -154,7 +154,7 @@ module _ (versions : Versions) (cmp : Pair → Pair → Ordering) where
       by_pair None = refl
       by_pair (Some pair) = sym (rise pair parts)
 
--- where keys are to rise, nothing of the pair before is looked at but its key
+-- if keys are to rise, nothing of the pair before is looked at but its key
 module _ (versions : Versions) where
   by_keys : (last : Pair) (parts : List (List ℕ)) → rise_from versions (on (λ (p : Pair). p.key) key_cmp) last parts ≡ keys_rise_from versions last.key parts
   by_keys last [] = refl

@@ -30,7 +30,7 @@ use Rattle.cops_replay.proofs.ShortLines.{left_lines}
 pub formed : (config : Config) (nodes : TenantConfig → ℕ → List SoloNode) → HaveLines config nodes → AreFormed config nodes
 formed config nodes all slot tenant e = all_formed tenant.name (his_records config nodes slot tenant) (all slot tenant e)
 
--- those of a tenant are those of his records, where a head has him
+-- those of a tenant are those of its records, if a head has it
 pub his_lines : (lines rest : List (List ℕ)) (config : Config) (nodes : TenantConfig → ℕ → List SoloNode) (slot : ℕ) (tenant : Tenant) → head_of lines ≡ Whole config rest → AreFormed config nodes →
     slice_get config.tenants slot ≡ Some tenant → alone_lines tenant.name (lines_of (tenants_text config nodes 0 config.tenants)) ≡ map (record_line tenant.name) (his_records config nodes slot tenant)
 his_lines lines rest config nodes slot tenant head formed e = lines_his config nodes slot tenant (head_known lines rest config head) formed e

@@ -1,4 +1,4 @@
--- What a record line says before the reply, and the reply that a text says.
+-- The part of a record line before the reply, and the reply that a text writes.
 use Rattle.std.specs.Prelude.{ℕ, List, Option}
 use Rattle.std.specs.Option.{option_map}
 use Rattle.cops_types.specs.Words.{number_of, parts_at, space}
@@ -15,7 +15,7 @@ read_asked words =
     done_with (record { node = node; moment = moment; call = call }))
     (next_as sign_of w3)) (read_call version_in w2)) (next_as number_of w1)) (next_as node_of w0)) (next_as name_of words)
 
--- the reply that the text says
+-- the reply that the text writes
 abbrev pub reply_told : List ℕ → Option NodeReply
 reply_told text = whole (read_reply version_in (parts_at space text))
 
@@ -23,6 +23,6 @@ reply_told text = whole (read_reply version_in (parts_at space text))
 abbrev pub record_with : Asked → NodeReply → Record
 record_with asked reply = record { node = asked.node; moment = asked.moment; call = asked.call; reply = reply }
 
--- the record that the line says, whoever its tenant is
+-- the record that the line writes, whoever its tenant is
 abbrev pub record_told : List ℕ → Option Record
 record_told line = option_map (λ (read : List ℕ × Record). read.1) (record_in line)

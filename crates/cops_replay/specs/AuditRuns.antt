@@ -1,4 +1,4 @@
--- What becomes of a script of which the audit is asked for.
+-- The audit of a script.
 use Rattle.std.specs.Prelude.{◌≡◌, ℕ, ⊤, List, Option, Some, slice_get}
 use Rattle.std.specs.Io.KnownBytes.{Appends}
 use Rattle.cops_types.specs.declared.configs.Config.{Config}
@@ -20,7 +20,7 @@ use Rattle.cops_replay.specs.Audits.{ReplaysSame}
 use Rattle.cops_replay.specs.AuditText.{audit_text}
 use Rattle.cops_replay.specs.OpenAudits.{left_config, left_nodes, nodes_at, open_slots, open_tenants, with_tenants}
 
--- the audit of the nodes that each open tenant's lines leave him, who has a cluster to himself
+-- the audit of the nodes after each open tenant's lines, as if it had a cluster to itself
 abbrev pub audit_after : HeadReading → Output
 audit_after (Whole config lines) = Written (audit_text (left_config config lines) (left_nodes config lines))
 audit_after (BadAt number) = BadConfig number
@@ -34,17 +34,17 @@ pub record WritesAudit (bytes : List ℕ) (old_contents new_contents : Option (L
   pub is_audit : audit_out bytes ≡ Written text
   pub written : Appends old_contents new_contents text
 
--- a front of it is written
+-- a prefix of it is written
 abbrev pub WritesAuditFront : List ℕ → Option (List ℕ) → Option (List ℕ) → Type 0
 WritesAuditFront bytes old_contents new_contents = AppendsFront old_contents new_contents (text_in (audit_out bytes))
 
--- a replay of the records of any tenant in the audit of a script finds that all are the same
+-- a replay of the records of any tenant in the audit of a script finds them all the same
 abbrev pub ReplaysSameFor : HeadReading → Type 0
 ReplaysSameFor (Whole config lines) =
     (place : ℕ) (tenant : Tenant) → slice_get (left_config config lines).tenants place ≡ Some tenant → ReplaysSame (tenant_config config tenant) (left_nodes config lines (tenant_config config tenant) place)
 ReplaysSameFor (BadAt number) = ⊤
 
--- the configuration of a world with the tenants who are open, and their nodes by place among them
+-- the configuration of a world with the open tenants, and their nodes by place among them
 abbrev pub open_config : KeptWorld → Config
 open_config world = with_tenants world.setup.head (open_tenants world.setup.tenants)
 
@@ -55,7 +55,7 @@ open_nodes world = nodes_at world.setup.head (open_slots world.setup.tenants) wo
 abbrev pub HasItsTenants : KeptWorld → Type 0
 HasItsTenants world = (slot : ℕ) (tenant : Tenant) → open_at slot world.setup.tenants ≡ Some tenant → HasTenant (tenant_config world.setup.head tenant) slot world.nodes
 
--- memory was refused, or the writer failed
+-- memory ran out, or the writer failed
 abbrev pub IsOfWriting : RunFault BadHead → Type 0
 IsOfWriting OutOfMemory = ⊤
 IsOfWriting WriteFault = ⊤

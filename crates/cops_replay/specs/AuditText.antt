@@ -19,14 +19,14 @@ ended line = line ++ newline ∷ []
 
 -- ---- the head, in its one form: the tokens in lower case, with hyphens
 
--- the first line of a file of today's layout; a file of layout 1 has none for its layout
+-- the first line of a file of today's layout; a file of layout 1 has no line for its layout
 abbrev pub layout_line : List ℕ
 layout_line = codes "layout 2"
 
 abbrev pub tenant_text : Tenant → List ℕ
 tenant_text tenant = ended (tenant_line (hyphenated_text lower tenant.token) tenant)
 
--- as a script has it
+-- as in a script
 abbrev pub config_text : Config → List ℕ
 config_text config = ended (cluster_line config) ++ flat_map tenant_text config.tenants ++ ended begin_line
 
@@ -38,13 +38,13 @@ head_text config = ended layout_line ++ config_text config
 abbrev pub records_text : List ℕ → List Record → List ℕ
 records_text name records = flat_map (λ told. ended (record_line name told)) records
 
--- of the tenants from this slot on, each with his nodes
+-- of the tenants from this slot on, each with its nodes
 abbrev pub tenants_text : Config → (TenantConfig → ℕ → List SoloNode) → ℕ → List Tenant → List ℕ
 tenants_text config nodes slot [] = []
 tenants_text config nodes slot (tenant ∷ tenants) =
     records_text tenant.name (records_of (tenant_config config tenant) (nodes (tenant_config config tenant) slot)) ++ tenants_text config nodes (slot + 1) tenants
 
--- where this gives each tenant's nodes
+-- the audit, if this function gives each tenant's nodes
 abbrev pub audit_text : Config → (TenantConfig → ℕ → List SoloNode) → List ℕ
 audit_text config nodes = head_text config ++ tenants_text config nodes 0 config.tenants
 
@@ -57,7 +57,7 @@ his_nodes config nodes tenant slot = nodes_of tenant slot (record { shape = shap
 abbrev pub audit_of : Config → List Shared → List ℕ
 audit_of config nodes = audit_text config (his_nodes config nodes)
 
--- these are the configuration's nodes, by number, and each slot of them is that of its tenant
+-- these are the configuration's nodes, by number, and each of their slots is that of its tenant
 pub record AreNodesOf (config : Config) (nodes : List Shared) : Type 0 where
   pub by_number : IsCluster (shape_of config) nodes
   pub each_tenant : (slot : ℕ) (tenant : Tenant) → slice_get config.tenants slot ≡ Some tenant → HasTenant (tenant_config config tenant) slot (record { shape = shape_of config; nodes = nodes })

@@ -1,4 +1,4 @@
--- What is done with each line of an audit of layout 1 that is migrated, and what is left after it.
+-- The effect of each line of an audit of layout 1 that is migrated, and the state after it.
 use Rattle.std.specs.Prelude.{◌≡◌, ℕ, false, List, [], Option, None, Some, IsFalse, IsTrue}
 use Rattle.cops_types.specs.Counts.{counted}
 use Rattle.cops_types.specs.declared.faults.Fault.TheVariants.{ClockTooGreat}
@@ -29,7 +29,7 @@ pub record OldHeadGoesOn (old : Option Front) (line : List ℕ) (new : Option Fr
 abbrev pub OldHeadEnds : Option Front → List ℕ → Config → Type 0
 OldHeadEnds old line config = old_front_with old line ≡ Some (Begun config)
 
--- the line of this number may not stand in the head, or its clock is too great
+-- the line of this number may not follow in the head, or its clock is too great
 abbrev pub OldHeadIsRefused : Option Front → List ℕ → ℕ → MigrationRefusal → Type 0
 OldHeadIsRefused old line number (BadConfig bad) = (old_front_with old line ≡ None) × (bad.line ≡ number)
 OldHeadIsRefused old line number (BadLine bad) =
@@ -37,7 +37,7 @@ OldHeadIsRefused old line number (BadLine bad) =
 
 -- ---- the records
 
--- the line of this number may not stand after the head
+-- the line of this number may not follow after the head
 abbrev pub RecordRefuses : List ℕ → ℕ → MigrationRefusal → Type 0
 RecordRefuses line number (BadConfig bad) = ⊥
 RecordRefuses line number (BadLine bad) = (record_fault line ≡ Some bad.fault) × (bad.line ≡ number)

@@ -1,4 +1,4 @@
--- Heads of layout 1 on their way.
+-- Heads of layout 1 that are not complete.
 use Rattle.std.specs.Prelude.{◌≡◌, ℕ, Bool, true, List, Option, Some, None}
 use Rattle.cops_types.specs.declared.configs.Config.{Config}
 use Rattle.cops_types.specs.Counts.{counted}
@@ -13,7 +13,7 @@ has_sizes (Some AtStart) = true
 has_sizes (Some (Within config)) = are_sizes config
 has_sizes (Some (Begun config)) = are_sizes config
 
--- after so many lines this one continues the head
+-- after this many lines this one continues the head
 pub record OldHeadContinues (old : Option Front) (count : ℕ) (line : List ℕ) (new : Option Front) (new_count : ℕ) : Type 0 where
   pub config : Config
   pub found : old_front_with old line ≡ Some (Within config)

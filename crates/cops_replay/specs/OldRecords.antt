@@ -28,7 +28,7 @@ is_early version = nat_le version.clock last_early_clock && nat_lt version.node 
 abbrev pub early_version_of : List ℕ → Option Timestamp
 early_version_of word = option_and_then (λ (version : Timestamp). kept_if (is_early version) version) (version_in word)
 
--- any version of layout 1, as the version of today that is the same number: these are in the same order
+-- any version of layout 1, as today's version of the same number; the order is the same
 abbrev pub old_version_of : List ℕ → Option Timestamp
 old_version_of word =
     option_and_then (λ both. kept_if (nat_le both.0 last_old_clock && nat_lt both.1 old_nodes) (version_of_number (both.0 * old_nodes + both.1))) (numbers_of (parts_at 46 word))
@@ -42,11 +42,11 @@ versions_in Old word = old_version_of word
 abbrev pub is_old_record : List ℕ → Bool
 is_old_record line = is_some (record_by (versions_in Old) line)
 
--- the tenant's name and the record, where layout 1 has one with this line and no clock is too great for layout 2
+-- the tenant's name and the record, if layout 1 has one with this line and no clock is too great for layout 2
 abbrev pub old_record_in : List ℕ → Option (List ℕ × Record)
 old_record_in line = record_by (versions_in Early) line
 
--- a line that gives no such record has none in layout 1, or one with a clock that is too great
+-- a line without such a record has none in layout 1, or one with a clock that is too great
 abbrev pub old_fault_of : List ℕ → Fault
 old_fault_of line = if is_old_record line then ClockTooGreat else Syntax
 

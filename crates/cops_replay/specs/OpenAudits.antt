@@ -1,4 +1,4 @@
--- The audit of tenants who are open: those of some slots, in slot order.
+-- The audit of the open tenants: those of some slots, in slot order.
 use Rattle.std.specs.Prelude.{◌≡◌, ℕ, ◌+◌, List, [], ◌∷◌, length, filter_map, slice_get, slice_index_or, Option, Some, None}
 use Rattle.cops_types.specs.declared.configs.Config.{Config}
 use Rattle.cops_types.specs.declared.configs.Tenant.{Tenant}
@@ -9,13 +9,13 @@ use Rattle.cops_model.specs.SoloNode.{SoloNode}
 use Rattle.cops_script.specs.ScriptWorlds.{cluster_left, life_left, setup_left}
 use Rattle.cops_replay.specs.AuditText.{audit_text, his_nodes}
 
--- ---- who is open
+-- ---- open tenants
 
 -- by slot
 abbrev pub open_tenants : List (Option Tenant) → List Tenant
 open_tenants tenants = filter_map (λ tenant. tenant) tenants
 
--- the slots that have a tenant, where the list begins with the slot of this number
+-- the slots that have a tenant, if the list begins with the slot of this number
 abbrev pub slots_from : ℕ → List (Option Tenant) → List ℕ
 slots_from n [] = []
 slots_from n (None ∷ tenants) = slots_from (n + 1) tenants
@@ -25,13 +25,13 @@ slots_from n (Some tenant ∷ tenants) = n ∷ slots_from (n + 1) tenants
 abbrev pub open_slots : List (Option Tenant) → List ℕ
 open_slots tenants = slots_from 0 tenants
 
--- ---- the audit of some tenants, of whom each has the slot of his place
+-- ---- the audit of some tenants, each in the slot of its place
 
 -- the sizes and limits are the configuration's
 abbrev pub with_tenants : Config → List Tenant → Config
 with_tenants config tenants = record config { tenants = tenants }
 
--- from nodes by slot to nodes by place in the list of slots
+-- nodes by place in the list of slots, from nodes by slot
 abbrev pub at_slots : List ℕ → (TenantConfig → ℕ → List SoloNode) → TenantConfig → ℕ → List SoloNode
 at_slots slots nodes tenant place = nodes tenant (slice_index_or slots place 0)
 
@@ -42,14 +42,14 @@ nodes_at config slots nodes = at_slots slots (his_nodes config nodes)
 abbrev pub audit_at : Config → List Tenant → List ℕ → List Shared → List ℕ
 audit_at config tenants slots nodes = audit_text (with_tenants config tenants) (nodes_at config slots nodes)
 
--- these are the configuration's nodes, by number, and the slot of each place is that of the tenant of that place in them
+-- these are the configuration's nodes, by number, and in them the slot of each place is that of the tenant of that place
 pub record AreNodesAt (config : Config) (tenants : List Tenant) (slots : List ℕ) (nodes : List Shared) : Type 0 where
   pub by_number : IsCluster (shape_of config) nodes
   pub each_slot : length slots ≡ length tenants
   pub each_tenant : (place : ℕ) (tenant : Tenant) → slice_get tenants place ≡ Some tenant →
       HasTenant (tenant_config config tenant) (slice_index_or slots place 0) (record { shape = shape_of config; nodes = nodes })
 
--- ---- of a script: who is open behind its lines, each with the nodes that his life's lines leave him
+-- ---- of a script: the open tenants after its lines, each with the nodes after its life's lines
 
 abbrev pub left_config : Config → List (List ℕ) → Config
 left_config config lines = with_tenants config (open_tenants (setup_left config lines).tenants)

@@ -1,4 +1,4 @@
--- Of lines those that begin with one name.
+-- The lines that begin with one name.
 use Rattle.std.specs.Prelude.{ℕ, List, filter}
 use Rattle.std.specs.Str.{bytes_eq}
 use Rattle.cops_types.specs.Words.{first_word}

@@ -1,4 +1,4 @@
--- What tells whether a line says a record, where none is made of it.
+-- Tests whether a line writes a record, without making the record.
 use Rattle.std.specs.Prelude.{◌≡◌, ◌⊎◌, ◌<◌, ℕ, Bool, true, false, ◌&&◌, ◌+◌, ◌*◌, ◌^◌, ◌%◌, ◌==◌, nat_lt, nat_le, length, if◌then◌else◌, List, [], ◌∷◌, ◌++◌, codes, decimal, Option, Some, None}
 use Rattle.std.specs.List.{list_all}
 use Rattle.std.specs.Option.{is_some, option_and_then, option_map}
@@ -23,15 +23,15 @@ use Rattle.cops_replay.specs.RecordWords.{Read, Versions, deps_of, digit_of, don
 abbrev pub are_digits : List ℕ → Bool
 are_digits word = list_all (λ code. is_some (digit_of code)) word
 
--- so many digits are those of bytes: some, an even number of them, and those of at most 4,096 bytes
+-- this many digits may be those of a value: at least one byte, an even number of digits, and at most 4,096 bytes
 abbrev pub has_count : List ℕ → Bool
 has_count word = nat_lt 0 (length word) && (length word % 2 == 0) && nat_le (length word) 8192
 
--- two numbers, where both are there
+-- two numbers, if both are there
 abbrev pub both_numbers : Option ℕ → Option ℕ → Option (ℕ × ℕ)
 both_numbers first second = option_and_then (λ n. option_map (λ m. (n, m)) second) first
 
--- the version of two numbers today
+-- today's version of two numbers
 abbrev pub todays_version : ℕ × ℕ → Option Timestamp
 todays_version both = let version : Timestamp = record { clock = both.0; node = both.1 } in kept_if (is_version version) version
 
@@ -45,36 +45,36 @@ version_by Old both = kept_if (nat_le both.0 last_old_clock && nat_lt both.1 old
 abbrev pub pair_told : List ℕ → Timestamp → Pair
 pair_told key version = record { key = key; version = version }
 
--- the bytes begin with this number, and these stand behind it
+-- the bytes begin with this number, and these follow
 abbrev pub StartsWithNumber : List ℕ → ℕ → List ℕ → Type 0
 StartsWithNumber bytes n rest = (is_u64 n ≡ true) × (bytes ≡ decimal n ++ rest)
 
--- the bytes begin with these two numbers and a dot between, and these stand behind them
+-- the bytes begin with these two numbers and a dot between, and these follow
 abbrev pub StartsWithNumbers : List ℕ → ℕ → ℕ → List ℕ → Type 0
 StartsWithNumbers bytes n m rest = (is_u64 n ≡ true) × (is_u64 m ≡ true) × (bytes ≡ decimal n ++ (46 ∷ (decimal m ++ rest)))
 
--- the bytes begin with a number below this power of ten, and these stand behind it
+-- the bytes begin with a number below this power of ten, and these follow
 abbrev pub StartsWithShortNumber : ℕ → List ℕ → List ℕ → Type 0
 StartsWithShortNumber most bytes rest = (n : ℕ) × (n < 10 ^ most) × StartsWithNumber bytes n rest
 
--- the bytes begin with two numbers and a dot between, the first below a hundred million millions and the second below a hundred
+-- the bytes begin with two numbers and a dot between, the first below 10^14 and the second below 100, and these follow
 abbrev pub StartsWithShortVersion : List ℕ → List ℕ → Type 0
 StartsWithShortVersion bytes rest = (n : ℕ) × (m : ℕ) × (n < 10 ^ 14) × (m < 10 ^ 2) × StartsWithNumbers bytes n m rest
 
--- a part is over before these bytes, and these parts come after it
+-- a part ends before these bytes, and these parts come after it
 abbrev pub PartIsOver : ℕ → List ℕ → List (List ℕ) → Type 0
 PartIsOver separator bytes more = ((bytes ≡ []) × (more ≡ [])) ⊎ (rest : List ℕ) × (bytes ≡ separator ∷ rest) × (more ≡ parts_at separator rest)
 
--- the first part of a list says this pair, and these are the parts after it
+-- the first part of a list writes this pair, and these are the parts after it
 abbrev pub StartsWithPair : Versions → List ℕ → Pair → List (List ℕ) → Type 0
 StartsWithPair versions list pair more = (part : List ℕ) × (parts_at 44 list ≡ part ∷ more) × (pair_of versions part ≡ Some pair)
 
--- the first part of a list says a pair whose key is this one and above the last, and these are the parts after it
+-- the first part of a list writes a pair whose key is this one and above the last, and these are the parts after it
 abbrev pub StartsWithKeyAbove : Versions → List ℕ → List ℕ → List ℕ → List (List ℕ) → Type 0
 StartsWithKeyAbove versions last list key more =
     (version : Timestamp) × StartsWithPair versions list (pair_told key version) more × (is_key key ≡ true) × (is_lt (key_cmp last key) ≡ true)
 
--- the pairs, where each is below the next
+-- the pairs, if each is below the next
 abbrev pub kept_pairs : (Pair → Pair → Ordering) → Option (List Pair) → Option (List Pair)
 kept_pairs cmp pairs = option_and_then (λ ps. kept_if (is_rising cmp ps) ps) pairs
 
@@ -100,15 +100,15 @@ module _ (versions : Versions) where
   all_keys_rise [] = true
   all_keys_rise (part ∷ parts) = elim (pair_of versions part) [ None ↦ false | Some pair ↦ keys_rise_from pair.key parts ]
 
--- the words after those that were looked at
+-- the words after those that were checked
 abbrev pub Checked : Type 0
 Checked = Read (Unit {0})
 
--- the first word says something
+-- the first word has a meaning
 abbrev pub checked_as : {A : Type 0} → (List ℕ → Option A) → List (List ℕ) → Checked
 checked_as said words = next_as (λ word. kept_if (is_some (said word)) tt) words
 
--- the first word says something, and these are the words after it
+-- the first word has a meaning, and these are the words after it
 abbrev pub HasPassed : {A : Type 0} → (List ℕ → Option A) → List (List ℕ) → List (List ℕ) → Type 0
 HasPassed said words rest = checked_as said words ≡ Some (tt, rest)
 

@@ -1,4 +1,4 @@
--- What is done with each line of an audit of which one tenant's records are replayed, and what is left after it.
+-- The effect of each line of an audit when one tenant's records are replayed, and the state after it.
 use Rattle.std.specs.Prelude.{◌≡◌, ℕ, ◌&&◌, nat_eq, Bool, true, false, List, [], slice_get, Option, Some, None, IsFalse, IsTrue}
 use Rattle.std.specs.Option.{option_and_then}
 use Rattle.std.specs.Str.{bytes_eq}
@@ -34,13 +34,13 @@ front_by Old front line = old_front_after front line
 abbrev pub front_with_by : Layout → Option Front → List ℕ → Option Front
 front_with_by layout front line = option_and_then (λ front. front_by layout front line) front
 
--- the file is in a head in this layout, which has come so far, after so many lines
+-- the file is in a head of this layout, which has come this far after this many lines
 abbrev pub IsHeadBy : Layout → Front → ℕ → ReplayStage → Type 0
 IsHeadBy Today front count (Head head) = (head.reader ≡ Some front) × (head.lines ≡ count)
 IsHeadBy Early front count (OldHead head) = (head.reader ≡ Some front) × (head.lines ≡ count)
 IsHeadBy layout front count stage = ⊥
 
--- the head has a tenant of this name, whose first clock isn't too great, and his nodes are new
+-- the head has a tenant of this name, whose first clock is not too great, and its nodes are new
 abbrev pub StartsFor : Layout → List ℕ → Config → Standing → Type 0
 StartsFor layout name config replay =
     (slot : ℕ) × (tenant : Tenant) × (slot_of_name config.tenants name ≡ Some slot) × (slice_get config.tenants slot ≡ Some tenant)
@@ -52,7 +52,7 @@ GoesOnBy layout name count AtStart new = ⊥
 GoesOnBy layout name count (Within config) new = IsHeadBy layout (Within config) (counted count) new
 GoesOnBy layout name count (Begun config) new = (replay : Standing) × StartsFor layout name config replay × (new ≡ Running replay)
 
--- the line may stand in the head, and is answered with nothing
+-- the line may follow in the head, and its answer is empty
 abbrev pub HeadAnswersBy : Layout → List ℕ → Option Front → ℕ → List ℕ → List ℕ → ReplayStage → Type 0
 HeadAnswersBy layout name front count line text new = (next : Front) × (front_with_by layout front line ≡ Some next) × (text ≡ []) × GoesOnBy layout name count next new
 
@@ -63,12 +63,12 @@ IsNotBegun layout name config UnknownTenant = slot_of_name config.tenants name �
 IsNotBegun layout name config ClockTooGreat =
     (slot : ℕ) × (tenant : Tenant) × (slot_of_name config.tenants name ≡ Some slot) × (slice_get config.tenants slot ≡ Some tenant) × IsTrue (starts_great_in layout tenant)
 
--- the line may not stand in the head, or it ends it and no replay begins
+-- the line may not follow in the head, or it ends the head and no replay begins
 abbrev pub HeadRefusesBy : Layout → List ℕ → Option Front → ℕ → List ℕ → ReplayRefusal → Type 0
 HeadRefusesBy layout name front count line (BadConfig bad) = (front_with_by layout front line ≡ None) × (bad.line ≡ counted count)
 HeadRefusesBy layout name front count line refusal = (config : Config) × (front_with_by layout front line ≡ Some (Begun config)) × IsNotBegun layout name config refusal
 
--- the file's first line tells today's layout
+-- the file's first line is that of today's layout
 abbrev pub tells_today : OldHeadSoFar → List ℕ → Bool
 tells_today head line = nat_eq head.lines 0 && bytes_eq line layout_line
 
@@ -83,7 +83,7 @@ OldHeadRefuses false name head line refusal = HeadRefusesBy Early name head.read
 
 -- ---- records
 
--- a line of the tenant is replayed, and any other passed over
+-- a line of the tenant is replayed, and any other skipped
 abbrev pub ReplaysOwn : Bool → Standing → List ℕ → Standing → Type 0
 ReplaysOwn true old line new = IsFalse (is_great_in old.layout line) × IsReplayedLine line old new
 ReplaysOwn false old line new = new ≡ old

@@ -1,4 +1,4 @@
--- What a replay of a file's records writes.
+-- The output of a replay of a file's records.
 use Rattle.std.specs.Prelude.{◌≡◌, ℕ, ◌+◌, ◌-◌, ◌^◌, ◌⊎◌, Bool, false, ◌&&◌, ◌||◌, min, nat_le, nat_lt, if◌then◌else◌, List, [], ◌∷◌, ◌++◌, length, codes, decimal, slice_get, IsFalse, IsTrue, Option, Some, None}
 use Rattle.std.specs.List.{list_any}
 use Rattle.std.specs.Option.{is_none, option_map}
@@ -31,11 +31,11 @@ use Rattle.cops_replay.specs.RecordLines.{record_by}
 use Rattle.cops_replay.specs.RecordText.{is_record, record_line}
 use Rattle.cops_replay.specs.Replaying.{Agrees, fresh_nodes, nodes_after}
 
--- no line of a record is longer
+-- no line of a record is longer, in bytes
 abbrev pub longest_record : ℕ
 longest_record = 200000
 
--- the record of a line that is one, with its versions read so
+-- the record of a line that is one, with its versions read in this layout
 abbrev pub told_of : Layout → List ℕ → Option Record
 told_of layout line = if nat_le (length line) longest_record then option_map (λ (read : List ℕ × Record). read.1) (record_by (versions_in layout) line) else None
 
@@ -67,7 +67,7 @@ starts_great_in Today tenant = false
 starts_great_in Early tenant = nat_lt last_early_clock tenant.first_clock
 starts_great_in Old tenant = false
 
--- in either, where these are the lines of the tenant's records
+-- in either, if these are the lines of the tenant's records
 abbrev pub is_too_great_in : Layout → Tenant → List (List ℕ) → Bool
 is_too_great_in layout tenant lines = starts_great_in layout tenant || list_any (is_great_in layout) lines
 
@@ -78,7 +78,8 @@ pub record HasLine (tenant : List ℕ) (told : Record) : Type 0 where
   pub formed : IsTrue (is_record told)
   pub short : IsTrue (nat_le (length (record_line tenant told)) longest_record)
 
--- what a replay finds that has come to these nodes after so many lines: the first place whose line is no record or one that doesn't agree, or how many lines there are
+-- the result of a replay with these nodes after this many lines: the first place whose line is no record or one that does not agree, or the
+-- number of lines
 abbrev pub FindsBy : Layout → TenantConfig → ℕ → List SoloNode → List (List ℕ) → Replayed → Type 0
 FindsBy layout config passed nodes [] found = found ≡ Same passed
 FindsBy layout config passed nodes (line ∷ lines) found =
@@ -89,7 +90,7 @@ FindsBy layout config passed nodes (line ∷ lines) found =
 abbrev pub FindsIn : TenantConfig → ℕ → List SoloNode → List (List ℕ) → Replayed → Type 0
 FindsIn config passed nodes lines found = FindsBy Today config passed nodes lines found
 
--- a number past the last of 64 bits is told as that
+-- a number past the last of 64 bits is written as that one
 abbrev pub told_number : ℕ → ℕ
 told_number n = min n (2 ^ 64 - 1)
 
@@ -99,7 +100,7 @@ replayed_text (FirstDifference place) = codes "differs " ++ decimal (told_number
 
 -- ---- whole files
 
--- the layout that the first line tells: without such a line it is layout 1, of which the clocks are read that today's has too
+-- the layout that the first line names: without such a line it is layout 1, of which only clocks are read that today's layout has too
 abbrev pub layout_of : List (List ℕ) → Layout
 layout_of [] = Early
 layout_of (line ∷ lines) = if bytes_eq line layout_line then Today else Early
@@ -111,7 +112,8 @@ head_by Today (line ∷ lines) = reading_from lines 2 AtStart
 head_by Early lines = old_head_of lines
 head_by Old lines = old_head_of lines
 
--- the lines are an audit in this layout whose head has a tenant of this name, no clock of his is too great, and the text tells what a replay of his lines finds
+-- the lines are an audit in this layout whose head has a tenant of this name, none of whose clocks is too great, and the text is the result of a
+-- replay of its lines
 pub record IsReplayBy (layout : Layout) (name : List ℕ) (lines : List (List ℕ)) (text : List ℕ) : Type 0 where
   pub config : Config
   pub records : List (List ℕ)
@@ -125,7 +127,7 @@ pub record IsReplayBy (layout : Layout) (name : List ℕ) (lines : List (List �
   pub finds : FindsBy layout (tenant_config config tenant) 0 (fresh_nodes (tenant_config config tenant)) (alone_lines name records) found
   pub text_is : text ≡ replayed_text found
 
--- the lines are an audit in this layout whose head has a tenant of this name, and a clock of his is too great
+-- the lines are an audit in this layout whose head has a tenant of this name, one of whose clocks is too great
 pub record IsTooGreatBy (layout : Layout) (name : List ℕ) (lines : List (List ℕ)) : Type 0 where
   pub config : Config
   pub records : List (List ℕ)
@@ -136,20 +138,20 @@ pub record IsTooGreatBy (layout : Layout) (name : List ℕ) (lines : List (List 
   pub tenant_is : slice_get config.tenants slot ≡ Some tenant
   pub great : IsTrue (is_too_great_in layout tenant (alone_lines name records))
 
--- the head is bad first at this line, or it is whole and has no tenant of the name, or a clock of his is too great
+-- the first bad line of the head is this one; or the head is complete and has no tenant of the name, or a clock of the tenant is too great
 abbrev pub IsRefusedBy : Layout → List ℕ → List (List ℕ) → ReplayRefusal → Type 0
 IsRefusedBy layout name lines (BadConfig bad) = head_by layout lines ≡ BadAt bad.line
 IsRefusedBy layout name lines UnknownTenant = (config : Config) × (records : List (List ℕ)) × (head_by layout lines ≡ Whole config records) × (slot_of_name config.tenants name ≡ None)
 IsRefusedBy layout name lines ClockTooGreat = IsTooGreatBy layout name lines
 
--- the same of a file, in the layout that its first line tells
+-- the same of a file, in the layout that its first line names
 abbrev pub IsReplayOf : List ℕ → List ℕ → List ℕ → Type 0
 IsReplayOf name bytes text = IsReplayBy (layout_of (lines_of bytes)) name (lines_of bytes) text
 
 abbrev pub RefusesReplayOf : List ℕ → List ℕ → ReplayRefusal → Type 0
 RefusesReplayOf name bytes refusal = IsRefusedBy (layout_of (lines_of bytes)) name (lines_of bytes) refusal
 
--- nothing is written, or a front of what a replay finds
+-- nothing is written, or a prefix of the result of a replay
 abbrev pub ReplaysFront : List ℕ → List ℕ → Option (List ℕ) → Option (List ℕ) → Type 0
 ReplaysFront name bytes old_contents new_contents =
     Keeps old_contents new_contents ⊎ ((text : List ℕ) × IsReplayOf name bytes text × AppendsFront old_contents new_contents text)

@@ -1,4 +1,4 @@
--- A replay on its way: a tenant's nodes after the records so far.
+-- A replay in progress: a tenant's nodes after the records so far.
 use Rattle.std.specs.Prelude.{◌≡◌, ℕ, Bool, true, false, ◌⊎◌, Option, Some, None, List, IsTrue}
 use Rattle.cops_types.specs.declared.configs.Config.{Config}
 use Rattle.cops_types.specs.Counts.{counted}
@@ -14,7 +14,7 @@ use Rattle.cops_replay.specs.AskedLines.{record_told}
 use Rattle.cops_replay.specs.Replays.{IsAlone, IsReplayed}
 use Rattle.cops_replay.specs.ReplayText.{told_of}
 
--- the layout of the records, the nodes, how many records agreed, and where the first that does not stands
+-- the layout of the records, the nodes, the number of records that agreed, and the place of the first that does not
 pub record Standing : Type 0 where
   pub layout : Layout
   pub nodes : Cluster
@@ -40,12 +40,12 @@ pub record IsBeforeRecords (config : TenantConfig) (replay : Standing) : Type 0 
   pub passed_is : replay.passed ≡ 0
   pub found_is : replay.found ≡ None
 
--- what today's layout tells of the line, where it is not too long, is what its own tells; or the line tells nothing
+-- the line's meaning in today's layout, if it is not too long, is that in its own; or the line has none
 abbrev pub MayAgree : Layout → List ℕ → Bool → Type 0
 MayAgree layout line true = told_of layout line ≡ record_told line
 MayAgree layout line false = told_of layout line ≡ None
 
--- the line is a record that agrees, and the cluster took its turn; or it is none
+-- the line is a record that agrees, and the cluster took its turn; or it is not
 abbrev pub IsLineReplayed : TenantConfig → List ℕ → Cluster → Bool → Cluster → Type 0
 IsLineReplayed config line old true new = (told : Record) × (record_told line ≡ Some told) × IsReplayed config told old true new
 IsLineReplayed config line old false new = (told : Record) → record_told line ≡ Some told → Agrees config told (nodes_of config 0 old) → ⊥
@@ -65,18 +65,18 @@ pub record Differs (config : TenantConfig) (line : List ℕ) (old new : Standing
   pub differs : (told : Record) → told_of old.layout line ≡ Some told → Agrees config told (nodes_of config 0 old.nodes) → ⊥
   pub found_is : new.found ≡ Some (counted old.passed)
 
--- one line was replayed; after a difference none is
+-- one line was replayed; after a difference no line is
 pub record IsReplayedLine (line : List ℕ) (old new : Standing) : Type 0 where
   pub layout : new.layout ≡ old.layout
   pub over : (place : ℕ) → old.found ≡ Some place → new ≡ old
   pub goes : old.found ≡ None → (config : TenantConfig) → IsAlone config old.nodes → Passes config line old new ⊎ Differs config line old new
 
--- the next record's place is noted: one more has passed, or it is the first that differs
+-- the next record's place is recorded: one more has passed, or it is the first that differs
 abbrev pub IsRecordCounted : Bool → Standing → Standing → Type 0
 IsRecordCounted true old new = (new.layout ≡ old.layout) × (new.nodes ≡ old.nodes) × (new.passed ≡ counted old.passed) × (new.found ≡ old.found)
 IsRecordCounted false old new = (new.layout ≡ old.layout) × (new.found ≡ Some (counted old.passed))
 
--- what has been found so far
+-- the result so far
 abbrev pub found_so_far : ℕ → Option ℕ → Replayed
 found_so_far passed None = Same passed
 found_so_far passed (Some place) = FirstDifference place

@@ -1,5 +1,5 @@
--- How much room the text of a record takes at most.
-use Rattle.std.specs.Prelude.{ℕ, ◌<◌, ◌≤◌, ◌+◌, ◌*◌, ◌^◌, List, [], ◌∷◌, ◌++◌, decimal, length}
+-- The most room that the text of a record takes, in bytes.
+use Rattle.std.specs.Prelude.{ℕ, ◌≡◌, ◌<◌, ◌≤◌, ◌+◌, ◌*◌, ◌^◌, List, [], ◌∷◌, ◌++◌, decimal, length}
 use Rattle.cops_types.specs.declared.pairs.Pair.{Pair}
 use Rattle.cops_types.specs.declared.records.EntryParts.{EntryParts as Entry}
 use Rattle.cops_types.specs.Words.{space}
@@ -33,7 +33,7 @@ reply_room (Found f) = stored_room f.value f.deps []
 reply_room (Pulled entry) = entry_room entry
 reply_room reply = 0
 
--- that of a call and a reply that are kept so
+-- that of a call and a reply in this form
 abbrev pub packing_room : Packing → ℕ
 packing_room (PutStored entry) = entry_room entry
 packing_room (LatestFound entry) = entry_room entry
@@ -56,14 +56,18 @@ packing_room (InFull exchange) = call_room exchange.value.call + reply_room exch
 abbrev pub line_room : Packing → ℕ
 line_room packing = 430 + 2 * packing_room packing
 
--- so many bytes are room enough, unless they are more than there can be
+-- so many bytes are enough for a text, unless there can't be as many
 abbrev pub IsRoomFor : ℕ → ℕ → Type 0
 IsRoomFor text room = room < 2 ^ 63 → text ≤ room
 
--- what stands before the call
+-- so many bytes are no more than a text takes, unless it is longer than any that there is memory for
+abbrev pub IsNoMoreThan : ℕ → ℕ → Type 0
+IsNoMoreThan text room = text < 2 ^ 50 → room ≡ text
+
+-- the text before the call
 abbrev pub front_text : List ℕ → NodeId → ℕ → List ℕ
 front_text name node moment = name ++ (space ∷ (node_text node ++ (space ∷ (decimal moment ++ (space ∷ [])))))
 
--- the record of a call that is kept so
+-- the record of a call in this form
 abbrev pub packed_record : NodeId → ℕ → Packing → Record
 packed_record node moment packing = record { node = node; moment = moment; call = (exchange_of packing).call; reply = (exchange_of packing).reply }

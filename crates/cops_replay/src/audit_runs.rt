@@ -25,7 +25,7 @@ use std::alloc::{AllocError, Global};
 use std::io::{Read, Write};
 use std::mem;
 
-/// The tenants who are open, by slot.
+/// Returns the open tenants, by slot.
 fn open_tenants(alloc: Global, tenants: &[Option<Tenant>]) -> Result<Vec<Tenant>, AllocError>
     ensures { IfOk result (λ found. found.items ≡ open_tenants tenants.now) }
 {
@@ -38,7 +38,7 @@ fn open_tenants(alloc: Global, tenants: &[Option<Tenant>]) -> Result<Vec<Tenant>
     Ok(found)
 }
 
-/// The slots that have a tenant, rising.
+/// Returns the slots that have a tenant, rising.
 fn open_slots(alloc: Global, tenants: &[Option<Tenant>]) -> Result<Vec<u64>, AllocError>
     ensures { IfOk result (λ slots. slots.items ≡ open_slots tenants.now) }
 {
@@ -51,7 +51,7 @@ fn open_slots(alloc: Global, tenants: &[Option<Tenant>]) -> Result<Vec<u64>, All
     Ok(slots)
 }
 
-/// Writes the audit of the tenants of a world who are open, by slot.
+/// Writes the audit of the open tenants of a world, by slot.
 fn write_open<O: Write>(alloc: Global, sink: &mut Sink<O>, world: &World) -> Result<(), Fault>
     requires { HasItsTenants world.now }
     ensures ok { OnOk result (Appends (O.contents (sink_writer sink.old)) (O.contents (sink_writer sink.new)) (audit_text (open_config world.now) (open_nodes world.now))) }
@@ -96,40 +96,39 @@ fn write_world<O: Write>(
     }
 }
 
-/// Writes the audit of a script: reads it to its end as `run_script` does, does what it says, and
-/// then writes what the audits of the nodes hold of the tenants who are open, in slot order, with
-/// the head in its one form.
+/// Writes the audit of a script. Reads the script to its end as `run_script` does and executes it.
+/// Then writes the nodes' audits of the open tenants, in slot order, with the head in its one form.
 ///
-/// It keeps the world, and no copy of the text. It ends where a reply would say that memory was
-/// refused, and nothing is written then.
+/// It holds the world, and no copy of the text. If memory runs out for a line of the script, it
+/// ends and nothing is written.
 ///
-/// This is a program's last work: the memory of the world stays taken until the process ends.
+/// Call it last in a program: the memory of the world stays allocated until the process ends.
 pub fn audit_text<R: Read, O: Write>(
     alloc: Global,
     source: &mut Source<R>,
     sink: &mut Sink<O>,
 ) -> Result<(), RunFault<BadConfig>>
-    // All is read, and the audit is written, or a front of it.
+    // All is read, and the audit is written, or a prefix of it.
     ensures end { OnOk result (IsAtEnd (R.remaining (source_reader source.new))) }
     ensures ok { OnOk result (IfSome (R.remaining (source_reader source.old)) (λ bytes.
         WritesAudit bytes (O.contents (sink_writer sink.old)) (O.contents (sink_writer sink.new)))) }
     ensures err { OnErr result (IfSome (R.remaining (source_reader source.old)) (λ bytes.
         WritesAuditFront bytes (O.contents (sink_writer sink.old)) (O.contents (sink_writer sink.new)))) }
 
-    // A replay of any tenant's records in it finds that all are the same.
+    // A replay of any tenant's records in it finds them all the same.
     ensures replays { OnOk result (IfSome (R.remaining (source_reader source.old)) (λ bytes. ReplaysSameFor (head_of (lines_of bytes)))) }
 
     // So does a replay of the text for any tenant.
     ensures says_same { OnOk result (IfSome (R.remaining (source_reader source.old)) (λ bytes.
         (text : List ℕ) → audit_out bytes ≡ Written text → SaysSameFor (head_of (lines_of bytes)) text)) }
 
-    // A head is refused where it is bad, and nothing is written then.
+    // A bad head is refused, and nothing is written then.
     ensures bad_head { IfErr result (λ fault. IfRunRefused fault (λ bad.
         IfSome (R.remaining (source_reader source.old)) (λ bytes. head_of (lines_of bytes) ≡ BadAt bad.line))) }
     ensures unwritten { IfErr result (λ fault. IfRunRefused fault (λ bad.
         Keeps (O.contents (sink_writer sink.old)) (O.contents (sink_writer sink.new)))) }
 
-    // The reader or the writer failed in this call, or the bound on turns was met.
+    // The reader or the writer failed in this call, or the turns are used up.
     ensures read_fault { IsErrOf result RunFault.ReadFault →
         HasRisen (source_failures source.old) (source_failures source.new)
         ⊎ HasRisenBy (source_reads source.old) (source_reads source.new) 4294967296 }
@@ -140,7 +139,7 @@ pub fn audit_text<R: Read, O: Write>(
         Err(fault) => return Err(fault),
     };
     let result = write_world(alloc, sink, &world);
-    // The process ends soon, and gives back its memory at once.
+    // The process ends soon, and frees its memory at once.
     mem::forget(world);
     result
 }

@@ -1,12 +1,12 @@
-//! Audits of scripts in which tenants come and go, and their replays. Run with the Nth request for
-//! memory refused, for each N.
+//! Audits of scripts in which tenants come and go, and their replays. Run with the Nth allocation
+//! failing, for each N.
 use crate::{ReplayRefusal, audit_text, replay_text};
 use cops_script::RunFault;
 use cops_types::{Sink, Source};
 use std::alloc::Global;
 use std::process::Abort;
 
-/// Acme's slot is gama's at the end, and zeta went again.
+/// Acme's slot is gama's at the end, and zeta has left again.
 const ACME_GOES: &[u8] = b"cluster 1 1 5000 1
 tenant acme 00000000-0000-0000-0000-000000000001 0 100 10000 10 4 20 8 1000
 tenant beta 00000000-0000-0000-0000-000000000002 0 100 10000 10 4 20 8 1000
@@ -63,7 +63,7 @@ acme open a 0
 - acme
 ";
 
-/// What a run wrote, unless memory was refused.
+/// The output of a run, unless memory ran out.
 fn written<E: Drop>(
     rt: &impl Abort,
     ran: Result<(), RunFault<E>>,
@@ -77,7 +77,7 @@ fn written<E: Drop>(
     }
 }
 
-/// The audit of a script, unless memory was refused.
+/// The audit of a script, unless memory ran out.
 fn audit_once(rt: &impl Abort, alloc: Global, script: &[u8]) -> Option<Vec<u8>> {
     let mut source = Source::new(script);
     let mut sink = Sink::new(Vec::new(alloc));
@@ -85,7 +85,7 @@ fn audit_once(rt: &impl Abort, alloc: Global, script: &[u8]) -> Option<Vec<u8>> 
     written(rt, ran, sink)
 }
 
-/// Asserts what the audit of a script is.
+/// Asserts the audit of a script.
 fn assert_audit(rt: &impl Abort, alloc: Global, script: &[u8], audit: &[u8]) {
     let text = match audit_once(rt, alloc, script) {
         Some(text) => text,
@@ -94,7 +94,7 @@ fn assert_audit(rt: &impl Abort, alloc: Global, script: &[u8], audit: &[u8]) {
     assert!(rt; text.as_slice() == audit);
 }
 
-/// What is told of a replay, unless memory was refused.
+/// The output of a replay, unless memory ran out.
 fn replay_once(rt: &impl Abort, alloc: Global, audit: &[u8], name: &[u8]) -> Option<Vec<u8>> {
     let mut source = Source::new(audit);
     let mut sink = Sink::new(Vec::new(alloc));
@@ -102,7 +102,7 @@ fn replay_once(rt: &impl Abort, alloc: Global, audit: &[u8], name: &[u8]) -> Opt
     written(rt, ran, sink)
 }
 
-/// Asserts what is told of a replay.
+/// Asserts the output of a replay.
 fn assert_replay(rt: &impl Abort, alloc: Global, audit: &[u8], name: &[u8], told: &[u8]) {
     let text = match replay_once(rt, alloc, audit, name) {
         Some(text) => text,
@@ -111,7 +111,7 @@ fn assert_replay(rt: &impl Abort, alloc: Global, audit: &[u8], name: &[u8], told
     assert!(rt; text.as_slice() == told);
 }
 
-/// Whether an audit has no tenant of a name, unless memory was refused.
+/// `true` if an audit has no tenant of a name, unless memory ran out.
 fn is_unknown(alloc: Global, audit: &[u8], name: &[u8]) -> Option<bool> {
     let mut source = Source::new(audit);
     let mut sink = Sink::new(Vec::new(alloc));

@@ -26,7 +26,7 @@ use cops_types::{Config, Fault, Name, Sink, Tenant};
 use std::alloc::{AllocError, Global};
 use std::io::Write;
 
-/// Puts the line of a call in the audit of a node.
+/// Appends the line of a call in the audit of a node.
 fn put_row<W: Write>(
     out: &mut Vec<u8>,
     place: &mut Vec<u8>,
@@ -44,7 +44,7 @@ fn put_row<W: Write>(
     drain_full(out, sink)
 }
 
-/// Puts the lines of a tenant's calls in the audit of a node.
+/// Appends the lines of a tenant's calls in the audit of a node.
 fn put_node<W: Write>(
     out: &mut Vec<u8>,
     sink: &mut Sink<W>,
@@ -73,7 +73,7 @@ fn put_node<W: Write>(
     Ok(())
 }
 
-/// Puts the lines of a tenant's calls, by node.
+/// Appends the lines of a tenant's calls, by node.
 fn put_tenant<W: Write>(
     out: &mut Vec<u8>,
     sink: &mut Sink<W>,
@@ -105,7 +105,7 @@ fn put_tenant<W: Write>(
     Ok(())
 }
 
-/// Puts the lines of all tenants' calls, by tenant. Each has the slot of his place.
+/// Appends the lines of all tenants' calls, by tenant. Each tenant has the slot of its place.
 fn put_records<W: Write>(
     out: &mut Vec<u8>,
     sink: &mut Sink<W>,
@@ -131,7 +131,7 @@ fn put_records<W: Write>(
     Ok(())
 }
 
-/// Puts the line of a tenant.
+/// Appends the line of a tenant.
 fn put_tenant_line<W: Write>(
     out: &mut Vec<u8>,
     sink: &mut Sink<W>,
@@ -145,7 +145,7 @@ fn put_tenant_line<W: Write>(
     drain_full(out, sink)
 }
 
-/// Puts the lines of all tenants.
+/// Appends the lines of all tenants.
 fn put_tenant_lines<W: Write>(
     out: &mut Vec<u8>,
     sink: &mut Sink<W>,
@@ -163,7 +163,7 @@ fn put_tenant_lines<W: Write>(
     Ok(())
 }
 
-/// Puts the head of these tenants as a script has it.
+/// Appends the head of these tenants, as in a script.
 fn put_config<W: Write>(
     out: &mut Vec<u8>,
     sink: &mut Sink<W>,
@@ -182,7 +182,7 @@ fn put_config<W: Write>(
     Ok(())
 }
 
-/// Puts the line of the layout, and then the head.
+/// Appends the line of the layout, and then the head.
 fn put_head<W: Write>(
     out: &mut Vec<u8>,
     sink: &mut Sink<W>,
@@ -197,12 +197,12 @@ fn put_head<W: Write>(
     put_config(out, sink, config, tenants)
 }
 
-/// Writes the audit of a configuration's nodes for these tenants, of whom each has the slot of his
-/// place: the line of the layout, the head in its one form, and then a line for each call, by tenant,
-/// then by node, then by place in the audit.
+/// Writes the audit of a configuration's nodes for these tenants, each of which has the slot of its
+/// place: the line of the layout, the head in its one form, and then a line for each call, by
+/// tenant, then by node, then by place in the audit.
 ///
-/// A few kilobytes of it wait at most, beside one line and the room that a line may take. At an `Err` a
-/// front of it is written. The writer is not flushed.
+/// Buffers at most a few kilobytes, beside one line and the room that a line may take. Does not
+/// flush the writer. On `Err` a prefix of the audit may have been written.
 pub(crate) fn write_audit_at<W: Write>(
     alloc: Global,
     sink: &mut Sink<W>,
@@ -214,14 +214,14 @@ pub(crate) fn write_audit_at<W: Write>(
     requires sizes { IsTrue (are_sizes config.now) }
     requires nodes { AreNodesAt config.now tenants.now slots.now nodes.now }
 
-    // All is written, or a front of it.
+    // All is written, or a prefix of it.
     ensures ok { OnOk result (Appends (W.contents (sink_writer sink.old)) (W.contents (sink_writer sink.new)) (audit_at config.now tenants.now slots.now nodes.now)) }
     ensures front { AppendsFront (W.contents (sink_writer sink.old)) (W.contents (sink_writer sink.new)) (audit_at config.now tenants.now slots.now nodes.now) }
 
     // Each record that is written has the form of a line.
     ensures formed { OnOk result (AreFormed (with_tenants config.now tenants.now) (nodes_at config.now slots.now nodes.now)) }
 
-    // Memory was refused, or the writer failed in this call.
+    // Memory ran out, or the writer failed in this call.
     ensures fault { IfErr result (λ fault. (fault ≡ OutOfMemory) ⊎ (fault ≡ WriteFault)) }
     ensures same { OnOk result (sink_failures sink.new ≡ sink_failures sink.old) }
     ensures write_fault { IsErrOf result Fault.WriteFault → HasRisen (sink_failures sink.old) (sink_failures sink.new) }
@@ -236,7 +236,7 @@ pub(crate) fn write_audit_at<W: Write>(
     drain(&mut out, sink)
 }
 
-/// So many slots, from the first on.
+/// Returns this many slots, from the first on.
 fn first_slots(alloc: Global, count: usize) -> Result<Vec<u64>, AllocError>
     ensures { IfOk result (λ slots. slots.items ≡ range_with_len 0 count) }
 {
@@ -248,10 +248,11 @@ fn first_slots(alloc: Global, count: usize) -> Result<Vec<u64>, AllocError>
 }
 
 /// Writes the audit of a configuration's nodes, which come by number: the line of the layout, the
-/// head in its one form, and then a line for each call, by tenant, then by node, then by place in the audit.
+/// head in its one form, and then a line for each call, by tenant, then by node, then by place in
+/// the audit.
 ///
-/// A few kilobytes of it wait at most, beside one line and the room that a line may take. At an `Err` a
-/// front of it is written. The writer is not flushed.
+/// Buffers at most a few kilobytes, beside one line and the room that a line may take. Does not
+/// flush the writer. On `Err` a prefix of the audit may have been written.
 pub fn write_audit<W: Write>(
     alloc: Global,
     sink: &mut Sink<W>,
@@ -261,14 +262,14 @@ pub fn write_audit<W: Write>(
     requires sizes { IsTrue (are_sizes config.now) }
     requires nodes { AreNodesOf config.now nodes.now }
 
-    // All is written, or a front of it.
+    // All is written, or a prefix of it.
     ensures ok { OnOk result (Appends (W.contents (sink_writer sink.old)) (W.contents (sink_writer sink.new)) (audit_of config.now nodes.now)) }
     ensures front { AppendsFront (W.contents (sink_writer sink.old)) (W.contents (sink_writer sink.new)) (audit_of config.now nodes.now) }
 
     // Each record that is written has the form of a line.
     ensures formed { OnOk result (AreFormed config.now (his_nodes config.now nodes.now)) }
 
-    // Memory was refused, or the writer failed in this call.
+    // Memory ran out, or the writer failed in this call.
     ensures fault { IfErr result (λ fault. (fault ≡ OutOfMemory) ⊎ (fault ≡ WriteFault)) }
     ensures same { OnOk result (sink_failures sink.new ≡ sink_failures sink.old) }
     ensures write_fault { IsErrOf result Fault.WriteFault → HasRisen (sink_failures sink.old) (sink_failures sink.new) }

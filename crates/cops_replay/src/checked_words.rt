@@ -1,4 +1,4 @@
-//! Whether single words of a record line say what they are to, where nothing is made of it.
+//! Tests of single words of a record line, which make nothing of them.
 ghost use Rattle.std.specs.Prelude.{◌≡◌, ◌<◌, true, [], Some, None, IfSome, IfNone, length};
 ghost use Rattle.std.specs.Option.{is_some, option_map_or};
 ghost use Rattle.std.specs.Ordering.{is_lt, on};
@@ -20,56 +20,57 @@ use std::cmp::Ordering;
 /// The most digits of a value.
 const MOST_DIGITS: usize = 8192;
 
-/// Whether the word is a key.
+/// Returns `true` if the word is a key.
 pub(crate) fn is_key(word: &[u8]) -> bool
     ensures { result ≡ is_some (key_in word.now) }
 {
     said::key_said(word).is_some()
 }
 
-/// Whether the word is a name.
+/// Returns `true` if the word is a name.
 pub(crate) fn is_name(word: &[u8]) -> bool
     ensures { result ≡ is_some (name_of word.now) }
 {
     said::name_said(word).is_some()
 }
 
-/// Whether the word is a number.
+/// Returns `true` if the word is a number.
 pub(crate) fn is_number(word: &[u8]) -> bool
     ensures { result ≡ is_some (number_of word.now) }
 {
     parse_number(word).is_some()
 }
 
-/// Whether the word is a node.
+/// Returns `true` if the word is a node.
 pub(crate) fn is_node(word: &[u8]) -> bool
     ensures { result ≡ is_some (node_of word.now) }
 {
     said::node_said(word).is_some()
 }
 
-/// Whether the word is a version.
+/// Returns `true` if the word is a version.
 pub(crate) fn is_version(layout: Layout, word: &[u8]) -> bool
     ensures { result ≡ is_some (versions_in layout word.now) }
 {
     said::version_said(layout, word).is_some()
 }
 
-/// Whether the word says which version is asked for.
+/// Returns `true` if the word is a wanted version.
 pub(crate) fn is_wanted(layout: Layout, word: &[u8]) -> bool
     ensures { result ≡ is_some (wanted_of (versions_in layout) word.now) }
 {
     said::wanted_said(layout, word).is_some()
 }
 
-/// Whether the byte is a digit of a value.
+/// Returns `true` if the byte is a digit of a value.
 fn is_digit(code: u8) -> bool
     ensures { result ≡ is_some (digit_of code) }
 {
     48 <= code && code <= 57 || 97 <= code && code <= 102
 }
 
-/// Whether each byte is a digit of a value. All are looked at, so that many can be at once.
+/// Returns `true` if each byte is a digit of a value. It reads every byte, so that many are read at
+/// once.
 fn are_digits(word: &[u8]) -> bool
     ensures { result ≡ are_digits word.now }
 {
@@ -80,14 +81,14 @@ fn are_digits(word: &[u8]) -> bool
     all
 }
 
-/// Whether so many digits are those of a value's bytes.
+/// Returns `true` if a value may have this many digits.
 fn has_count(word: &[u8]) -> bool
     ensures { result ≡ has_count word.now }
 {
     0 < word.len() && word.len() % 2 == 0 && word.len() <= MOST_DIGITS
 }
 
-/// Whether the word is a value of some bytes.
+/// Returns `true` if the word is a value of some bytes.
 fn is_some_bytes(word: &[u8]) -> bool
     ensures { result ≡ is_some (some_bytes_of word.now) }
 {
@@ -97,7 +98,7 @@ fn is_some_bytes(word: &[u8]) -> bool
     are_digits(word)
 }
 
-/// Whether the word is a value.
+/// Returns `true` if the word is a value.
 pub(crate) fn is_value(word: &[u8]) -> bool
     ensures { result ≡ is_some (value_in word.now) }
 {
@@ -107,7 +108,7 @@ pub(crate) fn is_value(word: &[u8]) -> bool
     is_some_bytes(word)
 }
 
-/// The key and the version of a pair.
+/// Returns the key and the version of a pair.
 fn pair_parts<'a>(layout: Layout, part: &'a [u8]) -> Option<(&'a [u8], Version)>
     ensures some { IfSome result (λ parts. pair_of (versions_in layout) part.now ≡ Some (pair_told parts.0.now parts.1)) }
     ensures none { IfNone result (pair_of (versions_in layout) part.now ≡ None) }
@@ -125,7 +126,7 @@ fn pair_parts<'a>(layout: Layout, part: &'a [u8]) -> Option<(&'a [u8], Version)>
     Some((key, version))
 }
 
-/// Whether the first pair is below the second.
+/// Returns `true` if the first pair is below the second.
 fn are_pairs_rising(key: &[u8], version: Version, next: &[u8], later: Version) -> bool
     ensures { result ≡ is_lt (pair_cmp (pair_told key.now version) (pair_told next.now later)) }
 {
@@ -136,7 +137,7 @@ fn are_pairs_rising(key: &[u8], version: Version, next: &[u8], later: Version) -
     }
 }
 
-/// Whether the parts are pairs with rising keys, the first above this one.
+/// Returns `true` if the parts are pairs with rising keys, the first above this one.
 fn go_on_with_keys<'a>(layout: Layout, key: &'a [u8], parts: &mut Parts<'a>) -> bool
     ensures { result ≡ keys_rise_from (versions_in layout) key.now parts.old }
 {
@@ -153,7 +154,7 @@ fn go_on_with_keys<'a>(layout: Layout, key: &'a [u8], parts: &mut Parts<'a>) -> 
     true
 }
 
-/// Whether the parts are rising pairs, the first above this one.
+/// Returns `true` if the parts are rising pairs, the first above this one.
 fn go_on_with_pairs<'a>(
     layout: Layout,
     key: &'a [u8],
@@ -177,7 +178,7 @@ fn go_on_with_pairs<'a>(
     true
 }
 
-/// Whether the parts are pairs with rising keys.
+/// Returns `true` if the parts are pairs with rising keys.
 fn have_rising_keys(layout: Layout, parts: &mut Parts) -> bool
     ensures { result ≡ all_keys_rise (versions_in layout) parts.old }
 {
@@ -190,7 +191,7 @@ fn have_rising_keys(layout: Layout, parts: &mut Parts) -> bool
     go_on_with_keys(layout, key, parts)
 }
 
-/// Whether the parts are rising pairs.
+/// Returns `true` if the parts are rising pairs.
 fn are_rising(layout: Layout, parts: &mut Parts) -> bool
     ensures { result ≡ all_rise (versions_in layout) pair_cmp parts.old }
 {
@@ -203,7 +204,7 @@ fn are_rising(layout: Layout, parts: &mut Parts) -> bool
     go_on_with_pairs(layout, key, version, parts)
 }
 
-/// The pair at the front of a list, where it is seen in one pass and its key is above this one.
+/// Returns the pair at the start of a list, if one pass finds it and its key is above this one.
 #[inline(always)]
 fn front_key_above<'a>(layout: Layout, last: &[u8], bytes: &'a [u8]) -> Option<FrontKey<'a>>
     requires { is_key_text last.now ≡ true }
@@ -216,7 +217,7 @@ fn front_key_above<'a>(layout: Layout, last: &[u8], bytes: &'a [u8]) -> Option<F
     Some(found)
 }
 
-/// The pair at the front of a list, where it is seen in one pass and above this one.
+/// Returns the pair at the start of a list, if one pass finds it and it is above this one.
 #[inline(always)]
 fn front_pair_above<'a>(
     layout: Layout,
@@ -238,7 +239,7 @@ fn front_pair_above<'a>(
     }
 }
 
-/// Whether what stands here are pairs with rising keys, the first above this one.
+/// Returns `true` if the bytes are pairs with rising keys, the first above this one.
 fn keys_rise_in<'a>(layout: Layout, last: &'a [u8], bytes: &'a [u8]) -> bool
     ensures { result ≡ keys_rise_from (versions_in layout) last.now (parts_at 44 bytes.now) }
 {
@@ -246,7 +247,7 @@ fn keys_rise_in<'a>(layout: Layout, last: &'a [u8], bytes: &'a [u8]) -> bool
     go_on_with_keys(layout, last, &mut parts)
 }
 
-/// Whether what stands here are rising pairs, the first above this one.
+/// Returns `true` if the bytes are rising pairs, the first above this one.
 fn pairs_rise_in<'a>(layout: Layout, last: &'a [u8], latest: Version, bytes: &'a [u8]) -> bool
     ensures { result ≡ rise_from (versions_in layout) pair_cmp (pair_told last.now latest) (parts_at 44 bytes.now) }
 {
@@ -254,7 +255,7 @@ fn pairs_rise_in<'a>(layout: Layout, last: &'a [u8], latest: Version, bytes: &'a
     go_on_with_pairs(layout, last, latest, &mut parts)
 }
 
-/// Whether what stands here are pairs with rising keys, the first above this one.
+/// Returns `true` if the bytes are pairs with rising keys, the first above this one.
 fn go_on_with_front_keys<'a>(layout: Layout, key: &'a [u8], rest: Option<&'a [u8]>) -> bool
     requires { is_key_text key.now ≡ true }
     ensures { result ≡ keys_rise_from (versions_in layout) key.now (option_map_or (λ bytes. parts_at 44 bytes.now) rest.entry []) }
@@ -271,7 +272,7 @@ fn go_on_with_front_keys<'a>(layout: Layout, key: &'a [u8], rest: Option<&'a [u8
     true
 }
 
-/// Whether what stands here are rising pairs, the first above this one.
+/// Returns `true` if the bytes are rising pairs, the first above this one.
 fn go_on_with_front_pairs<'a>(
     layout: Layout,
     key: &'a [u8],
@@ -294,7 +295,7 @@ fn go_on_with_front_pairs<'a>(
     true
 }
 
-/// Whether the word is a list of one pair and more, with rising keys.
+/// Returns `true` if the word is a list of one pair and more, with rising keys.
 fn are_some_deps(layout: Layout, word: &[u8]) -> bool
     ensures { result ≡ is_some (kept_pairs (on (λ p. p.key) key_cmp) (all_pairs_of (versions_in layout) (parts_at 44 word.now))) }
 {
@@ -307,7 +308,7 @@ fn are_some_deps(layout: Layout, word: &[u8]) -> bool
     }
 }
 
-/// Whether the word is a list of one pair and more, which rise.
+/// Returns `true` if the word is a list of one pair and more, which rise.
 fn are_some_near(layout: Layout, word: &[u8]) -> bool
     ensures { result ≡ is_some (kept_pairs pair_cmp (all_pairs_of (versions_in layout) (parts_at 44 word.now))) }
 {
@@ -320,7 +321,7 @@ fn are_some_near(layout: Layout, word: &[u8]) -> bool
     }
 }
 
-/// Whether the word is a list of pairs with rising keys.
+/// Returns `true` if the word is a list of pairs with rising keys.
 pub(crate) fn are_deps(layout: Layout, word: &[u8]) -> bool
     ensures { result ≡ is_some (deps_of (versions_in layout) word.now) }
 {
@@ -330,7 +331,7 @@ pub(crate) fn are_deps(layout: Layout, word: &[u8]) -> bool
     are_some_deps(layout, word)
 }
 
-/// Whether the word is a list of rising pairs.
+/// Returns `true` if the word is a list of rising pairs.
 pub(crate) fn are_near(layout: Layout, word: &[u8]) -> bool
     ensures { result ≡ is_some (near_of (versions_in layout) word.now) }
 {

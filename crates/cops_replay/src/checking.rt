@@ -1,4 +1,4 @@
-//! Whether a line writes a record, where none is made of it.
+//! Tests whether a line writes a record, which make no record.
 ghost use Rattle.std.specs.Prelude.{◌≡◌};
 ghost use Rattle.std.specs.Option.{is_some};
 ghost use Rattle.cops_replay.specs.OldRecords.{versions_in};
@@ -12,7 +12,7 @@ use crate::layouts::Layout;
 use crate::line_words::LineWords;
 use crate::reading::bare_reply;
 
-/// The next word, as a key.
+/// Reads the next word as a key.
 #[inline(always)]
 fn next_key(words: &mut LineWords) -> Option<()>
     ensures { HasRead (checked_as key_in) words.old result words.new }
@@ -27,7 +27,7 @@ fn next_key(words: &mut LineWords) -> Option<()>
     }
 }
 
-/// The next word, as a name.
+/// Reads the next word as a name.
 #[inline(always)]
 fn next_name(words: &mut LineWords) -> Option<()>
     ensures { HasRead (checked_as name_of) words.old result words.new }
@@ -42,7 +42,7 @@ fn next_name(words: &mut LineWords) -> Option<()>
     }
 }
 
-/// The next word, as a number.
+/// Reads the next word as a number.
 #[inline(always)]
 fn next_number(words: &mut LineWords) -> Option<()>
     ensures { HasRead (checked_as number_of) words.old result words.new }
@@ -57,7 +57,7 @@ fn next_number(words: &mut LineWords) -> Option<()>
     }
 }
 
-/// The next word, as a node.
+/// Reads the next word as a node.
 #[inline(always)]
 fn next_node(words: &mut LineWords) -> Option<()>
     ensures { HasRead (checked_as node_of) words.old result words.new }
@@ -72,7 +72,7 @@ fn next_node(words: &mut LineWords) -> Option<()>
     }
 }
 
-/// The next word, as a version.
+/// Reads the next word as a version.
 #[inline(always)]
 fn next_version(layout: Layout, words: &mut LineWords) -> Option<()>
     ensures { HasRead (checked_as (versions_in layout)) words.old result words.new }
@@ -87,7 +87,7 @@ fn next_version(layout: Layout, words: &mut LineWords) -> Option<()>
     }
 }
 
-/// The next word, as which version is asked for.
+/// Reads the next word as a wanted version.
 fn next_wanted(layout: Layout, words: &mut LineWords) -> Option<()>
     ensures { HasRead (checked_as (wanted_of (versions_in layout))) words.old result words.new }
 {
@@ -98,7 +98,7 @@ fn next_wanted(layout: Layout, words: &mut LineWords) -> Option<()>
     }
 }
 
-/// The next word, as a value.
+/// Reads the next word as a value.
 fn next_value(words: &mut LineWords) -> Option<()>
     ensures { HasRead (checked_as value_in) words.old result words.new }
 {
@@ -109,7 +109,7 @@ fn next_value(words: &mut LineWords) -> Option<()>
     }
 }
 
-/// The next word, as dependencies.
+/// Reads the next word as dependencies.
 fn next_deps(layout: Layout, words: &mut LineWords) -> Option<()>
     ensures { HasRead (checked_as (deps_of (versions_in layout))) words.old result words.new }
 {
@@ -120,7 +120,7 @@ fn next_deps(layout: Layout, words: &mut LineWords) -> Option<()>
     }
 }
 
-/// The next word, as nearest dependencies.
+/// Reads the next word as nearest dependencies.
 fn next_near(layout: Layout, words: &mut LineWords) -> Option<()>
     ensures { HasRead (checked_as (near_of (versions_in layout))) words.old result words.new }
 {
@@ -131,7 +131,7 @@ fn next_near(layout: Layout, words: &mut LineWords) -> Option<()>
     }
 }
 
-/// The parts of an entry.
+/// Reads the parts of an entry.
 fn next_entry(layout: Layout, words: &mut LineWords) -> Option<()>
     ensures { HasRead (entry_checked (versions_in layout)) words.old result words.new }
 {
@@ -143,7 +143,7 @@ fn next_entry(layout: Layout, words: &mut LineWords) -> Option<()>
     next_version(layout, words)
 }
 
-/// What follows `get`.
+/// Reads the words after `get`.
 fn get_after(layout: Layout, words: &mut LineWords) -> Option<()>
     ensures { HasRead (get_checked (versions_in layout)) words.old result words.new }
 {
@@ -151,7 +151,7 @@ fn get_after(layout: Layout, words: &mut LineWords) -> Option<()>
     next_wanted(layout, words)
 }
 
-/// What follows `put`.
+/// Reads the words after `put`.
 fn put_after(layout: Layout, words: &mut LineWords) -> Option<()>
     ensures { HasRead (put_checked (versions_in layout)) words.old result words.new }
 {
@@ -161,7 +161,7 @@ fn put_after(layout: Layout, words: &mut LineWords) -> Option<()>
     next_near(layout, words)
 }
 
-/// What follows `check`.
+/// Reads the words after `check`.
 fn check_after(layout: Layout, words: &mut LineWords) -> Option<()>
     ensures { HasRead (check_checked (versions_in layout)) words.old result words.new }
 {
@@ -169,7 +169,7 @@ fn check_after(layout: Layout, words: &mut LineWords) -> Option<()>
     next_version(layout, words)
 }
 
-/// What follows `ack`.
+/// Reads the words after `ack`.
 fn ack_after(layout: Layout, words: &mut LineWords) -> Option<()>
     ensures { HasRead (ack_checked (versions_in layout)) words.old result words.new }
 {
@@ -177,7 +177,7 @@ fn ack_after(layout: Layout, words: &mut LineWords) -> Option<()>
     next_version(layout, words)
 }
 
-/// The call of a verb and the words after it.
+/// Reads the call of a verb and the words after it.
 fn call_after(layout: Layout, verb: &[u8], words: &mut LineWords) -> Option<()>
     ensures { HasRead (call_of_verb_checked (versions_in layout) verb.now) words.old result words.new }
 {
@@ -205,7 +205,7 @@ fn call_after(layout: Layout, verb: &[u8], words: &mut LineWords) -> Option<()>
     None
 }
 
-/// A call.
+/// Reads a call.
 fn next_call(layout: Layout, words: &mut LineWords) -> Option<()>
     ensures { HasRead (call_checked (versions_in layout)) words.old result words.new }
 {
@@ -213,7 +213,7 @@ fn next_call(layout: Layout, words: &mut LineWords) -> Option<()>
     call_after(layout, verb, words)
 }
 
-/// What follows `found`.
+/// Reads the words after `found`.
 fn found_after(layout: Layout, words: &mut LineWords) -> Option<()>
     ensures { HasRead (found_checked (versions_in layout)) words.old result words.new }
 {
@@ -222,7 +222,7 @@ fn found_after(layout: Layout, words: &mut LineWords) -> Option<()>
     next_deps(layout, words)
 }
 
-/// The reply of a first word and the words after it.
+/// Reads the reply of a first word and the words after it.
 fn reply_after(layout: Layout, verb: &[u8], words: &mut LineWords) -> Option<()>
     ensures { HasRead (reply_of_verb_checked (versions_in layout) verb.now) words.old result words.new }
 {
@@ -251,7 +251,7 @@ fn reply_after(layout: Layout, verb: &[u8], words: &mut LineWords) -> Option<()>
     }
 }
 
-/// A reply.
+/// Reads a reply.
 fn next_reply(layout: Layout, words: &mut LineWords) -> Option<()>
     ensures { HasRead (reply_checked (versions_in layout)) words.old result words.new }
 {
@@ -259,7 +259,7 @@ fn next_reply(layout: Layout, words: &mut LineWords) -> Option<()>
     reply_after(layout, verb, words)
 }
 
-/// The next word, as the sign between call and reply.
+/// Reads the next word as the sign between call and reply.
 fn next_sign(words: &mut LineWords) -> Option<()>
     ensures { HasRead (checked_as sign_of) words.old result words.new }
 {
@@ -270,7 +270,7 @@ fn next_sign(words: &mut LineWords) -> Option<()>
     }
 }
 
-/// All words after the tenant's name.
+/// Reads all words after the tenant's name.
 fn next_told(layout: Layout, words: &mut LineWords) -> Option<()>
     ensures { HasRead (told_checked (versions_in layout)) words.old result words.new }
 {
@@ -281,7 +281,7 @@ fn next_told(layout: Layout, words: &mut LineWords) -> Option<()>
     next_reply(layout, words)
 }
 
-/// All words.
+/// Reads all words.
 fn next_line(layout: Layout, words: &mut LineWords) -> Option<()>
     ensures { HasRead (line_checked (versions_in layout)) words.old result words.new }
 {
@@ -289,7 +289,7 @@ fn next_line(layout: Layout, words: &mut LineWords) -> Option<()>
     next_told(layout, words)
 }
 
-/// Whether a line writes the name of a tenant and a record.
+/// Returns `true` if a line writes the name of a tenant and a record.
 pub(crate) fn is_record(layout: Layout, line: &[u8]) -> bool
     ensures { result ≡ is_some (record_by (versions_in layout) line.now) }
 {

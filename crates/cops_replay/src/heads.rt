@@ -8,7 +8,7 @@ use cops_types::{Config, Tenant};
 use std::alloc::AllocError;
 use uuid::Uuid;
 
-/// Puts each number after a space at the end.
+/// Appends each number after a space.
 fn push_numbers(out: &mut Vec<u8>, numbers: &[u64]) -> Result<(), AllocError>
     ensures { OnOk result (out.new.items ≡ out.old.items ++ flat_map (λ number. 32 ∷ decimal number) numbers.now) }
 {
@@ -19,7 +19,7 @@ fn push_numbers(out: &mut Vec<u8>, numbers: &[u64]) -> Result<(), AllocError>
     Ok(())
 }
 
-/// Puts the line that tells today's layout at the end, with its newline.
+/// Appends the line of today's layout, with its newline.
 pub(crate) fn push_layout(out: &mut Vec<u8>) -> Result<(), AllocError>
     ensures { OnOk result (out.new.items ≡ out.old.items ++ ended layout_line) }
 {
@@ -27,7 +27,7 @@ pub(crate) fn push_layout(out: &mut Vec<u8>) -> Result<(), AllocError>
     Ok(())
 }
 
-/// Puts the line of a cluster at the end, with its newline.
+/// Appends the line of a cluster, with its newline.
 pub(crate) fn push_cluster(out: &mut Vec<u8>, config: &Config) -> Result<(), AllocError>
     ensures { OnOk result (out.new.items ≡ out.old.items ++ ended (cluster_line config.now)) }
 {
@@ -43,7 +43,7 @@ pub(crate) fn push_cluster(out: &mut Vec<u8>, config: &Config) -> Result<(), All
     Ok(())
 }
 
-/// Puts the line that ends a head at the end, with its newline.
+/// Appends the line that ends a head, with its newline.
 pub(crate) fn push_begin(out: &mut Vec<u8>) -> Result<(), AllocError>
     ensures { OnOk result (out.new.items ≡ out.old.items ++ ended begin_line) }
 {
@@ -51,7 +51,7 @@ pub(crate) fn push_begin(out: &mut Vec<u8>) -> Result<(), AllocError>
     Ok(())
 }
 
-/// Puts the line of a tenant at the end, with its newline.
+/// Appends the line of a tenant, with its newline.
 pub(crate) fn push_tenant(out: &mut Vec<u8>, tenant: &Tenant) -> Result<(), AllocError>
     ensures { OnOk result (out.new.items ≡ out.old.items ++ tenant_text tenant.now) }
 {

@@ -1,5 +1,5 @@
-//! The words of a record line that are still to come. A word that says a number, a version, a key or a
-//! name is mostly passed as it is read, and not split off first.
+//! The remaining words of a record line. Most words that write a number, a version, a key or a name
+//! are skipped in the pass that reads them, without a split.
 ghost use Rattle.std.specs.Prelude.{◌≡◌, [], ◌∷◌, IfNone, IfSome, MatchOption, false, true};
 ghost use Rattle.std.specs.Option.{option_map_or};
 ghost use Rattle.cops_types.specs.Words.{no_words, number_of, parts_at, space};
@@ -16,7 +16,7 @@ use std::marker::Model;
 /// The most bytes of a name.
 const LONGEST_NAME: usize = 16;
 
-/// The words of a line that are still to come, between single spaces. Contracts see the list.
+/// The remaining words of a line, between single spaces. Contracts see the list.
 #[derive(Debug, Drop)]
 pub(crate) struct LineWords<'a> {
     rest: Option<&'a [u8]>,
@@ -32,7 +32,7 @@ impl<'a> Model for LineWords<'a> {
     ghost view = { λ w. option_map_or (λ rest. parts_at space rest.now) w.rest [] };
 }
 
-/// What stands behind the number at the front.
+/// Returns the bytes after the number at the front.
 #[inline(always)]
 fn after_number(bytes: &[u8]) -> Option<Option<&[u8]>>
     ensures { IfSome result (λ rest. HasPassed number_of (parts_at space bytes.now) (option_map_or (λ more. parts_at space more.now) rest [])) }
@@ -42,7 +42,7 @@ fn after_number(bytes: &[u8]) -> Option<Option<&[u8]>>
     Some(rest)
 }
 
-/// What stands behind the node at the front.
+/// Returns the bytes after the node at the front.
 #[inline(always)]
 fn after_node(bytes: &[u8]) -> Option<Option<&[u8]>>
     ensures { IfSome result (λ rest. HasPassed node_of (parts_at space bytes.now) (option_map_or (λ more. parts_at space more.now) rest [])) }
@@ -52,7 +52,7 @@ fn after_node(bytes: &[u8]) -> Option<Option<&[u8]>>
     Some(rest)
 }
 
-/// What stands behind the version at the front, where it is a short one.
+/// Returns the bytes after the version at the start, if it is a short one.
 #[inline(always)]
 fn behind_short_version(layout: Layout, bytes: &[u8]) -> Option<Option<&[u8]>>
     ensures { IfSome result (λ rest. HasPassed (versions_in layout) (parts_at space bytes.now) (option_map_or (λ more. parts_at space more.now) rest [])) }
@@ -63,7 +63,7 @@ fn behind_short_version(layout: Layout, bytes: &[u8]) -> Option<Option<&[u8]>>
     Some(rest)
 }
 
-/// What stands behind the version at the front, where it is any.
+/// Returns the bytes after the version at the start, short or long.
 #[inline(never)]
 fn behind_any_version(layout: Layout, bytes: &[u8]) -> Option<Option<&[u8]>>
     ensures { IfSome result (λ rest. HasPassed (versions_in layout) (parts_at space bytes.now) (option_map_or (λ more. parts_at space more.now) rest [])) }
@@ -74,7 +74,7 @@ fn behind_any_version(layout: Layout, bytes: &[u8]) -> Option<Option<&[u8]>>
     Some(rest)
 }
 
-/// What stands behind the version at the front.
+/// Returns the bytes after the version at the front.
 #[inline(always)]
 fn after_version(layout: Layout, bytes: &[u8]) -> Option<Option<&[u8]>>
     ensures { IfSome result (λ rest. HasPassed (versions_in layout) (parts_at space bytes.now) (option_map_or (λ more. parts_at space more.now) rest [])) }
@@ -85,7 +85,7 @@ fn after_version(layout: Layout, bytes: &[u8]) -> Option<Option<&[u8]>>
     }
 }
 
-/// What stands behind the key at the front.
+/// Returns the bytes after the key at the front.
 #[inline(always)]
 fn after_key(bytes: &[u8]) -> Option<Option<&[u8]>>
     ensures { IfSome result (λ rest. HasPassed key_in (parts_at space bytes.now) (option_map_or (λ more. parts_at space more.now) rest [])) }
@@ -95,7 +95,7 @@ fn after_key(bytes: &[u8]) -> Option<Option<&[u8]>>
     Some(rest)
 }
 
-/// What stands behind the name at the front.
+/// Returns the bytes after the name at the front.
 #[inline(always)]
 fn after_name(bytes: &[u8]) -> Option<Option<&[u8]>>
     ensures { IfSome result (λ rest. HasPassed name_of (parts_at space bytes.now) (option_map_or (λ more. parts_at space more.now) rest [])) }
@@ -109,14 +109,14 @@ fn after_name(bytes: &[u8]) -> Option<Option<&[u8]>>
 }
 
 impl<'a> LineWords<'a> {
-    /// The words of a line.
+    /// Returns the words of a line.
     pub(crate) fn of(line: &'a [u8]) -> Self
         ensures { result ≡ parts_at space line.now }
     {
         LineWords { rest: Some(line) }
     }
 
-    /// The next word.
+    /// Removes and returns the next word.
     pub(crate) fn next_word(&mut self) -> Option<&'a [u8]>
         ensures { MatchOption result ((self.old ≡ []) × (self.new ≡ [])) (λ word. self.old ≡ word.now ∷ self.new) }
     {
@@ -125,7 +125,7 @@ impl<'a> LineWords<'a> {
         Some(word)
     }
 
-    /// The text of the words that are to come, where there are any.
+    /// Returns the text of the remaining words, if there are any.
     pub(crate) fn rest(&self) -> Option<&'a [u8]>
         ensures some { IfSome result (λ text. self.now ≡ parts_at space text.now) }
         ensures none { IfNone result (self.now ≡ []) }
@@ -133,14 +133,15 @@ impl<'a> LineWords<'a> {
         self.rest
     }
 
-    /// Whether no word is to come.
+    /// Returns `true` if no word remains.
     pub(crate) fn is_empty(&self) -> bool
         ensures { result ≡ no_words self.now }
     {
         self.rest.is_none()
     }
 
-    /// Passes the next word where it is seen to be a number. Where it isn't seen, it may be one all the same.
+    /// Skips the next word if one pass finds that it is a number. A `false` says nothing: it may be
+    /// one all the same.
     #[inline(always)]
     pub(crate) fn pass_number(&mut self) -> bool
         ensures passed { result ≡ true → HasPassed number_of self.old self.new }
@@ -156,7 +157,7 @@ impl<'a> LineWords<'a> {
         true
     }
 
-    /// Passes the next word where it is seen to be a node.
+    /// Skips the next word if one pass finds that it is a node.
     #[inline(always)]
     pub(crate) fn pass_node(&mut self) -> bool
         ensures passed { result ≡ true → HasPassed node_of self.old self.new }
@@ -172,7 +173,7 @@ impl<'a> LineWords<'a> {
         true
     }
 
-    /// Passes the next word where it is seen to be a version.
+    /// Skips the next word if one pass finds that it is a version.
     #[inline(always)]
     pub(crate) fn pass_version(&mut self, layout: Layout) -> bool
         ensures passed { result ≡ true → HasPassed (versions_in layout) self.old self.new }
@@ -188,7 +189,7 @@ impl<'a> LineWords<'a> {
         true
     }
 
-    /// Passes the next word where it is seen to be a key.
+    /// Skips the next word if one pass finds that it is a key.
     #[inline(always)]
     pub(crate) fn pass_key(&mut self) -> bool
         ensures passed { result ≡ true → HasPassed key_in self.old self.new }
@@ -204,7 +205,7 @@ impl<'a> LineWords<'a> {
         true
     }
 
-    /// Passes the next word where it is seen to be a name.
+    /// Skips the next word if one pass finds that it is a name.
     #[inline(always)]
     pub(crate) fn pass_name(&mut self) -> bool
         ensures passed { result ≡ true → HasPassed name_of self.old self.new }

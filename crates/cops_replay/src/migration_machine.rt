@@ -18,21 +18,21 @@ use cops_script::{BadConfig, LineMachine, Stop};
 use cops_types::{Config, ConfigReader, Fault, HeadLine, OldConfigReader, Tenant};
 use std::alloc::{AllocError, Global};
 
-/// Where an audit of layout 1 stands: in its head, or after so many records.
+/// The progress of an audit of layout 1: in its head, or after this many records.
 #[derive(Drop)]
 pub enum OldPart {
     Head(OldConfigReader),
     Records(u64),
 }
 
-/// An audit of layout 1 that is migrated, as far as it was read.
+/// The state of a migration of an audit of layout 1.
 #[derive(Drop)]
 pub struct OldAudit {
     pub part: OldPart,
     pub lines: u64,
 }
 
-/// An audit that has come to no line.
+/// Returns an audit before its first line.
 pub(crate) fn new_old_audit() -> OldAudit
     ensures part { result.part ≡ Head (Some AtStart) }
     ensures lines { result.lines ≡ 0 }
@@ -43,7 +43,7 @@ pub(crate) fn new_old_audit() -> OldAudit
     }
 }
 
-/// Puts the lines of tenants at the end.
+/// Appends the lines of tenants.
 fn push_tenants(out: &mut Vec<u8>, tenants: &[Tenant]) -> Result<(), AllocError>
     ensures { OnOk result (out.new.items ≡ out.old.items ++ flat_map tenant_text tenants.now) }
 {
@@ -53,7 +53,7 @@ fn push_tenants(out: &mut Vec<u8>, tenants: &[Tenant]) -> Result<(), AllocError>
     Ok(())
 }
 
-/// Puts the head of an audit of layout 2 at the end.
+/// Appends the head of an audit of layout 2.
 fn push_head(out: &mut Vec<u8>, config: &Config) -> Result<(), AllocError>
     ensures { OnOk result (out.new.items ≡ out.old.items ++ head_text config.now) }
 {
@@ -64,7 +64,8 @@ fn push_head(out: &mut Vec<u8>, config: &Config) -> Result<(), AllocError>
     Ok(())
 }
 
-/// Reads the line of this number in a head of layout 1, and gives the configuration where the line ends it.
+/// Reads the line of this number in a head of layout 1. Returns the configuration if the line ends
+/// it.
 fn read_old_head(
     alloc: Global,
     reader: &mut OldConfigReader,
@@ -93,7 +94,7 @@ fn read_old_head(
     }
 }
 
-/// Why a line can't be migrated as a record's, where it can't.
+/// Returns why a line cannot be migrated as a record, if it cannot.
 fn record_fault(line: &[u8]) -> Option<Fault>
     ensures { result ≡ record_fault line.now }
 {
@@ -106,7 +107,7 @@ fn record_fault(line: &[u8]) -> Option<Fault>
     Some(old_fault(line))
 }
 
-/// Puts a line at the end, with its newline.
+/// Appends a line, with its newline.
 fn push_line(out: &mut Vec<u8>, line: &[u8]) -> Result<(), AllocError>
     ensures { OnOk result (out.new.items ≡ out.old.items ++ ended line.now) }
 {
@@ -115,7 +116,7 @@ fn push_line(out: &mut Vec<u8>, line: &[u8]) -> Result<(), AllocError>
     Ok(())
 }
 
-/// Puts the line of this number at the end, with its newline, where it is a record's.
+/// Appends the line of this number, with its newline, if it is a record.
 fn move_record(line: &[u8], number: u64, out: &mut Vec<u8>) -> Result<(), Stop<MigrationRefusal>>
     ensures moved { OnOk result (record_fault line.now ≡ None) }
     ensures text { OnOk result (out.new.items ≡ out.old.items ++ ended line.now) }
@@ -133,8 +134,8 @@ fn move_record(line: &[u8], number: u64, out: &mut Vec<u8>) -> Result<(), Stop<M
     }
 }
 
-/// Answers the line of this number in a head at the end of `out`, and tells whether it ends the head. It is
-/// apart, so that a record's line needs no room for a configuration.
+/// Appends the answer to the line of this number in a head. Returns `true` if it ends the head. It
+/// is a function of its own, so that a record's line needs no room for a configuration.
 #[inline(never)]
 fn answer_head(
     reader: &mut OldConfigReader,
@@ -155,7 +156,7 @@ fn answer_head(
     }
 }
 
-/// Answers the line of this number at the end of `out`.
+/// Appends the answer to the line of this number.
 fn answer_line(
     part: &mut OldPart,
     alloc: Global,

@@ -17,10 +17,10 @@ use cops_types::{Fault, Sink, Source};
 use std::alloc::Global;
 use std::io::{Read, Write};
 
-/// How many turns a reader has.
+/// The most turns of a reader.
 const TURNS: u64 = 4_294_967_296;
 
-/// A line of a tenant or a record that can't be migrated.
+/// A tenant's line or a record that cannot be migrated.
 #[derive(Clone, Copy, Debug, PartialEq, Eq)]
 pub struct BadLine {
     /// Counted from 1.
@@ -29,21 +29,21 @@ pub struct BadLine {
     pub fault: Fault,
 }
 
-/// Why an audit isn't migrated: its first bad line.
+/// Why an audit is not migrated: its first bad line.
 #[derive(Clone, Copy, Debug, PartialEq, Eq)]
 pub enum MigrationRefusal {
-    /// Layout 1 has no head with this line.
+    /// The line may not follow in a head of layout 1.
     BadConfig(BadConfig),
     BadLine(BadLine),
 }
 
-/// How many records were migrated.
+/// The number of migrated records.
 #[derive(Clone, Copy, Debug, PartialEq, Eq)]
 pub struct Migrated {
     pub records: u64,
 }
 
-/// How many records there were.
+/// Returns the number of records.
 fn records_of(part: &OldPart) -> u64
     ensures { result ≡ records_in part.now }
 {
@@ -53,7 +53,7 @@ fn records_of(part: &OldPart) -> u64
     }
 }
 
-/// Migrates an audit that has come to no line.
+/// Migrates an audit from its first line on.
 fn migrate_lines<R: Read, O: Write>(
     alloc: Global,
     audit: &mut OldAudit,
@@ -84,14 +84,14 @@ fn migrate_lines<R: Read, O: Write>(
     }
 }
 
-/// Migrates an audit of layout 1: writes the line `layout 2`, the head in its one form, and the record
-/// lines as they are. A record's tenant need not be in the head.
+/// Migrates an audit of layout 1: writes the line `layout 2`, the head in its one form, and the
+/// unchanged record lines. A record's tenant need not be in the head.
 ///
-/// It ends at the first line that layout 1 doesn't have there, which a line `layout 2` is too; or that is
-/// longer than 200,000 bytes; or whose first clock or clock of a version is above 281474976710654, which
+/// Ends at the first line that may not follow in layout 1, such as a line `layout 2`; or that is longer
+/// than 200,000 bytes; or that has a first clock or a version's clock above 281474976710654, which
 /// has no next one in layout 2.
 ///
-/// It reads as `run_script` does, and keeps the head and one line of at most 200,001 bytes.
+/// Reads as `run_script` does, and holds the head and one line of at most 200,001 bytes.
 pub fn migrate_text<R: Read, O: Write>(
     alloc: Global,
     source: &mut Source<R>,
@@ -104,13 +104,13 @@ pub fn migrate_text<R: Read, O: Write>(
     ensures text { OnOk result (IfSome (R.remaining (source_reader source.old)) (λ bytes.
         Appends (O.contents (sink_writer sink.old)) (O.contents (sink_writer sink.new)) (migration_of bytes).text)) }
 
-    // Or a front of what stands before the first bad line is written, and that line is told.
+    // Or a prefix of the text before the first bad line is written, and that line is returned.
     ensures front { OnErr result (IfSome (R.remaining (source_reader source.old)) (λ bytes.
         AppendsFront (O.contents (sink_writer sink.old)) (O.contents (sink_writer sink.new)) (migration_of bytes).text)) }
     ensures refused { IfErr result (λ fault. IfRunRefused fault (λ refusal.
         IfSome (R.remaining (source_reader source.old)) (λ bytes. (migration_of bytes).outcome ≡ Err refusal))) }
 
-    // The reader or the writer failed in this call, or the bound on turns was met.
+    // The reader or the writer failed in this call, or the turns are used up.
     ensures read_fault { IsErrOf result RunFault.ReadFault →
         HasRisen (source_failures source.old) (source_failures source.new)
         ⊎ HasRisenBy (source_reads source.old) (source_reads source.new) 4294967296 }

@@ -11,7 +11,7 @@ use cops_script::{BadConfig, Stop};
 use cops_types::{Config, HeadLine, OldConfigReader};
 use std::alloc::Global;
 
-/// The head of an audit of layout 1 so far, and how many lines it has.
+/// The head of an audit of layout 1 so far, and the number of its lines.
 #[derive(Debug, Drop)]
 pub struct OldHeadSoFar {
     pub reader: OldConfigReader,
@@ -19,8 +19,8 @@ pub struct OldHeadSoFar {
     ghost within_limits: { IsTrue (has_sizes reader) },
 }
 
-/// Reads one more line of a head of layout 1, and gives the configuration where the line ends it. After
-/// want of memory the line may be read again.
+/// Reads one more line of a head of layout 1. Returns the configuration if the line ends it. If
+/// memory runs out, the line may be read again.
 pub(crate) fn read_old_head(
     alloc: Global,
     head: &mut OldHeadSoFar,

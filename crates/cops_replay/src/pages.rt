@@ -1,4 +1,4 @@
-//! Text on its way to a writer, a few kilobytes at a time.
+//! Text buffered for a writer, a few kilobytes at a time.
 ghost use Rattle.std.specs.Prelude.{◌≡◌, [], OnOk, OnErr, IfErr};
 ghost use Rattle.std.specs.Io.KnownBytes.{Appends};
 ghost use Rattle.cops_types.specs.Counts.{HasRisen};
@@ -9,10 +9,10 @@ ghost use Rattle.cops_replay.specs.Pages.{PutsText, page};
 use cops_types::{Fault, Sink};
 use std::io::Write;
 
-/// Text that waits is written once it is this long.
+/// Flush threshold: buffered text is written once it is this long.
 const FULL: usize = 4096;
 
-/// Writes the text that waits.
+/// Writes the buffered text.
 pub(crate) fn drain<W: Write>(out: &mut Vec<u8>, sink: &mut Sink<W>) -> Result<(), Fault>
     ensures written { OnOk result (Appends (W.contents (sink_writer sink.old)) (W.contents (sink_writer sink.new)) out.old.items) }
     ensures empty { OnOk result (out.new.items ≡ []) }
@@ -28,7 +28,7 @@ pub(crate) fn drain<W: Write>(out: &mut Vec<u8>, sink: &mut Sink<W>) -> Result<(
     Ok(())
 }
 
-/// Writes the text that waits, once it is long.
+/// Writes the buffered text, once it reaches the threshold.
 pub(crate) fn drain_full<W: Write>(out: &mut Vec<u8>, sink: &mut Sink<W>) -> Result<(), Fault>
     ensures { PutsText [] (page out.old.items (W.contents (sink_writer sink.old)) (sink_failures sink.old)) result
         (page out.new.items (W.contents (sink_writer sink.new)) (sink_failures sink.new)) }

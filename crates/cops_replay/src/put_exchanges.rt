@@ -1,11 +1,11 @@
-//! Calls and replies as text, put over bytes that are there already.
+//! Calls and replies as text, written over existing bytes.
 ghost use Rattle.std.specs.Prelude.{◌≡◌, ◌≤◌, ◌+◌, ◌*◌, ◌++◌, [], length, take, IsTrue, OnOk};
 ghost use Rattle.cops_types.specs.FaultText.{fault_text};
 ghost use Rattle.cops_types.specs.Words.{spaced};
 ghost use Rattle.cops_model.specs.declared.calls.NodeCall.TheVariants.{DepCheck, Get, Put};
 ghost use Rattle.cops_model.specs.declared.calls.NodeReply.TheVariants.{Found};
 ghost use Rattle.cops_replay.specs.RecordText.{call_words, checked_text, has_form, is_call, is_reply, is_wanted, reply_words, wanted_text};
-ghost use Rattle.cops_replay.specs.Room.{IsRoomFor, call_room, entry_room, reply_room, stored_room};
+ghost use Rattle.cops_replay.specs.Room.{IsNoMoreThan, IsRoomFor, call_room, entry_room, reply_room, stored_room};
 
 use crate::put_words::{put_ack, put_entered, put_numbered, put_stored, put_value, put_versioned};
 use cops_node::{NodeCall, NodeReply, Wanted};
@@ -13,12 +13,13 @@ use cops_types::placed::{put_byte, put_deps, put_key, put_version, put_word};
 use cops_types::{Deps, Entry, Fault, Key, Near, OwnedDeps, OwnedValue, Value, Version};
 use std::alloc::AllocError;
 
-/// No value and no list is longer, since there is no memory for one.
+/// No value and no list is longer: memory could not hold it.
 const MOST: usize = 1 << 50;
 
-/// How much room a value of so many bytes and lists of so many pairs take at most.
+/// Returns the most room that a value of this many bytes and lists of this many pairs take.
 fn room_of_parts(value: usize, deps: usize, near: usize) -> usize
-    ensures { IsRoomFor (2 * value + 107 * deps + 107 * near) result }
+    ensures enough { IsRoomFor (2 * value + 107 * deps + 107 * near) result }
+    ensures no_more { IsNoMoreThan (2 * value + 107 * deps + 107 * near) result }
 {
     if value > MOST || deps > MOST || near > MOST {
         return usize::MAX;
@@ -26,16 +27,18 @@ fn room_of_parts(value: usize, deps: usize, near: usize) -> usize
     2 * value + 107 * deps + 107 * near
 }
 
-/// How much room the value and the lists of an entry take at most.
+/// Returns the most room that the value and the lists of an entry take.
 pub(crate) fn room_of_entry(entry: &Entry) -> usize
-    ensures { IsRoomFor (entry_room entry.now) result }
+    ensures enough { IsRoomFor (entry_room entry.now) result }
+    ensures no_more { IsNoMoreThan (entry_room entry.now) result }
 {
     room_of_parts(entry.value().len(), entry.deps().len(), entry.near().len())
 }
 
-/// How much room the value and the lists of a call take at most.
+/// Returns the most room that the value and the lists of a call take.
 pub(crate) fn room_of_call(call: &NodeCall) -> usize
-    ensures { IsRoomFor (call_room call.now) result }
+    ensures enough { IsRoomFor (call_room call.now) result }
+    ensures no_more { IsNoMoreThan (call_room call.now) result }
 {
     match call {
         NodeCall::Put(_, value, deps, near) => room_of_parts(
@@ -48,9 +51,10 @@ pub(crate) fn room_of_call(call: &NodeCall) -> usize
     }
 }
 
-/// How much room the value and the lists of a reply take at most.
+/// Returns the most room that the value and the lists of a reply take.
 pub(crate) fn room_of_reply(reply: &NodeReply) -> usize
-    ensures { IsRoomFor (reply_room reply.now) result }
+    ensures enough { IsRoomFor (reply_room reply.now) result }
+    ensures no_more { IsNoMoreThan (reply_room reply.now) result }
 {
     match reply {
         NodeReply::Found(found) => room_of_parts(found.value().len(), found.deps().len(), 0),
@@ -59,7 +63,7 @@ pub(crate) fn room_of_reply(reply: &NodeReply) -> usize
     }
 }
 
-/// Sees to it that so many bytes are there.
+/// Makes `place` at least this long.
 pub(crate) fn make_room(place: &mut Vec<u8>, room: usize) -> Result<(), AllocError>
     ensures { OnOk result (room ≤ length place.new.items) }
 {
@@ -69,7 +73,7 @@ pub(crate) fn make_room(place: &mut Vec<u8>, room: usize) -> Result<(), AllocErr
     Ok(())
 }
 
-/// Puts which version is asked for.
+/// Writes the wanted version.
 fn put_wanted(bytes: &mut [u8], at: usize, wanted: &Wanted) -> usize
     requires { at + 41 ≤ length bytes.old }
     ensures text { take result bytes.new ≡ take at bytes.old ++ wanted_text wanted.now }
@@ -82,7 +86,7 @@ fn put_wanted(bytes: &mut [u8], at: usize, wanted: &Wanted) -> usize
     }
 }
 
-/// Puts a get.
+/// Writes a get.
 fn put_get(bytes: &mut [u8], at: usize, key: &Key, wanted: &Wanted) -> usize
     requires { at + 165 ≤ length bytes.old }
     ensures text { take result bytes.new ≡ take at bytes.old ++ spaced (call_words (Get key.now wanted.now)) }
@@ -95,7 +99,7 @@ fn put_get(bytes: &mut [u8], at: usize, key: &Key, wanted: &Wanted) -> usize
     put_wanted(bytes, of_wanted, wanted)
 }
 
-/// Puts a put.
+/// Writes a put.
 fn put_put(bytes: &mut [u8], at: usize, key: &Key, value: &Value, deps: &Deps, near: &Near) -> usize
     requires { at + stored_room value.now deps.now near.now + 165 ≤ length bytes.old }
     ensures text { take result bytes.new ≡ take at bytes.old ++ spaced (call_words (Put key.now value.now deps.now near.now)) }
@@ -108,7 +112,7 @@ fn put_put(bytes: &mut [u8], at: usize, key: &Key, value: &Value, deps: &Deps, n
     put_stored(bytes, of_value, value.owned(), deps.owned(), near.owned())
 }
 
-/// Puts a check.
+/// Writes a check.
 fn put_check(bytes: &mut [u8], at: usize, key: &Key, version: Version) -> usize
     requires { at + 165 ≤ length bytes.old }
     ensures text { take result bytes.new ≡ take at bytes.old ++ spaced (call_words (DepCheck key.now version)) }
@@ -121,7 +125,7 @@ fn put_check(bytes: &mut [u8], at: usize, key: &Key, version: Version) -> usize
     put_version(bytes, of_version, version)
 }
 
-/// Puts a call.
+/// Writes a call.
 pub(crate) fn put_call(bytes: &mut [u8], at: usize, call: &NodeCall) -> usize
     requires { at + call_room call.now + 165 ≤ length bytes.old }
     ensures text { take result bytes.new ≡ take at bytes.old ++ spaced (call_words call.now) }
@@ -139,7 +143,7 @@ pub(crate) fn put_call(bytes: &mut [u8], at: usize, call: &NodeCall) -> usize
     }
 }
 
-/// Puts what is found.
+/// Writes what was found.
 pub(crate) fn put_found(
     bytes: &mut [u8],
     at: usize,
@@ -159,7 +163,7 @@ pub(crate) fn put_found(
     put_deps(bytes, of_deps, deps)
 }
 
-/// Puts whether a version has been committed.
+/// Writes whether a version has been committed.
 fn put_checked(bytes: &mut [u8], at: usize, committed: bool) -> usize
     requires { at + 165 ≤ length bytes.old }
     ensures text { take result bytes.new ≡ take at bytes.old ++ checked_text committed }
@@ -172,7 +176,7 @@ fn put_checked(bytes: &mut [u8], at: usize, committed: bool) -> usize
     }
 }
 
-/// Puts a fault.
+/// Writes a fault.
 fn put_fault(bytes: &mut [u8], at: usize, fault: Fault) -> usize
     requires { at + 165 ≤ length bytes.old }
     ensures text { take result bytes.new ≡ take at bytes.old ++ fault_text fault }
@@ -181,7 +185,7 @@ fn put_fault(bytes: &mut [u8], at: usize, fault: Fault) -> usize
     put_word(bytes, at, &fault.text())
 }
 
-/// Puts a reply.
+/// Writes a reply.
 pub(crate) fn put_reply(bytes: &mut [u8], at: usize, reply: &NodeReply) -> usize
     requires { at + reply_room reply.now + 165 ≤ length bytes.old }
     ensures text { take result bytes.new ≡ take at bytes.old ++ spaced (reply_words reply.now) }

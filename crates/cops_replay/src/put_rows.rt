@@ -1,4 +1,4 @@
-//! Rows of an audit as text, read where they stand and put over bytes that are there already.
+//! Rows of an audit as text, read in place and written over existing bytes.
 ghost use Rattle.cops_types.specs.Founds.{found_in};
 ghost use Rattle.std.specs.Prelude.{◌≡◌, ◌≤◌, ◌+◌, ◌*◌, ◌++◌, length, take, IsTrue};
 ghost use Rattle.cops_types.specs.Words.{spaced};
@@ -8,7 +8,7 @@ ghost use Rattle.cops_model.specs.declared.calls.NodeReply.TheVariants.{Found};
 ghost use Rattle.cops_model.specs.declared.calls.Wanted.TheVariants.{Exactly, Latest};
 ghost use Rattle.cops_replay.specs.AuditText.{ended};
 ghost use Rattle.cops_replay.specs.RecordText.{call_words, has_form, is_call, is_record, is_reply, record_line, reply_words};
-ghost use Rattle.cops_replay.specs.Room.{IsRoomFor, entry_room, line_room, packed_record, packing_room};
+ghost use Rattle.cops_replay.specs.Room.{IsNoMoreThan, IsRoomFor, entry_room, line_room, packed_record, packing_room};
 
 use crate::put_exchanges::{
     put_call, put_found, put_reply, room_of_call, room_of_entry, room_of_reply,
@@ -18,9 +18,10 @@ use cops_node::{NodeId, Packing};
 use cops_types::placed::{put_byte, put_version, put_word};
 use cops_types::{Entry, Name, ShortKey, Version};
 
-/// How much room the values and the lists of a call and its reply take at most.
+/// Returns the most room that the values and the lists of a call and its reply take.
 fn room_of_packing(packing: &Packing) -> usize
-    ensures { IsRoomFor (packing_room packing.now) result }
+    ensures enough { IsRoomFor (packing_room packing.now) result }
+    ensures no_more { IsNoMoreThan (packing_room packing.now) result }
 {
     match packing {
         Packing::PutStored(entry) => room_of_entry(entry),
@@ -37,16 +38,17 @@ fn room_of_packing(packing: &Packing) -> usize
     }
 }
 
-/// How much room the line of a call takes at most.
+/// Returns the most room that the line of a call takes.
 pub(crate) fn room_of(packing: &Packing) -> usize
-    ensures { IsRoomFor (line_room packing.now) result }
+    ensures enough { IsRoomFor (line_room packing.now) result }
+    ensures no_more { IsNoMoreThan (line_room packing.now) result }
 {
     room_of_packing(packing)
         .saturating_mul(2)
         .saturating_add(430)
 }
 
-/// Puts the put of an entry.
+/// Writes the put of an entry.
 fn put_put(bytes: &mut [u8], at: usize, entry: &Entry) -> usize
     requires { at + entry_room entry.now + 165 ≤ length bytes.old }
     ensures text { take result bytes.new ≡ take at bytes.old ++ spaced (call_words (Put entry.now.key entry.now.value entry.now.deps entry.now.near)) }
@@ -59,7 +61,7 @@ fn put_put(bytes: &mut [u8], at: usize, entry: &Entry) -> usize
     put_stored(bytes, of_value, entry.value(), entry.deps(), entry.near())
 }
 
-/// Puts a get of the latest version of an entry's key.
+/// Writes a get of the latest version of an entry's key.
 fn put_latest(bytes: &mut [u8], at: usize, entry: &Entry) -> usize
     requires { at + 165 ≤ length bytes.old }
     ensures text { take result bytes.new ≡ take at bytes.old ++ spaced (call_words (Get entry.now.key Latest)) }
@@ -71,7 +73,7 @@ fn put_latest(bytes: &mut [u8], at: usize, entry: &Entry) -> usize
     put_word(bytes, after_key, b" latest")
 }
 
-/// Puts a get of an entry's version.
+/// Writes a get of an entry's version.
 fn put_exact(bytes: &mut [u8], at: usize, entry: &Entry) -> usize
     requires { at + 165 ≤ length bytes.old }
     ensures text { take result bytes.new ≡ take at bytes.old ++ spaced (call_words (Get entry.now.key (Exactly entry.now.version))) }
@@ -84,7 +86,7 @@ fn put_exact(bytes: &mut [u8], at: usize, entry: &Entry) -> usize
     put_version(bytes, of_version, entry.version())
 }
 
-/// Puts a get of the latest version of a key.
+/// Writes a get of the latest version of a key.
 fn put_absent(bytes: &mut [u8], at: usize, key: &ShortKey) -> usize
     requires { at + 165 ≤ length bytes.old }
     ensures text { take result bytes.new ≡ take at bytes.old ++ spaced (call_words (Get key.now Latest)) }
@@ -96,7 +98,7 @@ fn put_absent(bytes: &mut [u8], at: usize, key: &ShortKey) -> usize
     put_word(bytes, after_key, b" latest")
 }
 
-/// Puts a get of a version.
+/// Writes a get of a version.
 fn put_get(bytes: &mut [u8], at: usize, key: &ShortKey, version: Version) -> usize
     requires { at + 165 ≤ length bytes.old }
     ensures text { take result bytes.new ≡ take at bytes.old ++ spaced (call_words (Get key.now (Exactly version))) }
@@ -109,7 +111,7 @@ fn put_get(bytes: &mut [u8], at: usize, key: &ShortKey, version: Version) -> usi
     put_version(bytes, of_version, version)
 }
 
-/// Puts a check of a version.
+/// Writes a check of a version.
 fn put_check(bytes: &mut [u8], at: usize, key: &ShortKey, version: Version) -> usize
     requires { at + 165 ≤ length bytes.old }
     ensures text { take result bytes.new ≡ take at bytes.old ++ spaced (call_words (DepCheck key.now version)) }
@@ -122,7 +124,7 @@ fn put_check(bytes: &mut [u8], at: usize, key: &ShortKey, version: Version) -> u
     put_version(bytes, of_version, version)
 }
 
-/// Puts that an entry is found.
+/// Writes that an entry was found.
 fn put_found_entry(bytes: &mut [u8], at: usize, entry: &Entry) -> usize
     requires { at + entry_room entry.now + 165 ≤ length bytes.old }
     ensures text { take result bytes.new ≡ take at bytes.old ++ spaced (reply_words (Found (found_in entry.now))) }
@@ -132,7 +134,7 @@ fn put_found_entry(bytes: &mut [u8], at: usize, entry: &Entry) -> usize
     put_found(bytes, at, entry.version(), entry.value(), entry.deps())
 }
 
-/// Puts the call.
+/// Writes the call.
 fn put_row_call(bytes: &mut [u8], at: usize, packing: &Packing) -> usize
     requires { at + packing_room packing.now + 165 ≤ length bytes.old }
     ensures text { take result bytes.new ≡ take at bytes.old ++ spaced (call_words (exchange_of packing.now).call) }
@@ -159,7 +161,7 @@ fn put_row_call(bytes: &mut [u8], at: usize, packing: &Packing) -> usize
     }
 }
 
-/// Puts the reply.
+/// Writes the reply.
 fn put_row_reply(bytes: &mut [u8], at: usize, packing: &Packing) -> usize
     requires { at + packing_room packing.now + 165 ≤ length bytes.old }
     ensures text { take result bytes.new ≡ take at bytes.old ++ spaced (reply_words (exchange_of packing.now).reply) }
@@ -186,7 +188,7 @@ fn put_row_reply(bytes: &mut [u8], at: usize, packing: &Packing) -> usize
     }
 }
 
-/// Puts the line of a call at the begin, with its newline.
+/// Writes the line of a call at the beginning, with its newline.
 pub(crate) fn put_line(
     bytes: &mut [u8],
     name: &Name,

@@ -1,4 +1,4 @@
-//! Words of a record as text, put at a place of bytes that are there already.
+//! Words of a record as text, written at a place in existing bytes.
 ghost use Rattle.std.specs.Prelude.{◌≡◌, ◌≤◌, ◌<◌, ◌+◌, ◌*◌, ◌++◌, ◌∷◌, [], ◌&&◌, length, take, nat_lt, decimal, codes, IsTrue};
 ghost use Rattle.std.specs.List.{list_all};
 ghost use Rattle.cops_types.specs.PairForms.{are_deps, are_near, is_version};
@@ -11,7 +11,7 @@ use cops_node::NodeId;
 use cops_types::placed::{put_byte, put_deps, put_near, put_number, put_version, put_word};
 use cops_types::{Entry, Name, OwnedDeps, OwnedNear, OwnedValue, Version};
 
-/// The digit of a number below 16.
+/// Returns the digit of a number below 16.
 #[inline(always)]
 pub(crate) fn digit(number: u8) -> u8
     requires { number < 16 }
@@ -21,7 +21,7 @@ pub(crate) fn digit(number: u8) -> u8
     b'0' + number + above_nine
 }
 
-/// Puts two digits for each byte.
+/// Writes two digits for each byte.
 fn put_digits(bytes: &mut [u8], at: usize, value: &[u8]) -> usize
     requires { at + 2 * length value.now ≤ length bytes.old }
     ensures text { take result bytes.new ≡ take at bytes.old ++ bytes_text value.now }
@@ -36,7 +36,7 @@ fn put_digits(bytes: &mut [u8], at: usize, value: &[u8]) -> usize
     end
 }
 
-/// Puts two digits for each byte of a value, or a hyphen where it has none.
+/// Writes two digits for each byte of a value, or a hyphen if it is empty.
 pub(crate) fn put_value(bytes: &mut [u8], at: usize, value: &OwnedValue) -> usize
     requires { at + 2 * length value.now + 1 ≤ length bytes.old }
     ensures text { take result bytes.new ≡ take at bytes.old ++ record_value value.now }
@@ -50,7 +50,7 @@ pub(crate) fn put_value(bytes: &mut [u8], at: usize, value: &OwnedValue) -> usiz
     put_digits(bytes, at, value)
 }
 
-/// Puts a data centre, a dot and a shard.
+/// Writes a data centre, a dot and a shard.
 pub(crate) fn put_node(bytes: &mut [u8], at: usize, node: NodeId) -> usize
     requires { at + 41 ≤ length bytes.old }
     ensures text { take result bytes.new ≡ take at bytes.old ++ node_text node }
@@ -62,7 +62,7 @@ pub(crate) fn put_node(bytes: &mut [u8], at: usize, node: NodeId) -> usize
     put_number(bytes, shard, node.shard)
 }
 
-/// Puts a name, a node and a moment, each with a space behind it.
+/// Writes a name, a node and a timestamp, each followed by a space.
 pub(crate) fn put_front(
     bytes: &mut [u8],
     at: usize,
@@ -83,7 +83,7 @@ pub(crate) fn put_front(
     put_byte(bytes, after_moment, b' ')
 }
 
-/// Puts a value and two lists.
+/// Writes a value and two lists.
 pub(crate) fn put_stored(
     bytes: &mut [u8],
     at: usize,
@@ -103,7 +103,7 @@ pub(crate) fn put_stored(
     put_near(bytes, of_near, near)
 }
 
-/// Puts the parts of an entry.
+/// Writes the parts of an entry.
 pub(crate) fn put_entry(bytes: &mut [u8], at: usize, entry: &Entry) -> usize
     requires { at + entry_room entry.now + 154 ≤ length bytes.old }
     ensures text { take result bytes.new ≡ take at bytes.old ++ spaced (entry_words entry.now) }
@@ -119,7 +119,7 @@ pub(crate) fn put_entry(bytes: &mut [u8], at: usize, entry: &Entry) -> usize
     put_version(bytes, of_prev, entry.prev())
 }
 
-/// Puts a word, a space and a number.
+/// Writes a word, a space and a number.
 #[inline(always)]
 pub(crate) fn put_numbered(bytes: &mut [u8], at: usize, word: &[u8], number: u64) -> usize
     requires { at + length word.now + 21 ≤ length bytes.old }
@@ -132,7 +132,7 @@ pub(crate) fn put_numbered(bytes: &mut [u8], at: usize, word: &[u8], number: u64
     put_number(bytes, of_number, number)
 }
 
-/// Puts a word, a space and a version.
+/// Writes a word, a space and a version.
 #[inline(always)]
 pub(crate) fn put_versioned(bytes: &mut [u8], at: usize, word: &[u8], version: Version) -> usize
     requires { at + length word.now + 42 ≤ length bytes.old }
@@ -145,7 +145,7 @@ pub(crate) fn put_versioned(bytes: &mut [u8], at: usize, word: &[u8], version: V
     put_version(bytes, of_version, version)
 }
 
-/// Puts a word, a space and an entry.
+/// Writes a word, a space and an entry.
 #[inline(always)]
 pub(crate) fn put_entered(bytes: &mut [u8], at: usize, word: &[u8], entry: &Entry) -> usize
     requires { at + length word.now + entry_room entry.now + 155 ≤ length bytes.old }
@@ -158,7 +158,7 @@ pub(crate) fn put_entered(bytes: &mut [u8], at: usize, word: &[u8], entry: &Entr
     put_entry(bytes, of_entry, entry)
 }
 
-/// Puts an acknowledgement.
+/// Writes an acknowledgement.
 pub(crate) fn put_ack(bytes: &mut [u8], at: usize, dc: u64, version: Version) -> usize
     requires { at + 165 ≤ length bytes.old }
     ensures text { take result bytes.new ≡ take at bytes.old ++ spaced (call_words (Ack dc version)) }

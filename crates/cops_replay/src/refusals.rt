@@ -8,7 +8,7 @@ pub enum ReplayRefusal {
     BadConfig(BadConfig),
     /// The head has no tenant of the name.
     UnknownTenant,
-    /// A clock of the tenant in a file of layout 1 is above 281474976710654: his first, or one in his
-    /// records.
+    /// A clock of the tenant in a file of layout 1 is above 281474976710654: its first clock, or
+    /// one in its records.
     ClockTooGreat,
 }

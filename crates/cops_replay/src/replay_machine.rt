@@ -29,25 +29,25 @@ use cops_types::words::split_word;
 use cops_types::{Bytes, Config, ConfigReader, Fault, Tenant};
 use std::alloc::{AllocError, Global};
 
-/// How far an audit has come.
+/// The progress of an audit.
 #[derive(Drop)]
 pub enum ReplayStage {
-    /// To no line, or into a head of layout 1.
+    /// Before its first line, or in a head of layout 1.
     OldHead(OldHeadSoFar),
-    /// Past the line that tells today's layout, and into the head after it.
+    /// After the line of today's layout, in the head.
     Head(HeadSoFar),
-    /// To its records.
+    /// In its records.
     Running(Replay),
 }
 
-/// An audit of which the records of the tenant with this name are replayed.
+/// An audit, of which the records of the tenant with this name are replayed.
 #[derive(Drop)]
 pub struct ReplayScript {
     pub name: Bytes,
     pub stage: ReplayStage,
 }
 
-/// An audit that has come to no line, for the tenant with this name.
+/// Returns an audit before its first line, for the tenant with this name.
 pub(crate) fn new_replay_script(alloc: Global, name: &[u8]) -> Result<ReplayScript, AllocError>
     ensures name { IfOk result (λ replay. replay.name ≡ name.now) }
     ensures head { IfOk result (λ replay. IsHeadBy Early AtStart 0 replay.stage) }
@@ -62,7 +62,7 @@ pub(crate) fn new_replay_script(alloc: Global, name: &[u8]) -> Result<ReplayScri
     })
 }
 
-/// An audit after the line that tells today's layout.
+/// Returns an audit after the line of today's layout.
 fn new_head() -> ReplayStage
     ensures { IsHeadBy Today AtStart 1 result }
 {
@@ -72,14 +72,14 @@ fn new_head() -> ReplayStage
     })
 }
 
-/// Whether a line is the first one, and tells today's layout.
+/// Returns `true` if a line is the first one, and names today's layout.
 fn tells_today(head: &OldHeadSoFar, line: &[u8]) -> bool
     ensures { result ≡ tells_today head.now line.now }
 {
     head.lines == 0 && line == b"layout 2".as_slice()
 }
 
-/// Whether a tenant's first clock in a file of this layout is too great for today's.
+/// Returns `true` if a tenant's first clock in a file of this layout is too great for today's.
 fn starts_great(layout: Layout, tenant: &Tenant) -> bool
     ensures { result ≡ starts_great_in layout tenant.now }
 {
@@ -89,7 +89,7 @@ fn starts_great(layout: Layout, tenant: &Tenant) -> bool
     }
 }
 
-/// A replay for the tenant of this name.
+/// Returns a replay for the tenant of this name.
 fn begin_replay(
     alloc: Global,
     layout: Layout,
@@ -115,7 +115,7 @@ fn begin_replay(
     }
 }
 
-/// Reads one more line of a head of today's layout, and begins the replay where the line ends it.
+/// Reads one more line of a head of today's layout, and begins the replay if the line ends it.
 fn read_head_line(
     alloc: Global,
     name: &[u8],
@@ -137,7 +137,7 @@ fn read_head_line(
     }
 }
 
-/// Reads one more line of a head of layout 1, and begins the replay where the line ends it.
+/// Reads one more line of a head of layout 1, and begins the replay if the line ends it.
 fn read_old_head_line(
     alloc: Global,
     name: &[u8],
@@ -159,7 +159,7 @@ fn read_old_head_line(
     }
 }
 
-/// Replays a line after the head, where it is the tenant's.
+/// Replays a line after the head, if it is the tenant's.
 fn replay_own(
     alloc: Global,
     name: &[u8],
@@ -180,7 +180,7 @@ fn replay_own(
     }
 }
 
-/// Puts a word, a number and a newline at the end.
+/// Appends a word, a number and a newline.
 fn push_found(out: &mut Vec<u8>, word: &[u8], number: u64) -> Result<(), AllocError>
     ensures { OnOk result (out.new.items ≡ out.old.items ++ (word.now ++ decimal number ++ newline ∷ [])) }
 {
@@ -190,7 +190,7 @@ fn push_found(out: &mut Vec<u8>, word: &[u8], number: u64) -> Result<(), AllocEr
     Ok(())
 }
 
-/// Puts what a replay found at the end.
+/// Appends the result of a replay.
 fn push_replayed(out: &mut Vec<u8>, found: Replayed) -> Result<(), AllocError>
     ensures { OnOk result (out.new.items ≡ out.old.items ++ replayed_text found) }
 {

@@ -16,39 +16,39 @@ use std::alloc::Global;
 use std::io::{Read, Write};
 use std::mem;
 
-/// How many turns a reader has.
+/// The most turns of a reader.
 const TURNS: u64 = 4_294_967_296;
 
-/// Replays the records of one tenant of an audit, on new nodes that he has to himself: reads the
-/// whole of it, and writes `same N` where each of his N lines is a record whose reply is computed
-/// again, else `differs PLACE`, the place among his lines, from 1, of the first that is not one. A file
-/// whose first line isn't `layout 2` is read as one of layout 1.
+/// Replays the records of one tenant of an audit, on new nodes that the tenant has to itself. Reads
+/// the whole audit. Writes `same N` if each of the tenant's N lines is a record whose reply is
+/// computed again; otherwise `differs PLACE`, the place among the tenant's lines, from 1, of the
+/// first that is not. A file whose first line is not `layout 2` is read in layout 1.
 ///
-/// Lines of other tenants, and what follows a difference, are read and passed over. It reads as
-/// `run_script` does, and keeps the nodes and one line of at most 200,001 bytes.
+/// Skips lines of other tenants, and lines after a difference. Reads as `run_script` does, and
+/// holds the nodes and one line of at most 200,001 bytes.
 ///
-/// This is a program's last work: the memory of the nodes stays taken until the process ends.
+/// Call it last in a program: the memory of the nodes stays allocated until the process ends.
 pub fn replay_text<R: Read, O: Write>(
     alloc: Global,
     source: &mut Source<R>,
     sink: &mut Sink<O>,
     tenant: &[u8],
 ) -> Result<(), RunFault<ReplayRefusal>>
-    // All is read, and what is found is written, or a front of that.
+    // All is read, and the result is written, or a prefix of it.
     ensures end { OnOk result (IsAtEnd (R.remaining (source_reader source.new))) }
     ensures ok { OnOk result (IfSome (R.remaining (source_reader source.old)) (λ bytes.
         (text : List ℕ) × IsReplayOf tenant.now bytes text × Appends (O.contents (sink_writer sink.old)) (O.contents (sink_writer sink.new)) text)) }
     ensures err { OnErr result (IfSome (R.remaining (source_reader source.old)) (λ bytes.
         ReplaysFront tenant.now bytes (O.contents (sink_writer sink.old)) (O.contents (sink_writer sink.new)))) }
 
-    // The head is refused where it is bad, the tenant where it has none of the name, and a file of layout 1
-    // where a clock of the tenant is too great; nothing is written then.
+    // A bad head is refused; so is a tenant that the head lacks, and a file of layout 1 in which a
+    // clock of the tenant is too great. Nothing is written then.
     ensures refused { IfErr result (λ fault. IfRunRefused fault (λ refusal.
         IfSome (R.remaining (source_reader source.old)) (λ bytes. RefusesReplayOf tenant.now bytes refusal))) }
     ensures unwritten { IfErr result (λ fault. IfRunRefused fault (λ refusal.
         Keeps (O.contents (sink_writer sink.old)) (O.contents (sink_writer sink.new)))) }
 
-    // The reader or the writer failed in this call, or the bound on turns was met.
+    // The reader or the writer failed in this call, or the turns are used up.
     ensures read_fault { IsErrOf result RunFault.ReadFault →
         HasRisen (source_failures source.old) (source_failures source.new)
         ⊎ HasRisenBy (source_reads source.old) (source_reads source.new) 4294967296 }
@@ -59,7 +59,7 @@ pub fn replay_text<R: Read, O: Write>(
     };
     let mut replay: ReplayScript = replay;
     let ended = run_lines(&mut replay, alloc, TURNS, LONGEST_RECORD, source, sink);
-    // The process ends soon, and gives back its memory at once.
+    // The process ends soon, and frees its memory at once.
     mem::forget(replay);
     ended
 }

@@ -1,4 +1,4 @@
-//! A replay on its way.
+//! A replay in progress.
 ghost use Rattle.std.specs.Prelude.{◌≡◌, ◌<◌, ℕ, Some, IfOk, IsTrue, OnOk, length, nat_le, slice_get};
 ghost use Rattle.std.specs.Option.{is_some};
 ghost use Rattle.cops_types.specs.declared.configs.Tenant.{Tenant};
@@ -24,11 +24,11 @@ use cops_types::{Config, Fault};
 use std::alloc::{AllocError, Global};
 use std::marker::Model;
 
-/// The longest line that may be a record's, without its newline.
+/// The longest line of a record, in bytes without its newline.
 pub(crate) const LONGEST_RECORD: usize = 200_000;
 
-/// A tenant's nodes after the records so far, how many of these agreed, and where the first that
-/// does not stands.
+/// A tenant's nodes after the records so far, the number of those that agreed, and the place of the
+/// first that does not.
 #[derive(Drop)]
 pub struct Replay {
     layout: Layout,
@@ -48,8 +48,8 @@ impl Model for Replay {
     ghost invariant = { λ r. IsOfItsFile r.layout r.alone r.nodes };
 }
 
-/// Whether a short line of layout 1 is a record that today's layout has too. Refused where only a
-/// clock is too great.
+/// Returns `true` if a short line of layout 1 is a record that today's layout has too. Fails if
+/// only a clock is too great.
 fn is_early(line: &[u8]) -> Result<bool, Fault>
     requires short { IsTrue (nat_le (length line.now) longest_record) }
     ensures early { IfOk result (λ early. MayAgree Early line.now early) }
@@ -64,8 +64,8 @@ fn is_early(line: &[u8]) -> Result<bool, Fault>
     Ok(false)
 }
 
-/// Whether the line may be a record that agrees: where it is one by today's layout, it is the same by
-/// its own.
+/// Returns `true` if the line may be a record that agrees: if it is one in today's layout, it is
+/// the same in its own.
 fn may_agree(layout: Layout, line: &[u8]) -> Result<bool, Fault>
     requires { IsTrue (is_replayed layout) }
     ensures may { IfOk result (λ may. MayAgree layout line.now may) }
@@ -81,8 +81,8 @@ fn may_agree(layout: Layout, line: &[u8]) -> Result<bool, Fault>
     }
 }
 
-/// Runs the call of a line again, where its node exists and it fits that. Whether the reply is the one
-/// that the line tells.
+/// Executes the call of a line again if its node exists and the call fits it. Returns `true` if the
+/// reply is the one in the line.
 fn agrees(
     alloc: Global,
     nodes: &mut Cluster0,
@@ -108,7 +108,7 @@ fn agrees(
 }
 
 impl Replay {
-    /// No record has been replayed, on new nodes for the tenant of a slot alone.
+    /// Returns a replay before its first record, on new nodes for the tenant of a slot alone.
     pub(crate) fn begin(
         alloc: Global,
         layout: Layout,
@@ -133,7 +133,7 @@ impl Replay {
         })
     }
 
-    /// What has been found so far.
+    /// Returns the result so far.
     pub(crate) fn found(&self) -> Replayed
         ensures { result ≡ found_of self.now }
     {
@@ -143,7 +143,7 @@ impl Replay {
         }
     }
 
-    /// Runs the call of a line again. Whether the line is a record that agrees.
+    /// Executes the call of a line again. Returns `true` if the line is a record that agrees.
     fn agrees(&mut self, alloc: Global, line: &[u8]) -> Result<bool, AllocError>
         ensures replayed { IfOk result (λ agrees. (config : TenantConfig) → IsAlone config self.old.nodes → IsLineReplayed config line.now self.old.nodes agrees self.new.nodes) }
         ensures layout { self.new.layout ≡ self.old.layout }
@@ -153,7 +153,7 @@ impl Replay {
         agrees(alloc, &mut self.nodes, &self.alone, line)
     }
 
-    /// Notes whether the next record agreed.
+    /// Records whether the next record agreed.
     fn note(&mut self, agreed: bool)
         ensures { IsRecordCounted agreed self.old self.new }
     {
@@ -165,15 +165,15 @@ impl Replay {
         }
     }
 
-    /// Whether a record differed.
+    /// Returns `true` if a record differed.
     fn is_over(&self) -> bool
         ensures { result ≡ is_some self.now.found }
     {
         self.found.is_some()
     }
 
-    /// Replays the record of the next line, unless one differed before it. A line of layout 1 is refused
-    /// in either case where only a clock in it is too great.
+    /// Replays the record of the next line, unless one differed before it. In either case fails if
+    /// it is a line of layout 1 in which only a clock is too great.
     pub(crate) fn line(&mut self, alloc: Global, line: &[u8]) -> Result<(), Fault>
         ensures replayed { OnOk result (IsReplayedLine line.now self.old self.new) }
         ensures great { IsAnswer (great_clock_of self.old.layout line.now) result }

@@ -1,4 +1,4 @@
-//! Whether a text tells a reply.
+//! Tests whether a text is that of a reply.
 ghost use Rattle.std.specs.Prelude.{◌≡◌, ◌↔◌, IfSome, IsTrue, Some};
 ghost use Rattle.std.specs.Option.{option_map};
 ghost use Rattle.cops_types.specs.Behind.{behind};
@@ -12,7 +12,7 @@ use cops_node::NodeReply;
 use cops_types::Fault;
 use cops_types::prefixes::behind_bytes;
 
-/// Whether a reply is one that an audit has.
+/// Returns `true` if an audit may have the reply.
 pub(crate) fn has_form(reply: &NodeReply) -> bool
     ensures { result ≡ has_form reply.now }
 {
@@ -25,7 +25,7 @@ pub(crate) fn has_form(reply: &NodeReply) -> bool
     }
 }
 
-/// What stands behind whether a version has been committed.
+/// Returns the bytes after whether a version has been committed.
 fn behind_checked(text: &[u8], committed: bool) -> Option<&[u8]>
     ensures { option_map (λ rest. rest.now) result ≡ behind (checked_text committed) text.now }
 {
@@ -36,14 +36,14 @@ fn behind_checked(text: &[u8], committed: bool) -> Option<&[u8]>
     }
 }
 
-/// What stands behind a fault.
+/// Returns the bytes after a fault.
 fn behind_fault(text: &[u8], fault: Fault) -> Option<&[u8]>
     ensures { option_map (λ rest. rest.now) result ≡ behind (fault_text fault) text.now }
 {
     behind_bytes(text, &fault.text())
 }
 
-/// What stands behind a reply, where the text begins with it.
+/// Returns the bytes after a reply, if the text begins with it.
 fn behind_reply<'a>(text: &'a [u8], reply: &NodeReply) -> Option<&'a [u8]>
     ensures text { option_map (λ rest. rest.now) result ≡ behind (spaced (reply_words reply.now)) text.now }
     ensures formed { IfSome result (λ _. IsTrue (has_form reply.now) → IsTrue (is_reply reply.now)) }
@@ -73,7 +73,7 @@ fn behind_reply<'a>(text: &'a [u8], reply: &NodeReply) -> Option<&'a [u8]>
     }
 }
 
-/// Whether a text tells the reply: whether it is the reply's text, and no more.
+/// Returns `true` if a text is exactly that of the reply.
 pub(crate) fn is_told(reply: &NodeReply, text: &[u8]) -> bool
     ensures { IsTrue result ↔ (reply_told text.now ≡ Some reply.now) }
 {

@@ -1,4 +1,4 @@
-//! Lines of the calls in an audit, put at the end of a vector.
+//! Lines of the calls in an audit, appended to a vector.
 ghost use Rattle.std.specs.Prelude.{◌≡◌, ◌≤◌, ◌++◌, length, OnOk, IsTrue};
 ghost use Rattle.cops_node.specs.Rows.{exchange_of};
 ghost use Rattle.cops_replay.specs.AuditText.{ended};
@@ -12,8 +12,8 @@ use cops_node::{AuditRow, NodeId, Packing};
 use cops_types::Name;
 use std::alloc::AllocError;
 
-/// Puts the line of a call at the end, with its newline, over bytes that are there already, from which
-/// it is copied at once.
+/// Appends the line of a call, with its newline. It is written over existing bytes and copied from
+/// there at once.
 fn push_placed(
     out: &mut Vec<u8>,
     place: &mut [u8],
@@ -30,8 +30,7 @@ fn push_placed(
     out.extend_from_slice(&place[..end])
 }
 
-/// Puts the line of a row at the end, with its newline. The row is read where it stands. Bytes of the
-/// place are of no account to the caller.
+/// Appends the line of a row, with its newline. The row is read in place. `place` is scratch space.
 pub(crate) fn push_row(
     out: &mut Vec<u8>,
     place: &mut Vec<u8>,

@@ -1,5 +1,5 @@
-//! Numbers, versions and pairs at the front of bytes, read in one pass. Where none is found this way,
-//! there may be one all the same: who has to know looks again, part by part.
+//! Reads numbers, versions and pairs at the start of bytes in one pass. If a pass finds none, there
+//! may be one all the same: a caller that must know looks again, part by part.
 ghost use Rattle.std.specs.Prelude.{◌≡◌, ◌+◌, ◌-◌, ◌*◌, ◌^◌, ◌<◌, ◌≤◌, ◌&&◌, ◌||◌, ◌==◌, ◌∷◌, [], IfSome, length, nat_le, nat_lt, slice_index, take, true};
 ghost use Rattle.std.specs.List.{list_all};
 ghost use Rattle.std.specs.Option.{option_map_or};
@@ -17,30 +17,30 @@ use cops_types::Version;
 /// The most bytes of a key.
 const LONGEST_KEY: usize = 64;
 
-/// The most digits of a clock that are one of a version in each layout.
+/// The most digits with which a clock fits each layout.
 const SHORT_CLOCK: usize = 14;
 
-/// The most digits of a node that are one of a version in each layout.
+/// The most digits with which a node fits each layout.
 const SHORT_NODE: usize = 2;
 
-/// A tenth of 2 to the 64, rounded down: before a number below it one more digit can be put.
+/// A tenth of 2 to the 64, rounded down: one more digit fits after a number below it.
 const TENTH: u64 = 1844674407370955161;
 
-/// The number that so many digits write.
+/// The number that this many digits write.
 #[derive(Clone, Copy)]
 struct FrontDigits {
     value: u64,
     count: usize,
 }
 
-/// A number and what stands behind it.
+/// A number and the bytes after it.
 #[derive(Clone, Copy)]
 pub(crate) struct FrontNumber<'a> {
     pub(crate) value: u64,
     pub(crate) rest: &'a [u8],
 }
 
-/// Two numbers with a dot between, and what stands behind them.
+/// Two numbers with a dot between, and the bytes after them.
 #[derive(Clone, Copy)]
 pub(crate) struct FrontNumbers<'a> {
     pub(crate) first: u64,
@@ -48,7 +48,7 @@ pub(crate) struct FrontNumbers<'a> {
     pub(crate) rest: &'a [u8],
 }
 
-/// The key and the version of a pair, and what stands behind the comma after them, where one is.
+/// The key and the version of a pair, and the bytes after the comma that follows, if there is one.
 #[derive(Clone, Copy)]
 pub(crate) struct FrontPair<'a> {
     pub(crate) key: &'a [u8],
@@ -56,14 +56,14 @@ pub(crate) struct FrontPair<'a> {
     pub(crate) rest: Option<&'a [u8]>,
 }
 
-/// The key of a pair, and what stands behind the comma after the pair, where one is.
+/// The key of a pair, and the bytes after the comma that follows the pair, if there is one.
 #[derive(Clone, Copy)]
 pub(crate) struct FrontKey<'a> {
     pub(crate) key: &'a [u8],
     pub(crate) rest: Option<&'a [u8]>,
 }
 
-/// Whether the byte is a digit.
+/// Returns `true` if the byte is a digit.
 #[inline(always)]
 fn is_decimal(code: u8) -> bool
     ensures { result ≡ (nat_le 48 code && nat_le code 57) }
@@ -71,7 +71,7 @@ fn is_decimal(code: u8) -> bool
     48 <= code && code <= 57
 }
 
-/// The number with one more digit at its end, where it is sure to be below 2 to the 64.
+/// Returns the number with one more digit at its end, if it is sure to be below 2 to the 64.
 #[inline(always)]
 fn with_digit(value: u64, code: u8) -> Option<u64>
     requires low { 48 ≤ code }
@@ -84,7 +84,7 @@ fn with_digit(value: u64, code: u8) -> Option<u64>
     Some(value * 10 + u64::from(code - 48))
 }
 
-/// The digits at the front.
+/// Returns the number of the digits at the start, and their count.
 #[inline(always)]
 fn front_digits(bytes: &[u8]) -> Option<FrontDigits>
     ensures { IfSome result (λ digits. (digits.count ≤ length bytes.now) × (digits.value < 2 ^ 64) × AllDigits 10 (take digits.count bytes.now) × (digits.value ≡ digits_value 10 (take digits.count bytes.now))) }
@@ -98,7 +98,7 @@ fn front_digits(bytes: &[u8]) -> Option<FrontDigits>
     Some(FrontDigits { value, count: at })
 }
 
-/// Whether a zero stands before more digits.
+/// Returns `true` if a zero comes before more digits.
 #[inline(always)]
 fn has_leading_zero(bytes: &[u8], count: usize) -> bool
     requires { count ≤ length bytes.now }
@@ -107,7 +107,7 @@ fn has_leading_zero(bytes: &[u8], count: usize) -> bool
     count > 1 && bytes[0] == b'0'
 }
 
-/// How many digits stand at the front.
+/// Returns how many digits there are at the start.
 #[inline(always)]
 fn digit_front(bytes: &[u8]) -> usize
     ensures fits { result ≤ length bytes.now }
@@ -120,7 +120,7 @@ fn digit_front(bytes: &[u8]) -> usize
     at
 }
 
-/// What stands behind the number at the front, where it has at most so many digits.
+/// Returns the bytes after the number at the start, if it has at most this many digits.
 #[inline(always)]
 fn after_short_number(bytes: &[u8], most: usize) -> Option<&[u8]>
     requires { most ≤ 19 }
@@ -136,8 +136,8 @@ fn after_short_number(bytes: &[u8], most: usize) -> Option<&[u8]>
     Some(&bytes[count..])
 }
 
-/// What stands behind the two numbers at the front with a dot between, where they have so few digits
-/// that they are a version in each layout.
+/// Returns the bytes after the two numbers at the start with a dot between, if their digits are few
+/// enough for a version in each layout.
 #[inline(always)]
 pub(crate) fn after_short_version(bytes: &[u8]) -> Option<&[u8]>
     ensures { IfSome result (λ rest. StartsWithShortVersion bytes.now rest.now) }
@@ -148,7 +148,7 @@ pub(crate) fn after_short_version(bytes: &[u8]) -> Option<&[u8]>
     Some(rest)
 }
 
-/// The number at the front.
+/// Returns the number at the start.
 #[inline(always)]
 pub(crate) fn front_number(bytes: &[u8]) -> Option<FrontNumber<'_>>
     ensures { IfSome result (λ found. StartsWithNumber bytes.now found.value found.rest.now) }
@@ -167,7 +167,7 @@ pub(crate) fn front_number(bytes: &[u8]) -> Option<FrontNumber<'_>>
     })
 }
 
-/// What stands behind this byte, where the bytes begin with it.
+/// Returns the bytes after this byte, if the bytes begin with it.
 #[inline(always)]
 fn after(code: u8, bytes: &[u8]) -> Option<&[u8]>
     ensures { IfSome result (λ rest. bytes.now ≡ code ∷ rest.now) }
@@ -178,7 +178,7 @@ fn after(code: u8, bytes: &[u8]) -> Option<&[u8]>
     Some(&bytes[1..])
 }
 
-/// What stands behind the separator after a part, where the part is over.
+/// Returns the bytes after the separator that ends a part, if the part ends here.
 #[inline(always)]
 pub(crate) fn behind_part(separator: u8, bytes: &[u8]) -> Option<Option<&[u8]>>
     ensures { IfSome result (λ rest. PartIsOver separator bytes.now (option_map_or (λ more. parts_at separator more.now) rest [])) }
@@ -192,7 +192,7 @@ pub(crate) fn behind_part(separator: u8, bytes: &[u8]) -> Option<Option<&[u8]>>
     Some(Some(&bytes[1..]))
 }
 
-/// The two numbers with a dot between at the front.
+/// Returns the two numbers at the start, with a dot between.
 #[inline(always)]
 pub(crate) fn front_numbers(bytes: &[u8]) -> Option<FrontNumbers<'_>>
     ensures { IfSome result (λ found. StartsWithNumbers bytes.now found.first found.second found.rest.now) }
@@ -206,7 +206,7 @@ pub(crate) fn front_numbers(bytes: &[u8]) -> Option<FrontNumbers<'_>>
     })
 }
 
-/// Whether a key may have the byte.
+/// Returns `true` if a key may have the byte.
 #[inline(always)]
 fn may_have(code: u8) -> bool
     ensures { result ≡ is_key_byte code }
@@ -214,7 +214,7 @@ fn may_have(code: u8) -> bool
     48 <= code && code <= 57 || 97 <= code && code <= 122 || code == 95
 }
 
-/// How many bytes at the front a key may have, where it may have so many of them.
+/// Returns how many bytes at the start a key may have; this many are known to be.
 #[inline(always)]
 fn key_front(bytes: &[u8], known: usize) -> usize
     requires within { known ≤ length bytes.now }
@@ -230,7 +230,7 @@ fn key_front(bytes: &[u8], known: usize) -> usize
     at
 }
 
-/// How many bytes at the front of both are the same.
+/// Returns how many bytes at the start of both are the same.
 #[inline(always)]
 fn common_front(bytes: &[u8], others: &[u8]) -> usize
     ensures fits { result ≤ length bytes.now }
@@ -245,7 +245,7 @@ fn common_front(bytes: &[u8], others: &[u8]) -> usize
     at
 }
 
-/// How many bytes the key at the front has.
+/// Returns the number of bytes of the key at the start.
 #[inline(always)]
 pub(crate) fn front_key(bytes: &[u8]) -> Option<usize>
     ensures { IfSome result (λ size. (size ≤ length bytes.now) × (is_key (take size bytes.now) ≡ true)) }
@@ -257,7 +257,8 @@ pub(crate) fn front_key(bytes: &[u8]) -> Option<usize>
     Some(size)
 }
 
-/// Whether the first text is over after so many bytes, or its next byte is below that of the second.
+/// Returns `true` if the first text ends after this many bytes, or its next byte is below that of
+/// the second.
 #[inline(always)]
 fn falls_behind(last: &[u8], bytes: &[u8], same: usize) -> bool
     requires last { same ≤ length last.now }
@@ -267,7 +268,7 @@ fn falls_behind(last: &[u8], bytes: &[u8], same: usize) -> bool
     last.len() == same || last[same] < bytes[same]
 }
 
-/// How many bytes the key at the front has, where it is above this one.
+/// Returns the number of bytes of the key at the start, if it is above this one.
 #[inline(always)]
 fn front_key_above(last: &[u8], bytes: &[u8]) -> Option<usize>
     requires { is_key last.now ≡ true }
@@ -285,14 +286,14 @@ fn front_key_above(last: &[u8], bytes: &[u8]) -> Option<usize>
     }
 }
 
-/// Whether the first key is below the second.
+/// Returns `true` if the first key is below the second.
 pub(crate) fn are_keys_rising(key: &[u8], next: &[u8]) -> bool
     ensures { result ≡ is_lt (key_cmp key.now next.now) }
 {
     key.cmp(next).is_lt()
 }
 
-/// The pair at the front of a list.
+/// Returns the pair at the start of a list.
 #[inline(always)]
 pub(crate) fn front_pair(layout: Layout, bytes: &[u8]) -> Option<FrontPair<'_>>
     ensures key { IfSome result (λ found. is_key found.key.now ≡ true) }
@@ -311,7 +312,8 @@ pub(crate) fn front_pair(layout: Layout, bytes: &[u8]) -> Option<FrontPair<'_>>
     })
 }
 
-/// The key of the pair at the front of a list, where it is above this one and the pair's version a short one.
+/// Returns the key of the pair at the start of a list, if it is above this one and the pair's
+/// version is a short one.
 #[inline(always)]
 fn short_key_above<'a>(layout: Layout, last: &[u8], bytes: &'a [u8]) -> Option<FrontKey<'a>>
     requires { is_key last.now ≡ true }
@@ -329,7 +331,7 @@ fn short_key_above<'a>(layout: Layout, last: &[u8], bytes: &'a [u8]) -> Option<F
     })
 }
 
-/// The key of the pair at the front of a list, where it is above this one.
+/// Returns the key of the pair at the start of a list, if it is above this one.
 #[inline(never)]
 fn any_key_above<'a>(layout: Layout, last: &[u8], bytes: &'a [u8]) -> Option<FrontKey<'a>>
     ensures { IfSome result (λ found. StartsWithKeyAbove (versions_in layout) last.now bytes.now found.key.now
@@ -348,7 +350,7 @@ fn any_key_above<'a>(layout: Layout, last: &[u8], bytes: &'a [u8]) -> Option<Fro
     }
 }
 
-/// The key of the pair at the front of a list, where it is seen to be above this one.
+/// Returns the key of the pair at the start of a list, if one pass finds that it is above this one.
 #[inline(always)]
 pub(crate) fn key_above<'a>(layout: Layout, last: &[u8], bytes: &'a [u8]) -> Option<FrontKey<'a>>
     requires { is_key last.now ≡ true }

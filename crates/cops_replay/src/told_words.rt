@@ -1,6 +1,6 @@
-//! Words of a reply, compared with the front of a text where they stand.
+//! Words of a reply, compared with a prefix of a text in place.
 //!
-//! The answer is what stands behind them, where the text begins with them. No text is made for it.
+//! Each function returns the bytes after the words, if the text begins with them. No text is built.
 ghost use Rattle.std.specs.Prelude.{◌≡◌, ◌≤◌, ◌<◌, ◌+◌, ◌*◌, ◌/◌, ◌%◌, ◌∷◌, [], ◌&&◌, decimal, length, nat_lt, IfSome, IsTrue, ◌↔◌};
 ghost use Rattle.std.specs.List.{list_all};
 ghost use Rattle.std.specs.Option.{option_map};
@@ -15,7 +15,7 @@ use cops_types::prefixes::{
 };
 use cops_types::{Entry, OwnedDeps, OwnedNear, OwnedValue, Version};
 
-/// Two bytes as one number, so that they are compared at once.
+/// Returns two bytes as one number, so that they are compared at once.
 #[inline(always)]
 fn both_digits(first: u8, second: u8) -> u16
     ensures { result ≡ first + 256 * second }
@@ -23,7 +23,7 @@ fn both_digits(first: u8, second: u8) -> u16
     u16::from(first) + 256 * u16::from(second)
 }
 
-/// The two digits of a byte, as one number.
+/// Returns the two digits of a byte, as one number.
 #[inline(always)]
 fn digits_of(byte: u8) -> u16
     ensures { result ≡ digit_text (byte / 16) + 256 * digit_text (byte % 16) }
@@ -31,7 +31,8 @@ fn digits_of(byte: u8) -> u16
     both_digits(digit(byte / 16), digit(byte % 16))
 }
 
-/// Whether the text is two digits for each byte. All are looked at, so that many can be at once.
+/// Returns `true` if the text is two digits for each byte. It reads every byte, so that many are
+/// read at once.
 fn are_digits_of(text: &[u8], value: &[u8]) -> bool
     requires { length text.now ≡ 2 * length value.now }
     ensures { IsTrue result ↔ (text.now ≡ bytes_text value.now) }
@@ -44,7 +45,7 @@ fn are_digits_of(text: &[u8], value: &[u8]) -> bool
     same
 }
 
-/// What stands behind two digits for each byte.
+/// Returns the bytes after two digits for each byte.
 fn behind_digits<'a>(text: &'a [u8], value: &[u8]) -> Option<&'a [u8]>
     requires { length value.now ≤ 4096 }
     ensures text { option_map (λ rest. rest.now) result ≡ behind (bytes_text value.now) text.now }
@@ -61,7 +62,7 @@ fn behind_digits<'a>(text: &'a [u8], value: &[u8]) -> Option<&'a [u8]>
     }
 }
 
-/// What stands behind two digits for each byte of a value, or behind a hyphen where it has none.
+/// Returns the bytes after two digits for each byte of a value, or after a hyphen if it is empty.
 pub(crate) fn behind_value<'a>(text: &'a [u8], value: &OwnedValue) -> Option<&'a [u8]>
     ensures text { option_map (λ rest. rest.now) result ≡ behind (record_value value.now) text.now }
     ensures formed { IsTrue (is_bytes value.now) }
@@ -73,7 +74,7 @@ pub(crate) fn behind_value<'a>(text: &'a [u8], value: &OwnedValue) -> Option<&'a
     behind_digits(text, value)
 }
 
-/// What stands behind a value and two lists.
+/// Returns the bytes after a value and two lists.
 #[tactic(auto, using(cops_types::proofs::BehindLemmas::behind_both, cops_types::proofs::BehindLemmas::behind_more))]
 fn behind_stored<'a>(
     text: &'a [u8],
@@ -91,7 +92,7 @@ fn behind_stored<'a>(
     behind_near(of_near, near)
 }
 
-/// What stands behind the parts of an entry.
+/// Returns the bytes after the parts of an entry.
 #[tactic(auto, using(cops_types::proofs::BehindLemmas::behind_both, cops_types::proofs::BehindLemmas::behind_more))]
 fn behind_entry<'a>(text: &'a [u8], entry: &Entry) -> Option<&'a [u8]>
     ensures text { option_map (λ rest. rest.now) result ≡ behind (spaced (entry_words entry.now)) text.now }
@@ -106,7 +107,7 @@ fn behind_entry<'a>(text: &'a [u8], entry: &Entry) -> Option<&'a [u8]>
     behind_version(of_prev, entry.prev())
 }
 
-/// What stands behind a word, a space and a number.
+/// Returns the bytes after a word, a space and a number.
 #[inline(always)]
 #[tactic(auto, using(cops_types::proofs::BehindLemmas::behind_both, cops_types::proofs::BehindLemmas::behind_more))]
 pub(crate) fn behind_numbered<'a>(text: &'a [u8], word: &[u8], number: u64) -> Option<&'a [u8]>
@@ -117,7 +118,7 @@ pub(crate) fn behind_numbered<'a>(text: &'a [u8], word: &[u8], number: u64) -> O
     behind_number(of_number, number)
 }
 
-/// What stands behind a word, a space and a version.
+/// Returns the bytes after a word, a space and a version.
 #[inline(always)]
 #[tactic(auto, using(cops_types::proofs::BehindLemmas::behind_both, cops_types::proofs::BehindLemmas::behind_more))]
 pub(crate) fn behind_versioned<'a>(
@@ -133,7 +134,7 @@ pub(crate) fn behind_versioned<'a>(
     behind_version(of_version, version)
 }
 
-/// What stands behind a word, a space and an entry.
+/// Returns the bytes after a word, a space and an entry.
 #[inline(always)]
 #[tactic(auto, using(cops_types::proofs::BehindLemmas::behind_both, cops_types::proofs::BehindLemmas::behind_more))]
 pub(crate) fn behind_entered<'a>(text: &'a [u8], word: &[u8], entry: &Entry) -> Option<&'a [u8]>
@@ -145,7 +146,7 @@ pub(crate) fn behind_entered<'a>(text: &'a [u8], word: &[u8], entry: &Entry) -> 
     behind_entry(of_entry, entry)
 }
 
-/// What stands behind a value and its dependencies.
+/// Returns the bytes after a value and its dependencies.
 #[tactic(auto, using(cops_types::proofs::BehindLemmas::behind_both, cops_types::proofs::BehindLemmas::behind_more))]
 fn behind_read<'a>(text: &'a [u8], value: &OwnedValue, deps: &OwnedDeps) -> Option<&'a [u8]>
     ensures text { option_map (λ rest. rest.now) result ≡ behind (spaced (record_value value.now ∷ list_text deps.now ∷ [])) text.now }
@@ -156,7 +157,7 @@ fn behind_read<'a>(text: &'a [u8], value: &OwnedValue, deps: &OwnedDeps) -> Opti
     behind_deps(of_deps, deps)
 }
 
-/// What stands behind a word and what is found.
+/// Returns the bytes after a word and what was found.
 #[tactic(auto, using(cops_types::proofs::BehindLemmas::behind_both, cops_types::proofs::BehindLemmas::behind_more))]
 pub(crate) fn behind_found<'a>(
     text: &'a [u8],

@@ -133,7 +133,7 @@ middle true true c h k = k
 middle true false c h k = refl
 middle false b c h k = absurd cc
 
--- a line that is not too long is the act that its words are, where that has a line
+-- a line that is not too long is the act that its words are, if that has a line
 pub act_in-words : (line : List ℕ) → length line ≤ 8192 → act_in (first_word line) line ≡ option_and_then with_line (act_of_words (parts_at space line))
 act_in-words line short = by_guess (act_of_words (parts_at space line)) refl
   where
@@ -284,7 +284,7 @@ carry_found words rest name dc shard to_dc named h =
 pub no_number_last : (word : List ℕ) → number_of word ≡ None → (n : ℕ) → IsTrue (is_u64 n) → parts_at space word ≡ decimal n ∷ [] → ⊥
 no_number_last word none n small e = let written : number_of word ≡ Some n = ap number_of (one_part word (decimal n) e) ∙ number_of-decimal n small in cc
 
--- no carrier is begun where no three numbers follow the name
+-- no carrier is begun if no three numbers follow the name
 pub no_carry : (words rest : List (List ℕ)) (name : List ℕ) → words ≡ name ∷ rest →
     ((n m k : ℕ) → IsTrue (is_u64 n) → IsTrue (is_u64 m) → IsTrue (is_u64 k) → rest ≡ decimal n ∷ decimal m ∷ decimal k ∷ [] → ⊥) → None ≡ option_and_then with_line (carry_of words)
 no_carry words rest name is none = by_act (carry_of words) refl
@@ -331,7 +331,7 @@ put_found words rest name n key value begin h =
     ∙ ap (λ o. option_and_then with_line (option_map (λ x. Put name x key value) o)) (number_of-decimal n begin.1)
     ∙ kept (Put name n key value) has)
 
--- no act is begun where no number follows the name
+-- no act is begun if no number follows the name
 pub no_put : (words rest : List (List ℕ)) (name : List ℕ) → words ≡ name ∷ rest → ((n : ℕ) (second : List ℕ) (later : List (List ℕ)) → IsTrue (is_u64 n) → rest ≡ decimal n ∷ second ∷ later → ⊥) →
     None ≡ option_and_then with_line (put_of words)
 no_put words rest name is none = by_rest rest is none

@@ -20,7 +20,7 @@ pub config_at-there : (config : Config) (slot : ℕ) → slot < length config.te
 config_at-there config slot below =
     slice_get-get_or (map (tenant_config config) config.tenants) slot no_config (let same = length-map config.tenants (tenant_config config) in omega arith)
 
--- at first each tenant is to be told all that he is told alone
+-- at first each tenant has yet to get all replies that it gets alone
 told_from-left : (base : ℕ) (list : List TenantConfig) (clusters : ℕ → SoloCluster) (events : List Event) →
     ((k : ℕ) (config : TenantConfig) → slice_get list k ≡ Some config → clusters (base + k) ≡ new_cluster config) →
     told_from base list events ≡ left_from base list clusters events

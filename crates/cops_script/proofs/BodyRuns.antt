@@ -152,7 +152,7 @@ module _ {B R F : Type 0} (rules : BodyRules B R F) (body : B) where
 
     -- ---- ends before the end
 
-    -- what stands where a run stopped: its real lines, and those that follow
+    -- what stands if a run stopped: its real lines, and those that follow
     record Stopped (bytes : List ℕ) (others : List (List ℕ)) (text : List ℕ) (machine : ScriptMachine B R) : Type 0 where
       front : List (List ℕ)
       rest : List (List ℕ)
@@ -205,7 +205,7 @@ module _ {B R F : Type 0} (rules : BodyRules B R F) (body : B) where
           front_of bytes found.0 p.text p.machine (stopped bytes p.lines found.0 p.text p.machine found.1 p.run)
           (subst (AppendsFront old_contents new_contents) (ap (λ l. p.text ++ l) last ∙ append-nil p.text) p.written)
 
-      -- where no line is answered with anything, the writer is never seen to fail
+      -- if no line is answered with anything, the writer is never seen to fail
       module _ (silent_line : (b : B) (old : R) (line text : List ℕ) (new : R) → (rules.lines b).answers old line text new → text ≡ []) where
         line_silent : (b : B) (old : Script R) (line text : List ℕ) (new : Script R) → line_answers rules b old line text new → text ≡ []
         line_silent b (Head head) line text new h = h.2
@@ -283,7 +283,7 @@ module _ {B R F : Type 0} (rules : BodyRules B R F) (body : B) where
     refused P means known fault.ReadFault p = tt
     refused P means known fault.WriteFault p = tt
 
-    -- what is refused has answered nothing, whatever its reader gave, where the body is so quiet in the states in which it refuses
+    -- what is refused has answered nothing, whatever its reader gave, if the body is so quiet in the states in which it refuses
     module _ (Quiet : R → Type 0) (before : (old : R) (line text : List ℕ) (new : R) → (rules.lines body).answers old line text new → Quiet new → Quiet old × (text ≡ []))
         (at_line : (state : R) (line : List ℕ) (refusal : F) → (rules.lines body).refuses state line refusal → Quiet state) (at_end : (state : R) (refusal : F) → (rules.lines body).refuses_end state refusal → Quiet state) where
       abbrev IsQuiet : Script R → Type 0

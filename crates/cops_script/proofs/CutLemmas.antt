@@ -67,7 +67,7 @@ same_slot tenants line named = by_size (nat_le (length (first_word line)) 8193) 
         ∙ long_is_nobody tenants (take 8193 (first_word line)) named (omega (arith, cut))
         ∙ sym (long_is_nobody tenants (first_word line) named (omega arith))
 
--- a line is of a name where its first bytes are
+-- a line is of a name if its first bytes are
 pub same_first_at : (limit : ℕ) → 16 ≤ limit → (name line : List ℕ) → length name ≤ 16 → bytes_eq (first_word (take (limit + 1) line)) name ≡ bytes_eq (first_word line) name
 same_first_at limit wide name line short = by_size (nat_le (length (first_word line)) (limit + 1)) refl
   where
@@ -87,7 +87,7 @@ same_first_at limit wide name line short = by_size (nat_le (length (first_word l
 pub same_first : (name line : List ℕ) → length name ≤ 16 → bytes_eq (first_word (take (longest_line + 1) line)) name ≡ bytes_eq (first_word line) name
 same_first name line short = same_first_at longest_line (omega arith) name line short
 
--- a line is the host's where its first bytes are
+-- a line is the host's if its first bytes are
 pub same_admission : (line : List ℕ) → begins_admission (take (longest_line + 1) line) ≡ begins_admission line
 same_admission line = same_first (codes "+") line (omega arith)
 

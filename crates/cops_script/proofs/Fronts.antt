@@ -1,6 +1,5 @@
--- What a tenant is told before memory is refused him is what he is told alone. Tenants are told apart by their numbers.
-use Rattle.std.proofs.Common.{◌≡◌, ℕ, Bool, true, false, cond, ◌||◌, ◌==◌, List, [], ◌∷◌, map, refl, sym, ap, ◌∙◌, true≢false}
-use Rattle.std.specs.List.{list_any}
+-- A tenant's replies before memory runs out are those that it gets alone. Tenants differ in their numbers.
+use Rattle.std.proofs.Common.{◌≡◌, ℕ, Bool, true, false, cond, ◌==◌, List, [], ◌∷◌, map, refl, sym, ap, ◌∙◌, true≢false, subst}
 use Rattle.std.proofs.lemmas.Bool.Decides.{Decides-eqb}
 use Rattle.cops_types.specs.declared.configs.Config.{Config}
 use Rattle.cops_types.specs.declared.faults.Fault.TheVariants.{Syntax}
@@ -10,11 +9,14 @@ use Rattle.cops_model.specs.declared.replies.HostReply.{HostReply}
 use Rattle.cops_model.specs.declared.replies.Reply.{Reply}
 use Rattle.cops_model.specs.declared.replies.Reply.TheVariants.{Refused}
 use Rattle.cops_model.specs.Cluster.{SoloCluster, cluster_step}
-use Rattle.cops_model.specs.Events.{IsFrontOf, IsSpared, before_lack, config_at, is_out_of_memory, own, replies, replies_from, with_cluster}
+use Rattle.cops_model.specs.declared.acts.Act.{Act}
+use Rattle.cops_model.specs.Events.{IsFrontOf, before_lack, config_at, is_out_of_memory, own, replies, with_cluster}
+use Rattle.cops_model.specs.Goes.{Goes, Turns}
 use Rattle.cops_script.specs.Said.{HostDeed, Said, OfHost, Unformed, Acts}
-use Rattle.cops_script.specs.Answers.{Answer, ToHost, ToTenant}
+use Rattle.cops_script.specs.Answers.{Answer, ToHost, ToTenant, addressee}
 use Rattle.cops_script.specs.Script.{answers_of, events_in}
-use Rattle.cops_script.specs.ScriptRuns.{act_replies, replies_to}
+use Rattle.cops_script.specs.ScriptRuns.{AreNoActs, act_replies, named_by, replies_to}
+use Rattle.cops_causal.proofs.Runs.{exactly}
 use Rattle.cops_script.proofs.AnswersTo.{answers_of-from, new_at}
 use Rattle.cops_script.proofs.Sequence.{AreThere, answers_from}
 
@@ -24,7 +26,7 @@ by_test {C} false holds fails = fails refl
 
 -- ---- the replies to one tenant, along the lines
 
--- the replies to the tenant of a slot, where his cluster is kept
+-- the replies to the tenant of a slot, if its cluster is kept
 abbrev pub replies_along : TenantConfig → ℕ → List Said → SoloCluster → List Reply
 replies_along config slot [] cluster = []
 replies_along config slot (OfHost deed ∷ said) cluster = replies_along config slot said cluster
@@ -55,7 +57,7 @@ along configs slot (Acts e ∷ said) clusters =
     ∙ ap (λ t. t.reply ∷ replies_along (configs slot) slot said t.after) own))
     (λ apart. rw apart (rest ∙ (λ i. replies_along (configs slot) slot said (cond (apart i) turn.after (clusters slot)))))
 
--- to each tenant the definition's answers are the replies in a cluster of his own
+-- to each tenant the definition's answers are the replies in a cluster of its own
 pub answers_of-along : (config : Config) (said : List Said) (slot : ℕ) → AreThere (map (tenant_config config) config.tenants) said →
     replies_to slot (answers_of config said) ≡ replies_along (config_at config slot) slot said (new_at config slot)
 answers_of-along config said slot there = ap (replies_to slot) (answers_of-from config said there) ∙ along (config_at config) slot said (new_at config)
@@ -68,74 +70,58 @@ no_replies whole = (whole, refl)
 pub one_more : {A : Type 0} (x y : A) (front whole : List A) → x ≡ y → IsFrontOf front whole → IsFrontOf (x ∷ front) (y ∷ whole)
 one_more x y front whole same (rest, is) = (rest, λ i. sym same i ∷ is i)
 
--- one more reply before those that were told
+-- one more reply before the others
 pub one_reply : (r s : Reply) (told whole : List Reply) → (is_out_of_memory r ≡ false → (r ≡ s) × IsFrontOf (before_lack told) whole) → IsFrontOf (before_lack (r ∷ told)) (s ∷ whole)
 one_reply r s told whole right =
     by_test (is_out_of_memory r)
     (λ lack. rw lack (no_replies (s ∷ whole)))
     (λ spared. rw spared (let one = right spared in one_more r s (before_lack told) whole one.0 one.1))
 
--- ---- one more line
-
--- a line that acts on nothing
-abbrev pub KeepsFronts : Answer → Said → Type 0
-KeepsFronts answer said = (config : TenantConfig) (slot : ℕ) (told : List Answer) (more : List Said) (cluster : SoloCluster) →
-    IsFrontOf (before_lack (replies_to slot told)) (replies_along config slot more cluster) →
-    IsFrontOf (before_lack (replies_to slot (answer ∷ told))) (replies_along config slot (said ∷ more) cluster)
-
-pub host_keeps : (reply : HostReply) (deed : HostDeed) → KeepsFronts (ToHost reply) (OfHost deed)
-host_keeps reply deed config slot told more cluster h = h
-
-pub unformed_keeps : (other : ℕ) → KeepsFronts (ToTenant other (Refused Syntax)) (Unformed other)
-unformed_keeps other config slot told more cluster h =
-    by_test (other == slot)
-    (λ is. rw is (one_reply (Refused Syntax) (Refused Syntax) (replies_to slot told) (replies_along config slot more cluster) (λ spared. (refl, h))))
-    (λ apart. rw apart h)
-
--- a line that acts
-pub act_keeps : (config : TenantConfig) (slot : ℕ) (e : Event) (reply : Reply) (told : List Answer) (more : List Said) (cluster : SoloCluster) →
-    (e.slot ≡ slot → is_out_of_memory reply ≡ false → (reply ≡ (cluster_step config e.act cluster).reply)
-    × IsFrontOf (before_lack (replies_to slot told)) (replies_along config slot more (cluster_step config e.act cluster).after)) →
-    ((e.slot ≡ slot → ⊥) → IsFrontOf (before_lack (replies_to slot told)) (replies_along config slot more cluster)) →
-    IsFrontOf (before_lack (replies_to slot (ToTenant e.slot reply ∷ told))) (replies_along config slot (Acts e ∷ more) cluster)
-act_keeps config slot e reply told more cluster mine others =
-    let turn = cluster_step config e.act cluster in
-    by_test (e.slot == slot)
-    (λ is. rw is (one_reply reply turn.reply (replies_to slot told) (replies_along config slot more turn.after) (mine ((Decides-eqb e.slot slot).0 is))))
-    (λ apart. rw apart (others (λ same. true≢false (sym ((Decides-eqb e.slot slot).1 same) ∙ apart))))
+-- from the acts of a tenant, whose replies are a run of them, and from lines that are no acts
+pub told_front : (config : TenantConfig) (slot : ℕ) (said : List Said) (told : List Answer) (c d : SoloCluster) → map addressee told ≡ map named_by said → AreNoActs said told →
+    Goes config (own slot (events_in said)) (replies slot (events_in said) (act_replies said told)) c d → IsFrontOf (before_lack (replies_to slot told)) (replies_along config slot said c)
+told_front config slot [] [] c d addressed no_acts goes = no_replies []
+told_front config slot [] (answer ∷ told) c d addressed no_acts goes = absurd cc
+told_front config slot (one ∷ said) [] c d addressed no_acts goes = absurd cc
+told_front config slot (OfHost deed ∷ said) (ToHost reply ∷ told) c d addressed no_acts goes =
+    let later : map addressee told ≡ map named_by said = cc in told_front config slot said told c d later no_acts goes
+told_front config slot (OfHost deed ∷ said) (ToTenant number reply ∷ told) c d addressed no_acts goes = absurd cc
+told_front config slot (Unformed other ∷ said) (ToHost reply ∷ told) c d addressed no_acts goes = absurd cc
+told_front config slot (Unformed other ∷ said) (ToTenant number reply ∷ told) c d addressed no_acts goes =
+    let same : number ≡ other = cc in
+    let later : map addressee told ≡ map named_by said = cc in
+    let rest = told_front config slot said told c d later no_acts.1 goes in
+    subst (λ (answer : Answer). IsFrontOf (before_lack (replies_to slot (answer ∷ told))) (replies_along config slot (Unformed other ∷ said) c)) (λ i. ToTenant (sym same i) (sym no_acts.0 i))
+    (by_test (other == slot)
+    (λ is. rw is (one_reply (Refused Syntax) (Refused Syntax) (replies_to slot told) (replies_along config slot said c) (λ spared. (refl, rest))))
+    (λ apart. rw apart rest))
+told_front config slot (Acts e ∷ said) (ToHost reply ∷ told) c d addressed no_acts goes = absurd cc
+told_front config slot (Acts e ∷ said) (ToTenant number reply ∷ told) c d addressed no_acts goes =
+    let same : number ≡ e.slot = cc in
+    let later : map addressee told ≡ map named_by said = cc in
+    let turn = cluster_step config e.act c in
+    let acts = own slot (events_in said) in
+    let rs = replies slot (events_in said) (act_replies said told) in
+    subst (λ n. IsFrontOf (before_lack (replies_to slot (ToTenant n reply ∷ told))) (replies_along config slot (Acts e ∷ said) c)) (sym same)
+    (by_test (e.slot == slot)
+    (λ is.
+    let run : Goes config (e.act ∷ acts) (reply ∷ rs) c d = rw is at goes in
+    rw is (one_reply reply turn.reply (replies_to slot told) (replies_along config slot said turn.after) (λ spared.
+    let one = exactly config e.act reply c run.0 spared run.1 in
+    (one.0, subst (λ x. IsFrontOf (before_lack (replies_to slot told)) (replies_along config slot said x)) one.1 (told_front config slot said told run.0 d later no_acts run.2)))))
+    (λ apart.
+    let run : Goes config acts rs c d = rw apart at goes in
+    rw apart (told_front config slot said told c d later no_acts run)))
 
 -- ---- the replies to acts
 
--- up to a refusal of memory they are these, and all of them where none is refused
-abbrev pub AreTold : List Reply → List Reply → Type 0
-AreTold told whole = IsFrontOf (before_lack told) whole × (IsSpared told → told ≡ whole)
-
--- so the tenant of a slot was told, by the acts among these lines, where his cluster is kept
-abbrev pub ActsAreTold : TenantConfig → ℕ → List Said → List Answer → SoloCluster → Type 0
-ActsAreTold config slot said told cluster = AreTold (replies slot (events_in said) (act_replies said told)) (replies_from config (own slot (events_in said)) cluster)
-
-first_spared : (a b : Bool) → (a || b) ≡ false → a ≡ false
-first_spared true b e = e
-first_spared false b e = refl
-
-later_spared : (a b : Bool) → (a || b) ≡ false → b ≡ false
-later_spared true b e = absurd (true≢false e)
-later_spared false b e = e
-
-told_one : (r s : Reply) (told whole : List Reply) → (is_out_of_memory r ≡ false → (r ≡ s) × AreTold told whole) → AreTold (r ∷ told) (s ∷ whole)
-told_one r s told whole right = (
-  one_reply r s told whole (λ spared. let one = right spared in (one.0, one.1.0)),
-  λ spared.
-      let one = right (first_spared (is_out_of_memory r) (list_any is_out_of_memory told) spared) in
-      let later = one.1.1 (later_spared (is_out_of_memory r) (list_any is_out_of_memory told) spared) in
-      λ i. one.0 i ∷ later i,
-)
+-- the replies to the tenant of a slot for the acts among these lines are a run of them from this cluster
+abbrev pub ActsGo : TenantConfig → ℕ → List Said → List Answer → SoloCluster → Type 0
+ActsGo config slot said told cluster = (left : SoloCluster) × Goes config (own slot (events_in said)) (replies slot (events_in said) (act_replies said told)) cluster left
 
 -- a line that acts on nothing
 abbrev pub KeepsActs : Answer → Said → Type 0
-KeepsActs answer said =
-    (config : TenantConfig) (slot : ℕ) (told : List Answer) (more : List Said) (cluster : SoloCluster) →
-    ActsAreTold config slot more told cluster → ActsAreTold config slot (said ∷ more) (answer ∷ told) cluster
+KeepsActs answer said = (config : TenantConfig) (slot : ℕ) (told : List Answer) (more : List Said) (cluster : SoloCluster) → ActsGo config slot more told cluster → ActsGo config slot (said ∷ more) (answer ∷ told) cluster
 
 pub host_keeps_acts : (reply : HostReply) (deed : HostDeed) → KeepsActs (ToHost reply) (OfHost deed)
 host_keeps_acts reply deed config slot told more cluster h = h
@@ -145,13 +131,16 @@ unformed_keeps_acts other config slot told more cluster h = h
 
 -- a line that acts
 pub act_keeps_acts : (config : TenantConfig) (slot : ℕ) (e : Event) (reply : Reply) (told : List Answer) (more : List Said) (cluster : SoloCluster) →
-    (e.slot ≡ slot → is_out_of_memory reply ≡ false → (reply ≡ (cluster_step config e.act cluster).reply) × ActsAreTold config slot more told (cluster_step config e.act cluster).after) →
-    ((e.slot ≡ slot → ⊥) → ActsAreTold config slot more told cluster) →
-    ActsAreTold config slot (Acts e ∷ more) (ToTenant e.slot reply ∷ told) cluster
+    (e.slot ≡ slot → (after : SoloCluster) × Turns config e.act cluster reply after × ActsGo config slot more told after) → ((e.slot ≡ slot → ⊥) → ActsGo config slot more told cluster) →
+    ActsGo config slot (Acts e ∷ more) (ToTenant e.slot reply ∷ told) cluster
 act_keeps_acts config slot e reply told more cluster mine others =
-    let turn = cluster_step config e.act cluster in
-    let rs = replies slot (events_in more) (act_replies more told) in
-    let acts = own slot (events_in more) in
-    by_test (e.slot == slot)
-    (λ is. rw is (told_one reply turn.reply rs (replies_from config acts turn.after) (mine ((Decides-eqb e.slot slot).0 is))))
-    (λ apart. rw apart (others (λ same. true≢false (sym ((Decides-eqb e.slot slot).1 same) ∙ apart))))
+    by_test (e.slot == slot) (λ is. rw is (first (mine ((Decides-eqb e.slot slot).0 is)))) (λ apart. rw apart (others (λ same. true≢false (sym ((Decides-eqb e.slot slot).1 same) ∙ apart))))
+  where
+    acts : List Act
+    acts = own slot (events_in more)
+
+    rs : List Reply
+    rs = replies slot (events_in more) (act_replies more told)
+
+    first : (after : SoloCluster) × Turns config e.act cluster reply after × ActsGo config slot more told after → (left : SoloCluster) × Goes config (e.act ∷ acts) (reply ∷ rs) cluster left
+    first (after, turns, (left, goes)) = (left, (after, turns, goes))

@@ -1,4 +1,4 @@
--- What a run says where the bytes of its reader are known.
+-- What a run says if the bytes of its reader are known.
 use Rattle.std.proofs.Common.{◌≡◌, ℕ, List, [], ◌∷◌, ◌++◌, inl, inr, Option, None, Some, refl, sym, subst, ap, ◌∙◌, append_assoc, append-nil}
 use Rattle.std.specs.Prelude.{IfSome}
 use Rattle.std.specs.Io.KnownBytes.{Consumes, IsAtEnd, Keeps}
@@ -23,7 +23,7 @@ known_lines limit known input (Some rest) lines read (inr (at_end, others, e)) =
 pub known_whole : (limit : ℕ) (known input : List ℕ) (new : Option (List ℕ)) (lines : List (List ℕ)) → Consumes (Some known) new input → IsWhole limit input new lines → cut_lines limit known ≡ lines
 known_whole limit known input new lines read (at_end, e) = ap (cut_lines limit) (input_is known input new read at_end) ∙ e
 
--- a front of a text is a front of what goes on from it
+-- a prefix of a text is a prefix of what goes on from it
 pub AppendsFront-more : (old new : Option (List ℕ)) (text more : List ℕ) → AppendsFront old new text → AppendsFront old new (text ++ more)
 AppendsFront-more old new text more (rest, p) = (
   rest ++ more,
@@ -38,7 +38,7 @@ front_of_nil : (a b : List ℕ) → [] ≡ a ++ b → a ≡ []
 front_of_nil [] b e = refl
 front_of_nil (x ∷ a) b e = absurd (let clash : ⊥ = cc in clash)
 
--- a front of nothing is nothing
+-- a prefix of nothing is nothing
 pub AppendsFront-nil : (old new : Option (List ℕ)) → AppendsFront old new [] → Keeps old new
 AppendsFront-nil None new p = tt
 AppendsFront-nil (Some x) None p = absurd p.1.appended

@@ -44,3 +44,5 @@ pub mod LifeRuns
 pub mod SaidLines
 pub mod LifeLines
 pub mod LifeAnswers
+pub mod Turning
+pub mod WorkedTurns

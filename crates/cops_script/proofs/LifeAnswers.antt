@@ -1,4 +1,4 @@
--- What the lives of a new world are told is what the definition tells them.
+-- The replies to the lives of a new world are those of the definition.
 use Rattle.std.proofs.Common.{◌≡◌, ℕ, zero, suc, ◌<◌, Bool, true, false, ◌||◌, true≢false, List, [], ◌∷◌, ◌++◌, length, map, refl, sym, subst, ap, ◌∙◌, append-nil, arith}
 use Rattle.std.specs.Prelude.{slice_get, IsTrue, Option, Some}
 use Rattle.std.specs.List.{list_any}
@@ -7,7 +7,7 @@ use Rattle.cops_types.specs.declared.configs.Tenant.{Tenant}
 use Rattle.cops_types.specs.OpenSlots.{begun_with, open_at}
 use Rattle.cops_types.specs.TenantConfig.{tenant_config}
 use Rattle.cops_model.specs.Cluster.{SoloCluster, new_cluster}
-use Rattle.cops_model.specs.Events.{IsFrontOf, before_lack, config_at}
+use Rattle.cops_model.specs.Events.{config_at, IsFrontOf, before_lack}
 use Rattle.cops_script.specs.Lives.{first_lives, lives_past, of_lives, of_lives_from, with_all_lives}
 use Rattle.cops_script.specs.Said.{Admits, Closes, Refuses, Said, OfHost, Unformed, Acts, said_in, tenants_after, tenants_past}
 use Rattle.cops_model.specs.Setups.{Setup, is_open_at}
@@ -15,16 +15,16 @@ use Rattle.cops_script.specs.Acting.{IsNew}
 use Rattle.cops_script.specs.Answers.{Answer, is_lack}
 use Rattle.cops_script.specs.Script.{answers_of, answers_to, events_in, said_by_lines, said_to}
 use Rattle.cops_script.specs.ScriptWorlds.{cluster_left, life_left, setup_left}
-use Rattle.cops_script.specs.ScriptRuns.{AreAnswered, AreSpared, acts_in, act_replies, config_told, heard, lives_told, replies_to, said_from, said_told}
+use Rattle.cops_script.specs.ScriptRuns.{AreAnswered, AreSpared, act_replies, config_told, heard, lives_told, said_from, said_told, replies_to}
 use Rattle.cops_script.proofs.AnswersTo.{answers_of-from, new_at}
-use Rattle.cops_script.proofs.Fronts.{answers_of-along}
+use Rattle.cops_script.proofs.Fronts.{answers_of-along, told_front}
+use Rattle.cops_script.proofs.LifeLines.{heard_placed}
 use Rattle.cops_script.proofs.LifeRuns.{AreFor, AreGiven, AreStanding, setup_past}
-use Rattle.cops_causal.proofs.KeptCausality.{keeps_causality}
-use Rattle.cops_script.proofs.MainLemmas.{holds_for}
+use Rattle.cops_script.proofs.MainLemmas.{own_run}
 use Rattle.cops_script.proofs.Numbered.{AreOf, ArePlaced, are_there, numbered_first, of_all_lives, of_front, placed_before}
 use Rattle.cops_script.proofs.SaidLines.{said_in-placed}
 use Rattle.cops_script.proofs.Sequence.{AreThere, answers_from}
-use Rattle.cops_script.proofs.TenantConfigs.{quota_at, sizes_at, tenant_in}
+use Rattle.cops_script.proofs.TenantConfigs.{quota_at, tenant_in}
 use Rattle.cops_script.proofs.BegunSetups.{open_begun}
 
 first_spared : (a b : Bool) → (a || b) ≡ false → a ≡ false
@@ -37,7 +37,7 @@ later_spared false b e = e
 
 -- ---- what lines say
 
--- where memory was not refused, they were heard as they were said
+-- if memory was not refused, they were heard as they were said
 heard_spared : (said : Said) (answer : Answer) → is_lack answer ≡ false → heard said answer ≡ said
 heard_spared (OfHost (Admits slot tenant)) answer spared = rw spared refl
 heard_spared (OfHost (Closes slot name)) answer spared = refl
@@ -65,6 +65,25 @@ said_to-placed tenants (line ∷ lines) = (said_in-placed tenants line, said_to-
 pub all_there : (config : Config) (said : List Said) → ArePlaced (begun_with config.tenants) said →
     AreThere (map (tenant_config (with_all_lives config said)) (with_all_lives config said).tenants) (of_lives config said)
 all_there config said placed = are_there (with_all_lives config said) (begun_with config.tenants) (first_lives config) said (numbered_first config said) placed (of_all_lives config said)
+
+-- and all that was heard
+said_from-placed : (tenants : List (Option Tenant)) (lines : List (List ℕ)) (told : List Answer) → ArePlaced tenants (said_from tenants lines told)
+said_from-placed tenants [] told = tt
+said_from-placed tenants (line ∷ lines) [] = tt
+said_from-placed tenants (line ∷ lines) (answer ∷ told) =
+    (heard_placed tenants (said_in tenants line) answer (said_in-placed tenants line), said_from-placed (tenants_after tenants (heard (said_in tenants line) answer)) lines told)
+
+-- where lines are answered so, a tenant's replies are the definition's up to a first refusal of memory
+pub answered_front : (config : Config) (lines : List (List ℕ)) (told : List Answer) (number : ℕ) → AreAnswered (config_told config lines told) (lives_told config lines told) told →
+    number < length (config_told config lines told).tenants →
+    IsFrontOf (before_lack (replies_to number told)) (replies_to number (answers_of (config_told config lines told) (lives_told config lines told)))
+answered_front config lines told number answered below =
+    let whole = config_told config lines told in
+    let said = lives_told config lines told in
+    let run = answered.theorem number below in
+    subst (IsFrontOf (before_lack (replies_to number told)))
+    (sym (answers_of-along whole said number (all_there config (said_told config lines told) (said_from-placed (begun_with config.tenants) lines told))))
+    (told_front (config_at whole number) number said told (new_cluster (config_at whole number)) run.left answered.addressed answered.no_acts run.goes)
 
 -- ---- a new world
 
@@ -94,7 +113,7 @@ module _ {W : Type 0} (setup : W → Setup) (StandsFor : W → ℕ → SoloClust
 
   -- what is said from the start on
   module _ (said : List Said) (told : List Answer) (new : W) where
-    -- each answer is to who said it, and right until memory is refused him
+    -- each answer is to who said it, and right until memory runs out for its tenant
     pub answered_said : 0 < config.shards → IsNew setup StandsFor config world → AreGiven setup StandsFor world (first_lives config) said told new → ArePlaced (begun_with config.tenants) said → AreAnswered (with_all_lives config said) (of_lives config said) told
     answered_said some fresh p placed =
         let whole = with_all_lives config said in
@@ -103,15 +122,13 @@ module _ {W : Type 0} (setup : W → Setup) (StandsFor : W → ℕ → SoloClust
         record {
           addressed = p.addressed;
           hosted = p.hosted;
-          right = λ number below.
-              subst (IsFrontOf (before_lack (replies_to number told))) (sym (answers_of-along whole (of_lives config said) number (all_there config said placed))) (p.fronts whole (new_at whole) for standing number);
-          causal = λ number below. keeps_causality (config_at whole number) (acts_in (of_lives config said) number) (subst (λ n. 0 < n) (sym (sizes_at whole number below).shards) some);
+          no_acts = p.no_acts;
           theorem = λ number below.
               let mine = p.acts whole (new_at whole) for standing number in
-              holds_for whole (events_in (of_lives config said)) (act_replies (of_lives config said) told) number some below mine.1 mine.0;
+              own_run whole (events_in (of_lives config said)) (act_replies (of_lives config said) told) number mine.0 some below mine.1;
         }
 
-    -- where memory was not refused, the answers are the definition's
+    -- if memory was not refused, the answers are the definition's
     pub told_said : IsNew setup StandsFor config world → AreGiven setup StandsFor world (first_lives config) said told new → ArePlaced (begun_with config.tenants) said → AreSpared told → told ≡ answers_of (with_all_lives config said) (of_lives config said)
     told_said fresh p placed spared =
         let whole = with_all_lives config said in
@@ -124,12 +141,12 @@ module _ {W : Type 0} (setup : W → Setup) (StandsFor : W → ℕ → SoloClust
     for_all fresh placed = for_front (said_told config lines told) (said_told config lines told) fresh placed (of_all_lives config (said_told config lines told))
 
     module _ (new : W) where
-      -- each answer is to whom its line names, and right until memory is refused him
+      -- each answer is to whom its line names, and right until memory runs out for its tenant
       pub are_answered : 0 < config.shards → IsNew setup StandsFor config world → AreGiven setup StandsFor world (first_lives config) (said_told config lines told) told new → ArePlaced (begun_with config.tenants) (said_told config lines told) →
           AreAnswered (config_told config lines told) (lives_told config lines told) told
       are_answered some fresh p placed = answered_said (said_told config lines told) told new some fresh p placed
 
-      -- where memory was not refused, the answers are the definition's, and go on as it does
+      -- if memory was not refused, the answers are the definition's, and go on as it does
       pub answers_go_on : IsNew setup StandsFor config world → AreGiven setup StandsFor world (first_lives config) (said_told config lines told) told new → length told ≡ length lines → AreSpared told → (others : List (List ℕ)) →
           (more : List Answer) × (answers_to config (lines ++ others) ≡ told ++ more) × AreFor (with_all_lives config (said_by_lines config (lines ++ others))) (setup world) (first_lives config) (said_told config lines told)
       answers_go_on fresh p size spared others =
@@ -156,7 +173,7 @@ module _ {W : Type 0} (setup : W → Setup) (StandsFor : W → ℕ → SoloClust
           let placed = subst (ArePlaced (begun_with config.tenants)) (sym same) (said_to-placed (begun_with config.tenants) lines) in
           told_said said told new fresh p placed spared ∙ ap (λ s. answers_of (with_all_lives config s) (of_lives config s)) same
 
-      -- where memory was not refused, each open tenant's part of the world is what his life's lines leave
+      -- if memory was not refused, each open tenant's part of the world is what its life's lines leave
       pub left_standing : IsNew setup StandsFor config world → AreGiven setup StandsFor world (first_lives config) (said_told config lines told) told new → length told ≡ length lines → AreSpared told →
           (setup new ≡ setup_left config lines) × ((slot : ℕ) → IsTrue (is_open_at (setup_left config lines) slot) → StandsFor new slot (cluster_left config lines (life_left config lines slot)))
       left_standing fresh p size spared =

@@ -55,7 +55,7 @@ lack_of_life lives (ToTenant slot reply) = refl
 pub name_there : (tenants : List Tenant) (number : ℕ) (tenant : Tenant) → slice_get tenants number ≡ Some tenant → name_at tenants number ≡ tenant.name
 name_there tenants number tenant e = get_or_from_slice_get (map (λ (t : Tenant). t.name) tenants) number tenant.name [] (slice_get-map (λ (t : Tenant). t.name) tenants number ∙ ap (option_map (λ (t : Tenant). t.name)) e)
 
--- the line of who is open at a slot is that of his life
+-- the line of who is open at a slot is that of its life
 pub slot_line_is : (config : Config) (tenants : List (Option Tenant)) (lives : Lives) (slot : ℕ) (reply : Reply) → AreNumbered config tenants lives → HasTenantAt tenants slot →
     slot_line tenants (ToTenant slot reply) ≡ answer_line config.tenants (ToTenant (lives.last_at slot) reply)
 slot_line_is config tenants lives slot reply numbered (tenant, there) =

@@ -1,4 +1,4 @@
--- What lives are told, where each line is done by a world, however it is kept.
+-- The replies to lives, if a world does each line, in any representation.
 use Rattle.std.proofs.Common.{◌≡◌, ◌≢◌, ℕ, suc, ◌≤◌, Bool, true, false, ◌||◌, ◌==◌, List, [], ◌∷◌, ◌++◌, length, map, inl, inr, refl, sym, subst, ap, ◌∙◌, true≢false, arith}
 use Rattle.std.specs.Prelude.{filter_map, IsTrue, Option, Some, None}
 use Rattle.std.specs.List.{list_any}
@@ -14,7 +14,7 @@ use Rattle.cops_model.specs.declared.replies.HostReply.TheVariants.{Denied}
 use Rattle.cops_model.specs.declared.replies.Reply.{Reply}
 use Rattle.cops_model.specs.declared.replies.Reply.TheVariants.{Refused}
 use Rattle.cops_model.specs.Cluster.{SoloCluster, cluster_step, new_cluster}
-use Rattle.cops_model.specs.Events.{IsFrontOf, before_lack, cluster_after, config_at, is_out_of_memory, own, with_cluster}
+use Rattle.cops_model.specs.Events.{cluster_after, config_at, is_out_of_memory, own, with_cluster}
 use Rattle.cops_script.specs.Lives.{Lives, lives_after, lives_past, of_lives_from, with_life}
 use Rattle.cops_script.specs.Said.{HostDeed, Admits, Closes, Refuses, Said, OfHost, Unformed, Acts, tenants_after, tenants_past}
 use Rattle.cops_model.specs.Setups.{Setup, config_in, config_of, is_open_at}
@@ -22,14 +22,15 @@ use Rattle.cops_script.specs.Acting.{HasAdmitted, HasClosed, HasStayed, OthersSt
 use Rattle.cops_script.specs.Answers.{Answer, ToHost, ToTenant, addressee, is_lack, reply_to_host}
 use Rattle.cops_script.specs.Doing.{IsDone, IsHosted}
 use Rattle.cops_script.specs.Script.{events_in}
-use Rattle.cops_script.specs.ScriptRuns.{AreSpared, due_to_host, heard, host_reply, named_by, replies_to}
+use Rattle.cops_script.specs.ScriptRuns.{AreNoActs, AreSpared, due_to_host, heard, host_reply, named_by}
 use Rattle.cops_script.proofs.AnswersTo.{new_at}
-use Rattle.cops_script.proofs.Fronts.{ActsAreTold, act_keeps, act_keeps_acts, host_keeps, host_keeps_acts, no_replies, replies_along, unformed_keeps, unformed_keeps_acts}
+use Rattle.cops_script.proofs.Fronts.{ActsGo, act_keeps_acts, host_keeps_acts, unformed_keeps_acts}
 use Rattle.cops_script.proofs.Numbered.{AreNumbered, AreOf, ArePlaced, HasTenantAt, next_numbered}
 use Rattle.cops_script.proofs.OpenSets.{closed_set, open_set_other}
 use Rattle.cops_script.proofs.Sequence.{answers_from}
 use Rattle.cops_script.proofs.TenantConfigs.{quota_at, tenant_in}
-use Rattle.cops_script.proofs.ToldActs.{ActsAsTold, as_told_act}
+use Rattle.cops_script.proofs.ToldActs.{ActsAsTold, as_told_act, as_turn}
+use Rattle.cops_model.specs.Goes.{Turns}
 
 by_test : {C : Type 0} (b : Bool) → (b ≡ true → C) → (b ≡ false → C) → C
 by_test {C} true holds fails = holds refl
@@ -65,14 +66,14 @@ pub for_next : (config : Config) (old new : Setup) (lives : Lives) (said : Said)
 for_next config old new lives said more is for = subst (λ s. AreFor config s (lives_after lives said) more) (sym is)
     (record { sizes = for.sizes; numbered = next_numbered config old.tenants lives said for.numbered for.placed.0 for.of.0; placed = for.placed.1; of = for.of.1 })
 
--- what concerns who is open at a slot is what concerns his life
+-- what concerns who is open at a slot is what concerns its life
 pub config_of_life : (config : Config) (setup : Setup) (lives : Lives) (slot : ℕ) → ((tenant : Tenant) → tenant_config setup.head tenant ≡ tenant_config config tenant) → AreNumbered config setup.tenants lives → HasTenantAt setup.tenants slot →
     config_in setup slot ≡ config_at config (lives.last_at slot)
 config_of_life config setup lives slot sizes numbered (tenant, there) =
     ap (config_of setup.head) there ∙ sizes tenant ∙ sym (quota_at config (lives.last_at slot) tenant (numbered.tenant_is slot tenant there))
 
 module _ {W : Type 0} (setup : W → Setup) (StandsFor : W → ℕ → SoloCluster → Type 0) where
-  -- each open tenant's part of the world is the cluster of his life, and lives to come have new ones
+  -- each open tenant's part of the world is the cluster of its life, and lives to come have new ones
   pub record AreStanding (config : Config) (world : W) (lives : Lives) (clusters : ℕ → SoloCluster) : Type 0 where
     pub stand : (slot : ℕ) → IsTrue (is_open_at (setup world) slot) → StandsFor world slot (clusters (lives.last_at slot))
     pub later : (number : ℕ) → lives.begun ≤ number → clusters number ≡ new_at config number
@@ -83,10 +84,9 @@ module _ {W : Type 0} (setup : W → Setup) (StandsFor : W → ℕ → SoloClust
     pub each : length told ≡ length said
     pub addressed : map addressee told ≡ map named_by (of_lives_from lives said)
     pub hosted : filter_map host_reply told ≡ filter_map due_to_host (of_lives_from lives said)
-    pub fronts : (config : Config) (clusters : ℕ → SoloCluster) → AreFor config (setup old) lives said → AreStanding config old lives clusters → (number : ℕ) →
-        IsFrontOf (before_lack (replies_to number told)) (replies_along (config_at config number) number (of_lives_from lives said) (clusters number))
     pub acts : (config : Config) (clusters : ℕ → SoloCluster) → AreFor config (setup old) lives said → AreStanding config old lives clusters → (number : ℕ) →
-        ActsAreTold (config_at config number) number (of_lives_from lives said) told (clusters number)
+        ActsGo (config_at config number) number (of_lives_from lives said) told (clusters number)
+    pub no_acts : AreNoActs (of_lives_from lives said) told
     pub right : AreSpared told → (config : Config) (clusters : ℕ → SoloCluster) → AreFor config (setup old) lives said → AreStanding config old lives clusters →
         (later : ℕ → SoloCluster) × AreStanding config new (lives_past lives said) later
         × ((others : List Said) → answers_from (config_at config) (of_lives_from lives (said ++ others)) clusters ≡ told ++ answers_from (config_at config) (of_lives_from (lives_past lives said) others) later)
@@ -106,8 +106,8 @@ module _ {W : Type 0} (setup : W → Setup) (StandsFor : W → ℕ → SoloClust
     each = refl;
     addressed = refl;
     hosted = refl;
-    fronts = λ config clusters for standing number. no_replies [];
-    acts = λ config clusters for standing number. (no_replies [], λ spared. refl);
+    acts = λ config clusters for standing number. (clusters number, refl);
+    no_acts = tt;
     right = λ spared config clusters for standing. (clusters, standing, λ others. refl);
     left = λ spared config clusters for standing. standing;
   }
@@ -126,12 +126,10 @@ module _ {W : Type 0} (setup : W → Setup) (StandsFor : W → ℕ → SoloClust
       each = ap suc p.each;
       addressed = ap (λ names. None ∷ names) p.addressed;
       hosted = ap (λ replies. reply_to_host deed ∷ replies) p.hosted;
-      fronts = λ config clusters for standing number.
-          host_keeps (reply_to_host deed) deed (config_at config number) number told (of_lives_from (lives_after lives (OfHost deed)) said) (clusters number)
-          (p.fronts config clusters (for_next config (setup old) (setup mid) lives (OfHost deed) said is for) (still config clusters for standing) number);
       acts = λ config clusters for standing number.
           host_keeps_acts (reply_to_host deed) deed (config_at config number) number told (of_lives_from (lives_after lives (OfHost deed)) said) (clusters number)
           (p.acts config clusters (for_next config (setup old) (setup mid) lives (OfHost deed) said is for) (still config clusters for standing) number);
+      no_acts = p.no_acts;
       right = λ spared config clusters for standing.
           let rest = p.right (later_spared (is_lack (ToHost (reply_to_host deed))) (list_any is_lack told) spared) config clusters (for_next config (setup old) (setup mid) lives (OfHost deed) said is for) (still config clusters for standing) in
           (rest.0, rest.1, λ others. ap (λ told. ToHost (reply_to_host deed) ∷ told) (rest.2 others));
@@ -146,12 +144,10 @@ module _ {W : Type 0} (setup : W → Setup) (StandsFor : W → ℕ → SoloClust
       each = ap suc p.each;
       addressed = ap (λ names. Some (lives.last_at slot) ∷ names) p.addressed;
       hosted = p.hosted;
-      fronts = λ config clusters for standing number.
-          unformed_keeps (lives.last_at slot) (config_at config number) number told (of_lives_from lives said) (clusters number)
-          (p.fronts config clusters (for_next config (setup old) (setup mid) lives (Unformed slot) said is for) (still config clusters for standing) number);
       acts = λ config clusters for standing number.
           unformed_keeps_acts (lives.last_at slot) (config_at config number) number told (of_lives_from lives said) (clusters number)
           (p.acts config clusters (for_next config (setup old) (setup mid) lives (Unformed slot) said is for) (still config clusters for standing) number);
+      no_acts = (refl, p.no_acts);
       right = λ spared config clusters for standing.
           let rest = p.right (later_spared false (list_any is_lack told) spared) config clusters (for_next config (setup old) (setup mid) lives (Unformed slot) said is for) (still config clusters for standing) in
           (rest.0, rest.1, λ others. ap (λ told. ToTenant (lives.last_at slot) (Refused Syntax) ∷ told) (rest.2 others));
@@ -265,27 +261,28 @@ module _ {W : Type 0} (setup : W → Setup) (StandsFor : W → ℕ → SoloClust
       concern : config_in (setup old) event.slot ≡ config_at config life
       concern = config_of_life config (setup old) lives event.slot for.sizes for.numbered for.placed.0
 
+      -- a turn of its own cluster, also if memory was refused
+      turn_of : (after : SoloCluster) × Turns (config_at config life) event.act (clusters life) reply after × StandsFor mid event.slot after
+      turn_of =
+          subst (λ (c : TenantConfig). (after : SoloCluster) × Turns c event.act (clusters life) reply after × StandsFor mid event.slot after) concern (as_turn setup StandsFor old event reply mid acted (clusters life) stood)
+
       turned : is_out_of_memory reply ≡ false → (reply ≡ (cluster_step (config_at config life) event.act (clusters life)).reply) × StandsFor mid event.slot (cluster_step (config_at config life) event.act (clusters life)).after
       turned spared =
           subst (λ (c : TenantConfig). let turn = cluster_step c event.act (clusters life) in (reply ≡ turn.reply) × StandsFor mid event.slot turn.after) concern (acted.own spared (clusters life) stood)
 
-      -- some cluster he has, also where memory was refused
+      -- the tenant has some cluster, also if memory ran out
       some_after : (after : SoloCluster) × StandsFor mid event.slot after
-      some_after = by_test (is_out_of_memory reply)
-          (λ lack. let left = acted.lack lack (clusters life) stood in (left.0, left.2))
-          (λ spared. ((cluster_step (config_at config life) event.act (clusters life)).after, (turned spared).1))
+      some_after = (turn_of.0, turn_of.2)
 
       stands_with : (after : SoloCluster) → StandsFor mid event.slot after → AreStanding config mid lives (with_cluster life after clusters)
       stands_with after own = stand_acted config old mid lives event.slot after clusters for.numbered for.placed.0 acted.same acted.others own standing
 
-      -- what holds of his number, and what of another
+      -- what holds of the tenant's number, and what of another
       module _ (number : ℕ) (Is : SoloCluster → Type 0) (later : (cs : ℕ → SoloCluster) → AreStanding config mid lives cs → Is (cs number)) where
-        his : life ≡ number → is_out_of_memory reply ≡ false →
-            let turn = cluster_step (config_at config number) event.act (clusters number) in (reply ≡ turn.reply) × Is turn.after
-        his same spared =
-            let after = (cluster_step (config_at config life) event.act (clusters life)).after in
-            let held = subst Is (with_same life number after clusters same) (later (with_cluster life after clusters) (stands_with after (turned spared).1)) in
-            subst (λ n. let turn = cluster_step (config_at config n) event.act (clusters n) in (reply ≡ turn.reply) × Is turn.after) same ((turned spared).0, held)
+        his_turn : life ≡ number → (after : SoloCluster) × Turns (config_at config number) event.act (clusters number) reply after × Is after
+        his_turn same =
+            let held = subst Is (with_same life number turn_of.0 clusters same) (later (with_cluster life turn_of.0 clusters) (stands_with turn_of.0 turn_of.2)) in
+            subst (λ n. (after : SoloCluster) × Turns (config_at config n) event.act (clusters n) reply after × Is after) same (turn_of.0, turn_of.1, held)
 
         other : (life ≡ number → ⊥) → Is (clusters number)
         other apart = subst Is (with_other life number some_after.0 clusters apart) (later (with_cluster life some_after.0 clusters) (stands_with some_after.0 some_after.1))
@@ -303,14 +300,11 @@ module _ {W : Type 0} (setup : W → Setup) (StandsFor : W → ℕ → SoloClust
       each = ap suc p.each;
       addressed = ap (λ names. Some life ∷ names) p.addressed;
       hosted = p.hosted;
-      fronts = λ config clusters for standing number.
-          let Is : SoloCluster → Type 0 = λ cluster. IsFrontOf (before_lack (replies_to number told)) (replies_along (config_at config number) number (of_lives_from lives said) cluster) in
-          let later : (cs : ℕ → SoloCluster) → AreStanding config mid lives cs → Is (cs number) = λ cs stands. p.fronts config cs (next config clusters for standing) stands number in
-          act_keeps (config_at config number) number step reply told (of_lives_from lives said) (clusters number) (his config clusters for standing number Is later) (other config clusters for standing number Is later);
       acts = λ config clusters for standing number.
-          let Is : SoloCluster → Type 0 = λ cluster. ActsAreTold (config_at config number) number (of_lives_from lives said) told cluster in
+          let Is : SoloCluster → Type 0 = λ cluster. ActsGo (config_at config number) number (of_lives_from lives said) told cluster in
           let later : (cs : ℕ → SoloCluster) → AreStanding config mid lives cs → Is (cs number) = λ cs stands. p.acts config cs (next config clusters for standing) stands number in
-          act_keeps_acts (config_at config number) number step reply told (of_lives_from lives said) (clusters number) (his config clusters for standing number Is later) (other config clusters for standing number Is later);
+          act_keeps_acts (config_at config number) number step reply told (of_lives_from lives said) (clusters number) (his_turn config clusters for standing number Is later) (other config clusters for standing number Is later);
+      no_acts = p.no_acts;
       right = λ spared config clusters for standing.
           let one = turned config clusters for standing (first_spared (is_out_of_memory reply) (list_any is_lack told) spared) in
           let turn = cluster_step (config_at config life) event.act (clusters life) in

@@ -80,7 +80,7 @@ IfWriteFault-weaker (fault.Refused refusal) P Q h p = tt
 IfWriteFault-weaker fault.OutOfMemory P Q h p = tt
 IfWriteFault-weaker fault.ReadFault P Q h p = tt
 
--- ---- what a call leaves where it didn't fail
+-- ---- what a call leaves if it didn't fail
 
 pub on_ok_at : {T E : Type 0} (P : Type 0) (r : Result T E) → is_err r ≡ false → OnOk r P → P
 on_ok_at P (Ok x) e h = h
@@ -123,7 +123,7 @@ module _ {M F : Type 0} (rules : LineRules M F) where
     appended = Appends-nil contents;
   }
 
-  -- a front of what waits is written
+  -- a prefix of what waits is written
   abbrev pub Advances-written : (start : Stage M) (lines : List (List ℕ)) (machine : M) (waiting rest : List ℕ) (old new : Option (List ℕ))
       → Advances rules start lines (stage machine waiting old) → AppendsAllBut old new waiting rest → Advances rules start lines (stage machine rest new)
   Advances-written start lines machine waiting rest old new p q = record {

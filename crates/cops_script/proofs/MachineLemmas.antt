@@ -62,7 +62,7 @@ module _ {W : Type 0} (setup : W → Setup) (StandsFor : W → ℕ → SoloClust
         appended = appended;
       }
 
-  -- the line writes an act, which the tenant did and is told of; or it writes none
+  -- the line writes an act, which the tenant did and gets the reply to; or it writes none
   pub done_written : (old new : W) (slot : ℕ) (written : Option Act) (act : Act) (answered : Result Reply AllocError) (reply : Reply) → written ≡ Some act → reply ≡ told_act answered → HasActed setup StandsFor old (record { slot = slot; act = act }) answered new →
       IsDone setup StandsFor old (said_by slot written) (ToTenant slot reply) new
   done_written old new slot written act answered reply e told acted = subst (λ o. IsDone setup StandsFor old (said_by slot o) (ToTenant slot reply) new) (sym e) (answered, ap (ToTenant slot) told, acted)
@@ -70,7 +70,7 @@ module _ {W : Type 0} (setup : W → Setup) (StandsFor : W → ℕ → SoloClust
   pub done_unwritten : (old : W) (slot : ℕ) (written : Option Act) → written ≡ None → IsDone setup StandsFor old (said_by slot written) (ToTenant slot (Refused Syntax)) old
   done_unwritten old slot written e = subst (λ o. IsDone setup StandsFor old (said_by slot o) (ToTenant slot (Refused Syntax)) old) (sym e) (refl, stays_as_it_is old)
 
-  -- the tenant is told
+  -- the tenant gets the answer
   pub answers_told : (old new : W) (line word : List ℕ) (tenants : List (Option Tenant)) (searched : Option ℕ) (slot : ℕ) (name : List ℕ) (reply : Reply) (out new_out : List ℕ) → tenants ≡ (setup old).tenants → word ≡ first_word line →
       searched ≡ open_slot_of_name tenants word → searched ≡ Some slot → name ≡ open_name tenants slot → IsDone setup StandsFor old (said_by slot (act_in (first_word line) line)) (ToTenant slot reply) new →
       new_out ≡ out ++ reply_line name reply → Answers (MayAnswer old (said_found line (open_slot_of_name (setup old).tenants (first_word line)))) new out new_out
@@ -84,6 +84,6 @@ module _ {W : Type 0} (setup : W → Setup) (StandsFor : W → ℕ → SoloClust
         appended = appended ∙ ap (λ t. out ++ t) same;
       }
 
-  -- the host is told
+  -- the host gets the answer
   pub answers_host : (old new : W) (said : Said) (reply : HostReply) (out new_out : List ℕ) → IsDone setup StandsFor old said (ToHost reply) new → new_out ≡ out ++ host_line reply → Answers (MayAnswer old said) new out new_out
   answers_host old new said reply out new_out done appended = record { text = host_line reply; answered = (ToHost reply, done, refl); appended = appended }

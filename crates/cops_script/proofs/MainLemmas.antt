@@ -1,5 +1,5 @@
--- The main theorem, from what each tenant was told.
-use Rattle.std.proofs.Common.{◌≡◌, ℕ, ◌<◌, Bool, true, false, List, length, refl, sym, subst, ◌∙◌, true≢false, ◌&&◌}
+-- The main theorem, from the replies to each tenant.
+use Rattle.std.proofs.Common.{◌≡◌, ℕ, ◌<◌, Bool, true, false, List, length, refl, sym, subst, true≢false, ◌&&◌}
 use Rattle.std.specs.Prelude.{IsTrue, nat_le, slice_get, Some}
 use Rattle.std.proofs.lemmas.Bool.{leb-true}
 use Rattle.std.specs.List.{list_all}
@@ -9,9 +9,13 @@ use Rattle.cops_types.specs.HeadLines.{are_sizes, is_between, is_tenant, most_sh
 use Rattle.cops_types.specs.Words.{is_u64}
 use Rattle.cops_model.specs.declared.acts.Event.{Event}
 use Rattle.cops_model.specs.declared.replies.Reply.{Reply}
-use Rattle.cops_model.specs.Events.{config_at, own, replies, solo_replies}
-use Rattle.cops_model.specs.MainTheorem.{HoldsFor, IsToldAlone, IsToldAloneAtFirst, with_tenant_alone}
-use Rattle.cops_causal.proofs.KeptCausality.{keeps_causality, told_causally}
+use Rattle.cops_model.specs.Events.{config_at, own, replies}
+use Rattle.cops_model.specs.declared.acts.Act.{Act}
+use Rattle.cops_model.specs.MainTheorem.{IsCausalRun, with_tenant_alone}
+use Rattle.cops_types.specs.TenantConfig.{TenantConfig}
+use Rattle.cops_model.specs.Cluster.{SoloCluster, new_cluster}
+use Rattle.cops_model.specs.Goes.{Goes}
+use Rattle.cops_causal.proofs.TurnCausality.{all_are_causal}
 use Rattle.cops_script.specs.GoodHeads.{is_good}
 use Rattle.cops_script.proofs.TenantConfigs.{quota_at, sizes_at, tenant_within}
 
@@ -33,19 +37,17 @@ some_shard config good =
     leb-true 1 config.shards low
 
 -- a tenant has the shards of the whole cluster
-some_at : (config : Config) (slot : ℕ) → 0 < config.shards → slot < length config.tenants → 0 < (config_at config slot).shards
+pub some_at : (config : Config) (slot : ℕ) → 0 < config.shards → slot < length config.tenants → 0 < (config_at config slot).shards
 some_at config slot some within = subst (λ n. 0 < n) (sym (sizes_at config slot within).shards) some
 
-pub holds_for : (config : Config) (events : List Event) (told : List Reply) (slot : ℕ) → 0 < config.shards → slot < length config.tenants → IsToldAlone config events told slot → IsToldAloneAtFirst config events told slot →
-    HoldsFor config events told slot
-holds_for config events told slot some within alone at_first = record {
-  alone = alone;
-  at_first = at_first;
-  same = λ other more heard place there concern agree spared too.
-      there spared ∙ (λ i. solo_replies (concern i) (agree i)) ∙ sym (alone too);
-  causal = keeps_causality (config_at config slot) (own slot events) (some_at config slot some within);
-  causally = told_causally (config_at config slot) (own slot events) (replies slot events told) (some_at config slot some within) at_first;
-}
+-- every run of a tenant alone is causal
+pub causal_run : (config : TenantConfig) (acts : List Act) (told : List Reply) (left : SoloCluster) → 0 < config.shards → Goes config acts told (new_cluster config) left → IsCausalRun config acts told
+causal_run config acts told left some goes = record { left = left; goes = goes; causal = all_are_causal config some acts told left goes }
+
+-- and so is the run of a tenant's own acts among those of many
+pub own_run : (config : Config) (events : List Event) (told : List Reply) (slot : ℕ) (left : SoloCluster) → 0 < config.shards → slot < length config.tenants →
+    Goes (config_at config slot) (own slot events) (replies slot events told) (new_cluster (config_at config slot)) left → IsCausalRun (config_at config slot) (own slot events) (replies slot events told)
+own_run config events told slot left some within goes = causal_run (config_at config slot) (own slot events) (replies slot events told) left (some_at config slot some within) goes
 
 -- ---- one tenant alone
 

@@ -17,7 +17,7 @@ by_test : {C : Type 0} (b : Bool) → (b ≡ true → C) → (b ≡ false → C)
 by_test {C} true holds fails = holds refl
 by_test {C} false holds fails = fails refl
 
--- who is open at a slot has a life of his own, and the configuration has him at its number
+-- the tenant that is open in a slot has a life of its own, and the configuration has it at that number
 pub record AreNumbered (config : Config) (tenants : List (Option Tenant)) (lives : Lives) : Type 0 where
   pub tenant_is : (slot : ℕ) (tenant : Tenant) → open_at slot tenants ≡ Some tenant → slice_get config.tenants (lives.last_at slot) ≡ Some tenant
   pub apart : (slot other : ℕ) (tenant neighbour : Tenant) → open_at slot tenants ≡ Some tenant → open_at other tenants ≡ Some neighbour → lives.last_at slot ≡ lives.last_at other → slot ≡ other
@@ -39,7 +39,7 @@ abbrev pub ArePlaced : List (Option Tenant) → List Said → Type 0
 ArePlaced tenants [] = Unit {0}
 ArePlaced tenants (said ∷ more) = IsPlaced tenants said × ArePlaced (tenants_after tenants said) more
 
--- who is admitted is in the configuration, at the number of his life
+-- an admitted tenant is in the configuration, at the number of its life
 abbrev pub IsOf : Config → Lives → Said → Type 0
 IsOf config lives (OfHost (Admits slot tenant)) = slice_get config.tenants lives.begun ≡ Some tenant
 IsOf config lives (OfHost (Closes slot name)) = Unit {0}
@@ -181,7 +181,7 @@ of_all base front lives (Acts event ∷ said) size = (tt, of_all base front live
 pub of_all_lives : (config : Config) (said : List Said) → AreOf (with_all_lives config said) (first_lives config) said
 of_all_lives config said = of_all config config.tenants (first_lives config) said refl
 
--- at first each tenant has the life of his place
+-- at first each tenant has the life of its place
 pub numbered_first : (config : Config) (said : List Said) → AreNumbered (with_all_lives config said) (begun_with config.tenants) (first_lives config)
 numbered_first config said =
     let there : (slot : ℕ) (t : Tenant) → open_at slot (begun_with config.tenants) ≡ Some t → slice_get config.tenants slot ≡ Some t = λ slot t e. sym (open_begun config.tenants slot) ∙ e in

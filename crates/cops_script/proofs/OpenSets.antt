@@ -1,4 +1,4 @@
--- A slot that is given to a tenant, or taken from him.
+-- A slot that is given to a tenant, or taken from it.
 use Rattle.std.proofs.Common.{◌≡◌, ◌≢◌, ℕ, zero, suc, ◌<◌, Bool, true, false, true≢false, not, ◌&&◌, List, [], ◌∷◌, length, set, refl, ap, sym, arith}
 use Rattle.std.specs.Prelude.{is_none, nat_lt, Option, Some, None}
 use Rattle.std.proofs.lemmas.Bool.Decides.{nat_tests}

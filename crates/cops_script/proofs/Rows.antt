@@ -1,4 +1,4 @@
--- Worked examples: what a tenant is told in a cluster of its own.
+-- Worked examples: a tenant's replies in a cluster of its own.
 use Rattle.std.proofs.Common.{◌≡◌, ℕ, zero, suc, ◌<◌, true, false, List, [], ◌∷◌, ◌++◌, refl, arith}
 use Rattle.std.specs.Prelude.{codes, IsTrue}
 use Rattle.std.specs.List.{list_all}
@@ -8,9 +8,11 @@ use Rattle.cops_model.specs.declared.acts.Act.TheVariants.{Open, Create, Delete,
 use Rattle.cops_model.specs.declared.replies.Reply.{Reply}
 use Rattle.cops_model.specs.declared.replies.Reply.TheVariants.{Opened, Created, Deleted, Started, Lists, Working, Restarted, Stored, Values, Nothing, Waits, Carried, Removed, Refused}
 use Rattle.cops_model.specs.declared.acts.Event.{Event}
-use Rattle.cops_model.specs.Causal.{Returned, past_of_put, deps_of, answers_consistently}
-use Rattle.cops_model.specs.Events.{own, solo_replies}
-use Rattle.cops_model.specs.Laws.{history_of, HasExactDepsAt, HasCommittedPastsAt, IsConsistent, is_expected}
+use Rattle.cops_model.specs.Causal.{Returned, past_of_put, deps_of, answers_consistently, Traced}
+use Rattle.cops_types.specs.TenantConfig.{TenantConfig}
+use Rattle.cops_model.specs.Events.{cluster_of, own, solo_replies}
+use Rattle.cops_model.specs.Laws.{AreCommittedPasts, AreConsistent, AreExactDeps, committed_entries, is_committed_in, is_expected}
+use Rattle.cops_model.specs.Told.{history_told}
 use Rattle.cops_script.proofs.Words.{cluster, quota, a, b, c, d, p, q, r, x, y, z, pair, read, absent}
 
 -- a session of this name at a data centre, with its first context
@@ -53,7 +55,7 @@ acme act = record { slot = 0; act = act }
 abbrev beta : Act → Event
 beta act = record { slot = 1; act = act }
 
--- both put the same key in turns, and each is answered by his own clock
+-- both put the same key in turns, and each is answered by its own clock
 puts_in_turns : List Event
 puts_in_turns =
     acme (Open a 0) ∷ acme (Create a) ∷ beta (Open a 0) ∷ beta (Create a) ∷ acme (Put a 1 x (codes "1")) ∷ acme (Done a 0) ∷ beta (Put a 1 x (codes "2")) ∷ beta (Done a 0)
@@ -138,17 +140,21 @@ both_versions_count :
 unfolding both_versions
 both_versions_count = refl
 
+-- the operations that a cluster of one's own tells, each with its past
+abbrev history : TenantConfig → List Act → List Traced
+history config acts = history_told acts (solo_replies config acts)
+
 -- the past of the last put, from the operations alone
-past_of_the_last_put : deps_of (history_of (cluster 2 1) both_versions) (pair z 3 0) ≡ pair p 1 0 ∷ pair q 1 1 ∷ pair x 2 1 ∷ []
+past_of_the_last_put : deps_of (history (cluster 2 1) both_versions) (pair z 3 0) ≡ pair p 1 0 ∷ pair q 1 1 ∷ pair x 2 1 ∷ []
 unfolding both_versions
 past_of_the_last_put = refl
 
 -- what the records carry is what the operations say
-exact_deps : HasExactDepsAt (cluster 2 1) both_versions 0 0
+exact_deps : AreExactDeps (history (cluster 2 1) both_versions) (committed_entries (cluster 2 1) (cluster_of (cluster 2 1) both_versions) 0 0)
 unfolding both_versions
 exact_deps = (refl, refl)
 
-consistent_answers : IsConsistent (cluster 2 1) both_versions
+consistent_answers : AreConsistent (history (cluster 2 1) both_versions)
 unfolding both_versions
 consistent_answers = refl
 
@@ -171,7 +177,7 @@ gone_restarts :
     ∷ Values (read x (codes "11") 3 0 (pair x 1 0 ∷ pair y 2 1 ∷ []) ∷ read y (codes "20") 2 1 (pair x 1 0 ∷ []) ∷ []) ∷ []
 gone_restarts = refl
 
--- where no restart is left, the transaction fails
+-- if no restart is left, the transaction fails
 gone_without_restarts :
     solo_replies (record (cluster 1 2) { restarts = 0 }) (gone_start ++ Step a 13 ∷ [])
     ≡ two_rounds_told ++ Started ∷ Stored (pair x 3 0) ∷ Removed 1 ∷ Working ∷ Refused Overrun ∷ Refused Idle ∷ []
@@ -262,14 +268,16 @@ contexts_are_apart = refl
 older_answer : answers_consistently (record { operation = record { session = a; context = 1; effect = Returned [] }; past = pair x 2 0 ∷ [] }) (Returned (read x (codes "10") 1 0 [] ∷ [])) ≡ false
 older_answer = refl
 
--- what was carried has its past where it came
+-- what was carried has its past if it came
 abbrev carried : List Act
 carried = session a 0 ++ Put a 1 x (codes "10") ∷ Done a 0 ∷ Put a 1 y (codes "20") ∷ Done a 0 ∷ Carry c 0 0 1 ∷ Done c 5 ∷ Carry c 0 1 1 ∷ Done c 5 ∷ []
 
-committed_pasts : HasCommittedPastsAt (cluster 2 2) carried 1 1
+committed_pasts :
+    let left = cluster_of (cluster 2 2) carried in
+    AreCommittedPasts (history (cluster 2 2) carried) (is_committed_in (cluster 2 2) left 1) (committed_entries (cluster 2 2) left 1 1)
 committed_pasts = refl
 
-past_of_the_carried : past_of_put (history_of (cluster 2 2) carried) (pair y 2 1) ≡ pair x 1 0 ∷ []
+past_of_the_carried : past_of_put (history (cluster 2 2) carried) (pair y 2 1) ≡ pair x 1 0 ∷ []
 past_of_the_carried = refl
 
 -- before the first entry was carried the second waits, so its past is never missing

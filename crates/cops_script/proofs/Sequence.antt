@@ -14,7 +14,7 @@ use Rattle.cops_script.specs.Said.{Said, OfHost, Unformed, Acts}
 use Rattle.cops_script.specs.Answers.{Answer, ToHost, ToTenant, reply_to_host}
 use Rattle.cops_script.specs.Script.{events_in, first_reply, answers}
 
--- what each tenant is still to be told, from this slot on
+-- the replies that each tenant has yet to get, from this slot on
 abbrev pub left_from : ℕ → List TenantConfig → (ℕ → SoloCluster) → List Event → List (List Reply)
 left_from base [] clusters events = []
 left_from base (config ∷ configs) clusters events = replies_from config (own base events) (clusters base) ∷ left_from (base + 1) configs clusters events
@@ -22,7 +22,7 @@ left_from base (config ∷ configs) clusters events = replies_from config (own b
 apart_from : (slot base : ℕ) → (slot ≡ base → ⊥) → (slot == base) ≡ false
 apart_from slot base differ = elim (slot == base) as (λ b. (slot == base) ≡ b → b ≡ false) [ true ↦ λ e. absurd (differ ((Decides-eqb slot base).0 e)) | false ↦ λ e. refl ] refl
 
--- an event of another slot leaves what its tenant is to be told
+-- an event of another slot leaves the replies that its tenant has yet to get
 left_at_other : (base : ℕ) (config : TenantConfig) (clusters : ℕ → SoloCluster) (e : Event) (after : SoloCluster) (events : List Event) → (e.slot == base) ≡ false →
     replies_from config (own base events) (with_cluster e.slot after clusters base) ≡ replies_from config (own base (e ∷ events)) (clusters base)
 left_at_other base config clusters e after events apart = rw apart refl
@@ -35,7 +35,7 @@ left_from-earlier base (config ∷ configs) clusters e after events below =
     let others = left_from-earlier (base + 1) configs clusters e after events (omega arith) in
     λ i. one i ∷ others i
 
--- an event takes the first reply of its tenant, and leaves the others what they are to be told
+-- an event takes the first reply of its tenant, and leaves the others theirs
 record TakesFirst (base : ℕ) (configs : List TenantConfig) (clusters : ℕ → SoloCluster) (e : Event) (events : List Event) (config : TenantConfig) (k : ℕ) : Type 0 where
   first : slice_index_or (left_from base configs clusters (e ∷ events)) k []
       ≡ (cluster_step config e.act (clusters e.slot)).reply ∷ replies_from config (own e.slot events) (cluster_step config e.act (clusters e.slot)).after
@@ -76,7 +76,7 @@ takes_first base (c ∷ configs) clusters e events config (suc k) at found =
 
 -- ---- one line after another
 
--- the answer to each line, where each tenant's cluster is kept
+-- the answer to each line, if each tenant's cluster is kept
 abbrev pub answers_from : (ℕ → TenantConfig) → List Said → (ℕ → SoloCluster) → List Answer
 answers_from configs [] clusters = []
 answers_from configs (OfHost deed ∷ said) clusters = ToHost (reply_to_host deed) ∷ answers_from configs said clusters

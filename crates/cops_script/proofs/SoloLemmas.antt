@@ -126,7 +126,7 @@ was_open-is : (config : Config) (name : List ℕ) (lines : List (List ℕ)) →
     was_open config name lines ≡ (list_any (has_this_name name) config.tenants || some_admitted name (said_by_lines config (own_lines name lines)))
 was_open-is config name lines = list_any-append (has_this_name name) config.tenants (filter_map admitted_by (said_by_lines config (own_lines name lines)))
 
--- where nobody of the name is open in all of the lines, nobody is in the first of them
+-- if nobody of the name is open in all of the lines, nobody is in the first of them
 was_open-front : (config : Config) (name : List ℕ) (lines others : List (List ℕ)) → was_open config name (lines ++ others) ≡ false → was_open config name lines ≡ false
 was_open-front config name lines others none =
     let front = said_by_lines config (own_lines name lines) in
@@ -245,7 +245,7 @@ module _ {W : Type 0} (setup : W → Setup) (StandsFor : W → ℕ → SoloClust
         each = p.each;
         addressed = p.addressed;
         hosted = p.hosted;
-        fronts = λ config clusters for standing number. p.fronts config clusters (before config for) (stand_stayed solo_setup Stands config old mid lives clusters stayed standing) number;
+        no_acts = p.no_acts;
         acts = λ config clusters for standing number. p.acts config clusters (before config for) (stand_stayed solo_setup Stands config old mid lives clusters stayed standing) number;
         right = λ spared config clusters for standing. p.right spared config clusters (before config for) (stand_stayed solo_setup Stands config old mid lives clusters stayed standing);
         left = λ spared config clusters for standing. p.left spared config clusters (before config for) (stand_stayed solo_setup Stands config old mid lives clusters stayed standing);

@@ -96,7 +96,7 @@ same_admitted name tenants (line ∷ lines) = by (is_own name line) refl
         let of = of_another tenants name line e in
         on tenants ∙ ap (λ ts. filter_map admitted_by (said_to ts lines)) (sym (another_after tenants name said of)) ∙ sym (another_admits tenants name said (said_to (tenants_after tenants said) lines) of)
 
--- ---- what is told
+-- ---- replies
 
 module _ (whole : Config) (name : List ℕ) where
   -- of all answers, those to tenants of the name
@@ -164,7 +164,7 @@ module _ (whole : Config) (name : List ℕ) where
           let others = told lives (said_to tenants lines) theirs in
           on one theirs (agree_other life turn.after one two uncalled agree) ∙ sym (ap (λ b. cond b (ToTenant life turn.reply ∷ others) others) uncalled)
 
-  -- they are told the same
+  -- they get the same replies
   same_told : (lines : List (List ℕ)) (tenants : List (Option Tenant)) (lives : Lives) → AreNumbered whole tenants lives → AreOf whole lives (said_to tenants lines) → (one two : ℕ → SoloCluster) → Agree one two →
       told lives (said_to tenants (own_lines name lines)) one ≡ told lives (said_to tenants lines) two
   same_told [] tenants lives numbered of one two agree = refl

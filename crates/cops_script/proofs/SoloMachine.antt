@@ -27,7 +27,7 @@ use Rattle.cops_script.specs.declared.solo_scripts.SoloRun.{SoloRun}
 use Rattle.cops_script.specs.Acting.{HasStayed, IsNew, told_act}
 use Rattle.cops_script.specs.Answers.{Answer, ToHost, ToTenant, reply_line, slot_line}
 use Rattle.cops_script.specs.Doing.{IsDone}
-use Rattle.cops_script.specs.Lacks.{Lacks}
+use Rattle.cops_model.specs.Lacks.{Lacks}
 use Rattle.cops_script.specs.AllRules.{IsAnswered}
 use Rattle.cops_script.specs.SoloRules.{AnswersOwn, IsGiven, IsKept, IsSilent, IsTaken, IsWorldOf, SoloStands, Takes, is_own, solo_setup}
 use Rattle.cops_script.proofs.NamedSlots.{HasNamedAt, admitted_apart, admitted_found, admitted_here, admitted_others, closed_apart, closed_found, closed_others, found_alone, named_found, open_to}
@@ -49,7 +49,7 @@ module _ {W : Type 0} (setup : W → Setup) (StandsFor : W → ℕ → SoloClust
   world_elsewhere name head old new held None stay h = h
   world_elsewhere name head old new held (Some slot) stay (tenant, world, there, named, is, alone) = (tenant, world, stay slot tenant named there, named, is, alone)
 
-  -- where the same slot is found for the name
+  -- if the same slot is found for the name
   kept_at : (name : List ℕ) (old new : SoloRun W) → new.head ≡ old.head → new.world ≡ old.world → AreApart (λ tenant. tenant.name) new.tenants → open_slot_of_name new.tenants name ≡ open_slot_of_name old.tenants name →
       ((slot : ℕ) (tenant : Tenant) → bytes_eq tenant.name name ≡ true → open_at slot old.tenants ≡ Some tenant → open_at slot new.tenants ≡ Some tenant) → IsKept setup StandsFor name old → IsKept setup StandsFor name new
   kept_at name old new head_is world_is apart found stay kept = record {
@@ -103,7 +103,7 @@ module _ {W : Type 0} (setup : W → Setup) (StandsFor : W → ℕ → SoloClust
       setup_then : solo_setup new ≡ with_slot (next_slot old.tenants) (Some tenant) (solo_setup old)
       setup_then = λ i. record { head = head_is i; tenants = given.1 i }
 
-      -- he has the name
+      -- the tenant has the name
       named_taken : (world : W) → bytes_eq tenant.name name ≡ true → new.world ≡ Some world → new.was_open ≡ true → IsNew setup StandsFor (with_tenant_alone old.head tenant) world → IsKept setup StandsFor name old →
           IsTaken setup StandsFor name old (OfHost (Admits (next_slot old.tenants) tenant)) [] new
       named_taken world named world_is was_is fresh kept =
@@ -134,7 +134,7 @@ module _ {W : Type 0} (setup : W → Setup) (StandsFor : W → ℕ → SoloClust
             was = was_is ∙ sym (ap (λ b. old.was_open || b) named ∙ or_true old.was_open);
           }
 
-      -- he has another name
+      -- the tenant has another name
       other_taken : bytes_eq tenant.name name ≡ false → new.world ≡ old.world → new.was_open ≡ old.was_open → IsKept setup StandsFor name old → IsTaken setup StandsFor name old (OfHost (Admits (next_slot old.tenants) tenant)) [] new
       other_taken differs world_is was_is kept =
           let may = open_to old.tenants tenant given.0 in
@@ -170,7 +170,7 @@ module _ {W : Type 0} (setup : W → Setup) (StandsFor : W → ℕ → SoloClust
         (named_taken tenant.name old new tenant head_is granted world (same_bytes tenant.name) world_is was_is fresh kept)),
   )
 
-  -- the table refuses him
+  -- the table refuses the tenant
   pub denied_takes : (name : List ℕ) (old new : SoloRun W) (tenant : Tenant) (given : Bool) → given ≡ false → IsGiven old.tenants tenant given new.tenants → new.head ≡ old.head → new.world ≡ old.world → new.was_open ≡ old.was_open →
       Takes setup StandsFor name old (OfHost (admission_of old.tenants (Some tenant))) [] new
   denied_takes name old new tenant given is h head_is world_is was_is =
@@ -213,7 +213,7 @@ module _ {W : Type 0} (setup : W → Setup) (StandsFor : W → ℕ → SoloClust
     closing_said : (said : Said) → said ≡ OfHost (Closes slot closed) → IsSilent setup StandsFor old [] new → (IsKept setup StandsFor name old → IsTaken setup StandsFor name old (OfHost (Closes slot closed)) [] new) → Takes setup StandsFor name old said [] new
     closing_said said is silent taken = subst (λ s. Takes setup StandsFor name old s [] new) (sym is) (silent, taken)
 
-    -- his world ends
+    -- the tenant's world ends
     named_closed : bytes_eq closed name ≡ true → new.world ≡ None → IsKept setup StandsFor name old → IsTaken setup StandsFor name old (OfHost (Closes slot closed)) [] new
     named_closed named world_is kept =
         let there = named_found old.tenants closed slot found in
@@ -286,7 +286,7 @@ module _ {W : Type 0} (setup : W → Setup) (StandsFor : W → ℕ → SoloClust
       config_is : config_in (solo_setup old) slot ≡ config_in (setup world) 0
       config_is = ap (config_of old.head) there ∙ sym (ap (λ (s : Setup). config_in s 0) alone)
 
-      -- his world has the cluster that stands for him
+      -- the tenant's world has the cluster that represents it
       his : (cluster : SoloCluster) → SoloStands setup StandsFor name old slot cluster → StandsFor world 0 cluster
       his cluster h = let held = h found in let same : Some held.0 ≡ Some world = sym held.1 ∙ world_is in subst (λ w. StandsFor w 0 cluster) (let is : held.0 ≡ world = cc in is) held.2
 
@@ -306,7 +306,7 @@ module _ {W : Type 0} (setup : W → Setup) (StandsFor : W → ℕ → SoloClust
             (tenant, after, ap (open_at slot) tenants_are ∙ there, named, after_is, same ∙ alone ∙ ap (λ (h : Config). new_setup (with_tenant_alone h tenant)) (sym head_is));
       }
 
-      -- his line is written under his name
+      -- the line is written under the tenant's name
       line_is : (reply : Reply) → slot_line (setup world).tenants (ToTenant 0 reply) ≡ slot_line old.tenants (ToTenant slot reply)
       line_is reply = ap (λ (s : Setup). slot_line s.tenants (ToTenant 0 reply)) alone ∙ sym (ap (λ o. reply_line (option_map_or (λ (t : Tenant). t.name) o []) reply) there)
 

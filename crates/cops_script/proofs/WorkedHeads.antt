@@ -45,7 +45,7 @@ a_repeated_token_is_a_bad_line :
 unfolding texts_on_literals
 a_repeated_token_is_a_bad_line = refl
 
--- one tenant at his limit of versions is refused, the other never notices
+-- one tenant at its limit of versions is refused, the other never notices
 a_version_quota_is_one_tenants_own :
     script_out (
     ended (codes "cluster 1 1 5000 1") ++ ended (codes "tenant acme 00000000-0000-0000-0000-000000000001 0 1 10000 10 4 20 8 1000") ++ beta_line

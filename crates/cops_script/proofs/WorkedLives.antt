@@ -78,7 +78,7 @@ a_full_house_refuses_the_next_tenant :
 unfolding texts_on_literals
 a_full_house_refuses_the_next_tenant = refl
 
--- that a name was never open is told at the end of the input; to be refused is not to be open
+-- the end of the input refuses a name that was never open; to be refused is not to be open
 a_name_that_was_never_open_alone :
     solo_out (codes "zeta") (
     ended (codes "cluster 1 1 5000 1") ++ acme_line ++ ended (codes "begin") ++ ended (codes "zeta open a 0")
@@ -88,7 +88,7 @@ a_name_that_was_never_open_alone :
 unfolding texts_on_literals
 a_name_that_was_never_open_alone = refl
 
--- a name alone is told its lives one after another, each on a new cluster, and nothing for lines of the host
+-- a name alone gets the replies of its lives one after another, each on a new cluster, and nothing for lines of the host
 a_name_with_two_lives_alone :
     solo_out (codes "beta") (
     ended (codes "cluster 1 1 5000 1") ++ acme_line ++ ended (codes "begin")
@@ -151,7 +151,7 @@ an_admitted_tenant_alone :
 unfolding texts_on_literals
 an_admitted_tenant_alone = refl
 
--- each line of the host stands there twice: where memory is refused to the first, the second does what it says
+-- each line of the host stands there twice: if memory runs out for the first, the second does what it says
 each_line_of_the_host_twice :
     script_out (
     ended (codes "cluster 2 2 5000 1") ++ acme_line ++ ended (codes "begin") ++ ended (codes "acme open a 0") ++ ended (codes "acme ctx a")
@@ -192,7 +192,7 @@ each_line_of_the_host_twice :
 unfolding texts_on_literals
 each_line_of_the_host_twice = refl
 
--- a name of two lives alone, where each line of the host stands there twice
+-- a name of two lives alone; each line of the host stands there twice
 each_line_of_the_host_twice_alone :
     solo_out (codes "beta") (
     ended (codes "cluster 2 2 5000 1") ++ acme_line ++ ended (codes "begin") ++ ended (codes "acme open a 0") ++ ended (codes "acme ctx a")

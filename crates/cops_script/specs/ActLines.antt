@@ -30,11 +30,11 @@ act_line tenant act = spaced (tenant ∷ words_of_act act)
 
 -- ---- which acts have a line
 
--- a value is a word of bytes that can be seen
+-- a value is a word of visible bytes
 abbrev pub is_value_word : List ℕ → Bool
 is_value_word value = is_word value && list_all (is_between 33 126) value
 
--- names are names, numbers are below 2 to the 64, a key may be any word, and a transaction asks for one key at least
+-- names are valid, numbers are below 2 to the 64, a key may be any word, and a transaction has at least one key
 abbrev pub has_line : Act → Bool
 has_line (Open name dc) = is_name name && is_u64 dc
 has_line (Create name) = is_name name
@@ -53,11 +53,11 @@ pub record IsActLine (tenant line : List ℕ) (act : Act) : Type 0 where
   pub allowed : IsTrue (has_line act)
   pub short : IsTrue (nat_le (length line) longest_line)
 
--- the line is of no form: it is no act
+-- the line has no known form: it is no act
 abbrev pub IsUnformed : List ℕ → List ℕ → Type 0
 IsUnformed tenant line = (act : Act) → IsActLine tenant line act → ⊥
 
--- ---- the same as a function that computes: a reading of the words, kept where it spells the line
+-- ---- the same as a function that computes: a reading of the words, kept if it writes the line
 
 -- a number from this word, and with it an act
 abbrev pub with_number : {A : Type 0} → (ℕ → A) → List ℕ → Option A
@@ -105,7 +105,7 @@ act_of_verb verb words =
     else if bytes_eq verb (codes "collect") then collect_of words
     else None
 
--- the act of the words, of which the first is the tenant's name
+-- the act of the words, the first of which is the tenant's name
 abbrev pub act_of_words : List (List ℕ) → Option Act
 act_of_words (tenant ∷ verb ∷ words) = act_of_verb verb words
 act_of_words words = None

@@ -1,4 +1,4 @@
--- What a world of many tenants does, however it is kept.
+-- The behaviour of a world of many tenants, in any representation.
 use Rattle.std.specs.Prelude.{◌≡◌, ◌≢◌, ◌⊎◌, ℕ, ◌<◌, IfOk, IsFalse, IsTrue, length, Some, None, Result, Ok, Err}
 use Rattle.std.specs.declared.alloc.AllocError.{AllocError}
 use Rattle.cops_types.specs.declared.configs.Config.{Config}
@@ -15,18 +15,18 @@ use Rattle.cops_model.specs.declared.replies.Reply.TheVariants.{Refused}
 use Rattle.cops_model.specs.Cluster.{SoloCluster, cluster_step, new_cluster}
 use Rattle.cops_model.specs.Events.{config_at, is_out_of_memory}
 use Rattle.cops_model.specs.Setups.{Setup, config_in, new_setup, next_slot, with_slot}
-use Rattle.cops_script.specs.Lacks.{Lacks}
+use Rattle.cops_model.specs.Lacks.{Lacks}
 
--- what a tenant is told of an act: the reply, or that memory was refused
+-- the reply to an act, or out of memory
 abbrev pub told_act : Result Reply AllocError → Reply
 told_act (Ok reply) = reply
 told_act (Err error) = Refused OutOfMemory
 
--- a reply that doesn't say so
+-- a reply other than out of memory
 abbrev pub IsSparedReply : Reply → Type 0
 IsSparedReply reply = IsFalse (is_out_of_memory reply)
 
--- where a reply to the act is the definition's: always, but that a step shows what a node answered, whatever that was
+-- the reply to the act is the definition's: always, except that a step shows a node's reply, whatever it was
 abbrev pub TellsExactly : Act → Reply → Type 0
 TellsExactly (Step name moment) reply = IsSparedReply reply
 TellsExactly (Done name moment) reply = IsSparedReply reply
@@ -38,11 +38,12 @@ module _ {W : Type 0} (setup : W → Setup) (StandsFor : W → ℕ → SoloClust
     pub setup_is : setup world ≡ new_setup config
     pub empty : (slot : ℕ) → slot < length config.tenants → StandsFor world slot (new_cluster (config_at config slot))
 
-  -- the tenants of other slots have the clusters that they had
+  -- the tenants of other slots have the same clusters as before
   abbrev pub OthersStay : ℕ → W → W → Type 0
   OthersStay slot old new = (other : ℕ) → slot ≢ other → (cluster : SoloCluster) → StandsFor old other cluster → StandsFor new other cluster
 
-  -- an event acted on its own tenant's cluster, or memory was refused, which is the error, and it left that cluster as such an act may; and it acted on no other
+  -- an event acted on its own tenant's cluster; or memory ran out, which is the error, and the cluster changed only as such an act may change it.
+  -- It acted on no other cluster
   pub record HasActed (old : W) (event : Event) (answered : Result Reply AllocError) (new : W) : Type 0 where
     pub same : setup new ≡ setup old
     pub own : IfOk answered (λ reply. TellsExactly event.act reply → (cluster : SoloCluster) → StandsFor old event.slot cluster →
@@ -51,23 +52,23 @@ module _ {W : Type 0} (setup : W → Setup) (StandsFor : W → ℕ → SoloClust
         (after : SoloCluster) × Lacks (config_in (setup old) event.slot) event.act cluster after × StandsFor new event.slot after
     pub others : OthersStay event.slot old new
 
-  -- the same tenants are open, and each has the cluster that he had
+  -- the same tenants are open, each with the same cluster
   pub record HasStayed (old new : W) : Type 0 where
     pub same : setup new ≡ setup old
     pub clusters : (slot : ℕ) (cluster : SoloCluster) → StandsFor old slot cluster → StandsFor new slot cluster
 
-  -- the slot is this tenant's, who has a new cluster
+  -- the slot belongs to this tenant, which has a new cluster
   pub record HasAdmitted (slot : ℕ) (tenant : Tenant) (old new : W) : Type 0 where
     pub setup_is : setup new ≡ with_slot slot (Some tenant) (setup old)
     pub begins : StandsFor new slot (new_cluster (tenant_config (setup old).head tenant))
     pub others : OthersStay slot old new
 
-  -- the slot is nobody's
+  -- the slot has no tenant
   pub record HasClosed (slot : ℕ) (old new : W) : Type 0 where
     pub setup_is : setup new ≡ with_slot slot None (setup old)
     pub others : OthersStay slot old new
 
-  -- the tenant may be admitted and has the least free slot, or he may not, or memory was refused
+  -- the tenant is admitted to the least free slot; or it may not be admitted, or memory ran out
   abbrev pub IsAdmission : W → Tenant → Result ℕ Fault → W → Type 0
   IsAdmission old tenant (Ok slot) new =
       (slot ≡ next_slot (setup old).tenants) × (admission_refusal (setup old).tenants slot tenant ≡ None) × HasAdmitted slot tenant old new

@@ -1,4 +1,4 @@
--- What is answered to each line behind the head of a script, where all tenants are in one world.
+-- The answers to the lines behind the head of a script, with all tenants in one world.
 use Rattle.std.specs.Prelude.{◌≡◌, ℕ, List, []}
 use Rattle.cops_model.specs.Cluster.{SoloCluster}
 use Rattle.cops_model.specs.Setups.{Setup}
@@ -12,11 +12,11 @@ use Rattle.cops_script.specs.declared.script_machine.AllLines.{AllLines}
 use Rattle.cops_script.specs.declared.scripts.BadConfig.{BadConfig}
 
 module _ {W : Type 0} (setup : W → Setup) (StandsFor : W → ℕ → SoloCluster → Type 0) where
-  -- what a line says is done, and answered so
+  -- the line's request is done, and this is the answer
   abbrev pub IsAnswered : W → Said → List ℕ → W → Type 0
   IsAnswered old said text new = (answer : Answer) × IsDone setup StandsFor old said answer new × (text ≡ slot_line (setup old).tenants answer)
 
-  -- no line is refused, and the end is answered with nothing
+  -- no line is refused, and the end has an empty answer
   abbrev pub all_lines : LineRules W BadConfig
   all_lines = record {
     answers = λ old line text new. IsAnswered old (said_in (setup old).tenants line) text new;

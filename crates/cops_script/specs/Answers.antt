@@ -1,4 +1,4 @@
--- What is answered to lines: to the host, or to a tenant.
+-- The answers to lines: to the host, or to a tenant.
 use Rattle.std.specs.Prelude.{ℕ, Bool, false, List, [], ◌∷◌, ◌++◌, codes, map, slice_index_or, Option, Some, None}
 use Rattle.std.specs.Option.{option_map_or}
 use Rattle.cops_types.specs.declared.configs.Tenant.{Tenant}
@@ -13,7 +13,7 @@ use Rattle.cops_model.specs.Events.{is_out_of_memory}
 use Rattle.cops_script.specs.Said.{HostDeed, Admits, Closes, Refuses}
 use Rattle.cops_script.specs.ReplyText.{text_of_reply}
 
--- to a tenant by the number of his life, or of his slot
+-- an answer to a tenant, by the number of its life or of its slot
 pub data Answer : Type 0 where
   ToHost : HostReply → Answer
   ToTenant : ℕ → Reply → Answer
@@ -23,12 +23,12 @@ reply_to_host (Admits slot tenant) = Admitted tenant.name
 reply_to_host (Closes slot name) = Closed name
 reply_to_host (Refuses fault) = Denied fault
 
--- the tenant whom it is to
+-- the tenant that gets the answer
 abbrev pub addressee : Answer → Option ℕ
 addressee (ToHost reply) = None
 addressee (ToTenant number reply) = Some number
 
--- it says that memory was refused
+-- it is out of memory
 abbrev pub is_lack : Answer → Bool
 is_lack (ToHost (Denied fault)) = is_out_of_memory (Refused fault)
 is_lack (ToHost reply) = false
@@ -52,12 +52,12 @@ reply_line name reply = name ++ 32 ∷ text_of_reply reply ++ newline ∷ []
 abbrev pub name_at : List Tenant → ℕ → List ℕ
 name_at tenants number = slice_index_or (map (λ (tenant : Tenant). tenant.name) tenants) number []
 
--- where the tenants are those of all lives
+-- for the tenants of all lives
 abbrev pub answer_line : List Tenant → Answer → List ℕ
 answer_line tenants (ToHost reply) = host_line reply
 answer_line tenants (ToTenant number reply) = reply_line (name_at tenants number) reply
 
--- where it is to the tenant who is open at a slot
+-- for the tenant that is open in a slot
 abbrev pub open_name : List (Option Tenant) → ℕ → List ℕ
 open_name tenants slot = option_map_or (λ (tenant : Tenant). tenant.name) (open_at slot tenants) []
 

@@ -1,4 +1,4 @@
--- What is done by what a line says, and what is answered, however a world is kept.
+-- The effect of a line and its answer, in any representation of a world.
 use Rattle.std.specs.Prelude.{◌≡◌, ◌⊎◌, ℕ, Result}
 use Rattle.std.specs.declared.alloc.AllocError.{AllocError}
 use Rattle.cops_types.specs.declared.faults.Fault.TheVariants.{OutOfMemory, Syntax}
@@ -12,7 +12,7 @@ use Rattle.cops_script.specs.Acting.{HasActed, HasAdmitted, HasClosed, HasStayed
 use Rattle.cops_script.specs.Answers.{Answer, ToHost, ToTenant}
 
 module _ {W : Type 0} (setup : W → Setup) (StandsFor : W → ℕ → SoloCluster → Type 0) where
-  -- an admission is done, or memory was refused; where it may not be done, nothing is
+  -- an admission is done, or memory ran out; if it is not permitted, nothing is done
   abbrev pub IsHosted : W → HostDeed → Answer → W → Type 0
   IsHosted old (Admits slot tenant) answer new =
       ((answer ≡ ToHost (Admitted tenant.name)) × HasAdmitted setup StandsFor slot tenant old new)
@@ -20,7 +20,7 @@ module _ {W : Type 0} (setup : W → Setup) (StandsFor : W → ℕ → SoloClust
   IsHosted old (Closes slot name) answer new = (answer ≡ ToHost (Closed name)) × HasClosed setup StandsFor slot old new
   IsHosted old (Refuses fault) answer new = (answer ≡ ToHost (Denied fault)) × HasStayed setup StandsFor old new
 
-  -- tenants by their slots
+  -- for tenants by their slots
   abbrev pub IsDone : W → Said → Answer → W → Type 0
   IsDone old (OfHost deed) answer new = IsHosted old deed answer new
   IsDone old (Unformed slot) answer new = (answer ≡ ToTenant slot (Refused Syntax)) × HasStayed setup StandsFor old new

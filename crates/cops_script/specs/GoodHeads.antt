@@ -1,4 +1,4 @@
--- Configurations that a head may give.
+-- The configurations that a head may give.
 use Rattle.std.specs.Prelude.{◌≡◌, ℕ, Bool, true, ◌&&◌, List, Option, Some, None}
 use Rattle.std.specs.List.{list_all}
 use Rattle.cops_types.specs.declared.configs.Config.{Config}
@@ -17,7 +17,7 @@ is_front_good (Some AtStart) = true
 is_front_good (Some (Within config)) = is_good config
 is_front_good (Some (Begun config)) = is_good config
 
--- after so many lines this one continues the head
+-- after this many lines this one continues the head
 pub record HeadContinues (old : Option Front) (count : ℕ) (line : List ℕ) (new : Option Front) (new_count : ℕ) : Type 0 where
   pub config : Config
   pub found : front_with old line ≡ Some (Within config)

@@ -36,7 +36,6 @@ pub mod ScriptRuns
 pub mod ScriptWorlds
 pub mod SilentRules
 pub mod Acting
-pub mod Lacks
 pub mod SoloRules
 pub mod SoloRuns
 pub mod LoneHead

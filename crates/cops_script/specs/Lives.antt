@@ -1,16 +1,16 @@
--- The lives of a run. A life begins with the head or with an admission, and ends where its slot is closed. Lives are numbered as they begin,
--- so that a tenant who comes back, and one who gets the slot of another, has a life of his own; of lives the theorems speak.
+-- The lives of a run. A life begins with the head or with an admission, and ends when its slot is closed. Lives are numbered as they begin, so a
+-- tenant that comes back, and one that gets the slot of another, has a life of its own. The theorems are about lives.
 use Rattle.std.specs.Prelude.{ℕ, ◌+◌, ◌==◌, if◌then◌else◌, List, [], ◌∷◌, ◌++◌, length, filter_map, Option, Some, None}
 use Rattle.cops_types.specs.declared.configs.Config.{Config}
 use Rattle.cops_types.specs.declared.configs.Tenant.{Tenant}
 use Rattle.cops_script.specs.Said.{Admits, Said, OfHost, Unformed, Acts}
 
--- how many have begun, and which began last at each slot
+-- the number of lives so far, and the last life of each slot
 pub record Lives : Type 0 where
   pub begun : ℕ
   pub last_at : ℕ → ℕ
 
--- each tenant of the head has the life of his place
+-- each tenant of the head has the life of its place
 abbrev pub first_lives : Config → Lives
 first_lives config = record { begun = length config.tenants; last_at = λ slot. slot }
 
@@ -26,7 +26,7 @@ abbrev pub lives_past : Lives → List Said → Lives
 lives_past lives [] = lives
 lives_past lives (said ∷ more) = lives_past (lives_after lives said) more
 
--- what is said, by the life that says it and not by its slot
+-- the request by the life that makes it, and not by its slot
 abbrev pub of_life : Lives → Said → Said
 of_life lives (OfHost deed) = OfHost deed
 of_life lives (Unformed slot) = Unformed (lives.last_at slot)
@@ -39,7 +39,7 @@ of_lives_from lives (said ∷ more) = of_life lives said ∷ of_lives_from (live
 abbrev pub of_lives : Config → List Said → List Said
 of_lives config said = of_lives_from (first_lives config) said
 
--- the tenant whom it admits
+-- the tenant that it admits
 abbrev pub admitted_by : Said → Option Tenant
 admitted_by (OfHost (Admits slot tenant)) = Some tenant
 admitted_by said = None

@@ -1,4 +1,4 @@
--- The head of a script, of which nothing is read but its lines.
+-- The head of a script without the lines behind it.
 use Rattle.std.specs.Prelude.{◌≡◌, [], IsTrue}
 use Rattle.cops_script.specs.BodyRules.{BodyRules}
 use Rattle.cops_script.specs.GoodHeads.{is_good}
@@ -6,7 +6,7 @@ use Rattle.cops_script.specs.declared.heads.HeadAlone.{HeadAlone}
 use Rattle.cops_script.specs.declared.heads.HeadEnd.{HeadEnd}
 use Rattle.cops_script.specs.declared.heads.HeadEnd.TheVariants.{Whole, Bad}
 
--- the reading stops where the head is whole, so that nothing runs behind it
+-- the reading stops at the end of the head, so nothing runs behind it
 abbrev pub lone_rules : BodyRules HeadAlone (Unit {0}) HeadEnd
 lone_rules = record {
   starts = λ body config state. ⊥;

@@ -1,4 +1,4 @@
--- That each open tenant has a name.
+-- Each open tenant has a name.
 use Rattle.std.specs.Prelude.{List, Option}
 use Rattle.std.specs.List.{AllByRecursion}
 use Rattle.cops_types.specs.declared.configs.Tenant.{Tenant}

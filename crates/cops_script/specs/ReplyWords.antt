@@ -1,4 +1,4 @@
--- The text of reads, as it is written.
+-- The text of reads.
 use Rattle.std.specs.Prelude.{ℕ, List, ◌∷◌, flat_map}
 use Rattle.cops_types.specs.declared.contexts.ReadParts.{ReadParts as Read}
 use Rattle.cops_types.specs.Words.{space}

@@ -1,4 +1,4 @@
--- What a machine's stop makes of a run.
+-- The effect of a machine's stop on a run.
 use Rattle.cops_script.specs.declared.line_runs.machine.Stop.{Stop}
 use Rattle.cops_script.specs.declared.line_runs.machine.Stop.TheVariants as stop
 use Rattle.cops_script.specs.declared.line_runs.fault.RunFault.{RunFault}

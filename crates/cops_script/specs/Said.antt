@@ -1,4 +1,4 @@
--- What a line of a script says, where these tenants are open.
+-- The meaning of a line of a script, while these tenants are open.
 use Rattle.std.specs.Prelude.{ℕ, Bool, ◌||◌, if◌then◌else◌, List, [], ◌∷◌, codes, slice_set, Option, Some, None}
 use Rattle.std.specs.Str.{bytes_eq}
 use Rattle.cops_types.specs.declared.configs.Tenant.{Tenant}
@@ -18,7 +18,7 @@ pub data HostDeed : Type 0 where
   Closes : ℕ → List ℕ → HostDeed
   Refuses : Fault → HostDeed
 
--- the host says it, or a tenant does: it is of no form, or it is an act
+-- a request of the host, or of a tenant: a line of no known form, or an act
 pub data Said : Type 0 where
   OfHost : HostDeed → Said
   Unformed : ℕ → Said
@@ -35,7 +35,7 @@ begins_closing line = bytes_eq (first_word line) (codes "-")
 abbrev pub is_host_line : List ℕ → Bool
 is_host_line line = begins_admission line || begins_closing line
 
--- the tenant is given the least free slot
+-- the tenant gets the least free slot
 abbrev pub admission_unless : List (Option Tenant) → Tenant → Option Fault → HostDeed
 admission_unless tenants tenant None = Admits (next_slot tenants) tenant
 admission_unless tenants tenant (Some fault) = Refuses fault
@@ -58,7 +58,7 @@ abbrev pub said_by : ℕ → Option Act → Said
 said_by slot None = Unformed slot
 said_by slot (Some act) = Acts (record { slot = slot; act = act })
 
--- a line that begins with no open tenant's name is refused as the host's
+-- a line that starts with no open tenant's name is refused as the host's
 abbrev pub said_found : List ℕ → Option ℕ → Said
 said_found line None = OfHost (Refuses UnknownTenant)
 said_found line (Some slot) = said_by slot (act_in (first_word line) line)
@@ -71,7 +71,7 @@ said_in tenants line =
     else if begins_closing line then OfHost (closing_of tenants (closed_in line))
     else said_found line (open_slot_of_name tenants (first_word line))
 
--- the tenants who are open after it
+-- the tenants that are open after it
 abbrev pub tenants_after : List (Option Tenant) → Said → List (Option Tenant)
 tenants_after tenants (OfHost (Admits slot tenant)) = slice_set tenants slot (Some tenant)
 tenants_after tenants (OfHost (Closes slot name)) = slice_set tenants slot None

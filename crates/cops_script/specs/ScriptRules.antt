@@ -1,4 +1,4 @@
--- What is answered to each line of a script, and what is left after it, whatever runs behind its head.
+-- The answer to each line of a script, and the state after it, for any body behind the head.
 use Rattle.std.specs.Prelude.{◌≡◌, ℕ, ◌⊎◌, List, Some}
 use Rattle.cops_types.specs.declared.configs.Config.{Config}
 use Rattle.cops_types.specs.Counts.{counted}
@@ -21,7 +21,7 @@ module _ {B R F : Type 0} (rules : BodyRules B R F) where
     line_answers (Head head) line text new = HeadAnswers (rules.starts body) head line text new
     line_answers (Running old) line text new = (after : R) × (rules.lines body).answers old line text after × (new ≡ Running after)
 
-    -- the line may not stand in the head, or it ends a head with which the body doesn't begin
+    -- the line may not follow in the head, or it ends a head that the body refuses
     abbrev pub head_refuses : HeadSoFar → List ℕ → F → Type 0
     head_refuses head line refusal =
         ((bad : BadConfig) × HeadRefuses head line bad × (refusal ≡ rules.bad_head bad))

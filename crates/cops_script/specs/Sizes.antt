@@ -1,4 +1,4 @@
--- The sizes that each tenant of a configuration has.
+-- The sizes of a configuration, which each of its tenants has.
 use Rattle.std.specs.Prelude.{◌≡◌}
 use Rattle.cops_types.specs.declared.configs.Config.{Config}
 use Rattle.cops_types.specs.TenantConfig.{TenantConfig}

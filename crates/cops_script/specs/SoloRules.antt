@@ -1,4 +1,4 @@
--- What is answered to each line behind the head of a script, where the lines of one name's tenants are answered.
+-- The answer to each line behind the head of a script, if only the lines of one name's tenants are answered.
 use Rattle.std.specs.Prelude.{◌≡◌, ℕ, Bool, true, false, ◌||◌, List, [], slice_set, Option, Some, None, IsFalse, IsTrue}
 use Rattle.std.specs.Option.{option_map_or}
 use Rattle.std.specs.Str.{bytes_eq}
@@ -26,7 +26,7 @@ use Rattle.cops_script.specs.ScriptRuns.{heard}
 
 -- ---- lines and tenants of a name
 
--- the host says the line, or a tenant of the name does
+-- the host writes the line, or a tenant of the name does
 abbrev pub is_own : List ℕ → List ℕ → Bool
 is_own name line = is_host_line line || bytes_eq (first_word line) name
 
@@ -42,7 +42,7 @@ abbrev pub solo_line : List (Option Tenant) → Answer → List ℕ
 solo_line tenants (ToHost reply) = []
 solo_line tenants (ToTenant slot reply) = slot_line tenants (ToTenant slot reply)
 
--- the tenant has the least free slot, or he may not be admitted and nothing changed
+-- the tenant has the least free slot; or it may not be admitted, and nothing changed
 abbrev pub IsGiven : List (Option Tenant) → Tenant → Bool → List (Option Tenant) → Type 0
 IsGiven old tenant true new = (admission_refusal old (next_slot old) tenant ≡ None) × (new ≡ slice_set old (next_slot old) (Some tenant))
 IsGiven old tenant false new = (fault : Fault) × (admission_refusal old (next_slot old) tenant ≡ Some fault) × (new ≡ old)
@@ -53,11 +53,11 @@ abbrev pub solo_setup : {W : Type 0} → SoloRun W → Setup
 solo_setup run = record { head = run.head; tenants = run.tenants }
 
 module _ {W : Type 0} (setup : W → Setup) (StandsFor : W → ℕ → SoloCluster → Type 0) where
-  -- the tenant of the name, where he is open at the slot, has this cluster in his world
+  -- the tenant of the name, if it is open in the slot, has this cluster in its world
   abbrev pub SoloStands : List ℕ → SoloRun W → ℕ → SoloCluster → Type 0
   SoloStands name run slot cluster = open_slot_of_name run.tenants name ≡ Some slot → (world : W) × (run.world ≡ Some world) × StandsFor world 0 cluster
 
-  -- the tenant of the name is found at the slot, and the world is his alone; or there is neither
+  -- the tenant of the name is in the slot, and has the world to itself; or there is neither
   abbrev pub IsWorldOf : List ℕ → Config → List (Option Tenant) → Option W → Option ℕ → Type 0
   IsWorldOf name head tenants held None = held ≡ None
   IsWorldOf name head tenants held (Some slot) =
@@ -67,7 +67,7 @@ module _ {W : Type 0} (setup : W → Setup) (StandsFor : W → ℕ → SoloClust
     pub apart : AreApart (λ tenant. tenant.name) run.tenants
     pub world_is : IsWorldOf name run.head run.tenants run.world (open_slot_of_name run.tenants name)
 
-  -- at the end of the head: where it has the name, a new world of that tenant alone
+  -- at the end of the head: if it has the name, a new world of that tenant alone
   abbrev pub BeginsWith : Config → SoloRun W → Option ℕ → Type 0
   BeginsWith config run None = (run.world ≡ None) × (run.was_open ≡ false)
   BeginsWith config run (Some slot) =
@@ -78,7 +78,7 @@ module _ {W : Type 0} (setup : W → Setup) (StandsFor : W → ℕ → SoloClust
 
   -- ---- lines
 
-  -- what is said is done, as with ample memory where the host says it
+  -- the request is done, with ample memory if it is the host's
   pub record IsTaken (name : List ℕ) (old : SoloRun W) (said : Said) (text : List ℕ) (new : SoloRun W) : Type 0 where
     pub answer : Answer
     pub done : IsDone solo_setup (SoloStands name) old said answer new
@@ -94,14 +94,14 @@ module _ {W : Type 0} (setup : W → Setup) (StandsFor : W → ℕ → SoloClust
   abbrev pub Takes : List ℕ → SoloRun W → Said → List ℕ → SoloRun W → Type 0
   Takes name old said text new = IsSilent old text new × (IsKept name old → IsTaken name old said text new)
 
-  -- a line of the host or of the name is taken, and any other passed over
+  -- a line of the host or of the name is handled, and any other is skipped
   abbrev pub AnswersOwn : Bool → List ℕ → SoloRun W → List ℕ → List ℕ → SoloRun W → Type 0
   AnswersOwn true name old line text new = Takes name old (said_in old.tenants line) text new
   AnswersOwn false name old line text new = (text ≡ []) × (new ≡ old)
 
   -- ---- behind the head
 
-  -- no line is refused; the end is answered with nothing, and refused where no tenant of the name was ever open
+  -- no line is refused; the end has an empty answer, and is refused if no tenant of the name was ever open
   abbrev pub solo_lines : List ℕ → LineRules (SoloRun W) SoloRefusal
   solo_lines name = record {
     answers = λ old line text new. AnswersOwn (is_own name line) name old line text new;

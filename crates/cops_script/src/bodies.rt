@@ -1,4 +1,4 @@
-//! What runs behind the head of a script.
+//! The programs that run behind the head of a script.
 ghost use Rattle.std.specs.Prelude.{◌≡◌, [], IfErr, IfOk, IsTrue, OnOk};
 ghost use Rattle.cops_script.specs.BodyRules.{BodyRules};
 ghost use Rattle.cops_script.specs.GoodHeads.{is_good};
@@ -9,25 +9,26 @@ use crate::scripts::BadConfig;
 use cops_types::Config;
 use std::alloc::Global;
 
-/// What runs behind the head of a script, in a state of type `R` that the head's configuration begins.
+/// A program behind the head of a script. Its state of type `R` starts from the head's
+/// configuration.
 pub trait Body<R> {
-    /// Why it refuses to begin or to go on, or what a bad head is refused by.
+    /// Why it refuses to start or to go on, and the refusal of a bad head.
     type Refusal;
 
-    // How it begins, what it may answer, and when it refuses.
+    // How it starts, its permitted answers, and when it refuses.
     ghost rules: { BodyRules Self R Self.Refusal };
 
-    /// The refusal of a bad head.
+    /// Returns the refusal of a bad head.
     fn bad_head(bad: BadConfig) -> Self::Refusal
         ensures { result ≡ rules.bad_head bad };
 
-    /// The state before the first line behind a head.
+    /// Returns the state before the first line behind a head.
     fn begin(&self, alloc: Global, config: Config) -> Result<R, Stop<Self::Refusal>>
         requires { IsTrue (is_good config) }
         ensures ok { IfOk result (rules.starts self.now config) }
         ensures err { IfErr result (λ stop. IfRefused stop (rules.refuses_start self.now config)) };
 
-    /// Answers the next line at the end of `out`.
+    /// Appends the answer to the next line to `out`.
     fn line(
         &self,
         alloc: Global,
@@ -38,7 +39,7 @@ pub trait Body<R> {
         ensures ok { OnOk result (Answers ((rules.lines self.now).answers state.old line.now) state.new out.old.items out.new.items) }
         ensures err { IfErr result (λ stop. IfRefused stop ((rules.lines self.now).refuses state.old line.now)) };
 
-    /// The end of the input, which is answered with nothing.
+    /// Handles the end of the input, whose answer is empty.
     fn end(&self, state: &R) -> Result<(), Stop<Self::Refusal>>
         ensures ok { OnOk result ((rules.lines self.now).ends state.now [] state.now) }
         ensures err { IfErr result (λ stop. IfRefused stop ((rules.lines self.now).refuses_end state.now)) };

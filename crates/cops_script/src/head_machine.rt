@@ -1,4 +1,4 @@
-//! The machine of a script: it reads the head, and then hands each line to what runs behind it.
+//! The machine of a script: it reads the head, and then passes each line to the body.
 ghost use Rattle.std.specs.Prelude.{◌≡◌, [], Some, IfErr, IfNone, IfOk, IfSome, OnOk};
 ghost use Rattle.cops_types.specs.declared.configs.Config.{Config as Setup};
 ghost use Rattle.cops_types.specs.Head.{AtStart, Begun};
@@ -14,14 +14,14 @@ use crate::{LineMachine, Stop};
 use cops_types::ConfigReader;
 use std::alloc::Global;
 
-/// A script, and what its lines are read for.
+/// A script, and the body that handles its lines.
 #[derive(Drop)]
 pub struct ScriptMachine<B, R> {
     pub body: B,
     pub script: Script<R>,
 }
 
-/// A script that has come to no line.
+/// Returns a script before its first line.
 pub(crate) fn new_script<B, R>(body: B) -> ScriptMachine<B, R>
     ensures body { result.body ≡ body }
     ensures head { IsHeadAt AtStart 0 result.script }
@@ -35,7 +35,7 @@ pub(crate) fn new_script<B, R>(body: B) -> ScriptMachine<B, R>
     }
 }
 
-/// Reads one more line of a head, and gives what runs on where the line ends it.
+/// Reads one more line of a head. Returns the body's state if the line ends the head.
 fn read_line<B: Body<R>, R>(
     alloc: Global,
     body: &B,
@@ -57,9 +57,9 @@ fn read_line<B: Body<R>, R>(
     }
 }
 
-/// Reads one more line of a script that is in its head. Where it is the last, the body begins.
+/// Reads one more line of a script in its head. If it is the last, the body starts.
 ///
-/// It is apart from the lines of a running script, each of which would have to make room for a
+/// It is separate from the lines of a running script, each of which would otherwise need room for a
 /// configuration and a world.
 #[inline(never)]
 fn read_head_line<B: Body<R>, R: Drop>(

@@ -16,15 +16,15 @@ use cops_types::{Config, Sink, Source};
 use std::alloc::Global;
 use std::io::Read;
 
-/// Why no more of a head is read.
+/// Why the reading of a head ends.
 #[derive(Drop)]
 pub enum HeadEnd {
-    /// It is whole.
+    /// The head is complete.
     Whole(Config),
     Bad(BadConfig),
 }
 
-/// Nothing runs behind the head.
+/// The body that ends with the head.
 #[derive(Clone, Copy)]
 pub struct HeadAlone;
 
@@ -60,8 +60,8 @@ impl Body<()> for HeadAlone {
 
 /// Reads the head of a script, up to the line that ends it.
 ///
-/// The reader is asked for at most 4,096 bytes a turn, for at most 4,294,967,296 turns, and not again once the
-/// head is whole. What was read beyond it is dropped.
+/// Reads at most 4,096 bytes a turn, for at most 4,294,967,296 turns, and nothing once the head is
+/// complete. Bytes read beyond the head are dropped.
 pub fn read_config<R: Read>(
     alloc: Global,
     source: &mut Source<R>,
@@ -72,7 +72,7 @@ pub fn read_config<R: Read>(
     ensures bad_head { IfErr result (λ fault. IfRunRefused fault (λ bad.
         IfSome (R.remaining (source_reader source.old)) (λ bytes. head_of (lines_of bytes) ≡ BadAt bad.line))) }
 
-    // The reader failed in this call, or the bound on turns was met. Nothing is written.
+    // The reader failed in this call, or the turns are used up. Nothing is written.
     ensures read_fault { IsErrOf result RunFault.ReadFault →
         HasRisen (source_failures source.old) (source_failures source.new)
         ⊎ HasRisenBy (source_reads source.old) (source_reads source.new) (2 ^ 32) }

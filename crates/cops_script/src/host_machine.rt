@@ -1,4 +1,4 @@
-//! What is done by a line of the host, who admits tenants and closes them.
+//! The effect of the host's lines, which admit and close tenants.
 ghost use Rattle.std.specs.Prelude.{};
 ghost use Rattle.cops_script.specs.HostLines.{admitted_in, closed_in};
 ghost use Rattle.cops_script.specs.Said.{admission_of, closing_of};
@@ -25,7 +25,7 @@ pub(crate) fn admit<W: Tenancy>(world: &mut W, line: &[u8]) -> HostReply
     }
 }
 
-/// Closes the slot of the tenant whom a line names.
+/// Closes the slot of the tenant that a line names.
 #[inline(never)]
 pub(crate) fn close<W: Tenancy>(world: &mut W, line: &[u8]) -> HostReply
     ensures { IsHosted W.setup W.StandsFor world.old (closing_of (W.setup world.old).tenants (closed_in line.now)) (ToHost result) world.new }

@@ -1,4 +1,5 @@
-//! Scripts: heads, the lines of tenants and of the host, what they say and what is answered, over any world.
+//! Scripts: heads, the lines of tenants and of the host, their meaning and the answers, over any
+//! world.
 #![tactic(auto)]
 
 mod bodies;
@@ -22,7 +23,9 @@ mod solo_scripts;
 mod texts;
 
 pub use heads::read_config;
-pub use laws::{line_is_one_act, long_line_may_be_cut, tenants_lines_are_those_alone};
+pub use laws::{
+    line_is_one_act, long_line_may_be_cut, replies_begin_as_defined, tenants_lines_are_those_alone,
+};
 pub use line_runs::{LineMachine, RunFault, Stop, run_lines};
 pub use lines::parse_act;
 pub use lone_tenants::with_tenant_alone;

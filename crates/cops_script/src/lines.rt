@@ -14,7 +14,7 @@ use cops_types::words::{behind_word, number_at_front, parse_number, split_at_spa
 /// The most bytes of a line that may be an act.
 const LONGEST_LINE: usize = 8192;
 
-/// The act that a line writes, where it writes one. The tenant's name is its first word.
+/// Returns the act that a line writes, if it writes one. Its first word is the tenant's name.
 #[inline(always)]
 pub fn parse_act(line: &[u8]) -> Option<Act>
     ensures { result ≡ act_in (first_word line.now) line.now }
@@ -23,7 +23,7 @@ pub fn parse_act(line: &[u8]) -> Option<Act>
     act_behind(line, rest)
 }
 
-/// The same, of a line that is split behind its first word.
+/// Does the same for a line that is split after its first word.
 #[inline(always)]
 pub(crate) fn act_behind<'a>(line: &[u8], rest: Option<&'a [u8]>) -> Option<Act<'a>>
     requires { parts_at space line.now ≡ first_word line.now ∷ option_map_or (λ rest. parts_at space rest.now) rest [] }
@@ -33,7 +33,7 @@ pub(crate) fn act_behind<'a>(line: &[u8], rest: Option<&'a [u8]>) -> Option<Act<
     read_act(words)
 }
 
-/// The words behind the first one, where the line is short enough for an act and has them.
+/// Returns the words after the first one, if there are any and the line is short enough for an act.
 #[inline(always)]
 pub(crate) fn words_of_act<'a>(line: &[u8], rest: Option<&'a [u8]>) -> Option<&'a [u8]>
     requires { parts_at space line.now ≡ first_word line.now ∷ option_map_or (λ rest. parts_at space rest.now) rest [] }
@@ -47,8 +47,8 @@ pub(crate) fn words_of_act<'a>(line: &[u8], rest: Option<&'a [u8]>) -> Option<&'
     Some(words)
 }
 
-/// The act of the words behind the tenant's name. The verbs of most lines come first. Each verb has
-/// words behind it, so a space.
+/// Returns the act of the words after the tenant's name. The verbs of most lines come first. Each
+/// verb has words after it, and so a space.
 pub(crate) fn read_act(words: &[u8]) -> Option<Act>
     ensures { result ≡ option_and_then with_line (act_of_words ([] ∷ parts_at space words.now)) }
 {
@@ -85,7 +85,7 @@ pub(crate) fn read_act(words: &[u8]) -> Option<Act>
     None
 }
 
-/// A session's name and a data centre.
+/// Reads a session's name and a data centre.
 fn read_open(words: &[u8]) -> Option<Act>
     ensures { result ≡ option_and_then with_line (named_of Open (parts_at space words.now)) }
 {
@@ -93,7 +93,7 @@ fn read_open(words: &[u8]) -> Option<Act>
     Some(Act::Open(name, dc))
 }
 
-/// A session's name.
+/// Reads a session's name.
 fn read_create(words: &[u8]) -> Option<Act>
     ensures { result ≡ option_and_then with_line (create_of (parts_at space words.now)) }
 {
@@ -101,7 +101,7 @@ fn read_create(words: &[u8]) -> Option<Act>
     Some(Act::Create(name))
 }
 
-/// A session's name and a context.
+/// Reads a session's name and a context.
 fn read_delete(words: &[u8]) -> Option<Act>
     ensures { result ≡ option_and_then with_line (named_of Delete (parts_at space words.now)) }
 {
@@ -109,7 +109,7 @@ fn read_delete(words: &[u8]) -> Option<Act>
     Some(Act::Delete(name, context))
 }
 
-/// A session's name, a context, a key and a value.
+/// Reads a session's name, a context, a key and a value.
 fn read_put(words: &[u8]) -> Option<Act>
     ensures { result ≡ option_and_then with_line (put_of (parts_at space words.now)) }
 {
@@ -122,7 +122,7 @@ fn read_put(words: &[u8]) -> Option<Act>
     Some(Act::Put(name, context, key, value))
 }
 
-/// A session's name, a context, and one key at least.
+/// Reads a session's name, a context, and at least one key.
 fn read_get(words: &[u8]) -> Option<Act>
     ensures { result ≡ option_and_then with_line (get_of (parts_at space words.now)) }
 {
@@ -133,7 +133,7 @@ fn read_get(words: &[u8]) -> Option<Act>
     Some(Act::Get(name, context, keys))
 }
 
-/// A session's name and a context.
+/// Reads a session's name and a context.
 fn read_show(words: &[u8]) -> Option<Act>
     ensures { result ≡ option_and_then with_line (named_of Show (parts_at space words.now)) }
 {
@@ -141,7 +141,7 @@ fn read_show(words: &[u8]) -> Option<Act>
     Some(Act::Show(name, context))
 }
 
-/// A carrier's name, the data centre and shard of a stream, and where it goes.
+/// Reads a carrier's name, the data centre and shard of a stream, and its destination.
 fn read_carry(words: &[u8]) -> Option<Act>
     ensures { result ≡ option_and_then with_line (carry_of (parts_at space words.now)) }
 {
@@ -151,7 +151,7 @@ fn read_carry(words: &[u8]) -> Option<Act>
     Some(Act::Carry(name, dc, shard, to_dc))
 }
 
-/// An actor's name and a moment.
+/// Reads an actor's name and a timestamp.
 fn read_step(words: &[u8]) -> Option<Act>
     ensures { result ≡ option_and_then with_line (named_of Step (parts_at space words.now)) }
 {
@@ -159,7 +159,7 @@ fn read_step(words: &[u8]) -> Option<Act>
     Some(Act::Step(name, moment))
 }
 
-/// An actor's name and a moment.
+/// Reads an actor's name and a timestamp.
 fn read_done(words: &[u8]) -> Option<Act>
     ensures { result ≡ option_and_then with_line (named_of Done (parts_at space words.now)) }
 {
@@ -167,7 +167,7 @@ fn read_done(words: &[u8]) -> Option<Act>
     Some(Act::Done(name, moment))
 }
 
-/// A data centre, a shard and a moment.
+/// Reads a data centre, a shard and a timestamp.
 fn read_collect(words: &[u8]) -> Option<Act>
     ensures { result ≡ option_and_then with_line (collect_of (parts_at space words.now)) }
 {
@@ -175,7 +175,7 @@ fn read_collect(words: &[u8]) -> Option<Act>
     Some(Act::Collect(dc, shard, moment))
 }
 
-/// The next word, where it is a name and more words are to come.
+/// Returns the next word, if it is a name and more words follow.
 #[inline(always)]
 fn next_name(words: &[u8]) -> Option<Name>
     ensures some { IfSome result (λ name. IsTrue (is_name name) × (length name + 1 ≤ length words.now) × (parts_at space words.now ≡ name ∷ parts_at space (drop (length name + 1) words.now))) }
@@ -185,7 +185,7 @@ fn next_name(words: &[u8]) -> Option<Name>
     Some(name)
 }
 
-/// The words behind the first, which is this name.
+/// Returns the words after the first, which is this name.
 #[inline(always)]
 fn behind_name<'a>(words: &'a [u8], name: &Name) -> &'a [u8]
     requires { length name.now + 1 ≤ length words.now }
@@ -194,7 +194,8 @@ fn behind_name<'a>(words: &'a [u8], name: &Name) -> &'a [u8]
     &words[name.len() + 1..]
 }
 
-/// The next word, where it writes a number and more words are to come, and those.
+/// Returns the next word's number and the words after it, if it writes a number and more words
+/// follow.
 #[inline(always)]
 fn next_number(words: &[u8]) -> Option<(u64, &[u8])>
     ensures some { IfSome result (λ both. IsTrue (is_u64 both.0) × (parts_at space words.now ≡ decimal both.0 ∷ parts_at space both.1.now)) }
@@ -204,7 +205,7 @@ fn next_number(words: &[u8]) -> Option<(u64, &[u8])>
     Some((number, rest))
 }
 
-/// The word, where it is a name and no more are to come.
+/// Returns the word, if it is a name and the last word.
 fn last_name(words: &[u8]) -> Option<Name>
     ensures some { IfSome result (λ name. IsTrue (is_name name) × (parts_at space words.now ≡ name ∷ [])) }
     ensures none { IfNone result ((name : List ℕ) → IsTrue (is_name name) → parts_at space words.now ≡ name ∷ [] → ⊥) }
@@ -215,7 +216,7 @@ fn last_name(words: &[u8]) -> Option<Name>
     Some(name)
 }
 
-/// The word, where it writes a number and no more are to come.
+/// Returns the word's number, if it writes one and is the last word.
 #[inline(always)]
 fn last_number(words: &[u8]) -> Option<u64>
     ensures some { IfSome result (λ n. IsTrue (is_u64 n) × (parts_at space words.now ≡ decimal n ∷ [])) }
@@ -225,7 +226,7 @@ fn last_number(words: &[u8]) -> Option<u64>
     Some(number)
 }
 
-/// The two words, where they are a name and a number and no more are to come.
+/// Returns the two words, if they are a name and a number, and the last words.
 #[inline(always)]
 fn last_name_and_number(words: &[u8]) -> Option<(Name, u64)>
     ensures some { IfSome result (λ both. IsTrue (is_name both.0) × IsTrue (is_u64 both.1) × (parts_at space words.now ≡ both.0 ∷ decimal both.1 ∷ [])) }
@@ -237,7 +238,7 @@ fn last_name_and_number(words: &[u8]) -> Option<(Name, u64)>
     Some((name, number))
 }
 
-/// The three words, where they are numbers and no more are to come.
+/// Returns the three words, if they are numbers and the last words.
 fn last_three_numbers(words: &[u8]) -> Option<(u64, u64, u64)>
     ensures some { IfSome result (λ all. IsTrue (is_u64 all.0) × IsTrue (is_u64 all.1) × IsTrue (is_u64 all.2) × (parts_at space words.now ≡ decimal all.0 ∷ decimal all.1 ∷ decimal all.2 ∷ [])) }
     ensures none { IfNone result ((n m k : ℕ) → IsTrue (is_u64 n) → IsTrue (is_u64 m) → IsTrue (is_u64 k) → parts_at space words.now ≡ decimal n ∷ decimal m ∷ decimal k ∷ [] → ⊥) }
@@ -248,8 +249,8 @@ fn last_three_numbers(words: &[u8]) -> Option<(u64, u64, u64)>
     Some((first, second, third))
 }
 
-/// The two words, where they are a key and a value and no more are to come. A value has no space, so
-/// none is looked for behind the key.
+/// Returns the two words, if they are a key and a value, and the last words. A value has no space,
+/// so there is no search for one behind the key.
 #[inline(always)]
 fn last_key_and_value(words: &[u8]) -> Option<(&[u8], &[u8])>
     ensures some { IfSome result (λ both. IsTrue (is_word both.0.now) × IsTrue (is_value_word both.1.now) × (parts_at space words.now ≡ both.0.now ∷ both.1.now ∷ [])) }
@@ -265,8 +266,8 @@ fn last_key_and_value(words: &[u8]) -> Option<(&[u8], &[u8])>
     Some((key, value))
 }
 
-/// Whether a word is a value: some bytes, which can all be seen. Each byte is looked at, so that
-/// many are at a time.
+/// Returns `true` if a word is a value: at least one byte, all visible. It reads every byte, so
+/// that many are read at a time.
 fn is_value_word(word: &[u8]) -> bool
     ensures { result ≡ is_value_word word.now }
 {
@@ -277,7 +278,7 @@ fn is_value_word(word: &[u8]) -> bool
     seen && !word.is_empty()
 }
 
-/// The words, where none is empty.
+/// Returns the words, if none is empty.
 fn last_keys(words: &[u8]) -> Option<ByteSlices>
     ensures { result ≡ keys_of (parts_at space words.now) }
 {

@@ -1,11 +1,11 @@
-//! A tenant who has a configuration to himself.
+//! Configurations of one tenant.
 ghost use Rattle.std.specs.Prelude.{◌≡◌, IfOk};
 ghost use Rattle.cops_model.specs.MainTheorem.{with_tenant_alone};
 
 use cops_types::{Config, Tenant, Tenants};
 use std::alloc::{AllocError, Global};
 
-/// A configuration with this tenant alone.
+/// Returns a configuration with this tenant alone. Fails with `AllocError` if memory runs out.
 pub fn with_tenant_alone(
     alloc: Global,
     config: &Config,

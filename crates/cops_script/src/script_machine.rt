@@ -1,4 +1,4 @@
-//! What answers all lines behind the head of a script.
+//! The machine that answers all lines behind the head of a script.
 ghost use Rattle.std.specs.Prelude.{◌≡◌, [], ◌∷◌, is_some, IsTrue, OnOk};
 ghost use Rattle.std.specs.Option.{option_map_or};
 ghost use Rattle.cops_script.specs.LineAnswers.{Answers};
@@ -18,7 +18,7 @@ use cops_types::words::split_word;
 use cops_types::{Config, Fault, Name, OpenTenants};
 use std::alloc::{AllocError, Global};
 
-/// The name of the tenant who is open at a slot.
+/// Returns the name of the tenant that is open in a slot.
 fn name_at(tenants: &OpenTenants, slot: u64) -> Name
     requires { IsTrue (is_some (open_at slot tenants.now)) }
     ensures { result ≡ open_name tenants.now slot }
@@ -29,7 +29,7 @@ fn name_at(tenants: &OpenTenants, slot: u64) -> Name
     }
 }
 
-/// Answers a line that names a tenant, at the end of the output.
+/// Appends the answer to a line that names a tenant.
 pub(crate) fn answer_tenant<W: Tenancy>(
     world: &mut W,
     word: &[u8],
@@ -46,7 +46,8 @@ pub(crate) fn answer_tenant<W: Tenancy>(
         return push_nobody(out);
     };
     let name = name_at(tenants, slot);
-    // Each way writes its own answer: an act and a reply are large, and would be copied where ways meet.
+    // Each branch writes its own answer: an act and a reply are large, and would be copied at a
+    // join.
     let Some(words) = words_of_act(line, rest) else {
         return push_refusal(out, &name, Fault::Syntax);
     };
@@ -59,7 +60,7 @@ pub(crate) fn answer_tenant<W: Tenancy>(
     }
 }
 
-/// Answers a line after the head at the end of the output.
+/// Appends the answer to a line after the head.
 fn answer<W: Tenancy>(world: &mut W, line: &[u8], out: &mut Vec<u8>) -> Result<(), AllocError>
     ensures { OnOk result (Answers (λ text new. IsAnswered W.setup W.StandsFor world.old (said_in (W.setup world.old).tenants line.now) text new) world.new out.old.items out.new.items) }
 {
@@ -75,7 +76,7 @@ fn answer<W: Tenancy>(world: &mut W, line: &[u8], out: &mut Vec<u8>) -> Result<(
     answer_tenant(world, word, rest, line, out)
 }
 
-/// Each line is answered, in one world of all tenants.
+/// The body that answers each line, in one world of all tenants.
 #[derive(Clone, Copy)]
 pub struct AllLines;
 

@@ -18,33 +18,33 @@ use std::alloc::Global;
 use std::io::{Read, Write};
 use std::mem;
 
-/// How many turns a reader has.
+/// The most turns of a reader.
 pub const TURNS: u64 = 4_294_967_296;
 
-/// No more of a line is read, but for one byte.
+/// The most bytes of a line that may have a form. Reads at most one byte past it.
 pub const LONGEST_LINE: usize = 8192;
 
-/// Answers a script in a new world, in so many turns.
+/// Answers a script in a new world, in at most this many turns.
 pub fn run_script_in<W: Tenancy + Drop, R: Read, O: Write>(
     alloc: Global,
     turns: u64,
     source: &mut Source<R>,
     sink: &mut Sink<O>,
 ) -> Result<(), RunFault<BadConfig>>
-    // All is read, and each line after the head is answered, or a front of the answers is written.
+    // All is read, and each line after the head is answered, or a prefix of the answers is written.
     ensures end { OnOk result (IsAtEnd (R.remaining (source_reader source.new))) }
     ensures ok { OnOk result (IfSome (R.remaining (source_reader source.old)) (λ bytes.
         WritesScript bytes (O.contents (sink_writer sink.old)) (O.contents (sink_writer sink.new)))) }
     ensures err { OnErr result (IfSome (R.remaining (source_reader source.old)) (λ bytes.
         WritesFront bytes (O.contents (sink_writer sink.old)) (O.contents (sink_writer sink.new)))) }
 
-    // A head is refused where it is bad, and nothing is written then.
+    // A bad head is refused, and nothing is written then.
     ensures bad_head { IfErr result (λ fault. IfRunRefused fault (λ bad.
         IfSome (R.remaining (source_reader source.old)) (λ bytes. head_of (lines_of bytes) ≡ BadAt bad.line))) }
     ensures unwritten { IfErr result (λ fault. IfRunRefused fault (λ bad.
         Keeps (O.contents (sink_writer sink.old)) (O.contents (sink_writer sink.new)))) }
 
-    // The reader or the writer failed in this call, or the bound on turns was met.
+    // The reader or the writer failed in this call, or the turns are used up.
     ensures read_fault { IsErrOf result RunFault.ReadFault →
         HasRisen (source_failures source.old) (source_failures source.new)
         ⊎ HasRisenBy (source_reads source.old) (source_reads source.new) turns }
@@ -52,8 +52,8 @@ pub fn run_script_in<W: Tenancy + Drop, R: Read, O: Write>(
 {
     let mut script: ScriptMachine<AllLines, W> = new_script(AllLines);
     let ended = run_lines(&mut script, alloc, turns, LONGEST_LINE, source, sink);
-    // The process ends soon, and gives back its memory at once. To give back each record, queue
-    // entry and row of the audit by itself took up to a quarter of the time of a run.
+    // The process ends soon, and frees its memory at once. Freeing each record, queue entry and
+    // audit row by itself took up to a quarter of the time of a run.
     mem::forget(script);
     ended
 }

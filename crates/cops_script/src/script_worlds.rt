@@ -1,4 +1,4 @@
-//! The world that a script leaves, over any reader.
+//! The world after a script, over any reader.
 ghost use Rattle.std.specs.Prelude.{◌≡◌, ◌⊎◌, IfErr, IfOk, IfSome, IsErrOf, OnOk};
 ghost use Rattle.std.specs.Io.KnownBytes.{IsAtEnd};
 ghost use Rattle.cops_types.specs.Counts.{HasRisen, HasRisenBy};
@@ -18,7 +18,7 @@ use cops_types::{Sink, Source};
 use std::alloc::Global;
 use std::io::Read;
 
-/// The world of a script that is past its head.
+/// Returns the world of a script that is past its head.
 fn world_in<W: Drop>(script: Script<W>) -> W
     requires { IsRunning script }
     ensures { script ≡ Running result }
@@ -29,22 +29,22 @@ fn world_in<W: Drop>(script: Script<W>) -> W
     }
 }
 
-/// The world that a script leaves, in so many turns.
+/// Returns the world after a script, in at most this many turns.
 pub fn script_world_in<W: Tenancy + Drop, R: Read>(
     alloc: Global,
     turns: u64,
     source: &mut Source<R>,
 ) -> Result<W, RunFault<BadConfig>>
-    // All is read, and the world is what it leaves.
+    // All is read, and the world is the one after the script.
     ensures end { OnOk result (IsAtEnd (R.remaining (source_reader source.new))) }
     ensures ok { IfOk result (λ world. IfSome (R.remaining (source_reader source.old)) (λ bytes. IsLeftBy W.setup W.StandsFor bytes world)) }
     ensures read { IfOk result (IsLeftByRead W.setup W.StandsFor (R.remaining (source_reader source.old)) (R.remaining (source_reader source.new))) }
 
-    // A head is refused where it is bad.
+    // A bad head is refused.
     ensures bad_head { IfErr result (λ fault. IfRunRefused fault (λ bad.
         IfSome (R.remaining (source_reader source.old)) (λ bytes. head_of (lines_of bytes) ≡ BadAt bad.line))) }
 
-    // The reader failed in this call, or the bound on turns was met. Nothing is written.
+    // The reader failed in this call, or the turns are used up. Nothing is written.
     ensures read_fault { IsErrOf result RunFault.ReadFault →
         HasRisen (source_failures source.old) (source_failures source.new)
         ⊎ HasRisenBy (source_reads source.old) (source_reads source.new) turns }

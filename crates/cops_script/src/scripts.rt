@@ -1,4 +1,4 @@
-//! Scripts: a head, and then the events of tenants, a line each.
+//! Scripts: a head, and then the events of tenants, one line each.
 ghost use Rattle.std.specs.Prelude.{◌≡◌, None, Some, IfErr, IfNone, IfOk, IfSome, IsTrue};
 ghost use Rattle.cops_types.specs.Counts.{counted};
 ghost use Rattle.cops_types.specs.Head.{Begun};
@@ -10,13 +10,13 @@ use crate::Stop;
 use cops_types::{Config, ConfigReader, HeadLine};
 use std::alloc::Global;
 
-/// The head of a script is bad, first at this line, counted from 1.
+/// A bad head of a script: the number of its first bad line, counted from 1.
 #[derive(Clone, Copy, Debug, PartialEq, Eq)]
 pub struct BadConfig {
     pub line: u64,
 }
 
-/// The head so far, and how many lines it has.
+/// The head so far, and the number of its lines.
 #[derive(Debug, Drop)]
 pub struct HeadSoFar {
     pub reader: ConfigReader,
@@ -31,8 +31,8 @@ pub enum Script<W> {
     Running(W),
 }
 
-/// Reads one more line of a head, and gives the configuration where the line ends it. After want of
-/// memory the line may be read again.
+/// Reads one more line of a head. Returns the configuration if the line ends the head. If memory
+/// runs out, the line may be read again.
 pub fn read_head(
     alloc: Global,
     head: &mut HeadSoFar,

@@ -1,5 +1,5 @@
-//! What does what all lines behind the head of a script say, and writes nothing.
-ghost use Rattle.std.specs.Prelude.{◌≡◌, IsTrue};
+//! The machine that executes all lines behind the head of a script, and writes nothing.
+ghost use Rattle.std.specs.Prelude.{◌≡◌, IsFalse, IsTrue};
 ghost use Rattle.cops_types.specs.OpenSlots.{open_slot_of_name};
 ghost use Rattle.cops_types.specs.Words.{first_word};
 ghost use Rattle.cops_script.specs.ActLines.{act_in};
@@ -8,7 +8,7 @@ ghost use Rattle.cops_script.specs.Said.{said_found, said_by, said_in};
 ghost use Rattle.cops_model.specs.Setups.{is_open_at};
 ghost use Rattle.cops_script.specs.Acting.{told_act};
 ghost use Rattle.cops_script.specs.Answers.{ToHost, is_lack};
-ghost use Rattle.cops_script.specs.SilentRules.{IsDoneWhole};
+ghost use Rattle.cops_script.specs.SilentRules.{HasLacked, IsDoneWhole};
 
 use crate::bodies::Body;
 use crate::host_machine::{admit, close};
@@ -20,11 +20,11 @@ use cops_types::words::split_word;
 use cops_types::{Config, Fault};
 use std::alloc::{AllocError, Global};
 
-/// What each line says is done, in one world of all tenants, and no reply is written.
+/// Does what each line says in one world of all tenants, and writes no reply.
 #[derive(Clone, Copy)]
 pub struct SilentLines;
 
-/// Whether memory was refused for an act. A step shows what a node answered, whatever that was.
+/// Returns whether memory ran out during an act. A step shows what a node answered, whatever that was.
 fn is_out_of_memory(answered: &Result<Reply, AllocError>) -> bool
     ensures { result ≡ is_out_of_memory (told_act answered.now) }
 {
@@ -35,7 +35,7 @@ fn is_out_of_memory(answered: &Result<Reply, AllocError>) -> bool
     }
 }
 
-/// Whether a reply to the host says so.
+/// Returns whether a reply to the host says so.
 fn is_lack(reply: &HostReply) -> bool
     ensures { result ≡ is_lack (ToHost reply.now) }
 {
@@ -45,10 +45,11 @@ fn is_lack(reply: &HostReply) -> bool
     }
 }
 
-/// Has the tenant who is open at the slot do what the line says. Whether memory was there for it.
+/// Lets the tenant who is open at the slot do what the line says. Returns `false` only if memory ran out.
 fn act_for<W: Tenancy>(world: &mut W, slot: u64, line: &[u8]) -> bool
     requires { IsTrue (is_open_at (W.setup world.old) slot) }
-    ensures { IsTrue result → IsDoneWhole W.setup W.StandsFor world.old (said_by slot (act_in (first_word line.now) line.now)) world.new }
+    ensures done { IsTrue result → IsDoneWhole W.setup W.StandsFor world.old (said_by slot (act_in (first_word line.now) line.now)) world.new }
+    ensures lacked { IsFalse result → HasLacked W.setup W.StandsFor world.old (said_by slot (act_in (first_word line.now) line.now)) world.new }
 {
     let Some(act) = parse_act(line) else {
         return true;
@@ -57,10 +58,11 @@ fn act_for<W: Tenancy>(world: &mut W, slot: u64, line: &[u8]) -> bool
     !is_out_of_memory(&answered)
 }
 
-/// Has the tenant whom a line names do what it says. Whether memory was there for it.
+/// Lets the tenant whom a line names do what it says. Returns `false` only if memory ran out.
 fn act_tenant<W: Tenancy>(world: &mut W, word: &[u8], line: &[u8]) -> bool
     requires { word.now ≡ first_word line.now }
-    ensures { IsTrue result → IsDoneWhole W.setup W.StandsFor world.old (said_found line.now (open_slot_of_name (W.setup world.old).tenants (first_word line.now))) world.new }
+    ensures done { IsTrue result → IsDoneWhole W.setup W.StandsFor world.old (said_found line.now (open_slot_of_name (W.setup world.old).tenants (first_word line.now))) world.new }
+    ensures lacked { IsFalse result → HasLacked W.setup W.StandsFor world.old (said_found line.now (open_slot_of_name (W.setup world.old).tenants (first_word line.now))) world.new }
 {
     let Some(slot) = world.tenants().slot_of_name(word) else {
         return true;
@@ -68,9 +70,10 @@ fn act_tenant<W: Tenancy>(world: &mut W, word: &[u8], line: &[u8]) -> bool
     act_for(world, slot, line)
 }
 
-/// Does what a line after the head says. Whether memory was there for it.
+/// Does what a line after the head says. Returns `false` only if memory ran out.
 fn act<W: Tenancy>(world: &mut W, line: &[u8]) -> bool
-    ensures { IsTrue result → IsDoneWhole W.setup W.StandsFor world.old (said_in (W.setup world.old).tenants line.now) world.new }
+    ensures done { IsTrue result → IsDoneWhole W.setup W.StandsFor world.old (said_in (W.setup world.old).tenants line.now) world.new }
+    ensures lacked { IsFalse result → HasLacked W.setup W.StandsFor world.old (said_in (W.setup world.old).tenants line.now) world.new }
 {
     let (word, _rest) = split_word(line);
     if word == b"+".as_slice() {

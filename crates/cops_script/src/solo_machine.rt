@@ -1,4 +1,5 @@
-//! What answers the lines of one name's tenants behind the head of a script. Each has a world to himself.
+//! The machine that answers the lines of one name's tenants behind the head of a script. Each
+//! tenant has a world to itself.
 ghost use Rattle.std.specs.Prelude.{◌≡◌, [], ◌∷◌, Some, IfErr, IfOk, IsTrue, OnOk};
 ghost use Rattle.std.specs.Option.{option_map_or};
 ghost use Rattle.cops_script.specs.declared.line_runs.machine.Stop.TheVariants.{OutOfMemory};
@@ -33,16 +34,16 @@ pub enum SoloRefusal {
     UnknownTenant,
 }
 
-/// The lines of the tenants with this name are answered.
+/// The body that answers the lines of the tenants with this name.
 #[derive(Drop)]
 pub struct LinesOf {
     pub name: Bytes,
 }
 
-/// How many tenants may be open at once.
+/// The most tenants that may be open at once.
 const MOST_OPEN: u64 = 64;
 
-/// A new world with the sizes of a head, for this tenant alone.
+/// Returns a new world with the sizes of a head, for this tenant alone.
 fn begin_alone<W: Tenancy>(alloc: Global, head: &Config, tenant: &Tenant) -> Result<W, AllocError>
     requires { IsTrue (is_good (with_tenant_alone head.now tenant.now)) }
     ensures { IfOk result (IsNew W.setup W.StandsFor (with_tenant_alone head.now tenant.now)) }
@@ -50,7 +51,7 @@ fn begin_alone<W: Tenancy>(alloc: Global, head: &Config, tenant: &Tenant) -> Res
     W::begin(alloc, with_tenant_alone(alloc, head, tenant)?)
 }
 
-/// The script past a head, with a new world where the head has a tenant of the name.
+/// Returns the script past a head, with a new world if the head has a tenant of the name.
 fn begin_run<W: Tenancy>(alloc: Global, head: Config, name: &[u8]) -> Result<SoloRun<W>, AllocError>
     requires { IsTrue (is_good head) }
     ensures { IfOk result (StartsAlone W.setup W.StandsFor name.now head) }
@@ -76,7 +77,7 @@ fn begin_run<W: Tenancy>(alloc: Global, head: Config, name: &[u8]) -> Result<Sol
     })
 }
 
-/// The least free slot, or the number of all slots where none is free.
+/// Returns the least free slot, or the number of all slots if none is free.
 fn next_slot(tenants: &OpenTenants) -> u64
     ensures { result ≡ next_slot tenants.now }
 {
@@ -86,7 +87,7 @@ fn next_slot(tenants: &OpenTenants) -> u64
     }
 }
 
-/// Whether the tenant was given the least free slot. Where he may not be admitted nothing changed.
+/// Returns `true` if the tenant got the least free slot. If it may not be admitted nothing changed.
 fn give_slot(tenants: &mut OpenTenants, tenant: Tenant) -> Result<bool, Stop<SoloRefusal>>
     ensures ok { IfOk result (λ given. IsGiven tenants.old tenant given tenants.new) }
     ensures err { IfErr result (λ stop. stop ≡ OutOfMemory) }
@@ -99,7 +100,7 @@ fn give_slot(tenants: &mut OpenTenants, tenant: Tenant) -> Result<bool, Stop<Sol
     }
 }
 
-/// Admits a tenant of the name, in a new world of his own.
+/// Admits a tenant of the name, in a new world of its own.
 fn admit_named<W: Tenancy + Drop>(
     alloc: Global,
     run: &mut SoloRun<W>,
@@ -138,7 +139,7 @@ fn admit<W: Tenancy + Drop>(
     Ok(())
 }
 
-/// Closes the slot of the tenant whom a line names.
+/// Closes the slot of the tenant that a line names.
 #[inline(never)]
 fn close<W: Tenancy + Drop>(name: &[u8], run: &mut SoloRun<W>, line: &[u8])
     ensures { Takes W.setup W.StandsFor name.now run.old (OfHost (closing_of run.old.tenants (closed_in line.now))) [] run.new }
@@ -155,7 +156,7 @@ fn close<W: Tenancy + Drop>(name: &[u8], run: &mut SoloRun<W>, line: &[u8])
     }
 }
 
-/// Answers a line that a tenant of the name says, at the end of the output.
+/// Appends the answer to a line of a tenant of the name.
 fn answer_named<W: Tenancy>(
     run: &mut SoloRun<W>,
     word: &[u8],
@@ -173,7 +174,7 @@ fn answer_named<W: Tenancy>(
     }
 }
 
-/// Takes a line after the head.
+/// Handles a line after the head.
 fn answer<W: Tenancy + Drop>(
     alloc: Global,
     name: &[u8],

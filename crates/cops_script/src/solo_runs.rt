@@ -1,4 +1,4 @@
-//! A script of which one tenant's lines are answered, over any reader and any writer.
+//! A script whose answers are written for one tenant, over any reader and any writer.
 ghost use Rattle.std.specs.Prelude.{◌≡◌, ◌⊎◌, IfErr, IfSome, IsErrOf, OnErr, OnOk};
 ghost use Rattle.std.specs.Io.KnownBytes.{IsAtEnd, Keeps};
 ghost use Rattle.cops_types.specs.Counts.{HasRisen, HasRisenBy};
@@ -17,27 +17,29 @@ use std::alloc::Global;
 use std::io::{Read, Write};
 use std::mem;
 
-/// Answers the lines of one name's tenants of a script, each in a new world of its own.
+/// Answers the lines of one name's tenants of a script, each tenant in a new world of its own.
 pub fn solo_script_in<W: Tenancy + Drop, R: Read, O: Write>(
     alloc: Global,
     source: &mut Source<R>,
     sink: &mut Sink<O>,
     tenant: &[u8],
 ) -> Result<(), RunFault<SoloRefusal>>
-    // All is read, and each line of these tenants is answered, or a front of the answers is written.
+    // All is read, and each line of these tenants is answered, or a prefix of the answers is
+    // written.
     ensures end { OnOk result (IsAtEnd (R.remaining (source_reader source.new))) }
     ensures ok { OnOk result (IfSome (R.remaining (source_reader source.old)) (λ bytes.
         WritesSolo tenant.now bytes (O.contents (sink_writer sink.old)) (O.contents (sink_writer sink.new)))) }
     ensures err { OnErr result (IfSome (R.remaining (source_reader source.old)) (λ bytes.
         WritesSoloFront tenant.now bytes (O.contents (sink_writer sink.old)) (O.contents (sink_writer sink.new)))) }
 
-    // The head is refused where it is bad, and the name where no tenant of it was ever open; nothing is written then.
+    // A bad head is refused, and so is a name of which no tenant was ever open; nothing is written
+    // then.
     ensures refused { IfErr result (λ fault. IfRunRefused fault (λ refusal.
         IfSome (R.remaining (source_reader source.old)) (λ bytes. IsRefusedFor tenant.now bytes refusal))) }
     ensures unwritten { IfErr result (λ fault. IfRunRefused fault (λ refusal.
         Keeps (O.contents (sink_writer sink.old)) (O.contents (sink_writer sink.new)))) }
 
-    // The reader or the writer failed in this call, or the bound on turns was met.
+    // The reader or the writer failed in this call, or the turns are used up.
     ensures read_fault { IsErrOf result RunFault.ReadFault →
         HasRisen (source_failures source.old) (source_failures source.new)
         ⊎ HasRisenBy (source_reads source.old) (source_reads source.new) 4294967296 }
@@ -46,7 +48,7 @@ pub fn solo_script_in<W: Tenancy + Drop, R: Read, O: Write>(
     let name = Bytes::new(alloc, tenant)?;
     let mut solo: ScriptMachine<LinesOf, SoloRun<W>> = new_script(LinesOf { name });
     let ended = run_lines(&mut solo, alloc, TURNS, LONGEST_LINE, source, sink);
-    // As in `run_script`: the process gives back the memory of the world at its end.
+    // As in `run_script`: the process frees the memory of the world at its end.
     mem::forget(solo);
     ended
 }

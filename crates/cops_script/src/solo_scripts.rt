@@ -1,19 +1,19 @@
-//! A script of which the lines of one name's tenants are answered, past its head.
+//! A script past its head whose answers are written for one name's tenants.
 ghost use Rattle.std.specs.Prelude.{◌≡◌, IsFalse, IsTrue, None};
 ghost use Rattle.cops_script.specs.GoodHeads.{is_good};
 
 use cops_types::{Config, OpenTenants};
 
-/// What such a script has come to.
+/// The state of such a script.
 #[derive(Drop)]
 pub struct SoloRun<W> {
     /// Its sizes and limits are those of all worlds.
     pub head: Config,
-    /// Who is open now, of any name.
+    /// The tenants that are open now, of any name.
     pub tenants: OpenTenants,
-    /// Whether a tenant of the name was open at any time.
+    /// `true` if a tenant of the name was open at any time.
     pub was_open: bool,
-    /// While a tenant of the name is open: the world that he has to himself.
+    /// While a tenant of the name is open: its own world.
     pub world: Option<W>,
     ghost good: { IsTrue (is_good head) },
     ghost silent: { IsFalse was_open → world ≡ None },

@@ -1,4 +1,4 @@
-//! Texts of replies, put at the end of a vector.
+//! Texts of replies, appended to a vector.
 ghost use Rattle.std.specs.Option.{option_copied};
 ghost use Rattle.std.specs.Prelude.{◌≡◌, ◌++◌, [], ◌∷◌, ℕ, List, decimal, map, OnOk};
 ghost use Rattle.cops_types.specs.Words.{spaced};
@@ -14,7 +14,8 @@ use cops_types::texts::{push_deps, push_fault, push_near, push_number, push_vers
 use cops_types::{Deps, Fault, Name, Near, OwnedValue, Pair, Read, Version};
 use std::alloc::AllocError;
 
-/// Puts the text of a reply at the end. After an `Err` a front of it may be there.
+/// Appends the text of a reply. On `Err` a prefix of it may have been appended. Fails with
+/// `AllocError` if memory runs out.
 pub fn push_reply(out: &mut Vec<u8>, reply: &Reply) -> Result<(), AllocError>
     ensures { OnOk result (out.new.items ≡ out.old.items ++ text_of_reply reply.now) }
 {
@@ -37,8 +38,8 @@ pub fn push_reply(out: &mut Vec<u8>, reply: &Reply) -> Result<(), AllocError>
     }
 }
 
-/// Puts a tenant's name, a space, the text of a reply and a newline at the end. After an `Err` a
-/// front of it may be there.
+/// Appends a tenant's name, a space, the text of a reply and a newline. On `Err` a prefix of it may
+/// have been appended.
 pub(crate) fn push_answer(out: &mut Vec<u8>, name: &Name, reply: &Reply) -> Result<(), AllocError>
     ensures { OnOk result (out.new.items ≡ out.old.items ++ reply_line name.now reply.now) }
 {
@@ -49,11 +50,11 @@ pub(crate) fn push_answer(out: &mut Vec<u8>, name: &Name, reply: &Reply) -> Resu
     Ok(())
 }
 
-/// Puts a tenant's name, a space, the code of a fault and a newline at the end. After an `Err` a front
-/// of it may be there.
+/// Appends a tenant's name, a space, the code of a fault and a newline. On `Err` a prefix of it may
+/// have been appended.
 ///
-/// It is apart from other answers, so that the code that writes these stands once, where a line is
-/// answered.
+/// It is separate from other answers, so that their code occurs once, in the place that answers a
+/// line.
 #[inline(never)]
 pub(crate) fn push_refusal(out: &mut Vec<u8>, name: &Name, fault: Fault) -> Result<(), AllocError>
     ensures { OnOk result (out.new.items ≡ out.old.items ++ reply_line name.now (Refused fault)) }
@@ -65,16 +66,16 @@ pub(crate) fn push_refusal(out: &mut Vec<u8>, name: &Name, fault: Fault) -> Resu
     Ok(())
 }
 
-/// Puts the answer to a line that names no tenant, and a newline, at the end. After an `Err` a
-/// front of it may be there.
+/// Appends the answer to a line that names no tenant, and a newline. On `Err` a prefix of it may
+/// have been appended.
 pub(crate) fn push_nobody(out: &mut Vec<u8>) -> Result<(), AllocError>
     ensures { OnOk result (out.new.items ≡ out.old.items ++ host_line (Denied UnknownTenant)) }
 {
     push_word(out, b"- E02\n")
 }
 
-/// Puts a hyphen, a space, the text of a reply to the host and a newline at the end. After an `Err` a
-/// front of it may be there.
+/// Appends a hyphen, a space, the text of a reply to the host and a newline. On `Err` a prefix of
+/// it may have been appended.
 #[inline(never)]
 pub(crate) fn push_host(out: &mut Vec<u8>, reply: &HostReply) -> Result<(), AllocError>
     ensures { OnOk result (out.new.items ≡ out.old.items ++ host_line reply.now) }
@@ -89,7 +90,7 @@ pub(crate) fn push_host(out: &mut Vec<u8>, reply: &HostReply) -> Result<(), Allo
     Ok(())
 }
 
-/// Puts a word and a name at the end.
+/// Appends a word and a name.
 fn push_name_after(out: &mut Vec<u8>, word: &[u8], name: &Name) -> Result<(), AllocError>
     ensures { OnOk result (out.new.items ≡ out.old.items ++ word.now ++ 32 ∷ name.now) }
 {
@@ -98,7 +99,7 @@ fn push_name_after(out: &mut Vec<u8>, word: &[u8], name: &Name) -> Result<(), Al
     push_word(out, name.bytes())
 }
 
-/// Puts these bytes at the end.
+/// Appends these bytes.
 fn push_word(out: &mut Vec<u8>, word: &[u8]) -> Result<(), AllocError>
     ensures { OnOk result (out.new.items ≡ out.old.items ++ word.now) }
 {
@@ -106,7 +107,7 @@ fn push_word(out: &mut Vec<u8>, word: &[u8]) -> Result<(), AllocError>
     Ok(())
 }
 
-/// Puts a word and a number at the end.
+/// Appends a word and a number.
 fn push_count(out: &mut Vec<u8>, word: &[u8], number: u64) -> Result<(), AllocError>
     ensures { OnOk result (out.new.items ≡ out.old.items ++ spaced (word.now ∷ decimal number ∷ [])) }
 {
@@ -115,7 +116,7 @@ fn push_count(out: &mut Vec<u8>, word: &[u8], number: u64) -> Result<(), AllocEr
     push_number(out, number)
 }
 
-/// Puts a word, a key and a version at the end.
+/// Appends a word, a key and a version.
 fn push_pair_after(out: &mut Vec<u8>, word: &[u8], pair: &Pair) -> Result<(), AllocError>
     ensures { OnOk result (out.new.items ≡ out.old.items ++ spaced (word.now ∷ pair_words pair.now)) }
 {
@@ -126,7 +127,7 @@ fn push_pair_after(out: &mut Vec<u8>, word: &[u8], pair: &Pair) -> Result<(), Al
     push_version(out, pair.version)
 }
 
-/// Puts the two lists of a context at the end.
+/// Appends the two lists of a context.
 fn push_lists(out: &mut Vec<u8>, all: &Deps, near: &Near) -> Result<(), AllocError>
     ensures { OnOk result (out.new.items ≡ out.old.items ++ text_of_reply (Lists all.now near.now)) }
 {
@@ -136,7 +137,7 @@ fn push_lists(out: &mut Vec<u8>, all: &Deps, near: &Near) -> Result<(), AllocErr
     push_near(out, near.owned())
 }
 
-/// Puts what became of a stream's front at the end.
+/// Appends the outcome for a stream's head.
 fn push_carried(out: &mut Vec<u8>, pair: &Pair, fresh: bool, acked: bool) -> Result<(), AllocError>
     ensures { OnOk result (out.new.items ≡ out.old.items ++ text_of_reply (Carried pair.now fresh acked)) }
 {
@@ -146,7 +147,7 @@ fn push_carried(out: &mut Vec<u8>, pair: &Pair, fresh: bool, acked: bool) -> Res
     push_word(out, taken)
 }
 
-/// Puts the version that was committed last at the end.
+/// Appends the version that was committed last.
 fn push_mark(out: &mut Vec<u8>, mark: Version) -> Result<(), AllocError>
     ensures { OnOk result (out.new.items ≡ out.old.items ++ text_of_reply (OutOfOrder mark)) }
 {
@@ -154,7 +155,7 @@ fn push_mark(out: &mut Vec<u8>, mark: Version) -> Result<(), AllocError>
     push_version(out, mark)
 }
 
-/// Puts the reads, with spaces between, at the end.
+/// Appends the reads, separated by spaces.
 fn push_reads(out: &mut Vec<u8>, reads: &[Read]) -> Result<(), AllocError>
     ensures { OnOk result (out.new.items ≡ out.old.items ++ spaced (map read_text reads.now)) }
 {
@@ -165,7 +166,7 @@ fn push_reads(out: &mut Vec<u8>, reads: &[Read]) -> Result<(), AllocError>
     push_later(out, rest)
 }
 
-/// Puts each read after a space at the end.
+/// Appends each read after a space.
 fn push_later(out: &mut Vec<u8>, reads: &[Read]) -> Result<(), AllocError>
     ensures { OnOk result (out.new.items ≡ out.old.items ++ later_texts reads.now) }
 {
@@ -176,7 +177,7 @@ fn push_later(out: &mut Vec<u8>, reads: &[Read]) -> Result<(), AllocError>
     Ok(())
 }
 
-/// Puts the key, `=`, the value or `none`, `@` and the version at the end.
+/// Appends the key, `=`, the value or `none`, `@` and the version.
 fn push_read(out: &mut Vec<u8>, read: &Read) -> Result<(), AllocError>
     ensures { OnOk result (out.new.items ≡ out.old.items ++ read_text read.now) }
 {
@@ -187,7 +188,7 @@ fn push_read(out: &mut Vec<u8>, read: &Read) -> Result<(), AllocError>
     push_version(out, read.version())
 }
 
-/// Puts the value, or `none`, at the end.
+/// Appends the value, or `none`.
 fn push_value(out: &mut Vec<u8>, value: Option<&OwnedValue>) -> Result<(), AllocError>
     ensures { OnOk result (out.new.items ≡ out.old.items ++ value_text (option_copied value.entry)) }
 {

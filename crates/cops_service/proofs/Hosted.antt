@@ -1,4 +1,4 @@
--- A slot of a node at which tenants come and go is told what depends on that slot alone.
+-- At a node at which tenants come and go, a slot's replies depend on that slot alone.
 use Rattle.std.proofs.Common.{◌≡◌, ◌≢◌, ℕ, ◌∙◌, Bool, true, false, eqb, cond, List, [], ◌∷◌, ◌++◌, map, refl, sym, ap, Option, Some, None, nat_le}
 use Rattle.std.proofs.lemmas.Bool.{eqb-true, eqb-false}
 use Rattle.cops_types.specs.declared.configs.Tenant.{Tenant}
@@ -16,7 +16,7 @@ use Rattle.cops_service.specs.Hosted.{HostedEntry, HostedLog, own_call, slot_cal
 use Rattle.cops_service.specs.Slots.{joins_at, replies_at, slot_entries}
 use Rattle.cops_service.proofs.Told.{goes_on}
 
--- the turns are told what the slot alone is told, and leave in it what they leave there
+-- the turns get the replies of the slot alone, and leave in it what they leave there
 abbrev AsHeld : Home → ℕ → Option Held → List HostedEntry → Shared → Type 0
 AsHeld home slot held es left =
     (map (λ (e : HostedEntry). e.reply) es ≡ slot_replies home slot (map timed_slot es) held) × (slot_holds slot left ≡ slot_after home slot (map timed_slot es) held)

@@ -29,16 +29,16 @@ FitsThere shape id (Own call) = IsTrue (fits (place_in shape id) call)
 FitsThere shape id (Admit tenant) = tenant.first_clock ≤ last_clock
 FitsThere shape id Close = Unit {0}
 
--- what a call of a slot is told: the reply, or that memory was refused
+-- the outcome of a call of a slot: the reply, or that memory ran out
 abbrev pub told_at_slot : Result SlotReply AllocError → SlotReply
 told_at_slot (Ok reply) = reply
 told_at_slot (Err error) = told.Refused OutOfMemory
 
--- a call of a slot at a node: the seat at that node is told the reply, and the seats at other nodes stay
+-- a call of a slot at a node: the seat at that node gets the reply, and the seats at other nodes stay
 abbrev pub IsSlotCall : Gates Shared → List HostedSeat → NodeId → ℕ → ℕ → SlotCall → SlotReply → List HostedSeat → Type 0
 IsSlotCall cluster old id slot moment call reply new = At cluster id old new (IsToldAtGate IsSlotTurn MayLackAtSlot (told.Refused OutOfMemory) (told.Refused GateSpent) slot moment call reply)
 
--- what a session or a carrier is told
+-- the replies to a session or a carrier
 abbrev pub reply_to_own : SlotReply → NodeReply
 reply_to_own (told.Own reply) = reply
 reply_to_own (told.Refused fault) = node_reply.Refused fault

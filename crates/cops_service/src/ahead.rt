@@ -1,8 +1,8 @@
 //! Memory that a thread asks for ahead.
 //!
-//! What the C library has for a thread other than the first grows by single pages, each by a system call of its own, and
-//! all threads that touch a new page just then wait for it. A large block that is asked for and given back grows it by
-//! the whole block at once. The pages aren't touched, so the process gets no larger.
+//! The C library grows the memory of a thread other than the first by single pages. Each takes a system call, for which all
+//! threads that touch a new page wait. A large block that is allocated and freed grows it by the whole block at once. Its
+//! pages aren't touched, so the process gets no larger.
 use std::alloc::Global;
 
 // After how many calls at nodes a thread asks ahead.
@@ -24,7 +24,7 @@ impl Ahead {
         Ahead { alloc, left: 0 }
     }
 
-    /// Counts a call. Where there is no memory ahead, those who need some ask for it themselves.
+    /// Counts a call. It doesn't matter if memory runs out here: whoever needs some asks for it.
     #[inline(always)]
     pub(crate) fn count(&mut self) {
         if self.left == 0 {

@@ -1,13 +1,28 @@
 //! A client's connection, from its greeting to its end.
-ghost use Rattle.std.specs.Prelude.{◌≡◌, IsTrue};
+ghost use Rattle.std.specs.Prelude.{◌≡◌, IsTrue, IfOk, OnErr};
 ghost use Rattle.cops_types.specs.HeadLines.{are_sizes};
+ghost use Rattle.cops_types.specs.Sink.{sink_writer};
+ghost use Rattle.cops_types.specs.Source.{source_reader};
 ghost use Rattle.cops_node.specs.Clusters.{shape_of};
+ghost use Rattle.cops_wire.specs.Conversation.{HasConversed, HasConversedInPart};
+ghost use Rattle.cops_wire.specs.Requests.{KeepsShape};
+ghost use Rattle.cops_service.specs.Conversing.{Converses};
 
+use crate::lines::{Incoming, Line, Outgoing};
 use cops_node::Nodes;
 use cops_types::{Config, Fault, Sink, Source};
 use cops_wire::{Connection, Ended, Moments};
 use std::alloc::Global;
 use std::io::{Read, Write};
+use std::time::Clock;
+
+/// How a conversation ended, and the reader and the writer that it leaves.
+#[derive(Drop)]
+pub(crate) struct Conversed<R, O> {
+    pub(crate) ended: Result<Ended, Fault>,
+    pub(crate) source: Source<R>,
+    pub(crate) sink: Sink<O>,
+}
 
 /// Greets a client, and answers its requests with a session of its tenant.
 pub(crate) fn serve_client<R: Read + Drop, O: Write + Drop, N: Nodes, M: Moments>(
@@ -17,11 +32,44 @@ pub(crate) fn serve_client<R: Read + Drop, O: Write + Drop, N: Nodes, M: Moments
     sink: Sink<O>,
     nodes: &mut N,
     moments: &mut M,
+) -> Conversed<R, O>
+    requires shape { N.shape nodes.old ≡ shape_of config.now }
+    requires sizes { IsTrue (are_sizes config.now) }
+    ensures conversed { IfOk result.ended (HasConversed (KeepsShape N.shape N.Answers) M.Gives config.now
+        (R.remaining (source_reader source)) (R.remaining (source_reader result.source))
+        (O.contents (sink_writer sink)) (O.contents (sink_writer result.sink))
+        nodes.old nodes.new moments.old moments.new) }
+    ensures front { OnErr result.ended (HasConversedInPart (KeepsShape N.shape N.Answers) M.Gives config.now
+        (R.remaining (source_reader source))
+        (O.contents (sink_writer sink)) (O.contents (sink_writer result.sink))
+        nodes.old nodes.new moments.old moments.new) }
+    ensures shape { N.shape nodes.new ≡ N.shape nodes.old }
+{
+    let mut connection = Connection::new(alloc, source, sink);
+    let ended = connection.converse(config, nodes, moments);
+    let (source, sink) = connection.into_inner();
+    Conversed {
+        ended,
+        source,
+        sink,
+    }
+}
+
+/// The same over a socket.
+pub(crate) fn serve_line<C: Clock, N: Nodes, M: Moments>(
+    alloc: Global,
+    config: &Config,
+    line: &Line<'_, C>,
+    nodes: &mut N,
+    moments: &mut M,
 ) -> Result<Ended, Fault>
     requires shape { N.shape nodes.old ≡ shape_of config.now }
     requires sizes { IsTrue (are_sizes config.now) }
-    ensures { N.shape nodes.new ≡ N.shape nodes.old }
+    ensures converses { Converses (KeepsShape N.shape N.Answers) M.Gives config.now nodes.old nodes.new moments.old moments.new }
+    ensures shape { N.shape nodes.new ≡ N.shape nodes.old }
 {
-    let mut connection = Connection::new(alloc, source, sink);
-    connection.converse(config, nodes, moments)
+    let source = Source::new(Incoming { line });
+    let sink = Sink::new(Outgoing { line });
+    let conversed = serve_client(alloc, config, source, sink, nodes, moments);
+    conversed.ended
 }

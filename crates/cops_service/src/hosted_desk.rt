@@ -1,4 +1,4 @@
-//! A thread's place before nodes at which tenants come and go.
+//! A thread's access to nodes at which tenants come and go.
 ghost use Rattle.std.specs.Prelude.{◌≡◌, ◌<◌};
 ghost use Rattle.cops_service.specs.Desks.{AreNodes, shape_in};
 ghost use Rattle.cops_service.specs.Gates.{IsSeatOf};
@@ -11,7 +11,7 @@ use cops_types::Fault;
 use std::alloc::AllocError;
 use std::sync::Wait;
 
-/// Where a node's tickets are spent, the call is refused.
+/// Refuses a call if a node's tickets are exhausted.
 struct RefusesSpent;
 
 impl SpentReply<SlotReply> for RefusesSpent {
@@ -25,8 +25,8 @@ impl SpentReply<SlotReply> for RefusesSpent {
     }
 }
 
-/// A thread's handle and seat, and a cluster at which tenants come and go. A call at it waits for its
-/// turn at the node.
+/// A thread's handle and seat, and a cluster at which tenants come and go. Each call waits for its turn
+/// at the node.
 #[derive(Drop)]
 pub struct HostedDesk<'a, R: Wait> {
     pub rt: &'a R,
@@ -37,7 +37,7 @@ pub struct HostedDesk<'a, R: Wait> {
 }
 
 impl<'a, R: Wait> HostedDesk<'a, R> {
-    /// The desk of a thread that has this seat.
+    /// Returns the desk of a thread that has this seat.
     pub fn new(
         rt: &'a R,
         cluster: &'a Cluster<HostedNode>,
@@ -51,8 +51,8 @@ impl<'a, R: Wait> HostedDesk<'a, R> {
         HostedDesk { rt, cluster, seat }
     }
 
-    /// Makes a call of a slot at a node, or has the node admit or close its tenant: one turn of that
-    /// node's gate. That the node was refused memory is the error.
+    /// Makes a call of a slot at a node, or admits or closes its tenant there, in one turn of that node.
+    /// Fails with `AllocError` if memory runs out at the node.
     pub fn ask(
         &mut self,
         id: NodeId,

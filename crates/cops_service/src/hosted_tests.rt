@@ -18,7 +18,7 @@ use uuid::Uuid;
 
 const FIRST: NodeId = NodeId { dc: 0, shard: 0 };
 
-fn beta(rt: &impl Abort) -> Tenant
+pub(crate) fn beta(rt: &impl Abort) -> Tenant
     ensures { result.first_clock ≤ last_clock }
 {
     Tenant {
@@ -30,7 +30,7 @@ fn beta(rt: &impl Abort) -> Tenant
 }
 
 // One node, for acme and beta.
-fn two_tenants(rt: &impl Abort, alloc: Global) -> Config
+pub(crate) fn two_tenants(rt: &impl Abort, alloc: Global) -> Config
     ensures sizes { IsTrue (are_sizes result) }
     ensures one { (result.data_centres ≡ 1) × (result.shards ≡ 1) }
 {
@@ -69,7 +69,7 @@ fn put_x<N: Nodes>(alloc: Global, nodes: &mut N, slot: u64) -> Option<u64>
     clock
 }
 
-fn put<R: Wait>(alloc: Global, desk: &mut HostedDesk<'_, R>) -> Option<u64>
+pub(crate) fn put<R: Wait>(alloc: Global, desk: &mut HostedDesk<'_, R>) -> Option<u64>
     requires { (0 < (shape_in desk.old.cluster.now).data_centres) × ((shape_in desk.old.cluster.now).shards ≡ 1) }
     ensures { (desk.new.cluster.now ≡ desk.old.cluster.now) × (desk.new.seat.ghost_name ≡ desk.old.seat.ghost_name) }
 {
@@ -86,7 +86,11 @@ fn refusal(answer: Result<SlotReply, AllocError>) -> Option<Fault> {
     }
 }
 
-fn admit<R: Wait>(desk: &mut HostedDesk<'_, R>, slot: u64, tenant: Tenant) -> Option<Fault>
+pub(crate) fn admit<R: Wait>(
+    desk: &mut HostedDesk<'_, R>,
+    slot: u64,
+    tenant: Tenant,
+) -> Option<Fault>
     requires one { (0 < (shape_in desk.old.cluster.now).data_centres) × ((shape_in desk.old.cluster.now).shards ≡ 1) }
     requires clock { tenant.first_clock ≤ last_clock }
     ensures { (desk.new.cluster.now ≡ desk.old.cluster.now) × (desk.new.seat.ghost_name ≡ desk.old.seat.ghost_name) }
@@ -135,7 +139,7 @@ fn assert_goes<R: Wait + Abort>(rt: &R, desk: &mut HostedDesk<'_, R>)
     assert!(rt; close(desk) == Some(Fault::UnknownTenant));
 }
 
-// Asserts what is told on slots where a tenant comes, goes and comes again.
+// Asserts the replies on slots to which a tenant comes, goes and comes again.
 fn assert_visit<R: Wait + Abort>(rt: &R, alloc: Global, desk: &mut HostedDesk<'_, R>)
     requires { (0 < (shape_in desk.old.cluster.now).data_centres) × ((shape_in desk.old.cluster.now).shards ≡ 1) }
 {

@@ -1,4 +1,4 @@
-//! Sessions and carriers at a desk: a step of theirs is at most one turn of one node's gate.
+//! Sessions and carriers at a desk. A step takes at most one turn of one node.
 ghost use Rattle.std.specs.Prelude.{◌≡◌, ◌<◌, ℕ, Some, None, max, false, MatchResult, OnErr, IfOk};
 ghost use Rattle.cops_types.specs.TenantConfig.{TenantConfig};
 ghost use Rattle.cops_types.specs.declared.faults.Fault.TheVariants.{OutOfMemory};
@@ -22,8 +22,8 @@ use std::alloc::AllocError;
 use std::sync::Wait;
 
 impl<R: Wait> Desk<'_, R> {
-    /// Takes a step of a session's request. The reply that the session goes on with is the one that the seat was told. That memory
-    /// was refused, to the node or to the session, is the error.
+    /// Takes a step of a session's request. The session goes on with the reply of that turn. Fails with `AllocError` if
+    /// memory runs out, at the node or for the session.
     pub fn step_session(
         &mut self,
         session: &mut Session,
@@ -46,8 +46,8 @@ impl<R: Wait> Desk<'_, R> {
         session.step(self, handle, moment)
     }
 
-    /// Takes a step of a carrier: one turn. The reply that the carrier goes on with is the one that the seat was told. That the
-    /// node was refused memory is the error.
+    /// Takes a step of a carrier, in one turn. The carrier goes on with the reply of that turn. Fails with `AllocError` if
+    /// memory runs out at the node.
     pub fn step_carrier(
         &mut self,
         carrier: &mut Carrier,

@@ -52,7 +52,7 @@ module _ (config : TenantConfig) (kept after : KeptSession) (session : Session) 
       (λ config obs keys log setting_is stands. first_turned config kept.setting obs keys log setting_is (called now) stays now restarts start round started key reply asked stands started_is in_time answers says)
       (steps stands)
 
--- the same of a session that is seen as another names it, where the running request was taken out and found to be such a transaction
+-- the same of a session that is seen as another names it, if the running request was taken out and found to be such a transaction
 module _ (config : TenantConfig) (kept after : KeptSession) (session : Session) (running : Running) (ongoing : Ongoing) (old : Reading) (round : FirstReads) where
   pub taken_steps : (viewed : KeptSession) → kept ≡ viewed → (called : ℕ → ℕ → NodeId → NodeCall → NodeReply → Type 0) (stays : Type 0) (moment now started : ℕ) (reply : NodeReply) (asked : Result FirstAnswer AllocError) (told : Result Progress AllocError) →
       kept.running ≡ Some ongoing → ongoing.work ≡ Get old → old.round ≡ First round → SessionStandsFor config viewed session → session.running ≡ Some running → now ≡ max kept.moment moment → started ≡ unwrap_or old.start now →

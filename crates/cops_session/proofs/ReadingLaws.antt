@@ -42,7 +42,7 @@ pub not_gone_of_faulty : (key : List ℕ) (reply : NodeReply) (wish : Wish) (fau
 not_gone_of_faulty key (Gone now) wish fault some = cc
 not_gone_of_faulty key _ wish fault some = refl
 
--- only a node's own refusal brings want of memory
+-- only a node's own refusal is out of memory
 none_is_torn : (asked : Bool) → (if asked then None else Some Torn) ≡ Some OutOfMemory → ⊥
 none_is_torn true is = cc
 none_is_torn false is = cc

@@ -186,7 +186,7 @@ pub is_allowed : (can : Bool) → refused_if (not can) DependenciesFull ≡ None
 is_allowed true is = refl
 is_allowed false is = cc
 
--- the one refusal that is left at hand is told
+-- the answer is the one refusal that remains
 pub full_told : (can : Bool) (fault : Fault) (refusal : Option Fault) → (can ≡ false → refusal ≡ Some DependenciesFull) → refused_if (not can) DependenciesFull ≡ Some fault → refusal ≡ Some fault
 full_told true fault refusal full is = cc
 full_told false fault refusal full is = full refl ∙ is
@@ -214,7 +214,7 @@ runs_in_both config session number running stand = by running session.running st
 pub is_number : (a b : ℕ) → (a == b) ≡ true → a ≡ b
 is_number a b h = grind (arith, nat_tests)
 
--- the request that a number names where it runs
+-- the request that a number names if it runs
 pub one_runs : (number : ℕ) (session : Session) → runs number session ≡ true → (running : Running) × (session.running ≡ Some running) × (running.number ≡ number)
 one_runs number session h = by session.running h
   where

@@ -34,20 +34,21 @@ use Rattle.cops_model.specs.Session.{OpenContext, Running, Session, context_exte
 use Rattle.cops_session.specs.SessionStands.{ContextsStandFor, IsSettingOf, IsWriting, RunningStandsFor, SessionStandsFor, obs_in}
 use Rattle.cops_session.specs.Stepping.{DoesNext, HasStepped, HasTold, TellsNext, told_shown}
 use Rattle.cops_session.specs.Turns.{CameOf, HasLacked, HasTurned, HasTurnedSo, TurnsNext}
-use Rattle.cops_session.specs.Wants.{EndsRound, WantsMemory}
+use Rattle.cops_model.specs.Lacks.{EndsRound}
+use Rattle.cops_session.specs.Wants.{WantsMemory}
 use Rattle.cops_session.specs.Writing.{answer_to_put}
 use Rattle.cops_session.proofs.ContextRows.{context_extended-nothing}
 
--- ---- what a step is told
+-- ---- the result of a step
 
--- the step that is told does what comes next
+-- the step by its result does what comes next
 pub as_told : (called : NodeId → NodeCall → NodeReply → Type 0) (stays : Type 0) (config : TenantConfig) (session : Session) (running : Running) (moment : ℕ) (told : Result Progress AllocError) (after : KeptSession) (n : Next Answer) →
     TellsNext called stays config session running moment told after n → DoesNext called stays config session running moment (told_shown told) after n
 as_told called stays config session running moment told after (Call directed) tells = (tells.0, tells.1, tells.2.stepped)
 as_told called stays config session running moment told after Restart tells = (tells.0, tells.1.stepped)
 as_told called stays config session running moment told after (Ended answer) tells = tells
 
--- what is told to be the definition's is so where it is shown
+-- a result that is the definition's is so if it is shown
 exactly : (told : Result Progress AllocError) (shown : Progress) → told_shown told ≡ shown → IfOk told (λ s. s ≡ shown)
 exactly (Ok s) shown is = is
 exactly (Err error) shown is = tt
@@ -175,7 +176,7 @@ module _ (config : TenantConfig) (kept after : KeptSession) (session : Session) 
       (subst (λ (r : Request). TurnsNext (called now) stays config r keys running.log now turn (next config r running.log now)) (sym req) (turned config obs keys running.log stands.setting_is read)) in
       turns_as (called (moment_at moment session)) stays keys (moment_at moment session) turn told (next config (request_of session running) running.log (moment_at moment session)) (λ step timed. steps keys step (timed ∙ sym at_is) own.1 own.0 action) turns
 
-  -- the moment after the step
+  -- the timestamp after the step
   moment_turned : (keys : List (List ℕ)) (step : LogStep) (turn : ReadStep) → running.action ≡ Fetch keys → HasTurned config (request_of session running) keys running.log step turn → turn.moment ≡ moment_after running step
   moment_turned keys step turn action has = has.moment_is ∙ ap (λ a. if has_restarted a running.log step then raised step.moment step.outcome else step.moment) (sym action)
 

@@ -47,7 +47,7 @@ use Rattle.cops_session.proofs.RoundsStand.{first_ends, length-push}
 abbrev pub begun_again : FirstReads → ℕ → ℕ → Came
 begun_again round times limit = if nat_lt times limit then Restarted (record { restarts = times + 1; start = None; round = First round }) else Failed Overrun
 
--- what comes of asking in the first round, and the moment after it
+-- what comes of asking in the first round, and the timestamp after it
 abbrev pub turn_first : ℕ → ℕ → ℕ → Result FirstAnswer AllocError → Result ReadStep AllocError
 turn_first times started moment (Ok (first.Went (MoreFirst round))) = Ok (record { moment = moment; came = Working (record { restarts = times; start = Some started; round = First round }) })
 turn_first times started moment (Ok (first.Went (ToSecond round))) = Ok (record { moment = moment; came = Working (record { restarts = times; start = Some started; round = Second round }) })
@@ -55,7 +55,7 @@ turn_first times started moment (Ok (first.Went (CompleteFirst reads))) = Ok (re
 turn_first times started moment (Ok (first.Failed fault)) = Ok (record { moment = moment; came = Failed fault })
 turn_first times started moment (Err error) = Err error
 
--- what comes of asking in the second round, and the moment after it
+-- what comes of asking in the second round, and the timestamp after it
 abbrev pub turn_second : ℕ → ℕ → ℕ → ℕ → Result SecondAnswer AllocError → Result ReadStep AllocError
 turn_second times started limit moment (Ok (second.Went (MoreSecond round))) = Ok (record { moment = moment; came = Working (record { restarts = times; start = Some started; round = Second round }) })
 turn_second times started limit moment (Ok (second.Went (CompleteSecond reads))) = Ok (record { moment = moment; came = Complete reads })
@@ -89,7 +89,7 @@ module _ (config : TenantConfig) (setting : Setting) (obs : List Observation) (k
           has,
         )
 
-    -- with no other attempt the moment stays
+    -- with no other attempt the timestamp stays
     module _ (reading : Reading) (stands : IsReading config request keys log reading) (started : ℕ) (started_is : started ≡ unwrap_or reading.start moment) (asked : ReadRequest) (reply : NodeReply)
         (is : slice_get (gets keys replies) (length replies) ≡ Some asked) (stay : begins_again (Fetch keys) (length steps) (Replied reply) ≡ false) where
       works : (round : Round) → fault_in (Get asked.key asked.wanted) reply ≡ None → RoundStandsFor keys (replies ++ reply ∷ []) round →

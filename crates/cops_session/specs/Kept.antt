@@ -1,4 +1,4 @@
--- What a session keeps.
+-- The state of a session.
 use Rattle.std.specs.Prelude.{◌≡◌, ℕ, Bool, false, ◌<◌, ◌==◌, List, Option, Some, None}
 use Rattle.cops_context.specs.Lists.{Lists}
 use Rattle.cops_handles.specs.Rows.{Rows, row_at}
@@ -9,7 +9,7 @@ use Rattle.cops_session.specs.declared.ongoing.Work.{Work}
 use Rattle.cops_session.specs.declared.ongoing.Work.TheVariants.{Put, Get}
 use Rattle.cops_session.specs.declared.settings.Setting.{Setting}
 
--- what never changes, the greatest moment so far, the open contexts, the number of the next request, and the one that runs
+-- the constants, the greatest timestamp so far, the open contexts, the number of the next request, and the running request
 pub record KeptSession : Type 0 where
   pub setting : Setting
   pub moment : ℕ

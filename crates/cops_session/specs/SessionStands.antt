@@ -1,4 +1,4 @@
--- What a session stands for: the session of the definitions.
+-- The session of the definitions that a session represents.
 use Rattle.std.specs.Prelude.{◌≡◌, ℕ, ◌==◌, List, [], ◌∷◌, find, unwrap_or, Option, Some, None}
 use Rattle.std.specs.Option.{option_map}
 use Rattle.cops_types.specs.Context.{Observation, all_of, near_of}
@@ -24,7 +24,7 @@ pub record IsSettingOf (config : TenantConfig) (setting : Setting) : Type 0 wher
   pub restarts : setting.restarts ≡ config.restarts
   pub deps : setting.deps ≡ config.quota.deps
 
--- the same numbers in the same order, each context standing for what it has seen
+-- the same numbers in the same order, each context representing what it has seen
 abbrev pub ContextsStandFor : List (Open Lists) → List OpenContext → Type 0
 ContextsStandFor [] [] = Unit {0}
 ContextsStandFor (row ∷ rows) (context ∷ contexts) = (row.number ≡ context.number) × ListsStandFor row.row context.obs × ContextsStandFor rows contexts

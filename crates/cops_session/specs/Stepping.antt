@@ -18,26 +18,26 @@ use Rattle.cops_model.specs.Session.{Running, Session, moment_at, progress, requ
 use Rattle.cops_session.specs.SessionStands.{SessionStandsFor}
 use Rattle.cops_session.specs.Wants.{WantsMemory}
 
--- what a step is told to have shown: where memory was refused, the end that says so
+-- what a step counts as having shown: if memory ran out, the end that says so
 abbrev pub told_shown : Result Progress AllocError → Progress
 told_shown (Ok shown) = shown
 told_shown (Err error) = Done (Refused OutOfMemory)
 
--- what a step that was taken answers, where the request runs; or why none was taken
+-- the result of a step if the request runs; otherwise why no step was taken
 abbrev pub told_step : Result (Result Progress Fault) AllocError → Result (Result Progress AllocError) Fault
 told_step (Ok (Ok shown)) = Ok (Ok shown)
 told_step (Ok (Err fault)) = Err fault
 told_step (Err error) = Ok (Err error)
 
--- what the step shows is the definition's, or that there was no memory, which ends the request and is so only where memory was wanted; the session
--- stands for the one after that
+-- The step shows what the definition's does; or it shows that memory ran out, which ends the request and happens only if the step needed memory.
+-- The session then represents the definition's next session
 pub record HasStepped (config : TenantConfig) (session : Session) (running : Running) (step : LogStep) (shown : Progress) (after : KeptSession) : Type 0 where
   pub shown_is : (shown ≡ progress config (request_of session running) running.log step) ⊎ (shown ≡ Done (Refused OutOfMemory))
   pub wants : shown ≡ Done (Refused OutOfMemory) → WantsMemory config (request_of session running) running.log step running.action
   pub stands : SessionStandsFor config after (session_after session running step shown)
 
--- the step does what comes next: it makes the call and goes on with the reply, or makes none where the moment is late;
--- a running request has no answer yet
+-- The step does what comes next: it makes the call and goes on with the reply, or makes no call if the timestamp is late. A running request has
+-- no answer yet
 abbrev pub DoesNext : (NodeId → NodeCall → NodeReply → Type 0) → Type 0 → TenantConfig → Session → Running → ℕ → Progress → KeptSession → Next Answer → Type 0
 DoesNext called stays config session running moment shown after (Call directed) =
     (reply : NodeReply) × called directed.node directed.call reply × HasStepped config session running (record { moment = moment; outcome = Replied reply }) shown after
@@ -45,7 +45,7 @@ DoesNext called stays config session running moment shown after Restart =
     stays × HasStepped config session running (record { moment = moment; outcome = Late }) shown after
 DoesNext called stays config session running moment shown after (Ended answer) = ⊥
 
--- the same of what a step answers: that memory was refused is the error, and what is shown without it is the definition's
+-- the same of the result of a step: out of memory is the error, and without it the step shows what the definition's does
 pub record HasTold (config : TenantConfig) (session : Session) (running : Running) (step : LogStep) (told : Result Progress AllocError) (after : KeptSession) : Type 0 where
   pub stepped : HasStepped config session running step (told_shown told) after
   pub exact : IfOk told (λ shown. shown ≡ progress config (request_of session running) running.log step)
@@ -57,7 +57,7 @@ TellsNext called stays config session running moment told after Restart =
     stays × HasTold config session running (record { moment = moment; outcome = Late }) told after
 TellsNext called stays config session running moment told after (Ended answer) = ⊥
 
--- and that from whatever the kept session stands for
+-- and that holds for whatever the state of the session represents
 abbrev pub StepsFrom : (NodeId → ℕ → NodeCall → NodeReply → Type 0) → Type 0 → KeptSession → ℕ → Result (Result Progress Fault) AllocError → KeptSession → Type 0
 StepsFrom called stays old moment result after =
     (config : TenantConfig) (session : Session) (running : Running) → SessionStandsFor config old session → session.running ≡ Some running →

@@ -1,4 +1,4 @@
--- A step of a get transaction that runs.
+-- A step of a running get transaction.
 use Rattle.std.specs.Prelude.{◌≡◌, ◌⊎◌, ℕ, false, List, [], ◌∷◌, ◌++◌, Result, Ok, Err, if◌then◌else◌}
 use Rattle.std.specs.declared.alloc.AllocError.{AllocError}
 use Rattle.cops_types.specs.declared.faults.Fault.{Fault}
@@ -23,9 +23,9 @@ use Rattle.cops_model.specs.Request.{Request, Fetch, next, values_or_full}
 use Rattle.cops_model.specs.Session.{has_restarted, raised}
 use Rattle.cops_model.specs.Session as session
 use Rattle.cops_session.specs.SessionStands.{IsSettingOf}
-use Rattle.cops_session.specs.Wants.{EndsRound}
+use Rattle.cops_model.specs.Lacks.{EndsRound}
 
--- what the step shows, and that the transaction stands for one more step, where it goes on
+-- the step shows the definition's outcome; a transaction that goes on represents one more step
 abbrev pub CameOf : TenantConfig → Request → List (List ℕ) → List LogStep → LogStep → Came → Type 0
 CameOf config request keys log step (Working reading) = (session.progress config request log step ≡ progress.Working) × IsReading config request keys (log ++ step ∷ []) reading
 CameOf config request keys log step (Restarted reading) =
@@ -39,7 +39,7 @@ pub record HasTurned (config : TenantConfig) (request : Request) (keys : List (L
   pub moment_is : turn.moment ≡ (if has_restarted (Fetch keys) log step then raised step.moment step.outcome else step.moment)
   pub came_is : CameOf config request keys log step turn.came
 
--- memory was refused: to the node, or at the end of a round, whose reads were to be kept
+-- memory ran out: at the node, or at the end of a round, whose reads were to be stored
 pub record HasLacked (config : TenantConfig) (request : Request) (keys : List (List ℕ)) (log : List LogStep) (step : LogStep) : Type 0 where
   pub same_attempt : has_restarted (Fetch keys) log step ≡ false
   pub wants : (step.outcome ≡ Replied (RefusedAt OutOfMemory)) ⊎ EndsRound config request keys log step
@@ -48,7 +48,7 @@ abbrev pub HasTurnedSo : TenantConfig → Request → List (List ℕ) → List L
 HasTurnedSo config request keys log step (Ok turn) = HasTurned config request keys log step turn
 HasTurnedSo config request keys log step (Err error) = HasLacked config request keys log step
 
--- what came of a step at a moment in a transaction that stands where it stood, and stands so after it
+-- the outcome of a step at a timestamp in a transaction that stays in place
 abbrev pub turned_in_place : {A : Type 0} → ℕ → Reading → Result (Result A Fault) AllocError → Result ReadStep AllocError
 turned_in_place moment reading (Ok (Ok added)) = Ok (record { moment = moment; came = Working reading })
 turned_in_place moment reading (Ok (Err fault)) = Ok (record { moment = moment; came = Failed fault })
@@ -61,7 +61,7 @@ TurnsNext called stays config request keys log moment turn (Call directed) =
 TurnsNext called stays config request keys log moment turn Restart = stays × HasTurnedSo config request keys log (record { moment = moment; outcome = Late }) turn
 TurnsNext called stays config request keys log moment turn (Ended answer) = ⊥
 
--- and that from whatever the reading stands for
+-- and that holds for whatever the reading represents
 abbrev pub TurnsFrom : (NodeId → NodeCall → NodeReply → Type 0) → Type 0 → Setting → Reading → ℕ → Result ReadStep AllocError → Type 0
 TurnsFrom called stays setting reading moment turn =
     (config : TenantConfig) (obs : List Observation) (keys : List (List ℕ)) (log : List LogStep) → IsSettingOf config setting →

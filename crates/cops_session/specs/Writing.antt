@@ -9,18 +9,18 @@ use Rattle.cops_model.specs.declared.calls.NodeReply.TheVariants.{Stored as Stor
 use Rattle.cops_model.specs.declared.requests.Answer.{Answer}
 use Rattle.cops_model.specs.declared.requests.Answer.TheVariants.{Stored, Refused}
 
--- what a request is told: where memory was refused, that it was
+-- the answer to a request; if memory ran out, the answer that says so
 abbrev pub told_answer : Result Answer AllocError → Answer
 told_answer (Ok answer) = answer
 told_answer (Err error) = Refused OutOfMemory
 
--- the same where the request is a put
+-- the same for a put
 abbrev pub told_put : Result (Result Pair Fault) AllocError → Answer
 told_put (Ok (Ok pair)) = Stored pair
 told_put (Ok (Err fault)) = Refused fault
 told_put (Err error) = Refused OutOfMemory
 
--- what the reply to a put of the key answers
+-- the answer to a put of the key after this reply
 abbrev pub answer_to_put : List ℕ → NodeReply → Answer
 answer_to_put key (StoredAt version) = Stored (record { key = key; version = version })
 answer_to_put key (RefusedAt fault) = Refused fault

@@ -13,8 +13,9 @@ use cops_handles::{Handle, Table};
 use cops_types::{Deps, Fault, Key, Near, Pair, Read};
 use std::alloc::AllocError;
 
-/// The two lists that a put of the key sends. From here on the context has room for that put. That
-/// there was no memory, where the put is within the limit, is the error.
+/// Returns the two lists that a put of the key sends, and reserves room in the context for that
+/// put. Fails with a `Fault` if the put exceeds the limit, and otherwise with `AllocError` if
+/// memory runs out.
 pub(crate) fn prepare_put(
     contexts: &mut Table<Contexts>,
     handle: Handle<Contexts>,
@@ -35,7 +36,7 @@ pub(crate) fn prepare_put(
     contexts.row_mut(handle).put_args(key, limit)
 }
 
-/// The context sees a pair that was put, for which there is room.
+/// Adds a pair that was put to the context, into reserved room.
 pub(crate) fn see_put(contexts: &mut Table<Contexts>, handle: Handle<Contexts>, pair: Pair)
     requires { HasRoomInContext handle pair.key contexts.old.rows }
     ensures stands { (opens : List OpenContext) → ContextsStandFor contexts.old.rows opens →
@@ -45,8 +46,8 @@ pub(crate) fn see_put(contexts: &mut Table<Contexts>, handle: Handle<Contexts>, 
     contexts.row_mut(handle).after_put(pair);
 }
 
-/// The context sees what was read, in order: all of it or nothing. That there was no memory is the
-/// error.
+/// Adds reads to the context, in order: all of them or none. Fails with `AllocError` if memory runs
+/// out.
 pub(crate) fn see_reads(
     contexts: &mut Table<Contexts>,
     handle: Handle<Contexts>,

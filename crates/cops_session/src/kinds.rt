@@ -16,10 +16,10 @@ impl Kind for Contexts {
     ghost TAG = { context_tag };
 }
 
-/// The requests that a session runs. They are rows of no table, since one runs at a time.
+/// The requests of a session. No table has them, since only one runs at a time.
 ///
-/// A handle of a context is of another type, so it is refused by the compiler where a request's
-/// is wanted, and read from bytes it is refused by its tag.
+/// A handle of a context has another type, so the compiler refuses it as a handle of a request, and
+/// parsing refuses its tag.
 pub struct Running;
 
 impl Kind for Running {
@@ -30,7 +30,7 @@ impl Kind for Running {
     ghost TAG = { request_tag };
 }
 
-/// A law: no bytes are both a handle of a context and one of a request.
+/// Theorem: no bytes are both a handle of a context and one of a request.
 pub fn handles_are_of_one_kind()
     ensures { (context request : ℕ) → wire_of context_tag context ≡ wire_of request_tag request → ⊥ }
 {}

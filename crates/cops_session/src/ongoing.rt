@@ -3,7 +3,7 @@ use crate::rounds::{FirstRound, SecondRound};
 use cops_handles::Handle;
 use cops_types::{Deps, Key, Near, Value};
 
-/// The request that a session runs: its number, its context, and what is to be done.
+/// The running request of a session: its number, its context, and its work.
 #[derive(Drop)]
 pub struct Ongoing {
     pub number: u64,
@@ -11,7 +11,7 @@ pub struct Ongoing {
     pub work: Work,
 }
 
-/// What a request does.
+/// The work of a request.
 #[derive(Debug, Drop)]
 pub enum Work {
     Put(PendingPut),
@@ -27,7 +27,8 @@ pub struct PendingPut {
     pub near: Near,
 }
 
-/// A get transaction: how often it restarted, the moment of its attempt's first step, and its round.
+/// A get transaction: the number of its restarts, the timestamp of its attempt's first step, and
+/// its round.
 #[derive(Debug, Drop)]
 pub struct Reading {
     pub restarts: u64,
@@ -35,7 +36,7 @@ pub struct Reading {
     pub round: Round,
 }
 
-/// The round in which a get transaction is.
+/// The round of a get transaction.
 #[derive(Debug, Drop)]
 pub enum Round {
     First(FirstRound),

@@ -18,27 +18,27 @@ use cops_node::Nodes;
 use cops_types::{Fault, Reads};
 use std::alloc::AllocError;
 
-/// What came of a step of a get transaction, where there was memory.
+/// The outcome of a step of a get transaction with enough memory.
 #[derive(Drop)]
 pub enum Came {
     /// It goes on.
     Working(Reading),
-    /// It begins again.
+    /// It restarts.
     Restarted(Reading),
-    /// All is read.
+    /// All keys are read.
     Complete(Reads),
     /// It ends with this fault.
     Failed(Fault),
 }
 
-/// What came of a step of a get transaction, and the session's moment after it.
+/// The outcome of a step of a get transaction, and the session's timestamp after it.
 #[derive(Drop)]
 pub struct ReadStep {
     pub moment: u64,
     pub came: Came,
 }
 
-/// Whether the moment is more than `trans_time` past the start.
+/// Returns `true` if the timestamp is more than `trans_time` past the start.
 fn is_late(start: Option<u64>, moment: u64, trans_time: u64) -> bool
     ensures { result ≡ is_past trans_time start moment }
 {
@@ -48,7 +48,7 @@ fn is_late(start: Option<u64>, moment: u64, trans_time: u64) -> bool
     }
 }
 
-/// Another attempt, unless there were as many restarts as may be.
+/// Starts another attempt, unless the restarts are used up.
 fn begin_again(round: FirstRound, restarts: u64, limit: u64) -> Came
     ensures { result ≡ (if nat_lt restarts limit then Restarted (record { restarts = restarts + 1; start = None; round = First round }) else Failed Overrun) }
 {
@@ -63,7 +63,7 @@ fn begin_again(round: FirstRound, restarts: u64, limit: u64) -> Came
     }
 }
 
-/// A step in the second round, in time.
+/// Takes a step in the second round, in time.
 fn read_second<N: Nodes>(
     nodes: &mut N,
     setting: Setting,
@@ -106,7 +106,7 @@ fn read_second<N: Nodes>(
 }
 
 impl Reading {
-    /// Whether the step at this moment is a read of the first round, in time.
+    /// Returns `true` if the step at this timestamp is a read of the first round, in time.
     pub(crate) fn reads_first(&self, moment: u64, trans_time: u64) -> bool
         ensures reads { IsTrue result → GetReadsFirst trans_time moment self.now }
         ensures other { result ≡ false → GetReadsFirst trans_time moment self.now → ⊥ }
@@ -117,7 +117,7 @@ impl Reading {
         }
     }
 
-    /// Whether the next read is one of the first round, after which another is wanted.
+    /// Returns `true` if the next read is one of the first round and another follows it.
     pub(crate) fn has_more(&self) -> bool
         ensures { IsTrue result → IsBeforeLast self.now.round }
     {
@@ -128,8 +128,8 @@ impl Reading {
     }
 }
 
-/// Takes a step that is a read of the first round, in time, after which another is wanted: what is
-/// read joins the round where it stands. That the node was refused memory is the error.
+/// Takes a step that is a read of the first round, in time, and that another read follows. The read
+/// joins the round in place. Fails with `AllocError` if the node runs out of memory.
 pub(crate) fn read_next<N: Nodes>(
     nodes: &mut N,
     setting: Setting,
@@ -158,7 +158,7 @@ pub(crate) fn read_next<N: Nodes>(
 }
 
 impl Round {
-    /// The first round again.
+    /// Returns the first round, restarted.
     fn restart(self) -> FirstRound
         ensures { (keys : List (List ℕ)) (replies : List NodeReply) → RoundStandsFor keys replies self → IsFirstOf keys [] result }
     {
@@ -169,8 +169,8 @@ impl Round {
     }
 }
 
-/// A step of a get transaction that is no read of the first round: a late one makes no call, and the
-/// others are reads of the second. That the node was refused memory is the error.
+/// Takes a step of a get transaction that is no read of the first round: a late one makes no call,
+/// and the others are reads of the second. Fails with `AllocError` if the node runs out of memory.
 pub(crate) fn read_step<N: Nodes>(
     nodes: &mut N,
     setting: Setting,

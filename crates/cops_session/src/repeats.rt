@@ -5,14 +5,14 @@ ghost use Rattle.cops_model.specs.Session.{has_repeats};
 
 use cops_types::Key;
 
-/// Whether the key is among these.
+/// Returns `true` if the key is among these.
 fn is_among(keys: &[Key], key: &Key) -> bool
     ensures { result ≡ list_any (key_eq key.now) keys.now }
 {
     keys.iter().any(|other| key == other)
 }
 
-/// Whether some key is there twice.
+/// Returns `true` if a key occurs twice.
 pub(crate) fn has_repeats(keys: &[Key]) -> bool
     ensures { result ≡ has_repeats keys.now }
 {

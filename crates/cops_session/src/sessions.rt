@@ -29,8 +29,8 @@ use cops_types::{Config, Fault, Key, Reads, Tenant, Value};
 use std::alloc::{AllocError, Global};
 use std::marker::Model;
 
-/// A client's session: its contexts, and the request that it runs, as steps of at most one node
-/// call each. Contracts see what it keeps, and say what it stands for.
+/// A client's session: its contexts, and its running request, as steps of at most one node call
+/// each. Contracts see its state, and say what it represents.
 #[derive(Drop)]
 pub struct Session {
     alloc: Global,
@@ -63,8 +63,8 @@ impl Session {
     ghost use Rattle.cops_session.specs.Stepping.{StepsFrom, TellsNext, runs, told_step};
     ghost use Rattle.cops_session.specs.Writing.{told_answer};
 
-    /// A session of a tenant of the configuration in a data centre, with no contexts. Its first
-    /// numbers are 1.
+    /// Returns a session of a tenant of the configuration in a data centre, without contexts. Its
+    /// first numbers are 1.
     pub fn new(alloc: Global, config: &Config, slot: u64, dc: u64) -> Self
         requires slot { slot < length config.now.tenants }
         requires dc { dc < config.now.data_centres }
@@ -77,8 +77,8 @@ impl Session {
         Session::of_tenant(alloc, config, tenant, slot, dc)
     }
 
-    /// A session of a tenant that has this slot, and need not be one of the configuration, in a data
-    /// centre of it. It has no contexts, and its first numbers are 1.
+    /// Returns a session of a tenant with this slot, who need not be in the configuration, in a
+    /// data centre of the configuration. It has no contexts, and its first numbers are 1.
     pub fn of_tenant(alloc: Global, config: &Config, tenant: &Tenant, slot: u64, dc: u64) -> Self
         requires dc { dc < config.now.data_centres }
         requires shards { 0 < config.now.shards }
@@ -88,7 +88,7 @@ impl Session {
         Session::of_tenant_starting_at(alloc, config, tenant, slot, dc, 1)
     }
 
-    /// A session of a tenant of the configuration, whose numbers begin with `first`.
+    /// Returns a session of a tenant of the configuration, whose numbers begin with `first`.
     pub fn starting_at(alloc: Global, config: &Config, slot: u64, dc: u64, first: u64) -> Self
         requires slot { slot < length config.now.tenants }
         requires dc { dc < config.now.data_centres }
@@ -101,7 +101,7 @@ impl Session {
         Session::of_tenant_starting_at(alloc, config, tenant, slot, dc, first)
     }
 
-    /// A session of a tenant that has this slot, whose numbers begin with `first`.
+    /// Returns a session of a tenant with this slot, whose numbers begin with `first`.
     pub fn of_tenant_starting_at(
         alloc: Global,
         config: &Config,
@@ -128,7 +128,7 @@ impl Session {
         Session::of_setting(alloc, setting, quota.contexts, first)
     }
 
-    /// A session with at most `contexts` open contexts, whose numbers begin with `first`.
+    /// Returns a session with at most `contexts` open contexts, whose numbers begin with `first`.
     pub(crate) fn of_setting(alloc: Global, setting: Setting, contexts: u64, first: u64) -> Self
         requires { IsPlaced setting }
         ensures { result ≡ record { setting = setting; moment = 0; contexts = record { rows = []; next = first; limit = contexts }; next_request = first; running = None } }
@@ -143,7 +143,8 @@ impl Session {
         }
     }
 
-    /// Opens a context that has seen nothing. That there was no memory for it is the error.
+    /// Opens an empty context. Fails with a `Fault` if too many are open or their numbers are
+    /// exhausted, and with `AllocError` if memory runs out.
     pub fn create_context(&mut self) -> Result<Result<Handle<Contexts>, Fault>, AllocError>
         ensures created { (config : TenantConfig) (session : SoloSession) → SessionStandsFor config self.old session →
             IfOk result (λ told. IfOk told (λ handle. (handle ≡ session.next_context) × SessionStandsFor config self.new (context_created session))) }
@@ -161,7 +162,8 @@ impl Session {
         }
     }
 
-    /// Closes a context. Its number is open no more.
+    /// Closes a context and its number. Fails with a `Fault` if the context is not open or a
+    /// request runs.
     pub fn delete_context(&mut self, handle: Handle<Contexts>) -> Result<(), Fault>
         ensures deleted { (config : TenantConfig) (session : SoloSession) → SessionStandsFor config self.old session →
             OnOk result (SessionStandsFor config self.new (context_deleted handle session)) }
@@ -179,7 +181,7 @@ impl Session {
         }
     }
 
-    /// An open context.
+    /// Returns an open context. Fails with a `Fault` if it is not open.
     pub fn context(&self, handle: Handle<Contexts>) -> Result<&Context, Fault>
         ensures stands { (config : TenantConfig) (session : SoloSession) → SessionStandsFor config self.now session →
             IfOk result (λ context. ListsStandFor context.now (obs_of handle session)) }
@@ -192,7 +194,7 @@ impl Session {
         self.contexts.get(handle)
     }
 
-    /// The request that runs.
+    /// Returns the handle of the running request.
     pub fn running(&self) -> Option<Handle<Running>>
         ensures { (config : TenantConfig) (session : SoloSession) → SessionStandsFor config self.now session → result ≡ option_map (λ running. running.number) session.running }
     {
@@ -202,8 +204,8 @@ impl Session {
         }
     }
 
-    /// Begins a put of a value under a key, which then takes one step. That there was no memory for
-    /// its lists is the error.
+    /// Begins a put of a value under a key, which then takes one step. Fails with a `Fault` if the
+    /// definition refuses it, and with `AllocError` if memory runs out for its lists.
     pub fn begin_put(
         &mut self,
         handle: Handle<Contexts>,
@@ -226,7 +228,7 @@ impl Session {
             Ok(seen) => seen,
             Err(fault) => return Ok(Err(fault)),
         };
-        // Whether the put is within the limit is told by what prepares it, if there is a number.
+        // `prepare_put` checks the limit, unless request numbers are exhausted.
         if self.next_request == u64::MAX {
             if seen.can_put(&key, self.setting.deps) {
                 return Ok(Err(Fault::IdsSpent));
@@ -247,7 +249,8 @@ impl Session {
         }
     }
 
-    /// Begins a get transaction over keys. That there was no memory for its first round is the error.
+    /// Begins a get transaction over keys. Fails with a `Fault` if the definition refuses it, and
+    /// with `AllocError` if memory runs out for its first round.
     pub fn begin_get_trans(
         &mut self,
         handle: Handle<Contexts>,
@@ -306,8 +309,9 @@ impl Session {
         Handle::of_number(number)
     }
 
-    /// Takes a step of the running request, at the greatest moment so far. The error: the node was
-    /// refused memory, or there was none to keep what a round read. The request has then ended.
+    /// Takes a step of the running request, at the greatest timestamp so far. Fails with a `Fault`
+    /// if no such request runs, and with `AllocError` if the node runs out of memory, or if memory
+    /// runs out for the reads of a round; the request has then ended.
     pub fn step<N: Nodes>(
         &mut self,
         nodes: &mut N,
@@ -354,7 +358,7 @@ impl Session {
         }
     }
 
-    /// Whether the request of this number runs.
+    /// Returns `true` if the request of this number runs.
     fn runs(&self, handle: Handle<Running>) -> bool
         ensures { result ≡ is_running handle self.now.running }
     {
@@ -364,7 +368,7 @@ impl Session {
         }
     }
 
-    /// Whether the step at this moment is a read of a first round, in time.
+    /// Returns `true` if the step at this timestamp is a read of a first round, in time.
     fn reads_first(&self, moment: u64) -> bool
         ensures reads { IsTrue result → ReadsFirst self.now.setting.trans_time (max self.now.moment moment) self.now.running }
         ensures other { result ≡ false → ReadsFirst self.now.setting.trans_time (max self.now.moment moment) self.now.running → ⊥ }
@@ -380,7 +384,7 @@ impl Session {
         }
     }
 
-    /// Whether another read of the first round is wanted after the next one.
+    /// Returns `true` if another read of the first round follows the next one.
     fn has_more(&self) -> bool
         ensures { (trans_time moment : ℕ) → IsTrue result → ReadsFirst trans_time moment self.now.running → ReadsOn trans_time moment self.now.running }
     {
@@ -393,9 +397,9 @@ impl Session {
         }
     }
 
-    /// Takes a step that is a read of a first round, in time, after which another is wanted. The
-    /// transaction changes where it stands: it is large, and most steps of transactions are these. Its
-    /// answer is the one of `step`, which hands it on where it stands.
+    /// Takes a step that is a read of a first round, in time, and that another read follows. The
+    /// transaction changes in place: it is large, and most steps of transactions are of this kind.
+    /// The answer is that of `step`, which passes it on in place.
     fn read_on<N: Nodes>(
         &mut self,
         nodes: &mut N,
@@ -435,9 +439,9 @@ impl Session {
         }
     }
 
-    /// Takes a step that is a read of a first round, in time. The node is asked while the transaction
-    /// stands where it is: only its lists come out of it then, and most such steps end it. Its answer is
-    /// the one of `step`.
+    /// Takes a step that is a read of a first round, in time. The transaction stays in place during
+    /// the call; only its lists are taken out then, and most steps of this kind end it. The answer
+    /// is that of `step`.
     fn read_first<N: Nodes>(
         &mut self,
         nodes: &mut N,
@@ -498,7 +502,8 @@ impl Session {
         }
     }
 
-    /// Asks for the key that the first round wants next. That the node was refused memory is the error.
+    /// Requests the next key of the first round. Fails with `AllocError` if the node runs out of
+    /// memory.
     #[inline(always)]
     fn ask_latest<N: Nodes>(&self, nodes: &mut N, moment: u64) -> Result<NodeReply, AllocError>
         requires data_centres { self.now.setting.data_centres ≡ (N.shape nodes.old).data_centres }
@@ -553,7 +558,7 @@ impl Session {
         self.running = None;
     }
 
-    /// The one step of a put, with which it ends. Its answer is the one of `step`.
+    /// Takes the one step of a put, which ends it. The answer is that of `step`.
     fn put<N: Nodes>(
         &mut self,
         nodes: &mut N,
@@ -585,7 +590,8 @@ impl Session {
         }
     }
 
-    /// A step of a get transaction that is no read of its first round. Its answer is the one of `step`.
+    /// Takes a step of a get transaction that is no read of its first round. The answer is that of
+    /// `step`.
     #[inline(never)]
     fn get<N: Nodes>(
         &mut self,
@@ -645,8 +651,8 @@ impl Session {
         }
     }
 
-    /// The answer to a transaction that read all its keys: the context sees it, or has no room. That
-    /// there was no memory for it is the error.
+    /// Returns the answer to a transaction that read all its keys: the context sees them, or has no
+    /// room. Fails with `AllocError` if memory runs out.
     #[inline(always)]
     fn values(&mut self, context: Handle<Contexts>, reads: Reads) -> Result<Answer, AllocError>
         requires idle { self.old.running ≡ None }

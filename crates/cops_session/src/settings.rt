@@ -1,5 +1,5 @@
-/// What never changes of a session: its tenant's slot and its data centre, the sizes of the
-/// cluster, and the limits of its requests.
+/// The constants of a session: its tenant's slot and its data centre, the sizes of the cluster, and
+/// the limits of its requests.
 #[derive(Clone, Copy, Debug)]
 pub struct Setting {
     pub slot: u64,

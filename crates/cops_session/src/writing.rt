@@ -12,7 +12,7 @@ use cops_node::{NodeCall, NodeId, NodeReply, Nodes};
 use cops_types::{Fault, Key, Pair};
 use std::alloc::AllocError;
 
-/// The pair that was stored by a put of the key, to which a node replied so, or why it was refused.
+/// Returns the pair that a put of the key stored, from the node's reply, or why it was refused.
 #[inline(always)]
 fn stored_by(key: Key, reply: &NodeReply) -> Result<Pair, Fault>
     ensures { told_put (Ok result) ≡ answer_to_put key reply.now }
@@ -27,7 +27,7 @@ fn stored_by(key: Key, reply: &NodeReply) -> Result<Pair, Fault>
     }
 }
 
-/// The same of what a node answered, which may have been refused memory.
+/// Does the same for the node's result, which may be that memory ran out.
 #[inline(always)]
 fn stored_told(
     key: Key,
@@ -41,8 +41,8 @@ fn stored_told(
     }
 }
 
-/// The one step of a put: one call, at the node of the data centre where the key is placed. That the
-/// node was refused memory is the error.
+/// Takes the one step of a put: one call, at the node of the data centre that stores the key. Fails
+/// with `AllocError` if the node runs out of memory.
 pub(crate) fn write_step<N: Nodes>(
     nodes: &mut N,
     setting: Setting,

@@ -116,7 +116,7 @@ key_there p entries i index =
 
 -- ---- after a collection
 module _ (now trans_time : ℕ) where
-  -- what isn't stale before a moment that isn't ripe, isn't ripe
+  -- what isn't stale before a timestamp that isn't ripe, isn't ripe
   since_stays : (m : ℕ) (o : Option ℕ) → is_ripe now trans_time (Some m) ≡ false → is_since m o ≡ true → (is_since m o && not (is_ripe now trans_time o)) ≡ true
   since_stays m None unripe since = absurd (true≢false (sym since))
   since_stays m (Some s) unripe since = and_both _ _ since (ap not later)
@@ -133,7 +133,7 @@ module _ (now trans_time : ℕ) where
       list_any-filter (λ (k : Dated). is_since m k.stale) (λ k. not (is_ripe now trans_time k.stale)) chain
       ∙ list_any_weaker (λ (k : Dated). is_since m k.stale) (λ k. is_since m k.stale && not (is_ripe now trans_time k.stale)) (λ k. since_stays m k.stale unripe) chain h
 
-  -- a note where nothing may go stays founded
+  -- a note under which nothing may go stays founded
   founded_miss : (chains : Chains) (d : Due) → is_hit now trans_time d ≡ false → is_founded chains d ≡ true → is_founded (collect_chains now trans_time chains) d ≡ true
   founded_miss [] d miss h = h
   founded_miss (e ∷ chains) d miss h = by (key_eq d.key e.0) (has_since d.stale e.1) refl h (founded_miss chains d miss)
@@ -144,7 +144,7 @@ module _ (now trans_time : ℕ) where
       by true false s k rest = or_right (has_since d.stale (staying now trans_time e.1)) _ (rest k)
       by false s e k rest = rest k
 
-  -- the oldest moment is that of one of the chain
+  -- the oldest timestamp is that of one of the chain
   module _ (G : ℕ → Type 0) where
     either : (a b : Option ℕ) (m : ℕ) → earlier a b ≡ Some m → (a ≡ Some m → G m) → (b ≡ Some m → G m) → G m
     either None b m is left right = right is
@@ -167,7 +167,7 @@ module _ (now trans_time : ℕ) where
     each_weaker _ _ (λ l any test passes. or_right (test k) _ (any test passes)) chain (each_any chain),
   )
 
-  -- where no row is ripe, a note that is put off is of the oldest
+  -- if no row is ripe, a note that is put off is of the oldest
   put_off_since : (m from : ℕ) (chain : List Dated) → AllByRecursion (λ k. is_ripe now trans_time k.stale ≡ false) chain → oldest_of chain ≡ Some m → has_since (max m (now - trans_time)) chain ≡ true
   put_off_since m from chain unripe is =
       oldest_found (λ m. has_since (max m (now - trans_time)) chain ≡ true) None chain m is (λ none. absurd (none_some none))

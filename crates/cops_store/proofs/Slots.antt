@@ -1,4 +1,4 @@
--- What is kept of one slot among all.
+-- The state of one slot among all.
 use Rattle.std.proofs.Common.{◌≡◌, ◌≢◌, ◌⊎◌, ℕ, zero, suc, ◌+◌, ◌<◌, ◌≤◌, Bool, true, false, List, [], ◌∷◌, ◌++◌, length, map, refl, sym, ap, ◌∙◌, subst, arith, inl, inr, nat_eq, get_or, set}
 use Rattle.std.specs.Prelude.{Some, None, Result, Ok, Err, OnOk, OnErr, if◌then◌else◌}
 use Rattle.std.specs.List.{AllByRecursion, Contains}
@@ -65,7 +65,7 @@ module _ {A : Type 0} (part : Kept → List A) where
 rows_at : (slot : ℕ) (shelves : List Kept) → rows_in slot (rows_from 0 shelves) ≡ (get_or shelves slot nothing).rows
 rows_at slot shelves = part_at (λ (k : Kept). k.rows) 0 slot slot shelves refl (omega arith)
 
--- where a slot is there, no default is taken
+-- if a slot is there, no default is taken
 same_default : (shelves : List Kept) (n : ℕ) (d e : Kept) → n < length shelves → get_or shelves n d ≡ get_or shelves n e
 same_default [] n d e lt = absurd (omega arith)
 same_default (k ∷ shelves) zero d e lt = refl
@@ -105,7 +105,7 @@ same_rows_from first [] slot s s' lt read same = absurd (omega arith)
 same_rows_from first (k ∷ shelves) zero s s' lt read same = ap (λ rows. map (λ row. (first, row)) rows ++ rows_from (suc first) shelves) (same ∙ ap (λ (k : Kept). k.rows) read)
 same_rows_from first (k ∷ shelves) (suc slot) s s' lt read same = ap (λ rows. map (λ row. (first, row)) k.rows ++ rows) (same_rows_from (suc first) shelves slot s s' (omega arith) read same)
 
--- all rows stay where the slot's do
+-- all rows stay if the slot's do
 pub rows_same : (shelves : List Kept) (slot : ℕ) (s s' : Kept) → slot < length shelves → s ≡ get_or shelves slot s → s'.rows ≡ s.rows → rows_from 0 (set shelves slot s') ≡ rows_from 0 shelves
 rows_same = same_rows_from 0
 

@@ -1,4 +1,4 @@
--- What a store is to its callers: the rows of all slots.
+-- A store as its callers see it: the rows of all slots.
 use Rattle.std.specs.Prelude.{◌≡◌, ◌≢◌, ◌+◌, ◌-◌, ◌≤◌, ℕ, Bool, false, length, sum_by, List, [], ◌∷◌, nat_eq, nat_lt, Option, Some, None, if◌then◌else◌}
 use Rattle.std.specs.List.{filter_map, AllByRecursion, Contains}
 use Rattle.cops_types.specs.declared.faults.Fault.{Fault}
@@ -11,13 +11,13 @@ use Rattle.cops_types.specs.Search.{first_refusal}
 use Rattle.cops_types.specs.Version.{Timestamp}
 use Rattle.cops_store.specs.declared.usage.InUse.{InUse}
 
--- how many slots there are, the kept records with their slots, and the slots and keys for which an `insert` needs no memory
+-- the number of slots, the stored records with their slots, and the slots and keys whose `insert` allocates nothing
 pub record Contents : Type 0 where
   pub tenants : ℕ
   pub rows : List (ℕ × Dated)
   pub ready : List (ℕ × List ℕ)
 
--- what is of one slot
+-- the items of one slot
 abbrev pub of_slot : {A : Type 0} → ℕ → List (ℕ × A) → List A
 of_slot slot all = filter_map (λ x. if nat_eq x.0 slot then Some x.1 else None) all
 
@@ -28,11 +28,11 @@ rows_in slot rows = of_slot slot rows
 abbrev pub rows_of : ℕ → Contents → List Dated
 rows_of slot store = rows_in slot store.rows
 
--- the keys of one slot for which an `insert` needs no memory
+-- the keys of one slot whose `insert` allocates nothing
 abbrev pub ready_of : ℕ → Contents → List (List ℕ)
 ready_of slot store = of_slot slot store.ready
 
--- an `insert` of the slot and key needs no memory
+-- an `insert` of the slot and key allocates nothing
 abbrev pub HasRoom : ℕ → List ℕ → Contents → Type 0
 HasRoom slot key store = Contains store.ready (slot, key)
 
@@ -40,7 +40,7 @@ HasRoom slot key store = Contains store.ready (slot, key)
 abbrev pub size_of : Entry → ℕ
 size_of e = length e.key + length e.value
 
--- how many rows there are, and their bytes
+-- the number of rows, and their bytes
 abbrev pub use_of : List Dated → InUse
 use_of rows = record { records = length rows; bytes = sum_by (λ k. size_of k.record_of.entry) rows }
 
@@ -48,18 +48,18 @@ use_of rows = record { records = length rows; bytes = sum_by (λ k. size_of k.re
 abbrev pub LacksVersion : List ℕ → Timestamp → List Dated → Type 0
 LacksVersion key version rows = AllByRecursion (λ k. k.record_of.entry.key ≡ key → k.record_of.entry.version ≢ version) rows
 
--- no record was committed after the moment
+-- no record was committed after the timestamp
 abbrev pub NoneLater : ℕ → List Tracked → Type 0
 NoneLater now tracked = AllByRecursion (λ r. r.at ≤ now) (ever tracked)
 
--- why one more record of that size is refused, where so much is in use
+-- the reason to refuse one more record of this size if so much is in use
 abbrev pub refusal : Quota → ℕ → InUse → Option Fault
 refusal quota size used = first_refusal (
     (nat_lt quota.versions (used.records + 1), VersionQuota)
     ∷ (nat_lt quota.bytes (used.bytes + size), ByteQuota)
     ∷ [])
 
--- whether what is stale from that moment on may go: it is so for longer than trans_time
+-- a record that is stale from then on may be removed: it has been stale for longer than trans_time
 abbrev pub is_ripe : ℕ → ℕ → Option ℕ → Bool
 is_ripe now trans_time None = false
 is_ripe now trans_time (Some moment) = nat_lt trans_time (now - moment)

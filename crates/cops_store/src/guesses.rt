@@ -1,4 +1,4 @@
-//! Guesses where the keys of a tenant stand in his table.
+//! Cached indices of a tenant's keys in its table.
 
 use crate::chain::Chain;
 use cops_types::{Key, Seeds};
@@ -6,18 +6,19 @@ use indexmap::IndexMap;
 use std::alloc::{AllocError, Global};
 use std::hash::{FoldHasher, Hash, Hasher};
 
-/// How many guesses there are for the first keys.
+/// The number of cached indices for the first keys.
 const FEWEST: usize = 8;
 
-/// Where keys were found last. A key has one guess, which it may share with others and which may be any
-/// number: whoever takes it compares the key that is there.
+/// The indices at which keys were found last. Several keys may share a cell, and a cell may hold
+/// any number: the caller compares the key at that index.
 #[derive(Drop)]
 pub struct Guesses {
-    /// A power of two of them, or none.
+    /// A power of two of cells, or none.
     cells: Vec<u32>,
 }
 
-// A number that rests on the key alone. It takes no seeds: keys that share it share a guess, and no more.
+// Returns a number that depends on the key alone. It takes no seeds: keys that share it only share
+// a cell.
 #[inline(always)]
 fn number_of(key: &Key) -> usize {
     let mut hasher = FoldHasher::default();
@@ -26,20 +27,20 @@ fn number_of(key: &Key) -> usize {
 }
 
 impl Guesses {
-    // No guesses. It asks for no memory.
+    // Returns an empty cache. Allocates nothing.
     pub(crate) fn new(alloc: Global) -> Self {
         Guesses {
             cells: Vec::new(alloc),
         }
     }
 
-    // Where the guess for a key lies.
+    // Returns the cell of a key.
     #[inline(always)]
     pub(crate) fn cell_of(&self, key: &Key) -> usize {
         number_of(key) & self.cells.len().saturating_sub(1)
     }
 
-    // The guess that lies there.
+    // Returns the index in a cell.
     #[inline(always)]
     pub(crate) fn guess(&self, cell: usize) -> usize {
         match self.cells.get(cell) {
@@ -48,13 +49,13 @@ impl Guesses {
         }
     }
 
-    // The guess for a key.
+    // Returns the cached index for a key.
     #[inline(always)]
     pub(crate) fn guess_for(&self, key: &Key) -> usize {
         self.guess(self.cell_of(key))
     }
 
-    // Notes there where a key is.
+    // Stores the index of a key in a cell.
     #[inline(always)]
     pub(crate) fn note(&mut self, cell: usize, place: usize) {
         if let Some(guess) = self.cells.get_mut(cell) {
@@ -62,7 +63,7 @@ impl Guesses {
         }
     }
 
-    // Makes as many guesses as serve for one key more than the table has.
+    // Makes enough cells for one key more than the table has.
     #[inline(always)]
     pub(crate) fn reserve(
         &mut self,
@@ -74,7 +75,7 @@ impl Guesses {
         self.grow(table)
     }
 
-    // Makes twice as many guesses, or the first, and notes the keys that are there.
+    // Doubles the number of cells, or makes the first, and enters the keys of the table.
     #[inline(never)]
     fn grow(&mut self, table: &IndexMap<Key, Chain, Seeds>) -> Result<(), AllocError> {
         let cells = self.cells.len().saturating_mul(2).max(FEWEST);

@@ -1,4 +1,4 @@
-//! What is noted as due of one tenant.
+//! The garbage-collection entries of one tenant.
 ghost use Rattle.std.specs.Prelude.{◌≡◌, ◌≤◌, ◌++◌, ◌∷◌, [], ℕ, List, false, not, map, filter, OnOk, IsOk, IsTrue};
 ghost use Rattle.std.specs.List.{AllByRecursion};
 ghost use Rattle.cops_store.specs.Tables.{chains_of, hits, is_hit as may_hit, renewed as renewed_note};
@@ -11,7 +11,7 @@ use indexmap::IndexMap;
 use std::alloc::{AllocError, Global};
 use std::marker::Model;
 
-/// What is due, and a moment before which nothing is stale.
+/// The garbage-collection entries, and a timestamp before which nothing is stale.
 #[derive(Drop)]
 pub struct DueNotes {
     list: Vec<Due>,
@@ -30,7 +30,7 @@ impl Model for DueNotes {
     ghost invariant = { λ n. AllByRecursion (λ d. n.least ≤ d.stale) n.list.items };
 }
 
-// The least moment among the notes, and the last of all where there is none.
+// Returns the least timestamp of the entries; the last of all if there is none.
 fn least_of(notes: &[Due]) -> u64
     ensures { AllByRecursion (λ d. result ≤ d.stale) notes.now }
 {
@@ -42,7 +42,7 @@ fn least_of(notes: &[Due]) -> u64
 }
 
 impl DueNotes {
-    // Nothing is due. It asks for no memory.
+    // Returns an empty list. Allocates nothing.
     pub(crate) fn new(alloc: Global) -> Self
         ensures { result ≡ record { items = []; room = false } }
     {
@@ -52,7 +52,7 @@ impl DueNotes {
         }
     }
 
-    // Makes room for one more note.
+    // Makes room for one more entry.
     pub(crate) fn reserve(&mut self) -> Result<(), AllocError>
         ensures items { self.new.items ≡ self.old.items }
         ensures room { OnOk result (IsTrue self.new.room) }
@@ -62,7 +62,7 @@ impl DueNotes {
         Ok(())
     }
 
-    // Notes what is due, where there is room for it.
+    // Adds an entry into reserved room.
     pub(crate) fn push(&mut self, noted: Due)
         requires { IsTrue self.old.room }
         ensures { self.new.items ≡ self.old.items ++ noted ∷ [] }
@@ -71,21 +71,21 @@ impl DueNotes {
         self.list.push(noted).unwrap();
     }
 
-    // Whether something may go.
+    // Returns `true` if something may be removed.
     pub(crate) fn is_ripe(&self, now: u64, trans_time: u64) -> bool
         ensures { result ≡ false → (key : List ℕ) → hits now trans_time self.now.items key ≡ false }
     {
         now.saturating_sub(self.least) > trans_time
     }
 
-    // The notes.
+    // Returns the entries.
     pub(crate) fn list(&self) -> &[Due]
         ensures { result.now ≡ self.now.items }
     {
         self.list.as_slice()
     }
 
-    // Notes anew what is left under the keys that were cleaned, and forgets the rest.
+    // Postpones the entries of the keys that were cleaned, and drops those that are still due.
     pub(crate) fn put_off(
         &mut self,
         table: &IndexMap<Key, Chain, Seeds>,

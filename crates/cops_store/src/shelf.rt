@@ -1,4 +1,4 @@
-//! The kept records of one tenant.
+//! The stored records of one tenant.
 ghost use Rattle.std.specs.Prelude.{◌≡◌, ◌≤◌, ℕ, ◌+◌, ◌^◌, ◌<◌, ◌⊎◌, false, None, Some, Err, List, [], ◌∷◌, ◌++◌, length, IsOk, IfErr, OnOk, OnErr, IfSome};
 ghost use Rattle.std.specs.List.{Contains};
 ghost use Rattle.std.specs.Option.{option_copied};
@@ -17,18 +17,19 @@ use indexmap::IndexMap;
 use std::alloc::Global;
 use std::marker::Model;
 
-/// What is kept of one tenant. With nothing kept it has no memory of its own.
+/// One tenant's table. An empty one has no memory of its own.
 #[derive(Drop)]
 pub struct Shelf {
     /// The chain of each key.
     table: IndexMap<Key, Chain, Seeds>,
-    /// Where something is stale, and not before when.
+    /// The keys with something stale, and the timestamps before which nothing is stale.
     due: DueNotes,
-    /// What is kept.
+    /// The present use.
     used: InUse,
-    /// Where in the table room was made last: a guess for the next `insert`, which may be any number.
+    /// The index at which room was made last: a hint for the next `insert`, which may be any
+    /// number.
     last: usize,
-    /// Where in the table each key was found last.
+    /// The index at which each key was found last.
     guesses: Guesses,
 }
 
@@ -45,7 +46,7 @@ impl Model for Shelf {
 }
 
 impl Shelf {
-    // A shelf with nothing. It asks for no memory.
+    // Returns an empty table. Allocates nothing.
     pub(crate) fn new(alloc: Global, seeds: Seeds) -> Self
         ensures { result ≡ nothing }
     {
@@ -61,14 +62,14 @@ impl Shelf {
         }
     }
 
-    // Drops all that is kept, notes and counts too, and gives its memory back. It asks for none.
+    // Drops all records, entries and counts, and frees their memory. Allocates nothing.
     pub(crate) fn clear(&mut self, alloc: Global, seeds: Seeds)
         ensures { self.new ≡ nothing }
     {
         *self = Shelf::new(alloc, seeds);
     }
 
-    // The record of the key with the greatest version.
+    // Returns the record of the key with the greatest version.
     pub(crate) fn latest(&self, key: &Key) -> Option<&Record>
         ensures { (tracked : List Tracked) → StandsFor self.now.rows tracked → option_copied result ≡ latest_record key.now tracked }
     {
@@ -78,7 +79,7 @@ impl Shelf {
         }
     }
 
-    // The record of the key with this version.
+    // Returns the record of the key with this version.
     pub(crate) fn exactly(&self, key: &Key, version: Version) -> Option<&Record>
         ensures found { (tracked : List Tracked) → StandsFor self.now.rows tracked → option_copied result ≡ exact_record key.now version tracked }
         ensures absent { result ≡ None → LacksVersion key.now version self.now.rows }
@@ -89,7 +90,7 @@ impl Shelf {
         }
     }
 
-    // How many records and bytes are kept.
+    // Returns the number of records and bytes.
     pub(crate) fn in_use(&self) -> InUse
         ensures rows { result ≡ use_of self.now.rows }
         ensures fits { (result.records < 2 ^ 64) × (result.bytes < 2 ^ 64) }
@@ -98,7 +99,7 @@ impl Shelf {
         InUse::of(self.used.records, self.used.bytes)
     }
 
-    // Why one more record of that key and value is refused, where it is.
+    // Returns why one more record of that key and value is refused, if it is.
     pub(crate) fn refused(&self, key: &Key, value: &OwnedValue, quota: &Quota) -> Option<Fault>
         ensures { result ≡ refusal quota.now (length key.now + length value.now) (use_of self.now.rows) }
     {
@@ -108,7 +109,7 @@ impl Shelf {
         refusal_of(quota, size, self.in_use())
     }
 
-    // Makes room for a record of the key: the next call, if it inserts one, needs no memory.
+    // Makes room for a record of the key: if the next call inserts one, it allocates nothing.
     pub(crate) fn reserve(&mut self, alloc: Global, key: &Key) -> Result<(), Fault>
         ensures ready { OnOk result (Contains self.new.ready key.now) }
         ensures rows { self.new.rows ≡ self.old.rows }
@@ -123,7 +124,7 @@ impl Shelf {
         Ok(())
     }
 
-    // Keeps an entry, committed at the moment `now`. A refusal changes no row.
+    // Stores an entry, committed at the timestamp `now`. A refusal changes no row.
     pub(crate) fn insert(
         &mut self,
         alloc: Global,
@@ -133,10 +134,10 @@ impl Shelf {
     ) -> Result<(), Fault>
         requires new_version { LacksVersion entry.key entry.version self.old.rows }
 
-        // Whatever the rows stand for, they then stand for that with one more record.
+        // Whatever the rows represent, they then represent that with one more record.
         ensures stands_for { OnOk result ((tracked : List Tracked) → StandsFor self.old.rows tracked → NoneLater now tracked → StandsFor self.new.rows (tracked ++ record { record_of = record { entry = entry; at = now }; removed = false } ∷ [])) }
 
-        // The quotas are the only refusals where there is room.
+        // With reserved room, only the quotas refuse.
         ensures refused { IfSome (refusal quota.now (size_of entry) (use_of self.old.rows)) (λ fault. result ≡ Err fault) }
         ensures faults { IfErr result (λ fault. (refusal quota.now (size_of entry) (use_of self.old.rows) ≡ Some fault) ⊎ (fault ≡ OutOfMemory)) }
         ensures succeeds { Contains self.old.ready entry.key → refusal quota.now (size_of entry) (use_of self.old.rows) ≡ None → IsOk result }
@@ -158,7 +159,7 @@ impl Shelf {
         Ok(())
     }
 
-    // Removes the records that have been stale for longer than `trans_time`, and answers how many they were.
+    // Removes the records that have been stale for longer than `trans_time`. Returns their number.
     pub(crate) fn collect(&mut self, now: u64, trans_time: u64) -> u64
         ensures removed { (tracked : List Tracked) → StandsFor self.old.rows tracked → result ≡ collectable trans_time now tracked }
         ensures stands_for { (tracked : List Tracked) → StandsFor self.old.rows tracked → StandsFor self.new.rows (collected_records trans_time now tracked) }
@@ -184,7 +185,7 @@ impl Shelf {
     }
 }
 
-// Why one more record of that size is refused, where so much is in use.
+// Returns why one more record of that size is refused if so much is in use.
 fn refusal_of(quota: &Quota, size: u64, used: InUse) -> Option<Fault>
     ensures value { result ≡ refusal quota.now size used }
     ensures fits { result ≡ None → (used.records + 1 < 2 ^ 64) × (used.bytes + size < 2 ^ 64) }

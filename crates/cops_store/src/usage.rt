@@ -1,10 +1,10 @@
-//! What records take up.
+//! The space that records take.
 ghost use Rattle.std.specs.Prelude.{◌≡◌, ◌<◌, ◌^◌};
 ghost use Rattle.cops_store.specs.Contents.{size_of};
 
 use cops_types::Entry;
 
-/// What a tenant keeps.
+/// A tenant's use.
 #[derive(Clone, Copy, Debug)]
 pub struct InUse {
     pub records: u64,
@@ -12,7 +12,7 @@ pub struct InUse {
 }
 
 impl InUse {
-    // The two counts, which fit their type.
+    // Returns the two counts, which fit their type.
     pub(crate) fn of(records: u64, bytes: u64) -> Self
         ensures counts { result ≡ record { records = records; bytes = bytes } }
         ensures fits { (result.records < 2 ^ 64) × (result.bytes < 2 ^ 64) }
@@ -21,7 +21,7 @@ impl InUse {
     }
 }
 
-// The bytes of the key and the value.
+// Returns the bytes of the key and the value.
 pub(crate) fn size(entry: &Entry) -> u64
     ensures { result ≡ size_of entry.now }
 {

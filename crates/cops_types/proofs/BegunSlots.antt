@@ -17,7 +17,7 @@ use Rattle.cops_types.proofs.OpenSlotLemmas.{both_fail, left_fails, one_fails, r
 -- ---- texts that are apart
 
 module _ (text_of : Tenant → List ℕ) where
-  -- one more tenant, with a text of his own
+  -- one more tenant, with a text of its own
   none_more : (tenants : List Tenant) (tenant : Tenant) (text : List ℕ) → list_any (has_text text_of text) (map Some tenants) ≡ false → bytes_eq (text_of tenant) text ≡ false → list_any (has_text text_of text) (map Some (tenants ++ tenant ∷ [])) ≡ false
   none_more [] tenant text none differ = both_fail (bytes_eq (text_of tenant) text) false differ refl
   none_more (x ∷ tenants) tenant text none differ =
@@ -45,7 +45,7 @@ module _ (text_of : Tenant → List ℕ) where
       mapped (t ∷ ts) zero e = ap Some e
       mapped (t ∷ ts) (suc at) e = mapped ts at e
 
-  -- the first slot with a text, where one more tenant comes
+  -- the first slot with a text, if one more tenant comes
   found_more : (n : ℕ) (tenants : List Tenant) (tenant : Tenant) (text : List ℕ) → (bytes_eq (text_of tenant) text ≡ true → list_any (has_text text_of text) (map Some tenants) ≡ false) →
       cond (bytes_eq (text_of tenant) text) (Some (n + length tenants)) (first_from (has_text text_of text) n (map Some tenants)) ≡ first_from (has_text text_of text) n (map Some (tenants ++ tenant ∷ []))
   found_more n [] tenant text fresh = ap (λ m. cond (bytes_eq (text_of tenant) text) (Some m) None) (omega arith)

@@ -80,7 +80,7 @@ behind_goes front more whole bytes mid result is first then_is =
 pub behind_shorter : (front bytes rest : List ℕ) → Some rest ≡ behind front bytes → length rest ≤ length bytes
 behind_shorter front bytes rest e = omega (arith, ap length (behind_makes front bytes rest (sym e)), length-append front rest)
 
--- so many bytes are the front, where no more are left than stood behind it
+-- so many bytes are the front, if no more are left than stood behind it
 pub behind_size : (front bytes rest : List ℕ) → Some rest ≡ behind front bytes → behind front bytes ≡ Some (drop (length bytes - length rest) bytes)
 behind_size front bytes rest e =
     let makes : bytes ≡ front ++ rest = behind_makes front bytes rest (sym e) in

@@ -195,7 +195,7 @@ moved done l i p below read =
 pub whole_left : (l : List Pair) (i : ℕ) → take (length l - i) (drop i l) ≡ drop i l
 whole_left l i = ap (λ n. take n (drop i l)) (sym (length-drop i l)) ∙ take-length (drop i l)
 
--- the merge and what is left of both lists, where one is at its end
+-- the merge and what is left of both lists, if one is at its end
 pub merged_all : (pairs more done : List Pair) (i j : ℕ) → IsMerging pairs more done (drop i pairs) (drop j more) → (length pairs ≤ i) ⊎ (length more ≤ j) →
     (done ++ take (length pairs - i) (drop i pairs)) ++ drop j more ≡ joined pairs more
 merged_all pairs more done i j h (inr beyond) =

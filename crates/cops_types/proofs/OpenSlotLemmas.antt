@@ -34,7 +34,7 @@ pub both_fail : (a b : Bool) → a ≡ false → b ≡ false → (a || b) ≡ fa
 both_fail true b e f = absurd cc
 both_fail false b e f = f
 
--- where no slot passes
+-- if no slot passes
 pub none_passes : (test : Option Tenant → Bool) (n : ℕ) (slots : List (Option Tenant)) → list_any test slots ≡ false → first_from test n slots ≡ None
 none_passes test n [] e = refl
 none_passes test n (x ∷ slots) e =
@@ -45,7 +45,7 @@ one_fails test [] at x there e = absurd cc
 one_fails test (y ∷ slots) zero x there e = let same : y ≡ x = cc in ap test (sym same) ∙ left_fails (test y) (list_any test slots) e
 one_fails test (y ∷ slots) (suc at) x there e = one_fails test slots at x there (right_fails (test y) (list_any test slots) e)
 
--- a slot is found where one passes
+-- a slot is found if one passes
 pub any_found : (test : Option Tenant → Bool) (n : ℕ) (slots : List (Option Tenant)) → is_some (first_from test n slots) ≡ list_any test slots
 any_found test n [] = refl
 any_found test n (x ∷ slots) = by (test x) (any_found test (n + 1) slots)

@@ -117,7 +117,7 @@ whole_first (suc j) (x ∷ xs) (y ∷ ys) p q = by (nat_cmp x y) (whole_first j 
     by Equal rest = rest
     by Greater rest = refl
 
--- the first j items decide, or else those from k on, where k is no more than j
+-- the first j items decide, or else those from k on, if k is no more than j
 by_parts : (j k : ℕ) (xs ys : List ℕ) → k ≤ j → j ≤ length xs → j ≤ length ys →
     slice_cmp nat_cmp xs ys ≡ ordering_then (slice_cmp nat_cmp (take j xs) (take j ys)) (slice_cmp nat_cmp (drop k xs) (drop k ys))
 by_parts j zero xs ys l p q = whole_first j xs ys p q
@@ -137,7 +137,7 @@ AreBytes-take (suc n) [] h k = omega arith
 AreBytes-take (suc n) (x ∷ xs) h zero = h 0
 AreBytes-take (suc n) (x ∷ xs) h (suc k) = AreBytes-take n xs (λ i. h (suc i)) k
 
--- the first bytes of two lists are ordered as the number of the first eight, and where these are the same as that of eight from `second` on
+-- the first bytes of two lists are ordered as the number of the first eight, and if these are the same as that of eight from `second` on
 fronts : (xs ys : List ℕ) (second : ℕ) → second ≤ 8 → second + 8 ≤ length xs → second + 8 ≤ length ys → AreBytes xs → AreBytes ys →
     ordering_then (nat_cmp (big_endian 0 (take 8 (drop 0 xs))) (big_endian 0 (take 8 (drop 0 ys)))) (nat_cmp (big_endian 0 (take 8 (drop second xs))) (big_endian 0 (take 8 (drop second ys))))
     ≡ slice_cmp nat_cmp (take (second + 8) xs) (take (second + 8) ys)
@@ -220,7 +220,7 @@ pub padded_cmp : (n c d : ℕ) (a b : List ℕ) → n ≤ c → n ≤ d → leng
     key_cmp a b ≡ ordering_then (slice_cmp nat_cmp (take n (padded c a)) (take n (padded d b))) (slice_cmp nat_cmp (drop n a) (drop n b))
 padded_cmp n c d a b l m p q f g = pads n a b (c - length a) (d - length b) (omega arith) (omega arith) (key-positive a f) (key-positive b g)
 
--- the first cells of a key and those of another decide, where they differ or hold both keys
+-- the first cells of a key and those of another decide, if they differ or hold both keys
 pub cells_decide : (b c : List ℕ) (m n : ℕ) (o : Ordering) → IsPadded 64 is_key b m → IsPadded 64 is_key c n →
     o ≡ slice_cmp nat_cmp (take 16 b) (take 16 c) → ((o ≡ Equal → ⊥) ⊎ ((m ≤ 16) × (n ≤ 16))) → o ≡ key_cmp (take m b) (take n c)
 cells_decide b c m n o h k is decided = by decided ∙ sym whole

@@ -1,7 +1,7 @@
--- What stands behind a text that bytes begin with.
+-- The rest of bytes after a prefix.
 use Rattle.std.specs.Prelude.{ℕ, ◌==◌, if◌then◌else◌, List, [], ◌∷◌, Option, Some, None}
 
--- the bytes behind this front, where they begin with it
+-- the bytes after this prefix, if they have it
 abbrev pub behind : List ℕ → List ℕ → Option (List ℕ)
 behind [] bytes = Some bytes
 behind (code ∷ front) [] = None

@@ -1,4 +1,4 @@
--- Bytes where they stand, or in a block of their own.
+-- Bytes in place, or in a block of their own.
 use Rattle.std.specs.Prelude.{ℕ, List}
 use Rattle.cops_types.specs.declared.bytes.BytesForm.{BytesForm}
 use Rattle.cops_types.specs.declared.bytes.BytesForm.TheVariants.{Few, Many}

@@ -1,4 +1,4 @@
--- What a reader finds where an entry is, and when two such are the same.
+-- What a reader finds in an entry, and the equality of two of these.
 use Rattle.std.specs.Prelude.{◌≡◌, Bool, true, ◌&&◌, nat_eq}
 use Rattle.std.specs.Cmp.{first_so, second_so}
 use Rattle.std.specs.Cmp.Lexicographic.{pointwise}

@@ -1,4 +1,4 @@
--- What growing rows stand for, in either form.
+-- The list that growing rows represent, in either form.
 use Rattle.std.specs.Prelude.{true, false, ◌-◌, vec_len, vec_capacity}
 use Rattle.cops_types.specs.Growing.{Growing}
 use Rattle.cops_types.specs.declared.growing_pairs.GrowingRows.{GrowingRows}

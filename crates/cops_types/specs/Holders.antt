@@ -1,4 +1,4 @@
--- What a value and the lists of a put hold, in memory of their own or in that of an entry.
+-- What a value and the lists of a put hold: memory of their own, or that of an entry.
 use Rattle.std.specs.Prelude.{List, ℕ}
 use Rattle.std.specs.Arc.{arc_value}
 use Rattle.cops_types.specs.declared.deps.DepsHolder.{DepsHolder}

@@ -1,4 +1,4 @@
--- The parts that a kept entry stands for.
+-- The parts that a stored entry represents.
 use Rattle.cops_types.specs.declared.records.EntryParts.{EntryParts}
 use Rattle.cops_types.specs.declared.records.KeptParts.{KeptParts}
 

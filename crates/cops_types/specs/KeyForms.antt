@@ -1,4 +1,4 @@
--- The keys that kept ones stand for, in either form.
+-- The keys that stored ones represent, in either form.
 use Rattle.std.specs.Prelude.{ℕ, List}
 use Rattle.cops_types.specs.declared.short_keys.KeyForm.{KeyForm}
 use Rattle.cops_types.specs.declared.short_keys.KeyForm.TheVariants.{Short, Long}

@@ -1,4 +1,4 @@
--- The head of an audit file of layout 1: at most 16 shards, clocks of 56 bits, and a tenant at least. All else is as in a head of today.
+-- The head of an audit file of layout 1: at most 16 shards, clocks of 56 bits, and at least one tenant. Otherwise it is a head of today.
 use Rattle.std.specs.Prelude.{ℕ, Bool, true, ◌+◌, ◌-◌, ◌^◌, nat_lt, nat_le, if◌then◌else◌, List, [], ◌∷◌, length, Option, Some, None}
 use Rattle.std.specs.List.{list_all}
 use Rattle.std.specs.Option.{option_map, option_and_then}
@@ -29,7 +29,7 @@ old_next_within config line =
     then (if nat_lt 0 (length config.tenants) then Some (Begun config) else None)
     else option_and_then (head_with config) (old_tenant_in line)
 
--- how far the head has come with one more line, where it may stand here
+-- how far the head has come with one more line, if the line may follow here
 abbrev pub old_front_after : Front → List ℕ → Option Front
 old_front_after AtStart line = option_map Within (old_cluster_in line)
 old_front_after (Within config) line = old_next_within config line

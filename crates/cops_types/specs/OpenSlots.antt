@@ -1,4 +1,4 @@
--- The tenants that are open, by slot, and how they are found.
+-- The tenants that are open, by slot, and the search for them.
 pub use Rattle.cops_types.specs.TenantTexts.{AreApart, has_text}
 use Rattle.std.specs.Prelude.{◌≡◌, ℕ, ◌+◌, ◌-◌, ◌≤◌, Bool, not, ◌&&◌, nat_lt, if◌then◌else◌, List, [], ◌∷◌, ◌++◌, length, map, replicate, slice_get, IsTrue, is_none, Option, Some, None}
 use Rattle.std.specs.List.{AllByRecursion, list_any}
@@ -19,7 +19,7 @@ has_name name slot = has_text (λ tenant. tenant.name) name slot
 abbrev pub has_token : List ℕ → Option Tenant → Bool
 has_token token slot = has_text (λ tenant. tenant.token) token slot
 
--- the first slot that passes the test, where the list begins with the slot of this number
+-- the first slot that passes the test, if the list begins with the slot of this number
 abbrev pub first_from : (Option Tenant → Bool) → ℕ → List (Option Tenant) → Option ℕ
 first_from test n [] = None
 first_from test n (slot ∷ slots) = if test slot then Some n else first_from test (n + 1) slots
@@ -35,13 +35,13 @@ open_slot_of_token slots token = first_from (has_token token) 0 slots
 abbrev pub open_at : ℕ → List (Option Tenant) → Option Tenant
 open_at slot slots = option_and_then (λ tenant. tenant) (slice_get slots slot)
 
--- these tenants at the first slots, and as many free slots behind them as may still be given
+-- these tenants in the first slots, and free slots behind them up to the limit
 abbrev pub begun_with : List Tenant → List (Option Tenant)
 begun_with tenants = map Some tenants ++ replicate (most_tenants - length tenants) None
 
 -- ---- why a tenant is not admitted
 
--- another name and another token than each open tenant has
+-- its name and token differ from those of each open tenant
 abbrev pub is_new : List (Option Tenant) → Tenant → Bool
 is_new slots tenant = not (list_any (has_name tenant.name) slots) && not (list_any (has_token tenant.token) slots)
 
@@ -68,7 +68,7 @@ pub record AreOpen {S T : Type 0} (slots : List (Option Tenant)) (names : IndexM
   pub names_are : (name : List ℕ) → get key_eq names name ≡ open_slot_of_name slots name
   pub tokens_are : (token : List ℕ) → get key_eq tokens token ≡ open_slot_of_token slots token
 
--- the tables find each of these tenants at the slot of his place
+-- the tables find each of these tenants in the slot of its place
 pub record AreFoundAt {S T : Type 0} (tenants : List Tenant) (names : IndexMap (List ℕ) ℕ S) (tokens : IndexMap (List ℕ) ℕ T) : Type 0 where
   pub names_are : (name : List ℕ) → get key_eq names name ≡ open_slot_of_name (map Some tenants) name
   pub tokens_are : (token : List ℕ) → get key_eq tokens token ≡ open_slot_of_token (map Some tenants) token

@@ -1,4 +1,4 @@
--- The pairs that rows stand for, in either form.
+-- The pairs that rows represent, in either form.
 use Rattle.std.specs.Prelude.{List, [], ◌∷◌}
 use Rattle.cops_types.specs.declared.packed.Rows.{Rows}
 use Rattle.cops_types.specs.declared.packed.Rows.TheVariants.{One, Short, Full}

@@ -1,4 +1,4 @@
--- What the pairs of a list are, whose keys and versions have their types.
+-- The form of the pairs in a list, whose keys and versions have their types.
 use Rattle.std.specs.Prelude.{Bool, ◌&&◌, nat_le, nat_lt, List}
 use Rattle.std.specs.List.{list_all}
 use Rattle.std.specs.Ordering.{on}

@@ -1,4 +1,4 @@
--- Tests that tell whether two things are the same.
+-- Tests for the equality of two things.
 use Rattle.std.specs.Prelude.{◌≡◌, ◌↔◌, ◌&&◌, Bool, true, false, nat_eq, IsTrue}
 use Rattle.std.proofs.Common.{refl, sym, ap, ◌∙◌, subst}
 use Rattle.std.specs.Cmp.{IsEquivalence, first_so, second_so}
@@ -10,12 +10,12 @@ use Rattle.cops_types.specs.Key.{key_eq}
 use Rattle.cops_types.specs.Version.{version_eq}
 use Rattle.cops_types.specs.Pairs.{pair_eq, pairs_eq}
 
--- the test holds of what is the same, and of nothing else
+-- the test holds exactly for equal things
 pub record TellsSame {K : Type 0} (E : K → K → Bool) : Type 0 where
   pub same : (x y : K) → E x y ≡ true → x ≡ y
   pub itself : (x : K) → E x x ≡ true
 
--- ---- entries are the same where all their parts are
+-- ---- entries are equal if all their parts are
 
 abbrev pub lists_eq : Entry → Entry → Bool
 lists_eq e f = pointwise nat_eq e.value f.value && (pairs_eq e.near f.near && pairs_eq e.deps f.deps)
@@ -43,11 +43,11 @@ same_equivalence {K} {E} e = record {
 pub both : {s t : Bool} → s ≡ true → t ≡ true → (s && t) ≡ true
 both p q = λ i. p i && q i
 
--- what an answer of the test says
+-- consequences of the test's answer
 pub told_same : {K : Type 0} {E : K → K → Bool} → TellsSame E → (x y : K) (told : Bool) → told ≡ E x y → IsTrue told ↔ (x ≡ y)
 told_same {K} {E} e x y told is = (λ h. e.same x y (sym is ∙ h), λ same. is ∙ subst (λ z. E x z ≡ true) same (e.itself x))
 
--- an answer that says the same is the test's
+-- an answer with the same consequences is the test's
 pub test_of_same : {K : Type 0} {E : K → K → Bool} → TellsSame E → (x y : K) (told : Bool) → IsTrue told ↔ (x ≡ y) → told ≡ E x y
 test_of_same {K} {E} e x y told says = one_truth told (E x y) (λ h. subst (λ z. E x z ≡ true) (says.0 h) (e.itself x)) (λ h. says.1 (e.same x y h))
 

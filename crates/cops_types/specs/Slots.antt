@@ -1,4 +1,4 @@
--- The slots of tenants, and how they are found.
+-- The slots of tenants, and the search for them.
 use Rattle.std.specs.Prelude.{◌≡◌, ℕ, List, map, position, IsTrue, Option, Some}
 use Rattle.std.specs.List.{AllByRecursion}
 use Rattle.std.specs.Str.{bytes_eq}
@@ -6,7 +6,7 @@ use Rattle.cops_types.specs.declared.configs.Tenant.{Tenant}
 use Rattle.cops_types.specs.Key.{is_name}
 use Rattle.cops_types.specs.TenantTexts.{AreApart}
 
--- the place of the tenant of this name, and of this token
+-- the slot of the tenant of this name, and of this token
 abbrev pub slot_of_name : List Tenant → List ℕ → Option ℕ
 slot_of_name tenants name = position (λ (tenant : Tenant). bytes_eq tenant.name name) tenants
 
@@ -17,7 +17,7 @@ slot_of_token tenants token = position (λ (tenant : Tenant). bytes_eq tenant.to
 abbrev pub AreNamed : List Tenant → Type 0
 AreNamed tenants = AllByRecursion (λ (tenant : Tenant). IsTrue (is_name tenant.name)) tenants
 
--- no two of them have one name, or one token
+-- no two of them share a name or a token
 pub record AreDistinct (tenants : List Tenant) : Type 0 where
   pub names_apart : AreApart (λ tenant. tenant.name) (map Some tenants)
   pub tokens_apart : AreApart (λ tenant. tenant.token) (map Some tenants)

@@ -2,7 +2,7 @@
 use Rattle.std.specs.Prelude.{ℕ}
 use Rattle.cops_types.specs.declared.sources.Source.{Source}
 
--- the reader that it counts for
+-- the reader whose failures it counts
 abbrev pub source_reader : {R : Type 0} → Source R → R
 source_reader source = source.reader
 

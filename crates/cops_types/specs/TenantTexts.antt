@@ -1,4 +1,4 @@
--- The texts by which tenants are found, and that no two have one.
+-- The texts that identify tenants; no two tenants share one.
 use Rattle.std.specs.Prelude.{◌≡◌, ℕ, Bool, false, List, [], ◌∷◌, Option, Some, None}
 use Rattle.std.specs.List.{list_any}
 use Rattle.std.specs.Str.{bytes_eq}
@@ -9,7 +9,7 @@ abbrev pub has_text : (Tenant → List ℕ) → List ℕ → Option Tenant → B
 has_text text_of text None = false
 has_text text_of text (Some tenant) = bytes_eq (text_of tenant) text
 
--- no two tenants have one text
+-- no two tenants share a text
 abbrev pub AreApart : (Tenant → List ℕ) → List (Option Tenant) → Type 0
 AreApart text_of [] = Unit {0}
 AreApart text_of (None ∷ slots) = AreApart text_of slots

@@ -18,7 +18,7 @@ use std::marker::Model;
 use std::sync::Arc;
 
 /// Dependencies in memory of their own: at most one version for each key. Contracts see the list of
-/// the pairs, strictly rising by key.
+/// pairs, strictly rising by key.
 #[derive(Debug, Drop)]
 pub struct OwnedDeps {
     pairs: PackedPairs,
@@ -40,14 +40,14 @@ impl Model for OwnedDeps {
 impl OwnedDeps {
     ghost use Rattle.cops_types.specs.Pairs.{IsDeps};
 
-    /// How many pairs there are.
+    /// Returns the number of pairs.
     pub fn len(&self) -> usize
         ensures { result ≡ length self.now }
     {
         self.pairs.len()
     }
 
-    /// The pair at a place.
+    /// Returns the pair at a place.
     pub fn pair(&self, place: usize) -> Pair
         requires { place < length self.now }
         ensures { result ≡ slice_index_or self.now place result }
@@ -55,7 +55,7 @@ impl OwnedDeps {
         self.pairs.pair(place)
     }
 
-    /// All pairs, as they are kept.
+    /// Returns all pairs, in their stored form.
     pub(crate) fn packed(&self) -> &PackedPairs
         ensures value { result.now ≡ self.now }
         ensures in_order { IsDeps self.now }
@@ -63,7 +63,7 @@ impl OwnedDeps {
         &self.pairs
     }
 
-    /// All pairs, where their keys are kept as short ones.
+    /// Returns all pairs, if their keys are stored in the short form.
     #[inline(always)]
     pub fn short(&self) -> Option<&[ShortPair]>
         ensures { IfSome result (λ pairs. pairs.now ≡ self.now) }
@@ -71,14 +71,14 @@ impl OwnedDeps {
         self.pairs.short()
     }
 
-    /// The version of a key, 0.0 where there is none.
+    /// Returns the version of a key, 0.0 if there is none.
     pub fn version_of(&self, key: &Key) -> Version
         ensures { result ≡ version_of key.now self.now }
     {
         self.pairs.version_of(key)
     }
 
-    /// The greatest clock among the pairs, 0 where there is none.
+    /// Returns the greatest clock among the pairs, 0 if there is none.
     pub fn greatest_clock(&self) -> u64
         ensures value { result ≡ greatest_clock_of self.now }
         ensures fits { result ≤ last_clock }
@@ -86,14 +86,14 @@ impl OwnedDeps {
         self.pairs.greatest_clock()
     }
 
-    /// Whether exactly this pair is there.
+    /// Returns `true` if it holds exactly this pair.
     pub(crate) fn holds(&self, pair: &Pair) -> bool
         ensures { result ≡ holds self.now pair.now }
     {
         self.pairs.holds(pair)
     }
 
-    /// The same pairs, in other memory.
+    /// Returns the same pairs, in other memory.
     pub(crate) fn copy(&self, alloc: Global) -> Result<Self, AllocError>
         ensures { IfOk result (λ deps. deps ≡ self.now) }
     {
@@ -120,15 +120,15 @@ impl Eq for OwnedDeps {
     ghost laws = { same_equivalence same_pairs };
 }
 
-/// Where dependencies lie: in memory of their own, or in that of an entry.
+/// The memory that holds dependencies: their own, or that of an entry.
 #[derive(Debug, Drop)]
 enum DepsHolder {
     Own(OwnedDeps),
     Entry(Arc<KeptParts>),
 }
 
-/// The dependencies of a put or a context: at most one version for each key. Contracts see the
-/// list of its pairs, strictly rising by key.
+/// The dependencies of a put or a context: at most one version for each key. Contracts see the list
+/// of pairs, strictly rising by key.
 #[derive(Debug, Drop)]
 pub struct Deps {
     holder: DepsHolder,
@@ -148,7 +148,7 @@ impl Model for Deps {
 impl Deps {
     ghost use Rattle.cops_types.specs.Pairs.{IsDeps};
 
-    /// No dependencies.
+    /// Returns an empty list of dependencies.
     pub fn empty(alloc: Global) -> Self
         ensures { result ≡ [] }
     {
@@ -157,7 +157,7 @@ impl Deps {
         })
     }
 
-    /// A copy of pairs in order.
+    /// Copies pairs that are in order. Fails with `AllocError` if memory runs out.
     pub fn copy_of(alloc: Global, pairs: &[Pair]) -> Result<Self, AllocError>
         requires { IsDeps pairs.now }
         ensures { IfOk result (λ deps. deps ≡ pairs.now) }
@@ -167,7 +167,7 @@ impl Deps {
         }))
     }
 
-    /// The dependencies that packed pairs in order are.
+    /// Wraps packed pairs that are in order.
     pub(crate) fn of_packed(pairs: PackedPairs) -> Self
         requires { IsDeps pairs }
         ensures { result ≡ pairs }
@@ -175,7 +175,7 @@ impl Deps {
         Deps::of(OwnedDeps { pairs })
     }
 
-    /// Dependencies over their own memory.
+    /// Wraps dependencies in memory of their own.
     pub(crate) fn of(deps: OwnedDeps) -> Self
         ensures { result ≡ deps }
     {
@@ -184,7 +184,7 @@ impl Deps {
         }
     }
 
-    /// The dependencies of an entry, over the entry's memory.
+    /// Returns the dependencies of an entry, over the entry's memory.
     pub(crate) fn of_entry(parts: Arc<KeptParts>) -> Self
         ensures { result ≡ (arc_value parts).deps }
     {
@@ -193,7 +193,7 @@ impl Deps {
         }
     }
 
-    /// The dependencies, wherever they lie.
+    /// Returns the dependencies, from whichever memory holds them.
     pub fn owned(&self) -> &OwnedDeps
         ensures { result.now ≡ self.now }
     {
@@ -203,7 +203,7 @@ impl Deps {
         }
     }
 
-    /// The dependencies in memory of their own. Those of an entry are copied.
+    /// Returns the dependencies in memory of their own. Those of an entry are copied.
     pub(crate) fn into_owned(self, alloc: Global) -> Result<OwnedDeps, AllocError>
         ensures { IfOk result (λ deps. deps ≡ self) }
     {
@@ -213,14 +213,14 @@ impl Deps {
         }
     }
 
-    /// How many pairs there are.
+    /// Returns the number of pairs.
     pub fn len(&self) -> usize
         ensures { result ≡ length self.now }
     {
         self.owned().len()
     }
 
-    /// The pair at a place.
+    /// Returns the pair at a place.
     pub fn pair(&self, place: usize) -> Pair
         requires { place < length self.now }
         ensures { result ≡ slice_index_or self.now place result }
@@ -228,7 +228,7 @@ impl Deps {
         self.owned().pair(place)
     }
 
-    /// All pairs, as they are kept.
+    /// Returns all pairs, in their stored form.
     pub(crate) fn packed(&self) -> &PackedPairs
         ensures value { result.now ≡ self.now }
         ensures in_order { IsDeps self.now }
@@ -236,14 +236,14 @@ impl Deps {
         self.owned().packed()
     }
 
-    /// The version of a key, 0.0 where there is none.
+    /// Returns the version of a key, 0.0 if there is none.
     pub fn version_of(&self, key: &Key) -> Version
         ensures { result ≡ version_of key.now self.now }
     {
         self.owned().version_of(key)
     }
 
-    /// The greatest clock among the pairs, 0 where there is none.
+    /// Returns the greatest clock among the pairs, 0 if there is none.
     pub fn greatest_clock(&self) -> u64
         ensures value { result ≡ greatest_clock_of self.now }
         ensures fits { result ≤ last_clock }
@@ -251,14 +251,15 @@ impl Deps {
         self.owned().greatest_clock()
     }
 
-    /// Whether exactly this pair is there.
+    /// Returns `true` if it holds exactly this pair.
     pub(crate) fn holds(&self, pair: &Pair) -> bool
         ensures { result ≡ holds self.now pair.now }
     {
         self.owned().holds(pair)
     }
 
-    /// The same dependencies. Those that an entry holds are shared; others are copied.
+    /// Returns the same dependencies: shares those of an entry and copies others. Fails with
+    /// `AllocError` if memory runs out.
     pub fn copy(&self, alloc: Global) -> Result<Self, AllocError>
         ensures { IfOk result (λ deps. deps ≡ self.now) }
     {
@@ -268,7 +269,8 @@ impl Deps {
         }
     }
 
-    /// Adds a pair, so that the greatest version of each key is kept.
+    /// Adds a pair and keeps the greatest version of each key. Fails with a `Fault` if the list
+    /// would exceed `limit`, or if memory runs out.
     pub fn add(&mut self, pair: Pair, limit: u64) -> Result<(), Fault>
         ensures ok { OnOk result (self.new ≡ joined self.old (pair ∷ [])) }
         ensures refused { IsAnswer (refused_if (is_over limit (joined self.old (pair ∷ []))) Fault.DependenciesFull) result }
@@ -281,7 +283,8 @@ impl Deps {
         Ok(())
     }
 
-    /// Adds all pairs of another list, so that the greatest version of each key is kept.
+    /// Adds all pairs of another list and keeps the greatest version of each key. Fails with a
+    /// `Fault` if the list would exceed `limit`, or if memory runs out.
     pub fn join(&mut self, other: &Deps, limit: u64) -> Result<(), Fault>
         ensures ok { OnOk result (self.new ≡ joined self.old other.now) }
         ensures refused { IsAnswer (refused_if (is_over limit (joined self.old other.now)) Fault.DependenciesFull) result }
@@ -295,7 +298,7 @@ impl Deps {
     }
 }
 
-/// A copy of an entry's dependencies.
+/// Returns a copy of an entry's dependencies.
 #[inline(never)]
 fn copied_deps(alloc: Global, parts: &Arc<KeptParts>) -> Result<Deps, AllocError>
     ensures { IfOk result (λ deps. deps ≡ (arc_value parts.now).deps) }
@@ -303,7 +306,7 @@ fn copied_deps(alloc: Global, parts: &Arc<KeptParts>) -> Result<Deps, AllocError
     Ok(Deps::of(parts.deps.copy(alloc)?))
 }
 
-/// One more owner of an entry's dependencies. Where no more can be counted, they are copied.
+/// Returns one more owner of an entry's dependencies. Copies them if the count of owners is full.
 pub(crate) fn shared_deps(alloc: Global, parts: &Arc<KeptParts>) -> Result<Deps, AllocError>
     ensures { IfOk result (λ deps. deps ≡ (arc_value parts.now).deps) }
 {

@@ -12,7 +12,7 @@ use crate::versions::Version;
 use std::alloc::{AllocError, Global};
 use std::marker::Model;
 
-/// The parts of what is found: a version, its value and its dependencies.
+/// The parts of what was found: a version, its value and its dependencies.
 #[derive(Debug, Drop)]
 pub struct FoundParts {
     pub version: Version,
@@ -20,8 +20,8 @@ pub struct FoundParts {
     pub deps: Deps,
 }
 
-/// What a reader finds under a key. It is one owner of an entry, where a value and dependencies would be two.
-/// Contracts see its parts.
+/// What a reader finds under a key. It owns one reference to an entry; a value and dependencies
+/// would need two. Contracts see its parts.
 #[derive(Debug, Drop)]
 pub struct Found {
     entry: Entry,
@@ -36,7 +36,7 @@ impl Model for Found {
     ghost view = { λ f. found_in f.entry };
 }
 
-/// The key of an entry that is made for its other parts alone.
+/// Returns the key of an entry that is made for its other parts alone.
 fn no_key() -> Key {
     match Key::new(b"_") {
         Ok(key) => key,
@@ -45,7 +45,8 @@ fn no_key() -> Key {
 }
 
 impl Found {
-    /// These parts. Those that lie in an entry are copied.
+    /// Returns what was found, from its parts. Copies those that lie in an entry. Fails with
+    /// `AllocError` if memory runs out.
     pub fn new(alloc: Global, parts: FoundParts) -> Result<Self, AllocError>
         ensures { IfOk result (λ found. found ≡ parts) }
     {
@@ -62,7 +63,7 @@ impl Found {
         })
     }
 
-    /// What is found where this entry is.
+    /// Returns what a reader finds in this entry.
     #[inline(always)]
     pub fn of(entry: Entry) -> Self
         ensures { result ≡ found_in entry }
@@ -70,28 +71,28 @@ impl Found {
         Found { entry }
     }
 
-    /// The version.
+    /// Returns the version.
     pub fn version(&self) -> Version
         ensures { result ≡ self.now.version }
     {
         self.entry.version()
     }
 
-    /// The value.
+    /// Returns the value.
     pub fn value(&self) -> &OwnedValue
         ensures { result.now ≡ self.now.value }
     {
         self.entry.value()
     }
 
-    /// The dependencies.
+    /// Returns the dependencies.
     pub fn deps(&self) -> &OwnedDeps
         ensures { result.now ≡ self.now.deps }
     {
         self.entry.deps()
     }
 
-    /// The same, over the same memory.
+    /// Returns the same, over the same memory. Fails with `AllocError` if memory runs out.
     pub fn copy(&self, alloc: Global) -> Result<Self, AllocError>
         ensures { IfOk result (λ found. found ≡ self.now) }
     {

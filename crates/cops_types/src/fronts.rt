@@ -6,7 +6,7 @@ ghost use Rattle.cops_types.specs.BigEndian.{big_endian};
 
 use std::cmp::Ordering;
 
-/// The eight bytes from a place on as one number, the first of them highest.
+/// Returns the eight bytes from a place on as one number, most significant first.
 #[inline(always)]
 fn word_at(cells: &[u8], at: usize) -> u64
     requires { at + 8 ≤ length cells.now }
@@ -17,8 +17,8 @@ fn word_at(cells: &[u8], at: usize) -> u64
     u64::from_be_bytes(word)
 }
 
-/// How the first bytes of two texts are ordered: the first eight, and eight from `second` on. Each
-/// eight are compared as one number.
+/// Compares the first bytes of two texts: the first eight, and eight from `second` on, each eight
+/// as one number.
 #[inline(always)]
 pub(crate) fn order_of_fronts(cells: &[u8], others: &[u8], second: usize) -> Ordering
     requires second { second ≤ 8 }

@@ -1,4 +1,4 @@
-//! Pairs that grow in place, as contexts keep them, in as little memory as they fit.
+//! Pairs that grow in place, for contexts, in the smallest form that fits.
 ghost use Rattle.std.specs.Prelude.{◌≡◌, ◌<◌, ◌≤◌, ◌+◌, [], ◌∷◌, length, insert, set, slice_index_or, MatchResult, IfOk, IfSome, IsTrue, OnOk, OnErr, false, vec_len, vec_capacity, ◌↔◌};
 ghost use Rattle.std.specs.List.{HoldsAt, list_any};
 ghost use Rattle.std.specs.List.Sorted.{IsSearchInRange, IsPartitionPoint};
@@ -26,9 +26,9 @@ enum GrowingRows {
     Full(Vec<Pair>),
 }
 
-/// Pairs that grow in place: short ones as long as all their keys are short, and in full from the
-/// first long key on. Contracts see the pairs, how many more fit without memory, and whether pairs
-/// with long keys do.
+/// Pairs that grow in place: in the short form as long as all keys are short, and in full from the
+/// first long key on. Contracts see the pairs, how many more fit without allocation, and whether
+/// pairs with long keys do.
 #[derive(Debug, Drop)]
 pub(crate) struct GrowingPairs {
     rows: GrowingRows,
@@ -44,7 +44,7 @@ impl Model for GrowingPairs {
 }
 
 impl GrowingPairs {
-    /// No pairs.
+    /// Returns an empty list of pairs.
     pub(crate) fn empty(alloc: Global) -> Self
         ensures { result.pairs ≡ [] }
     {
@@ -53,7 +53,7 @@ impl GrowingPairs {
         }
     }
 
-    /// A copy of packed pairs, with room for more in the same form.
+    /// Returns a copy of packed pairs, with room for more in the same form.
     pub(crate) fn of_packed(
         alloc: Global,
         pairs: &PackedPairs,
@@ -69,7 +69,7 @@ impl GrowingPairs {
         Ok(GrowingPairs { rows })
     }
 
-    /// A copy, with room for more pairs in the same form.
+    /// Returns a copy, with room for more pairs in the same form.
     pub(crate) fn with_room(&self, more: usize) -> Result<Self, AllocError>
         ensures pairs { IfOk result (λ copy. copy.pairs ≡ self.now.pairs) }
         ensures room { IfOk result (λ copy. more ≤ copy.spare) }
@@ -87,7 +87,7 @@ impl GrowingPairs {
         Ok(GrowingPairs { rows })
     }
 
-    /// The same pairs in full, with room for more.
+    /// Returns the same pairs in full, with room for more.
     fn in_full(&self, more: usize) -> Result<Vec<Pair>, AllocError>
         ensures items { IfOk result (λ full. full.items ≡ self.now.pairs) }
         ensures room { IfOk result (λ full. vec_len full + more ≤ vec_capacity full) }
@@ -99,7 +99,7 @@ impl GrowingPairs {
         }
     }
 
-    /// The handle for memory.
+    /// Returns the handle for memory.
     fn allocator(&self) -> Global {
         match &self.rows {
             GrowingRows::Short(pairs) => *pairs.allocator(),
@@ -107,7 +107,7 @@ impl GrowingPairs {
         }
     }
 
-    /// All pairs, where they are short ones.
+    /// Returns all pairs, if they are short ones.
     #[inline(always)]
     fn short(&self) -> Option<&[ShortPair]>
         ensures { IfSome result (λ pairs. pairs.now ≡ self.now.pairs) }
@@ -118,7 +118,7 @@ impl GrowingPairs {
         }
     }
 
-    /// How many pairs there are.
+    /// Returns the number of pairs.
     pub(crate) fn len(&self) -> usize
         ensures { result ≡ length self.now.pairs }
     {
@@ -128,7 +128,7 @@ impl GrowingPairs {
         }
     }
 
-    /// How many more pairs fit without memory.
+    /// Returns how many more pairs fit without allocation.
     fn spare(&self) -> usize
         ensures { result ≡ self.now.spare }
     {
@@ -138,7 +138,7 @@ impl GrowingPairs {
         }
     }
 
-    /// The pair at a place.
+    /// Returns the pair at a place.
     pub(crate) fn pair(&self, place: usize) -> Pair
         requires { place < length self.now.pairs }
         ensures { result ≡ slice_index_or self.now.pairs place result }
@@ -149,7 +149,7 @@ impl GrowingPairs {
         }
     }
 
-    /// The version of the pair at a place.
+    /// Returns the version of the pair at a place.
     fn version(&self, place: usize) -> Version
         requires { place < length self.now.pairs }
         ensures { HoldsAt (λ p. p.version ≡ result) self.now.pairs place }
@@ -160,7 +160,7 @@ impl GrowingPairs {
         }
     }
 
-    /// Whether pairs with the key fit as the others are kept.
+    /// Returns `true` if pairs with the key fit the present form.
     #[inline(always)]
     fn takes(&self, key: &Key) -> bool
         ensures { IsTrue result ↔ Takes self.now key.now }
@@ -171,7 +171,7 @@ impl GrowingPairs {
         }
     }
 
-    /// Takes the memory for one more pair in the same form.
+    /// Reserves memory for one more pair in the same form.
     fn reserve_one(&mut self) -> Result<(), AllocError>
         ensures ok { OnOk result (0 < self.new.spare) }
         ensures pairs { self.new.pairs ≡ self.old.pairs }
@@ -185,7 +185,7 @@ impl GrowingPairs {
         }
     }
 
-    /// Keeps the pairs in full, with memory for one more than there was.
+    /// Converts the pairs to the full form, with room for one more.
     #[inline(never)]
     fn turn_full(&mut self) -> Result<(), AllocError>
         ensures ok { OnOk result (0 < self.new.spare) }
@@ -199,7 +199,7 @@ impl GrowingPairs {
         Ok(())
     }
 
-    /// Takes the memory for one more pair with the key.
+    /// Reserves memory for one more pair with the key.
     pub(crate) fn reserve_for(&mut self, key: &Key) -> Result<(), AllocError>
         ensures fits { OnOk result (Takes self.new key.now) }
         ensures ok { OnOk result (0 < self.new.spare) }
@@ -229,7 +229,7 @@ impl GrowingPairs {
         }
     }
 
-    /// Puts a pair at a place, where there is room for it.
+    /// Inserts a pair at a place, into reserved room.
     fn insert_reserved(&mut self, place: usize, pair: &Pair)
         requires within { place ≤ length self.old.pairs }
         requires fits { Takes self.old pair.now.key }
@@ -246,7 +246,7 @@ impl GrowingPairs {
         }
     }
 
-    /// Leaves one pair alone, where there is room for it.
+    /// Keeps this pair alone, in reserved room.
     pub(crate) fn set_only(&mut self, pair: &Pair)
         requires { HasRoomForOne self.old pair.now.key }
         ensures { self.new.pairs ≡ pair.now ∷ [] }
@@ -257,7 +257,7 @@ impl GrowingPairs {
         }
     }
 
-    /// Where the key is, or its place.
+    /// Returns the index of the key, or the index at which it belongs.
     fn place_of(&self, key: &Key) -> Result<usize, usize>
         requires { IsDeps self.now.pairs }
         ensures within { IsSearchInRange result (length self.now.pairs) }
@@ -271,7 +271,7 @@ impl GrowingPairs {
         }
     }
 
-    /// Where the pair is, or its place.
+    /// Returns the index of the pair, or the index at which it belongs.
     fn place_of_pair(&self, pair: &Pair) -> Result<usize, usize>
         requires { IsNear self.now.pairs }
         ensures within { IsSearchInRange result (length self.now.pairs) }
@@ -285,8 +285,8 @@ impl GrowingPairs {
         }
     }
 
-    /// Adds a pair to the greatest version of each key, where there is room for it, and answers
-    /// whether exactly this pair was there.
+    /// Adds a pair to the greatest version of each key, in reserved room. Returns `true` if exactly
+    /// this pair was there.
     pub(crate) fn put_reserved(&mut self, pair: &Pair) -> bool
         requires in_order { IsDeps self.old.pairs }
         requires room { HasRoomFor self.old pair.now.key }
@@ -312,7 +312,7 @@ impl GrowingPairs {
         }
     }
 
-    /// Adds a pair to the greatest version of each key, unless there are then more than the limit.
+    /// Adds a pair to the greatest version of each key, unless the list would exceed the limit.
     pub(crate) fn put_within(&mut self, pair: &Pair, limit: u64) -> Result<(), Fault>
         requires { IsDeps self.old.pairs }
         ensures ok { OnOk result (self.new.pairs ≡ joined self.old.pairs (pair.now ∷ [])) }
@@ -327,7 +327,7 @@ impl GrowingPairs {
         Ok(())
     }
 
-    /// Whether pairs in order have some version of the key.
+    /// Returns `true` if pairs in order have some version of the key.
     pub(crate) fn has_key(&self, key: &Key) -> bool
         requires { IsDeps self.now.pairs }
         ensures { result ≡ has_key self.now.pairs key.now }
@@ -338,7 +338,7 @@ impl GrowingPairs {
         }
     }
 
-    /// Whether pairs with one version for each key have the key at exactly this version.
+    /// Returns `true` if pairs with one version for each key have the key at exactly this version.
     pub(crate) fn has_version(&self, key: &Key, version: Version) -> bool
         requires { IsDeps self.now.pairs }
         ensures known { result ≡ holds self.now.pairs (record { key = key.now; version = version }) }
@@ -350,8 +350,8 @@ impl GrowingPairs {
         }
     }
 
-    /// Whether the key is among pairs in order, at no lesser version: a pair that then changes
-    /// nothing. Contracts say nothing of `false`.
+    /// Returns `true` if pairs in order have the key at no lesser version: the pair then changes
+    /// nothing. The contract covers `true` only.
     fn has_as_new(&self, pair: &Pair) -> bool
         requires { IsDeps self.now.pairs }
         ensures { IsTrue result → self.now.pairs ≡ joined self.now.pairs (pair.now ∷ []) }
@@ -365,9 +365,9 @@ impl GrowingPairs {
         }
     }
 
-    /// Whether packed pairs would change nothing in pairs in order: each of their keys is there, at
-    /// no lesser version. Contracts say nothing of `false`. Lists of short pairs of like length are
-    /// walked; in others each key is looked up.
+    /// Returns `true` if packed pairs would change nothing in pairs in order: each of their keys is
+    /// there, at no lesser version. The contract covers `true` only. Walks lists of short pairs of
+    /// similar length; searches others key by key.
     pub(crate) fn has_all_as_new(&self, more: &PackedPairs) -> bool
         requires { IsDeps self.now.pairs }
         ensures { IsTrue result → self.now.pairs ≡ joined self.now.pairs more.now }
@@ -386,7 +386,7 @@ impl GrowingPairs {
         }
     }
 
-    /// The same, by a search for each pair.
+    /// Does the same with a search for each pair.
     #[inline(never)]
     fn has_each_as_new(&self, more: &PackedPairs) -> bool
         requires { IsDeps self.now.pairs }
@@ -400,7 +400,7 @@ impl GrowingPairs {
         true
     }
 
-    /// The greatest version of each key of two lists.
+    /// Returns the greatest version of each key of two lists.
     fn joined_with(&self, more: &PackedPairs) -> Result<Self, AllocError>
         requires pairs { IsDeps self.now.pairs }
         requires more { IsDeps more.now }
@@ -420,7 +420,7 @@ impl GrowingPairs {
         }
     }
 
-    /// The same in full, pair by pair.
+    /// Does the same in full, pair by pair.
     #[inline(never)]
     fn joined_in_full(&self, more: &PackedPairs) -> Result<Self, AllocError>
         requires { IsDeps self.now.pairs }
@@ -436,8 +436,8 @@ impl GrowingPairs {
         Ok(list)
     }
 
-    /// Joins packed pairs, so that the greatest version of each key is kept, unless there are then
-    /// more pairs than the limit.
+    /// Joins packed pairs and keeps the greatest version of each key, unless the list would exceed
+    /// the limit.
     pub(crate) fn join(&mut self, more: &PackedPairs, limit: u64) -> Result<(), Fault>
         requires pairs { IsDeps self.old.pairs }
         requires more { IsDeps more.now }
@@ -454,7 +454,7 @@ impl GrowingPairs {
         Ok(())
     }
 
-    /// Whether there is a pair that the deps hold exactly.
+    /// Returns `true` if it has a pair that the deps hold exactly.
     #[inline(always)]
     pub(crate) fn has_held(&self, deps: &OwnedDeps) -> bool
         ensures { result ≡ list_any (holds deps.now) self.now.pairs }
@@ -468,7 +468,7 @@ impl GrowingPairs {
         }
     }
 
-    /// The same, of pairs in any form.
+    /// Does the same for pairs in any form.
     #[inline(never)]
     fn has_held_in_full(&self, deps: &OwnedDeps) -> bool
         ensures { result ≡ list_any (holds deps.now) self.now.pairs }
@@ -479,7 +479,7 @@ impl GrowingPairs {
         }
     }
 
-    /// Adds a pair at a place.
+    /// Inserts a pair at a place.
     fn insert_near(&mut self, place: usize, pair: &Pair) -> Result<(), AllocError>
         requires { place ≤ length self.old.pairs }
         ensures ok { OnOk result (self.new.pairs ≡ insert self.old.pairs place pair.now) }
@@ -490,7 +490,7 @@ impl GrowingPairs {
         Ok(())
     }
 
-    /// Adds a pair to pairs that are each kept once, unless there are then more than the limit.
+    /// Adds a pair to pairs without duplicates, unless the list would exceed the limit.
     pub(crate) fn put_near(&mut self, pair: &Pair, limit: u64) -> Result<(), Fault>
         requires { IsNear self.old.pairs }
         ensures ok { OnOk result (self.new.pairs ≡ add_item pair_cmp pair.now self.old.pairs) }
@@ -515,7 +515,7 @@ impl GrowingPairs {
         Ok(())
     }
 
-    /// Takes out each pair that the deps hold exactly. Mostly there is none, and nothing is moved.
+    /// Removes each pair that the deps hold exactly. Usually there is none, and nothing is moved.
     pub(crate) fn drop_held(&mut self, deps: &OwnedDeps)
         requires { IsNear self.old.pairs }
         ensures pairs { self.new.pairs ≡ without_held deps.now self.old.pairs }
@@ -526,7 +526,7 @@ impl GrowingPairs {
         }
     }
 
-    /// Takes out each pair that the deps hold exactly.
+    /// Removes each pair that the deps hold exactly.
     #[inline(never)]
     fn take_out_held(&mut self, deps: &OwnedDeps)
         ensures { self.new.pairs ≡ without_held deps.now self.old.pairs }
@@ -537,7 +537,7 @@ impl GrowingPairs {
         }
     }
 
-    /// The same pairs, packed.
+    /// Returns the same pairs, packed.
     pub(crate) fn to_packed(&self) -> Result<PackedPairs, AllocError>
         ensures { IfOk result (λ packed. packed ≡ self.now.pairs) }
     {

@@ -19,10 +19,10 @@ use uuid::Uuid;
 /// The most tenants of a head.
 const MOST_TENANTS: usize = 64;
 
-/// The greatest limit of a quota, but for that of `deps`.
+/// The greatest limit of a quota, except for that of `deps`.
 const GREATEST_QUOTA: u64 = 4294967295;
 
-/// Takes the next word, where it writes a number.
+/// Removes and returns the next word, if it writes a number.
 fn next_number(words: &mut Words) -> Option<u64>
     ensures some { IfSome result (λ n. words.old ≡ decimal n ∷ words.new) }
     ensures small { IfSome result (λ n. IsTrue (is_u64 n)) }
@@ -31,7 +31,7 @@ fn next_number(words: &mut Words) -> Option<u64>
     parse_number(words.next_word()?)
 }
 
-/// Whether a cluster may have these sizes and this many restarts.
+/// Returns `true` if a cluster may have these sizes and this many restarts.
 fn are_sizes(data_centres: u64, shards: u64, restarts: u64) -> bool
     ensures { result ≡ (is_between 1 8 data_centres && is_between 1 most_shards shards && nat_le restarts 15) }
 {
@@ -42,7 +42,7 @@ fn are_sizes(data_centres: u64, shards: u64, restarts: u64) -> bool
         && restarts <= 15
 }
 
-/// The cluster that a line gives, with no tenant yet.
+/// Returns the cluster that a line gives, with no tenant yet.
 fn cluster_of(alloc: Global, line: &[u8]) -> Option<Config>
     ensures some { IfSome result (IsClusterLine line.now) }
     ensures none { IfNone result ((config : Config) → IsClusterLine line.now config → ⊥) }
@@ -70,14 +70,14 @@ fn cluster_of(alloc: Global, line: &[u8]) -> Option<Config>
     })
 }
 
-/// The cluster that a line gives, with no tenant yet.
+/// Returns the cluster that a line gives, with no tenant yet.
 pub(crate) fn read_cluster(alloc: Global, line: &[u8]) -> Option<Config>
     ensures { result ≡ cluster_in line.now }
 {
     cluster_of(alloc, line)
 }
 
-/// Whether a tenant may have the quota.
+/// Returns `true` if a tenant may have the quota.
 fn is_quota(quota: &Quota) -> bool
     ensures { result ≡ is_quota quota.now }
 {
@@ -90,7 +90,7 @@ fn is_quota(quota: &Quota) -> bool
         && quota.audit <= GREATEST_QUOTA
 }
 
-/// The quota that these words give, and no more.
+/// Returns the quota that exactly these words give.
 fn last_quota(words: &mut Words) -> Option<Quota>
     ensures some { IfSome result (λ quota. (words.old ≡ quota_words quota) × IsTrue (is_quota quota)) }
     ensures none { IfNone result ((quota : Quota) → IsTrue (is_quota quota) → words.old ≡ quota_words quota → ⊥) }
@@ -113,7 +113,7 @@ fn last_quota(words: &mut Words) -> Option<Quota>
     Some(quota)
 }
 
-/// The tenant that these words give, and no more, with a first clock up to this one.
+/// Returns the tenant that exactly these words give, if its first clock is at most `last_clock`.
 pub fn last_tenant(words: &mut Words, last_clock: u64) -> Option<Tenant>
     ensures some { IfSome result (AreTenantWords last_clock words.old) }
     ensures none { IfNone result ((tenant : Tenant) → AreTenantWords last_clock words.old tenant → ⊥) }
@@ -137,7 +137,7 @@ pub fn last_tenant(words: &mut Words, last_clock: u64) -> Option<Tenant>
     })
 }
 
-/// The tenant that a line gives, with a first clock up to this one.
+/// Returns the tenant that a line gives, with a first clock up to this one.
 fn tenant_of(line: &[u8], last_clock: u64) -> Option<Tenant>
     ensures some { IfSome result (IsTenantLineTo last_clock line.now) }
     ensures none { IfNone result ((tenant : Tenant) → IsTenantLineTo last_clock line.now tenant → ⊥) }
@@ -149,22 +149,22 @@ fn tenant_of(line: &[u8], last_clock: u64) -> Option<Tenant>
     last_tenant(&mut words, last_clock)
 }
 
-/// The tenant that a line gives, with a first clock up to this one.
+/// Returns the tenant that a line gives, with a first clock up to this one.
 fn read_tenant(line: &[u8], last_clock: u64) -> Option<Tenant>
     ensures { result ≡ tenant_in_to last_clock line.now }
 {
     tenant_of(line, last_clock)
 }
 
-/// Whether one more tenant may join.
+/// Returns `true` if one more tenant may join.
 fn may_join(config: &Config, tenant: &Tenant) -> bool
     ensures { result ≡ may_join config.now tenant.now }
 {
     config.tenants.len() < MOST_TENANTS && config.tenants.is_distinct(tenant)
 }
 
-/// Gives the next slot to the tenant of a line, where it is one that may join, with a first clock up to
-/// this one.
+/// Gives the next slot to the tenant of a line, if it may join and its first clock is at most
+/// `last_clock`.
 pub(crate) fn join(config: &mut Config, line: &[u8], last_clock: u64) -> Result<bool, AllocError>
     ensures ok { IfOk result (λ has_joined. JoinsOrStays config.old (tenant_in_to last_clock line.now) config.new has_joined) }
     ensures err { OnErr result (config.new ≡ config.old) }

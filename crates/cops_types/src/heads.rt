@@ -12,14 +12,14 @@ use std::alloc::{AllocError, Global};
 use std::marker::Model;
 use std::mem;
 
-/// What a line of a head says.
+/// The meaning of a line of a head.
 #[derive(Debug, Drop)]
 pub enum HeadLine {
     /// The head goes on.
     More,
-    /// The head is whole, and this is what it says. It may have no tenant.
+    /// The head is complete and gives this configuration. It may have no tenant.
     Begin(Config),
-    /// The line may not stand here, or the head is over.
+    /// The line may not follow here, or the head is over.
     BadLine,
 }
 
@@ -31,8 +31,8 @@ pub(crate) enum Progress {
     Over,
 }
 
-/// Reads a head line by line. Contracts see how far it has come: nowhere where a line was bad or
-/// the head is over, since nothing may follow then.
+/// Reads a head line by line. Contracts see how far it has come: nowhere if a line was bad or the
+/// head is over, since nothing may follow then.
 #[derive(Debug, Drop)]
 pub struct ConfigReader {
     progress: Progress,
@@ -48,7 +48,7 @@ impl Model for ConfigReader {
     ghost view = { λ r. front_of r.progress };
 }
 
-/// Where the first line leads, and what it says.
+/// Returns how far the first line leads, and its meaning.
 fn start(alloc: Global, line: &[u8]) -> (Progress, HeadLine)
     ensures front { front_of result.0 ≡ still_open (front_after AtStart line.now) }
     ensures said { result.1 ≡ said_at (front_after AtStart line.now) }
@@ -60,7 +60,7 @@ fn start(alloc: Global, line: &[u8]) -> (Progress, HeadLine)
 }
 
 impl ConfigReader {
-    /// A reader that has read no line.
+    /// Returns a reader at the start of a head.
     pub fn new() -> Self
         ensures { result ≡ Some AtStart }
     {
@@ -69,14 +69,15 @@ impl ConfigReader {
         }
     }
 
-    /// A reader of a head of layout 1 that has read no line: old audit files have such heads.
+    /// Returns a reader at the start of a head of layout 1, as old audit files have it.
     pub fn layout_1() -> OldConfigReader
         ensures { result ≡ Some AtStart }
     {
         OldConfigReader::new()
     }
 
-    /// Reads the next line, which comes without its newline. After an `Err` it may be read again.
+    /// Reads the next line, which comes without its newline. Fails with `AllocError` if memory runs
+    /// out; the line may then be read again.
     pub fn line(&mut self, alloc: Global, line: &[u8]) -> Result<HeadLine, AllocError>
         ensures said { IfOk result (λ said. said ≡ said_at (front_with self.old line.now)) }
         ensures front { OnOk result (self.new ≡ still_open (front_with self.old line.now)) }

@@ -1,4 +1,4 @@
-//! Pairs as lists keep them: in full, or short ones.
+//! Stored pairs: in full, or short ones.
 ghost use Rattle.std.specs.Prelude.{◌≡◌};
 ghost use Rattle.cops_types.specs.Key.{key_cmp};
 ghost use Rattle.cops_types.specs.Pairs.{pair_cmp};
@@ -8,22 +8,22 @@ use crate::packed::ShortPair;
 use crate::pairs::Pair;
 use std::cmp::Ordering;
 
-/// A pair as a list keeps it.
+/// A stored pair.
 pub(crate) trait KeptPair: Copy {
     ghost use Rattle.cops_types.specs.declared.pairs.Pair.{Pair};
 
-    /// The pair that is kept.
+    /// The pair that is stored.
     ghost kept: { Self → Pair };
 
-    /// The pair in full.
+    /// Returns the pair in full.
     fn in_full(&self) -> Pair
         ensures { result ≡ kept self.now };
 
-    /// How the key stands to another.
+    /// Compares the key with another.
     fn order_to_key(&self, key: &Key) -> Ordering
         ensures { result ≡ key_cmp (kept self.now).key key.now };
 
-    /// How the pair stands to another.
+    /// Compares the pair with another.
     fn order_to_pair(&self, pair: &Pair) -> Ordering
         ensures { result ≡ pair_cmp (kept self.now) pair.now };
 }

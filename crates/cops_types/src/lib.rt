@@ -1,4 +1,4 @@
-//! The types of the store, and the definitions that every layer speaks of.
+//! The types of the store, and the definitions that every layer uses.
 #![tactic(auto)]
 
 mod bytes;

@@ -1,4 +1,4 @@
-//! What a gate stands in front of.
+//! The state machines that a gate protects.
 ghost use Rattle.std.specs.Prelude.{◌≡◌, ℕ, OnErr, IfOk};
 
 use std::alloc::AllocError;
@@ -9,21 +9,23 @@ pub trait Machine {
 
     type Reply;
 
-    /// Where the machine stands, as contracts see it. No value of it need be made.
+    /// The machine's place, as contracts see it. No value of it need exist.
     type Place;
 
     ghost place: { Self → Self.Place };
 
-    /// Whether a place may be asked this, of the slot and the call.
+    /// The calls of a slot that a place accepts.
     ghost fits: { Self.Place → ℕ → Self.Call → Type 0 };
 
-    /// One turn: the state before, the slot, the moment, the call, the reply and the state after.
+    /// One turn: the state before, the slot, the timestamp, the call, the reply and the state
+    /// after.
     ghost turns: { Self → ℕ → ℕ → Self.Call → Self.Reply → Self → Type 0 };
 
-    /// Whether a turn of this slot and call may be refused for want of memory in this state.
+    /// The calls of a slot that may run out of memory in this state.
     ghost may_lack: { Self → ℕ → Self.Call → Type 0 };
 
-    /// Makes one turn. It is refused only for want of memory, where the state lets that be, and then nothing has changed.
+    /// Makes one turn. Fails with `AllocError` only if memory runs out and the state permits it;
+    /// then nothing has changed.
     fn turn(&mut self, slot: u64, moment: u64, call: Self::Call) -> Result<Self::Reply, AllocError>
         requires { fits (place self.old) slot call }
         ensures reply { IfOk result (λ r. turns self.old slot moment call r self.new) }

@@ -1,26 +1,26 @@
-//! Hints at the slot of a name, so that a name that is looked for often is not hashed in full.
+//! Cached slots of names: a name that is often looked up is not hashed in full.
 
 use std::alloc::{AllocError, Global};
 
-/// How many hints are kept.
+/// The number of cached slots.
 const HINTS: usize = 1024;
 
-/// The slot that was noted last for names of one cell. Several names share a hint, so whoever asks
-/// looks whether the slot has the name; nothing but time depends on what the hint says.
+/// The slot that was cached last for the names of each cell. Several names share a cell, so the
+/// caller checks the slot's name. A wrong slot costs only time.
 #[derive(Debug, Drop)]
 pub struct NameHints {
     slots: Vec<u64>,
 }
 
 impl NameHints {
-    /// Hints that nothing rests on yet.
+    /// Returns an empty cache.
     pub(crate) fn new(alloc: Global) -> Result<Self, AllocError> {
         Ok(NameHints {
             slots: vec![in alloc; 0; HINTS]?,
         })
     }
 
-    /// The slot that the name may have.
+    /// Returns the cached slot for the name, which may be wrong.
     pub(crate) fn slot(&self, name: &[u8]) -> u64 {
         match self.slots.get(cell_of(name)) {
             Some(slot) => *slot,
@@ -28,7 +28,7 @@ impl NameHints {
         }
     }
 
-    /// Notes the slot of a name.
+    /// Caches the slot of a name.
     pub(crate) fn note(&mut self, name: &[u8], slot: u64) {
         if let Some(hint) = self.slots.get_mut(cell_of(name)) {
             *hint = slot;
@@ -36,8 +36,8 @@ impl NameHints {
     }
 }
 
-/// Where the hint for a name lies. Its length, its first byte and its last two tell it apart from most
-/// others.
+/// Returns the index of the cell for a name. Names that differ in length, first byte or last two
+/// bytes mostly get different cells.
 fn cell_of(name: &[u8]) -> usize {
     match name {
         [first, .., before, last] => {

@@ -15,7 +15,7 @@ use std::alloc::{AllocError, Global};
 use std::marker::Model;
 use std::sync::Arc;
 
-/// The nearest dependencies in memory of their own. Contracts see the list of the pairs, strictly
+/// The nearest dependencies in memory of their own. Contracts see the list of pairs, strictly
 /// rising by key and then by version.
 #[derive(Debug, Drop)]
 pub struct OwnedNear {
@@ -38,14 +38,14 @@ impl Model for OwnedNear {
 impl OwnedNear {
     ghost use Rattle.cops_types.specs.Pairs.{IsNear};
 
-    /// How many pairs there are.
+    /// Returns the number of pairs.
     pub fn len(&self) -> usize
         ensures { result ≡ length self.now }
     {
         self.pairs.len()
     }
 
-    /// The pair at a place.
+    /// Returns the pair at a place.
     pub fn pair(&self, place: usize) -> Pair
         requires { place < length self.now }
         ensures { result ≡ slice_index_or self.now place result }
@@ -53,7 +53,7 @@ impl OwnedNear {
         self.pairs.pair(place)
     }
 
-    /// All pairs, as they are kept.
+    /// Returns all pairs, in their stored form.
     pub(crate) fn packed(&self) -> &PackedPairs
         ensures value { result.now ≡ self.now }
         ensures in_order { IsNear self.now }
@@ -61,7 +61,7 @@ impl OwnedNear {
         &self.pairs
     }
 
-    /// The same pairs, in other memory.
+    /// Returns the same pairs, in other memory.
     pub(crate) fn copy(&self, alloc: Global) -> Result<Self, AllocError>
         ensures { IfOk result (λ near. near ≡ self.now) }
     {
@@ -88,15 +88,15 @@ impl Eq for OwnedNear {
     ghost laws = { same_equivalence same_pairs };
 }
 
-/// Where nearest dependencies lie: in memory of their own, or in that of an entry.
+/// The memory that holds nearest dependencies: their own, or that of an entry.
 #[derive(Debug, Drop)]
 enum NearHolder {
     Own(OwnedNear),
     Entry(Arc<KeptParts>),
 }
 
-/// The nearest dependencies. Contracts see the list of its pairs, strictly rising by key and then
-/// by version.
+/// The nearest dependencies. Contracts see the list of pairs, strictly rising by key and then by
+/// version.
 #[derive(Debug, Drop)]
 pub struct Near {
     holder: NearHolder,
@@ -116,7 +116,7 @@ impl Model for Near {
 impl Near {
     ghost use Rattle.cops_types.specs.Pairs.{IsNear};
 
-    /// No dependencies.
+    /// Returns an empty list of nearest dependencies.
     pub fn empty(alloc: Global) -> Self
         ensures { result ≡ [] }
     {
@@ -125,7 +125,7 @@ impl Near {
         })
     }
 
-    /// A copy of pairs in order.
+    /// Copies pairs that are in order. Fails with `AllocError` if memory runs out.
     pub fn copy_of(alloc: Global, pairs: &[Pair]) -> Result<Self, AllocError>
         requires { IsNear pairs.now }
         ensures { IfOk result (λ near. near ≡ pairs.now) }
@@ -135,7 +135,7 @@ impl Near {
         }))
     }
 
-    /// The dependencies that packed pairs in order are.
+    /// Wraps packed pairs that are in order.
     pub(crate) fn of_packed(pairs: PackedPairs) -> Self
         requires { IsNear pairs }
         ensures { result ≡ pairs }
@@ -143,7 +143,7 @@ impl Near {
         Near::of(OwnedNear { pairs })
     }
 
-    /// Dependencies over their own memory.
+    /// Wraps nearest dependencies in memory of their own.
     pub(crate) fn of(near: OwnedNear) -> Self
         ensures { result ≡ near }
     {
@@ -152,7 +152,7 @@ impl Near {
         }
     }
 
-    /// The nearest dependencies of an entry, over the entry's memory.
+    /// Returns the nearest dependencies of an entry, over the entry's memory.
     pub(crate) fn of_entry(parts: Arc<KeptParts>) -> Self
         ensures { result ≡ (arc_value parts).near }
     {
@@ -161,7 +161,7 @@ impl Near {
         }
     }
 
-    /// The dependencies, wherever they lie.
+    /// Returns the nearest dependencies, from whichever memory holds them.
     pub fn owned(&self) -> &OwnedNear
         ensures { result.now ≡ self.now }
     {
@@ -171,7 +171,7 @@ impl Near {
         }
     }
 
-    /// The dependencies in memory of their own. Those of an entry are copied.
+    /// Returns the nearest dependencies in memory of their own. Those of an entry are copied.
     pub(crate) fn into_owned(self, alloc: Global) -> Result<OwnedNear, AllocError>
         ensures { IfOk result (λ near. near ≡ self) }
     {
@@ -181,14 +181,14 @@ impl Near {
         }
     }
 
-    /// How many pairs there are.
+    /// Returns the number of pairs.
     pub fn len(&self) -> usize
         ensures { result ≡ length self.now }
     {
         self.owned().len()
     }
 
-    /// The pair at a place.
+    /// Returns the pair at a place.
     pub fn pair(&self, place: usize) -> Pair
         requires { place < length self.now }
         ensures { result ≡ slice_index_or self.now place result }
@@ -196,7 +196,7 @@ impl Near {
         self.owned().pair(place)
     }
 
-    /// All pairs, as they are kept.
+    /// Returns all pairs, in their stored form.
     pub(crate) fn packed(&self) -> &PackedPairs
         ensures value { result.now ≡ self.now }
         ensures in_order { IsNear self.now }
@@ -204,7 +204,8 @@ impl Near {
         self.owned().packed()
     }
 
-    /// The same dependencies. Those that an entry holds are shared; others are copied.
+    /// Returns the same nearest dependencies: shares those of an entry and copies others. Fails
+    /// with `AllocError` if memory runs out.
     pub fn copy(&self, alloc: Global) -> Result<Self, AllocError>
         ensures { IfOk result (λ near. near ≡ self.now) }
     {
@@ -214,7 +215,8 @@ impl Near {
         }
     }
 
-    /// Adds a pair. One that is there is kept once.
+    /// Adds a pair, unless it is there already. Fails with a `Fault` if the list would exceed
+    /// `limit`, or if memory runs out.
     pub fn add(&mut self, pair: Pair, limit: u64) -> Result<(), Fault>
         ensures ok { OnOk result (self.new ≡ add_item pair_cmp pair self.old) }
         ensures refused { IsAnswer (refused_if (is_over limit (add_item pair_cmp pair self.old)) Fault.DependenciesFull) result }
@@ -228,7 +230,8 @@ impl Near {
     }
 }
 
-/// One more owner of an entry's nearest dependencies. Where no more can be counted, they are copied.
+/// Returns one more owner of an entry's nearest dependencies. Copies them if the count of owners is
+/// full.
 pub(crate) fn shared_near(alloc: Global, parts: &Arc<KeptParts>) -> Result<Near, AllocError>
     ensures { IfOk result (λ near. near ≡ (arc_value parts.now).near) }
 {

@@ -14,8 +14,8 @@ use crate::pairs::Pair;
 use std::alloc::{AllocError, Global};
 use std::marker::Model;
 
-/// The nearest dependencies, growing in place. Contracts see the pairs, strictly rising by key and
-/// then by version, how many more fit without memory, and whether pairs with long keys do.
+/// Growing nearest dependencies. Contracts see the pairs, strictly rising by key and then by
+/// version, how many more fit without allocation, and whether pairs with long keys do.
 #[derive(Debug, Drop)]
 pub struct NearBuilder {
     pairs: GrowingPairs,
@@ -33,7 +33,7 @@ impl Model for NearBuilder {
 }
 
 impl NearBuilder {
-    /// No dependencies.
+    /// Returns an empty list of nearest dependencies.
     pub fn empty(alloc: Global) -> Self
         ensures { result.pairs ≡ [] }
     {
@@ -42,7 +42,8 @@ impl NearBuilder {
         }
     }
 
-    /// A copy, with room for more pairs in the same form.
+    /// Returns a copy with room for `more` pairs in the same form. Fails with `AllocError` if
+    /// memory runs out.
     pub fn with_room(&self, more: usize) -> Result<Self, AllocError>
         ensures pairs { IfOk result (λ copy. copy.pairs ≡ self.now.pairs) }
         ensures room { IfOk result (λ copy. more ≤ copy.spare) }
@@ -53,7 +54,7 @@ impl NearBuilder {
         })
     }
 
-    /// How many pairs there are.
+    /// Returns the number of pairs.
     pub fn len(&self) -> usize
         ensures len { result ≡ length self.now.pairs }
         ensures in_order { IsNear self.now.pairs }
@@ -61,7 +62,7 @@ impl NearBuilder {
         self.pairs.len()
     }
 
-    /// The pair at a place.
+    /// Returns the pair at a place.
     pub fn pair(&self, place: usize) -> Pair
         requires { place < length self.now.pairs }
         ensures { result ≡ slice_index_or self.now.pairs place result }
@@ -69,14 +70,14 @@ impl NearBuilder {
         self.pairs.pair(place)
     }
 
-    /// Whether there is a pair that the deps hold exactly.
+    /// Returns `true` if it has a pair that the deps hold exactly.
     pub fn has_held(&self, deps: &OwnedDeps) -> bool
         ensures { result ≡ list_any (holds deps.now) self.now.pairs }
     {
         self.pairs.has_held(deps)
     }
 
-    /// Takes the memory for one more pair with the key.
+    /// Reserves memory for one more pair with the key. Fails with `AllocError` if memory runs out.
     pub fn reserve_for(&mut self, key: &Key) -> Result<(), AllocError>
         ensures ok { OnOk result (HasRoomForOne self.new key.now) }
         ensures room { OnOk result (0 < self.new.spare) }
@@ -88,7 +89,7 @@ impl NearBuilder {
         self.pairs.reserve_for(key)
     }
 
-    /// Leaves one pair alone, where there is room for it.
+    /// Keeps this pair alone, in reserved room.
     pub fn set_only(&mut self, pair: Pair)
         requires { HasRoomForOne self.old pair.key }
         ensures { self.new.pairs ≡ pair ∷ [] }
@@ -96,7 +97,8 @@ impl NearBuilder {
         self.pairs.set_only(&pair);
     }
 
-    /// Adds a pair. One that is there is kept once.
+    /// Adds a pair, unless it is there already. Fails with a `Fault` if the list would exceed
+    /// `limit`, or if memory runs out.
     pub fn add(&mut self, pair: Pair, limit: u64) -> Result<(), Fault>
         ensures ok { OnOk result (self.new.pairs ≡ add_item pair_cmp pair self.old.pairs) }
         ensures refused { IsAnswer (refused_if (is_over limit (add_item pair_cmp pair self.old.pairs)) Fault.DependenciesFull) result }
@@ -105,14 +107,15 @@ impl NearBuilder {
         self.pairs.put_near(&pair, limit)
     }
 
-    /// Takes out each pair that the deps hold exactly.
+    /// Removes each pair that the deps hold exactly.
     pub fn drop_held(&mut self, deps: &OwnedDeps)
         ensures { self.new.pairs ≡ without_held deps.now self.old.pairs }
     {
         self.pairs.drop_held(deps);
     }
 
-    /// A list of these pairs that is shared from now on. It is copied once, here.
+    /// Returns these pairs as a shared list: the one copy is made here. Fails with `AllocError` if
+    /// memory runs out.
     pub fn to_near(&self) -> Result<Near, AllocError>
         ensures { IfOk result (λ near. near ≡ self.now.pairs) }
     {

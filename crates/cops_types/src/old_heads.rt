@@ -14,13 +14,13 @@ use std::alloc::{AllocError, Global};
 use std::marker::Model;
 use std::mem;
 
-/// The last number of a clock of layout 1.
+/// The greatest clock of layout 1.
 const LAST_OLD_CLOCK: u64 = (1 << 56) - 1;
 
 /// The most shards of a cluster of layout 1.
 const MOST_OLD_SHARDS: u64 = 16;
 
-/// Reads a head of layout 1 line by line. Contracts see how far it has come: nowhere where a line was
+/// Reads a head of layout 1 line by line. Contracts see how far it has come: nowhere if a line was
 /// bad or the head is over, since nothing may follow then.
 #[derive(Debug, Drop)]
 pub struct OldConfigReader {
@@ -37,7 +37,7 @@ impl Model for OldConfigReader {
     ghost view = { λ r. front_of r.progress };
 }
 
-/// The cluster that a line gives, with no tenant yet.
+/// Returns the cluster that a line gives, with no tenant yet.
 fn read_old_cluster(alloc: Global, line: &[u8]) -> Option<Config>
     ensures { result ≡ old_cluster_in line.now }
 {
@@ -49,14 +49,14 @@ fn read_old_cluster(alloc: Global, line: &[u8]) -> Option<Config>
     }
 }
 
-/// Whether each first clock is at most this number.
+/// Returns `true` if each first clock is at most this number.
 fn are_clocks_to(tenants: &[Tenant], last: u64) -> bool
     ensures { result ≡ list_all (λ tenant. nat_le tenant.first_clock last) tenants.now }
 {
     tenants.iter().all(|tenant| tenant.first_clock <= last)
 }
 
-/// Where the first line leads, and what it says.
+/// Returns how far the first line leads, and its meaning.
 fn start(alloc: Global, line: &[u8]) -> (Progress, HeadLine)
     ensures front { front_of result.0 ≡ still_open (old_front_after AtStart line.now) }
     ensures said { result.1 ≡ said_at (old_front_after AtStart line.now) }
@@ -67,7 +67,8 @@ fn start(alloc: Global, line: &[u8]) -> (Progress, HeadLine)
     }
 }
 
-/// What the line `begin` says where the head has come to this configuration: it has a tenant at least.
+/// Returns the meaning of the line `begin` after this configuration: the head needs at least one
+/// tenant.
 fn begin(config: Config) -> HeadLine
     ensures { result ≡ said_at (old_next_within config begin_line) }
 {
@@ -78,7 +79,7 @@ fn begin(config: Config) -> HeadLine
 }
 
 impl OldConfigReader {
-    /// A reader that has read no line.
+    /// Returns a reader at the start of a head.
     pub(crate) fn new() -> Self
         ensures { result ≡ Some AtStart }
     {
@@ -87,7 +88,8 @@ impl OldConfigReader {
         }
     }
 
-    /// Reads the next line, which comes without its newline. After an `Err` it may be read again.
+    /// Reads the next line, which comes without its newline. Fails with `AllocError` if memory runs
+    /// out; the line may then be read again.
     pub fn line(&mut self, alloc: Global, line: &[u8]) -> Result<HeadLine, AllocError>
         ensures said { IfOk result (λ said. said ≡ said_at (old_front_with self.old line.now)) }
         ensures front { OnOk result (self.new ≡ still_open (old_front_with self.old line.now)) }
@@ -111,7 +113,7 @@ impl OldConfigReader {
         Ok(said)
     }
 
-    /// Whether the first clock of each tenant so far is at most this number.
+    /// Returns `true` if the first clock of each tenant so far is at most this number.
     pub fn has_clocks_to(&self, last: u64) -> bool
         ensures { result ≡ has_clocks_to last self.now }
     {

@@ -18,10 +18,11 @@ use std::alloc::{AllocError, Global};
 use std::marker::Model;
 use uuid::Uuid;
 
-/// How many tenants may be open at once.
+/// The most tenants that may be open at once.
 const MOST_OPEN: usize = 64;
 
-/// The tenants that are open, by slot: they come and go. Contracts see a list with the tenant of each slot, if it has one.
+/// The open tenants, by slot; tenants come and go. Contracts see a list with the tenant of each
+/// slot, if it has one.
 #[derive(Debug, Drop)]
 pub struct OpenTenants {
     slots: Vec<Option<Tenant>>,
@@ -29,7 +30,7 @@ pub struct OpenTenants {
     names: IndexMap<Name, usize>,
     /// The slot of each token.
     tokens: IndexMap<[u8; 16], usize>,
-    /// Where to look first for a name.
+    /// The cached slots of names, which are tried first.
     hints: NameHints,
 }
 
@@ -46,7 +47,7 @@ impl Model for OpenTenants {
     ghost invariant = { λ t. AreOpen t.slots.items t.names t.tokens };
 }
 
-/// That many slots without a tenant.
+/// Returns all slots, without a tenant.
 fn free_slots(alloc: Global) -> Result<Vec<Option<Tenant>>, AllocError>
     ensures { IfOk result (λ slots. slots.items ≡ replicate most_tenants None) }
 {
@@ -57,7 +58,7 @@ fn free_slots(alloc: Global) -> Result<Vec<Option<Tenant>>, AllocError>
     Ok(slots)
 }
 
-/// These tenants at the first slots, and free slots behind them.
+/// Returns these tenants in the first slots, and free slots behind them.
 fn slots_of(alloc: Global, tenants: &[Tenant]) -> Result<Vec<Option<Tenant>>, AllocError>
     ensures { IfOk result (λ slots. slots.items ≡ begun_with tenants.now) }
 {
@@ -72,14 +73,14 @@ fn slots_of(alloc: Global, tenants: &[Tenant]) -> Result<Vec<Option<Tenant>>, Al
     Ok(slots)
 }
 
-/// The place of the first slot without a tenant.
+/// Returns the place of the first slot without a tenant.
 fn first_free(slots: &[Option<Tenant>]) -> Option<usize>
     ensures { result ≡ position is_none slots.now }
 {
     slots.iter().position(|tenant| tenant.is_none())
 }
 
-/// The name, which is one.
+/// Returns the name, which is one.
 fn name_of(tenant: &Tenant) -> Name
     ensures value { result ≡ tenant.now.name }
     ensures name { IsName tenant.now.name }
@@ -89,7 +90,7 @@ fn name_of(tenant: &Tenant) -> Name
     name
 }
 
-/// Notes the slot of a tenant under the name and the token. Refused, nothing is noted.
+/// Enters the slot of a tenant under its name and token. On error nothing is entered.
 fn note(
     names: &mut IndexMap<Name, usize>,
     tokens: &mut IndexMap<[u8; 16], usize>,
@@ -112,7 +113,7 @@ fn note(
     }
 }
 
-/// Notes the slot of each of these tenants under its name and its token.
+/// Enters the slot of each of these tenants under its name and its token.
 fn note_all(
     names: &mut IndexMap<Name, usize>,
     tokens: &mut IndexMap<[u8; 16], usize>,
@@ -129,7 +130,7 @@ fn note_all(
     Ok(())
 }
 
-/// Forgets the slot of a tenant.
+/// Removes the slot of a tenant from the tables.
 fn forget(
     names: &mut IndexMap<Name, usize>,
     tokens: &mut IndexMap<[u8; 16], usize>,
@@ -142,7 +143,7 @@ fn forget(
     let _same = tokens.swap_remove(tenant.token.as_bytes());
 }
 
-/// Hints at the slot of each of these tenants.
+/// Returns the cache with the slot of each of these tenants.
 fn hints_of(alloc: Global, tenants: &[Tenant]) -> Result<NameHints, AllocError> {
     let mut hints = NameHints::new(alloc)?;
     for slot in 0..tenants.len() {
@@ -152,7 +153,7 @@ fn hints_of(alloc: Global, tenants: &[Tenant]) -> Result<NameHints, AllocError> 
 }
 
 impl OpenTenants {
-    /// No open tenant.
+    /// Returns an empty table: no tenant is open. Fails with `AllocError` if memory runs out.
     pub fn new(alloc: Global) -> Result<Self, AllocError>
         ensures { IfOk result (λ tenants. tenants ≡ replicate most_tenants None) }
     {
@@ -164,7 +165,7 @@ impl OpenTenants {
         })
     }
 
-    /// The tenants of a head, each at its slot.
+    /// Opens the tenants of a head, each in its slot. Fails with `AllocError` if memory runs out.
     pub fn of(alloc: Global, tenants: &Tenants) -> Result<Self, AllocError>
         ensures { IfOk result (λ begun. begun ≡ begun_with tenants.now) }
     {
@@ -181,7 +182,7 @@ impl OpenTenants {
         })
     }
 
-    /// The tenant of each slot.
+    /// Returns the tenant of each slot.
     pub fn as_slice(&self) -> &[Option<Tenant>]
         ensures value { result.now ≡ self.now }
         ensures enough { most_tenants ≤ length self.now }
@@ -189,14 +190,14 @@ impl OpenTenants {
         self.slots.as_slice()
     }
 
-    /// How many are open.
+    /// Returns the number of open tenants.
     pub fn len(&self) -> usize
         ensures { result ≡ count_by is_some self.now }
     {
         self.slots.iter().filter(|tenant| tenant.is_some()).count()
     }
 
-    /// The tenant of a slot, if it has one.
+    /// Returns the tenant of a slot, if it has one.
     pub fn tenant(&self, slot: u64) -> Option<&Tenant>
         ensures { option_copied result ≡ open_at slot self.now }
     {
@@ -206,7 +207,7 @@ impl OpenTenants {
         }
     }
 
-    /// Whether a slot has an open tenant with this name. Only one has.
+    /// Returns `true` if the slot has an open tenant with this name. At most one slot has.
     fn is_at(&self, place: u64, name: &[u8]) -> bool
         ensures { IsTrue result → open_slot_of_name self.now name.now ≡ Some place }
     {
@@ -216,7 +217,7 @@ impl OpenTenants {
         }
     }
 
-    /// The slot of the open tenant with this name.
+    /// Returns the slot of the open tenant with this name.
     pub fn slot_of_name(&self, name: &[u8]) -> Option<u64>
         ensures { result ≡ open_slot_of_name self.now name.now }
     {
@@ -227,7 +228,7 @@ impl OpenTenants {
         self.slot_by_hash(name)
     }
 
-    /// The same, by the name's hash.
+    /// Does the same by the name's hash.
     #[inline(never)]
     fn slot_by_hash(&self, name: &[u8]) -> Option<u64>
         ensures { result ≡ open_slot_of_name self.now name.now }
@@ -242,7 +243,7 @@ impl OpenTenants {
         }
     }
 
-    /// The slot of the open tenant with this token.
+    /// Returns the slot of the open tenant with this token.
     pub fn slot_of_token(&self, token: &Uuid) -> Option<u64>
         ensures { result ≡ open_slot_of_token self.now token.now }
     {
@@ -252,7 +253,7 @@ impl OpenTenants {
         }
     }
 
-    /// The least slot that may be given to a tenant.
+    /// Returns the least slot that may be given to a tenant.
     pub fn least_free(&self) -> Option<u64>
         ensures { result ≡ position is_none (take most_tenants self.now) }
     {
@@ -262,14 +263,14 @@ impl OpenTenants {
         }
     }
 
-    /// Whether no open tenant has this one's name or token.
+    /// Returns `true` if no open tenant has this one's name or token.
     pub fn is_new(&self, tenant: &Tenant) -> bool
         ensures { result ≡ is_new self.now tenant.now }
     {
         !self.names.contains_key(&tenant.name) && !self.tokens.contains_key(tenant.token.as_bytes())
     }
 
-    /// Whether the slot may be given to a tenant.
+    /// Returns `true` if the slot may be given to a tenant.
     pub fn is_free(&self, slot: u64) -> bool
         ensures { result ≡ is_free slot self.now }
     {
@@ -279,7 +280,7 @@ impl OpenTenants {
         }
     }
 
-    /// Why the tenant is not admitted to the slot, apart from want of memory.
+    /// Returns why the tenant is not admitted to the slot, unless memory runs out.
     fn refusal(&self, slot: u64, tenant: &Tenant) -> Option<Fault>
         ensures { result ≡ admission_refusal self.now slot tenant.now }
     {
@@ -292,8 +293,9 @@ impl OpenTenants {
         None
     }
 
-    /// Gives the slot to the tenant. `NameTaken` where an open tenant has that name or token, `NoSlot` where the slot has a
-    /// tenant or is none of the 64, in this order.
+    /// Gives the slot to the tenant. Fails with `NameTaken` if an open tenant has that name or
+    /// token, with `NoSlot` if the slot has a tenant or is none of the 64, in this order, or with
+    /// `OutOfMemory`.
     pub fn admit_at(&mut self, slot: u64, tenant: Tenant) -> Result<(), Fault>
         ensures ok { OnOk result (self.new ≡ slice_set self.old slot (Some tenant)) }
         ensures refused { IfSome (admission_refusal self.old slot tenant) (λ fault. result ≡ Err fault) }
@@ -310,7 +312,8 @@ impl OpenTenants {
         Ok(())
     }
 
-    /// Takes the slot from its tenant. It asks for no memory.
+    /// Closes the tenant of the slot. Allocates nothing. Fails with `UnknownTenant` if the slot has
+    /// no tenant.
     pub fn close(&mut self, slot: u64) -> Result<(), Fault>
         ensures closed { OnOk result (self.new ≡ slice_set self.old slot None) }
         ensures there { IfSome (open_at slot self.old) (λ _. IsOk result) }

@@ -1,4 +1,4 @@
-//! Lists of pairs as they are kept: a list whose keys are all short takes less memory.
+//! Stored lists of pairs: a list whose keys are all short takes less memory.
 ghost use Rattle.std.specs.Prelude.{◌≡◌, ◌<◌, ◌≤◌, ◌+◌, ◌*◌, ◌++◌, [], length, take, slice_index_or, MatchResult, IfOk, IfSome, IsTrue, ◌↔◌, nat_le};
 ghost use Rattle.std.specs.List.{HoldsAt, list_all};
 ghost use Rattle.std.specs.List.Sorted.{IsSearchInRange, IsPartitionPoint};
@@ -27,10 +27,10 @@ use std::cmp::Ordering;
 use std::marker::Model;
 use std::slice;
 
-/// How many pairs are looked at one after another.
+/// The most pairs that are compared one after another.
 const FEW: usize = 8;
 
-/// A pair whose key has at most 15 bytes. Contracts see a pair like any other.
+/// A pair whose key has at most 15 bytes. Contracts see an ordinary pair.
 #[derive(Clone, Copy, Debug)]
 pub struct ShortPair {
     bytes: [u8; 15],
@@ -57,7 +57,7 @@ impl Model for ShortPair {
 }
 
 impl ShortPair {
-    /// A pair with a short key.
+    /// Converts a pair with a short key.
     pub(crate) fn of(pair: &Pair) -> Self
         requires { length pair.now.key ≤ SHORT }
         ensures { result ≡ pair.now }
@@ -69,7 +69,7 @@ impl ShortPair {
         }
     }
 
-    /// The same pair, with a key like any other.
+    /// Returns the same pair in full.
     pub(crate) fn pair(&self) -> Pair
         ensures { result ≡ self.now }
     {
@@ -79,7 +79,7 @@ impl ShortPair {
         }
     }
 
-    /// The version.
+    /// Returns the version.
     #[inline(always)]
     pub fn version(&self) -> Version
         ensures { result ≡ self.now.version }
@@ -87,7 +87,7 @@ impl ShortPair {
         self.version
     }
 
-    /// How many bytes the key has.
+    /// Returns the number of bytes of the key.
     #[inline(always)]
     pub fn key_len(&self) -> u8
         ensures value { result ≡ length self.now.key }
@@ -96,7 +96,7 @@ impl ShortPair {
         self.len
     }
 
-    /// Puts the key at a place where there is room for a short one.
+    /// Writes the key at `at`, which needs room for a short one. Returns the place behind it.
     #[inline(always)]
     pub fn put_key(&self, bytes: &mut [u8], at: usize) -> usize
         requires { at + SHORT ≤ length bytes.old }
@@ -106,7 +106,7 @@ impl ShortPair {
         put_front(bytes, at, &self.bytes, usize::from(self.len))
     }
 
-    /// Whether this is the key.
+    /// Returns `true` if this is the key.
     #[inline(always)]
     fn has_key(&self, key: &Key) -> bool
         ensures { result ≡ key_eq self.now.key key.now }
@@ -114,7 +114,7 @@ impl ShortPair {
         self.key_order(key) == Ordering::Equal
     }
 
-    /// How the key stands to that of another short pair.
+    /// Compares the key with that of another short pair.
     #[inline(always)]
     pub(crate) fn order_to_short(&self, other: &ShortPair) -> Ordering
         ensures { result ≡ key_cmp self.now.key other.now.key }
@@ -122,7 +122,7 @@ impl ShortPair {
         order_of_fronts(&self.bytes, &other.bytes, 7)
     }
 
-    /// Whether the key is that of another short pair.
+    /// Returns `true` if the key is that of another short pair.
     #[inline(always)]
     pub(crate) fn has_key_of(&self, other: &ShortPair) -> bool
         ensures { result ≡ key_eq self.now.key other.now.key }
@@ -130,7 +130,7 @@ impl ShortPair {
         self.order_to_short(other) == Ordering::Equal
     }
 
-    /// Whether another short pair is the same.
+    /// Returns `true` if another short pair is the same.
     #[inline(always)]
     fn is_short_pair(&self, other: &ShortPair) -> bool
         ensures { result ≡ pair_eq other.now self.now }
@@ -138,7 +138,7 @@ impl ShortPair {
         other.has_key_of(self) && other.version == self.version
     }
 
-    /// Whether this is the pair.
+    /// Returns `true` if this is the pair.
     #[inline(always)]
     fn is_pair(&self, pair: &Pair) -> bool
         ensures { result ≡ pair_eq pair.now self.now }
@@ -146,7 +146,7 @@ impl ShortPair {
         self.has_key(&pair.key) && pair.version == self.version
     }
 
-    /// Puts the key, a colon and the version at a place.
+    /// Writes the key, a colon and the version at a place.
     #[inline(always)]
     fn put(&self, bytes: &mut [u8], at: usize) -> usize
         requires { at + 106 ≤ length bytes.old }
@@ -159,7 +159,7 @@ impl ShortPair {
         put_version(bytes, version, self.version)
     }
 
-    /// What stands behind the key, a colon and the version.
+    /// Returns the bytes after the key, a colon and the version.
     #[inline(always)]
     #[tactic(auto, using(crate::proofs::BehindLemmas::behind_both, crate::proofs::BehindLemmas::behind_more))]
     fn behind<'a>(&self, bytes: &'a [u8]) -> Option<&'a [u8]>
@@ -171,7 +171,7 @@ impl ShortPair {
         behind_version(version, self.version)
     }
 
-    /// How the key stands to another.
+    /// Compares the key with another.
     #[inline(always)]
     pub(crate) fn key_order(&self, key: &Key) -> Ordering
         ensures { result ≡ key_cmp self.now.key key.now }
@@ -199,7 +199,7 @@ impl PartialEq for ShortPair {
     }
 }
 
-/// One pair with a short key where it stands, more of them, or pairs in full.
+/// One pair with a short key in place, several of them, or pairs in full.
 #[derive(Debug, Drop)]
 enum Rows {
     One(ShortPair),
@@ -207,8 +207,8 @@ enum Rows {
     Full(Vec<Pair>),
 }
 
-/// Pairs, in as little memory as they fit. Contracts see the list of them. One pair with a short key
-/// takes no memory beside.
+/// Pairs in the smallest form that fits. Contracts see their list. One pair with a short key needs
+/// no allocation.
 #[derive(Debug, Drop)]
 pub(crate) struct PackedPairs {
     alloc: Global,
@@ -226,14 +226,14 @@ impl Model for PackedPairs {
     ghost view = { λ p. pairs_of p.rows };
 }
 
-/// Whether each key is short.
+/// Returns `true` if each key is short.
 fn are_short(pairs: &[Pair]) -> bool
     ensures { result ≡ list_all has_short_key pairs.now }
 {
     pairs.iter().all(|pair| pair.key.len() <= 15)
 }
 
-/// The pairs, which all have short keys.
+/// Converts the pairs, which all have short keys.
 fn shortened(alloc: Global, pairs: &[Pair]) -> Result<Vec<ShortPair>, AllocError>
     requires { IsTrue (list_all has_short_key pairs.now) }
     ensures { IfOk result (λ list. list.items ≡ pairs.now) }
@@ -245,7 +245,7 @@ fn shortened(alloc: Global, pairs: &[Pair]) -> Result<Vec<ShortPair>, AllocError
     Ok(list)
 }
 
-/// The rows of these pairs, which all have short keys.
+/// Returns the rows of these pairs, which all have short keys.
 fn short_rows(alloc: Global, pairs: &[Pair]) -> Result<Rows, AllocError>
     requires { IsTrue (list_all has_short_key pairs.now) }
     ensures { IfOk result (λ rows. pairs_of rows ≡ pairs.now) }
@@ -256,7 +256,7 @@ fn short_rows(alloc: Global, pairs: &[Pair]) -> Result<Rows, AllocError>
     Ok(Rows::Short(shortened(alloc, pairs)?))
 }
 
-/// Puts each pair after a comma at a place.
+/// Writes each pair after a comma at a place.
 fn put_more_short(bytes: &mut [u8], at: usize, pairs: &[ShortPair]) -> usize
     requires { at + 107 * length pairs.now ≤ length bytes.old }
     ensures text { take result bytes.new ≡ take at bytes.old ++ more_text pairs.now }
@@ -271,7 +271,7 @@ fn put_more_short(bytes: &mut [u8], at: usize, pairs: &[ShortPair]) -> usize
     end
 }
 
-/// Puts the pairs with commas between, or a hyphen for none, at a place.
+/// Writes the pairs separated by commas, or a hyphen for none, at a place.
 fn put_short(bytes: &mut [u8], at: usize, pairs: &[ShortPair]) -> usize
     requires { at + 107 * length pairs.now + 1 ≤ length bytes.old }
     ensures text { take result bytes.new ≡ take at bytes.old ++ list_text pairs.now }
@@ -287,7 +287,7 @@ fn put_short(bytes: &mut [u8], at: usize, pairs: &[ShortPair]) -> usize
     }
 }
 
-/// What stands behind the pairs, each after a comma.
+/// Returns the bytes after the pairs, each of which follows a comma.
 #[tactic(auto, using(crate::proofs::BehindLemmas::behind_both, crate::proofs::BehindLemmas::behind_more))]
 fn behind_more_short<'a>(bytes: &'a [u8], pairs: &[ShortPair]) -> Option<&'a [u8]>
     ensures text { option_map (λ rest. rest.now) result ≡ behind (more_text pairs.now) bytes.now }
@@ -301,7 +301,7 @@ fn behind_more_short<'a>(bytes: &'a [u8], pairs: &[ShortPair]) -> Option<&'a [u8
     Some(rest)
 }
 
-/// What stands behind the pairs with commas between, or behind a hyphen for none.
+/// Returns the bytes after the pairs separated by commas, or after a hyphen for none.
 fn behind_short<'a>(bytes: &'a [u8], pairs: &[ShortPair]) -> Option<&'a [u8]>
     ensures text { option_map (λ rest. rest.now) result ≡ behind (list_text pairs.now) bytes.now }
     ensures formed { IfSome result (λ _. IsTrue (list_all is_pair pairs.now)) }
@@ -315,7 +315,7 @@ fn behind_short<'a>(bytes: &'a [u8], pairs: &[ShortPair]) -> Option<&'a [u8]>
     }
 }
 
-/// Where the key is among short pairs, or its place.
+/// Returns the index of the key among short pairs, or the index at which it belongs.
 fn place_among_short(pairs: &[ShortPair], key: &Key) -> Result<usize, usize>
     requires { IsDeps pairs.now }
     ensures within { IsSearchInRange result (length pairs.now) }
@@ -326,8 +326,8 @@ fn place_among_short(pairs: &[ShortPair], key: &Key) -> Result<usize, usize>
     pairs.binary_search_by(|pair| pair.key_order(key))
 }
 
-/// The version that short pairs in order have of a key, 0.0 where they have none. Few pairs are looked
-/// at one after another.
+/// Returns the version of a key among short pairs in order, 0.0 if there is none. Few pairs are
+/// compared one after another.
 fn version_among_short(pairs: &[ShortPair], key: &Key) -> Version
     requires { IsDeps pairs.now }
     ensures { result ≡ version_of key.now pairs.now }
@@ -343,7 +343,7 @@ fn version_among_short(pairs: &[ShortPair], key: &Key) -> Version
     Version::none()
 }
 
-/// The same, by halves.
+/// Does the same by binary search.
 #[inline(never)]
 fn version_among_many(pairs: &[ShortPair], key: &Key) -> Version
     requires { IsDeps pairs.now }
@@ -355,8 +355,8 @@ fn version_among_many(pairs: &[ShortPair], key: &Key) -> Version
     }
 }
 
-/// Whether short pairs with one version for each key hold exactly this pair. Few pairs are looked at
-/// one after another.
+/// Returns `true` if short pairs with one version for each key hold exactly this pair. Few pairs
+/// are compared one after another.
 fn is_among_short(pairs: &[ShortPair], pair: &Pair) -> bool
     requires { IsDeps pairs.now }
     ensures { result ≡ holds pairs.now pair.now }
@@ -367,7 +367,7 @@ fn is_among_short(pairs: &[ShortPair], pair: &Pair) -> bool
     pairs.iter().any(|other| other.is_pair(pair))
 }
 
-/// The same, by halves.
+/// Does the same by binary search.
 #[inline(never)]
 fn is_among_many(pairs: &[ShortPair], pair: &Pair) -> bool
     requires { IsDeps pairs.now }
@@ -379,7 +379,8 @@ fn is_among_many(pairs: &[ShortPair], pair: &Pair) -> bool
     }
 }
 
-/// Whether short pairs with one version for each key hold exactly this short pair, in the same way.
+/// Returns `true` if short pairs with one version for each key hold exactly this short pair, in the
+/// same way.
 #[inline(always)]
 pub(crate) fn has_short(pairs: &[ShortPair], pair: &ShortPair) -> bool
     requires { IsDeps pairs.now }
@@ -391,7 +392,7 @@ pub(crate) fn has_short(pairs: &[ShortPair], pair: &ShortPair) -> bool
     pairs.iter().any(|other| other.is_short_pair(pair))
 }
 
-/// The same, by halves.
+/// Does the same by binary search.
 #[inline(never)]
 fn has_short_among_many(pairs: &[ShortPair], pair: &ShortPair) -> bool
     requires { IsDeps pairs.now }
@@ -400,21 +401,21 @@ fn has_short_among_many(pairs: &[ShortPair], pair: &ShortPair) -> bool
     is_among_many(pairs, &pair.pair())
 }
 
-/// Whether two pairs are the same.
+/// Returns `true` if two pairs are the same.
 fn is_same_pair(pair: Pair, other: Pair) -> bool
     ensures { IsTrue result ↔ (pair ≡ other) }
 {
     pair == other
 }
 
-/// Whether two lists of short pairs are the same.
+/// Returns `true` if two lists of short pairs are the same.
 fn are_same_short(pairs: &[ShortPair], others: &[ShortPair]) -> bool
     ensures { IsTrue result ↔ (pairs.now ≡ others.now) }
 {
     pairs == others
 }
 
-/// Whether two lists of pairs in full are the same.
+/// Returns `true` if two lists of pairs in full are the same.
 fn are_same_full(pairs: &[Pair], others: &[Pair]) -> bool
     ensures { IsTrue result ↔ (pairs.now ≡ others.now) }
 {
@@ -422,7 +423,7 @@ fn are_same_full(pairs: &[Pair], others: &[Pair]) -> bool
 }
 
 impl PackedPairs {
-    /// No pairs.
+    /// Returns an empty list of pairs.
     pub(crate) fn empty(alloc: Global) -> Self
         ensures { result ≡ [] }
     {
@@ -432,7 +433,7 @@ impl PackedPairs {
         }
     }
 
-    /// A copy of pairs, with one request for memory.
+    /// Copies pairs, with at most one allocation.
     pub(crate) fn copy_of(alloc: Global, pairs: &[Pair]) -> Result<Self, AllocError>
         ensures { IfOk result (λ packed. packed ≡ pairs.now) }
     {
@@ -444,7 +445,7 @@ impl PackedPairs {
         Ok(PackedPairs { alloc, rows })
     }
 
-    /// A copy of short pairs, with one request for memory.
+    /// Copies short pairs, with at most one allocation.
     pub(crate) fn copy_of_short(alloc: Global, pairs: &[ShortPair]) -> Result<Self, AllocError>
         ensures { IfOk result (λ packed. packed ≡ pairs.now) }
     {
@@ -456,7 +457,7 @@ impl PackedPairs {
         Ok(PackedPairs { alloc, rows })
     }
 
-    /// All pairs, where their keys are kept as short ones.
+    /// Returns all pairs, if their keys are stored in the short form.
     #[inline(always)]
     pub(crate) fn short(&self) -> Option<&[ShortPair]>
         ensures { IfSome result (λ pairs. pairs.now ≡ self.now) }
@@ -468,7 +469,7 @@ impl PackedPairs {
         }
     }
 
-    /// How many pairs there are.
+    /// Returns the number of pairs.
     pub(crate) fn len(&self) -> usize
         ensures { result ≡ length self.now }
     {
@@ -479,7 +480,7 @@ impl PackedPairs {
         }
     }
 
-    /// The pair at a place.
+    /// Returns the pair at a place.
     pub(crate) fn pair(&self, place: usize) -> Pair
         requires { place < length self.now }
         ensures { result ≡ slice_index_or self.now place result }
@@ -491,7 +492,7 @@ impl PackedPairs {
         }
     }
 
-    /// Puts the pairs with commas between, or a hyphen for none, at a place.
+    /// Writes the pairs separated by commas, or a hyphen for none, at a place.
     pub(crate) fn put(&self, bytes: &mut [u8], at: usize) -> usize
         requires { at + 107 * length self.now + 1 ≤ length bytes.old }
         ensures text { take result bytes.new ≡ take at bytes.old ++ list_text self.now }
@@ -505,7 +506,7 @@ impl PackedPairs {
         }
     }
 
-    /// What stands behind the pairs with commas between, or behind a hyphen for none.
+    /// Returns the bytes after the pairs separated by commas, or after a hyphen for none.
     pub(crate) fn behind<'a>(&self, bytes: &'a [u8]) -> Option<&'a [u8]>
         ensures text { option_map (λ rest. rest.now) result ≡ behind (list_text self.now) bytes.now }
         ensures formed { IfSome result (λ _. IsTrue (list_all is_pair self.now)) }
@@ -517,7 +518,7 @@ impl PackedPairs {
         }
     }
 
-    /// How the key at a place stands to another.
+    /// Compares the key at a place with another.
     #[inline(always)]
     pub(crate) fn key_order(&self, place: usize, key: &Key) -> Ordering
         requires { place < length self.now }
@@ -530,7 +531,7 @@ impl PackedPairs {
         }
     }
 
-    /// The version of the pair at a place.
+    /// Returns the version of the pair at a place.
     pub(crate) fn version(&self, place: usize) -> Version
         requires { place < length self.now }
         ensures { HoldsAt (λ p. p.version ≡ result) self.now place }
@@ -542,12 +543,12 @@ impl PackedPairs {
         }
     }
 
-    /// The handle for memory.
+    /// Returns the handle for memory.
     pub(crate) fn allocator(&self) -> Global {
         self.alloc
     }
 
-    /// The same pairs, in other memory.
+    /// Returns the same pairs, in other memory.
     pub(crate) fn copy(&self, alloc: Global) -> Result<Self, AllocError>
         ensures { IfOk result (λ packed. packed ≡ self.now) }
     {
@@ -559,7 +560,7 @@ impl PackedPairs {
         Ok(PackedPairs { alloc, rows })
     }
 
-    /// Whether both have the same pairs.
+    /// Returns `true` if both have the same pairs.
     pub(crate) fn is_same(&self, other: &PackedPairs) -> bool
         ensures { IsTrue result ↔ (self.now ≡ other.now) }
     {
@@ -576,7 +577,7 @@ impl PackedPairs {
         }
     }
 
-    /// The same of lists that are kept in different forms.
+    /// Does the same for lists in different forms.
     fn is_same_by_pair(&self, other: &PackedPairs) -> bool
         ensures { IsTrue result ↔ (self.now ≡ other.now) }
     {
@@ -591,7 +592,7 @@ impl PackedPairs {
         true
     }
 
-    /// Where the key is, or its place.
+    /// Returns the index of the key, or the index at which it belongs.
     fn place_of(&self, key: &Key) -> Result<usize, usize>
         requires { IsDeps self.now }
         ensures within { IsSearchInRange result (length self.now) }
@@ -606,7 +607,7 @@ impl PackedPairs {
         }
     }
 
-    /// The version that pairs in order have of a key, 0.0 where they have none.
+    /// Returns the version of a key among pairs in order, 0.0 if there is none.
     pub(crate) fn version_of(&self, key: &Key) -> Version
         requires { IsDeps self.now }
         ensures { result ≡ version_of key.now self.now }
@@ -617,7 +618,7 @@ impl PackedPairs {
         }
     }
 
-    /// The same, of pairs in any form.
+    /// Does the same for pairs in any form.
     #[inline(never)]
     fn version_by_place(&self, key: &Key) -> Version
         requires { IsDeps self.now }
@@ -629,7 +630,7 @@ impl PackedPairs {
         }
     }
 
-    /// Whether pairs with one version for each key hold exactly this pair.
+    /// Returns `true` if pairs with one version for each key hold exactly this pair.
     pub(crate) fn holds(&self, pair: &Pair) -> bool
         requires { IsDeps self.now }
         ensures { result ≡ holds self.now pair.now }
@@ -640,7 +641,7 @@ impl PackedPairs {
         }
     }
 
-    /// The same, of pairs in any form.
+    /// Does the same for pairs in any form.
     #[inline(never)]
     fn holds_at_place(&self, pair: &Pair) -> bool
         requires { IsDeps self.now }
@@ -652,7 +653,7 @@ impl PackedPairs {
         }
     }
 
-    /// The greatest clock among the pairs.
+    /// Returns the greatest clock among the pairs.
     pub(crate) fn greatest_clock(&self) -> u64
         ensures value { result ≡ greatest_clock_of self.now }
         ensures fits { result ≤ last_clock }

@@ -1,8 +1,8 @@
-//! Texts of numbers, versions, keys and pairs, put at a place of bytes that are there already.
+//! Texts of numbers, versions, keys and pairs, written at a place in existing bytes.
 //!
-//! What stands before the place stays, and the answer is the place behind the text. Bytes behind that
-//! may have any value: whoever goes on from there writes over them. No memory is asked for, so the
-//! caller sees to it that there is room.
+//! The bytes before the place stay. Each function returns the place behind the text. The bytes
+//! behind that may have any value: whoever continues there overwrites them. Nothing is allocated,
+//! so the caller provides the room.
 ghost use Rattle.std.specs.Prelude.{◌≡◌, ◌≤◌, ◌<◌, ◌+◌, ◌*◌, ◌%◌, ◌++◌, ◌∷◌, [], length, take, decimal, IsTrue};
 ghost use Rattle.std.specs.List.{list_all};
 ghost use Rattle.cops_types.specs.Key.{is_key};
@@ -16,7 +16,7 @@ use crate::near::OwnedNear;
 use crate::pairs::Pair;
 use crate::versions::Version;
 
-/// Puts a byte.
+/// Writes a byte.
 #[inline(always)]
 pub fn put_byte(bytes: &mut [u8], at: usize, byte: u8) -> usize
     requires { at < length bytes.old }
@@ -27,8 +27,8 @@ pub fn put_byte(bytes: &mut [u8], at: usize, byte: u8) -> usize
     at + 1
 }
 
-/// Puts the first bytes of some. The others are written behind them, which costs less than to leave
-/// them out where their number is known to the compiler.
+/// Writes the first `count` bytes. The others are written behind them: that is cheaper than leaving
+/// them out if the compiler knows their number.
 #[inline(always)]
 pub(crate) fn put_front(bytes: &mut [u8], at: usize, cells: &[u8], count: usize) -> usize
     requires room { at + length cells.now ≤ length bytes.old }
@@ -40,7 +40,7 @@ pub(crate) fn put_front(bytes: &mut [u8], at: usize, cells: &[u8], count: usize)
     at + count
 }
 
-/// Puts these bytes.
+/// Writes these bytes.
 #[inline(always)]
 pub fn put_word(bytes: &mut [u8], at: usize, word: &[u8]) -> usize
     requires { at + length word.now ≤ length bytes.old }
@@ -50,7 +50,7 @@ pub fn put_word(bytes: &mut [u8], at: usize, word: &[u8]) -> usize
     put_front(bytes, at, word, word.len())
 }
 
-/// Puts bytes whose number the compiler knows, with no call.
+/// Writes bytes whose number the compiler knows, without a call.
 #[inline(always)]
 fn put_block<const N: usize>(bytes: &mut [u8], at: usize, block: &[u8])
     requires room { at + N ≤ length bytes.old }
@@ -62,7 +62,7 @@ fn put_block<const N: usize>(bytes: &mut [u8], at: usize, block: &[u8])
     let _ = put_word(bytes, at, &cells);
 }
 
-/// Puts bytes as two blocks, of their front and of their end, which may overlap.
+/// Writes bytes as two blocks, one at their start and one at their end, which may overlap.
 #[inline(always)]
 fn put_blocks<const N: usize>(bytes: &mut [u8], at: usize, word: &[u8]) -> usize
     requires room { at + length word.now ≤ length bytes.old }
@@ -77,7 +77,7 @@ fn put_blocks<const N: usize>(bytes: &mut [u8], at: usize, word: &[u8]) -> usize
     at + word.len()
 }
 
-/// Puts bytes. From 8 to 32 of them take no call.
+/// Writes bytes. From 8 to 32 of them need no call.
 #[inline(always)]
 pub fn put_bytes(bytes: &mut [u8], at: usize, word: &[u8]) -> usize
     requires { at + length word.now ≤ length bytes.old }
@@ -94,7 +94,7 @@ pub fn put_bytes(bytes: &mut [u8], at: usize, word: &[u8]) -> usize
     put_word(bytes, at, word)
 }
 
-/// Puts the decimal digit of a number.
+/// Writes the decimal digit of a number.
 #[inline(always)]
 fn put_digit(bytes: &mut [u8], at: usize, number: u64) -> usize
     requires small { number < 10 }
@@ -105,7 +105,7 @@ fn put_digit(bytes: &mut [u8], at: usize, number: u64) -> usize
     put_byte(bytes, at, b'0' + number as u8)
 }
 
-/// Puts the last decimal digit of a number behind those before it.
+/// Writes the last decimal digit of a number behind those before it.
 #[inline(always)]
 fn put_last_digit(bytes: &mut [u8], at: usize, number: u64) -> usize
     requires { at < length bytes.old }
@@ -115,7 +115,7 @@ fn put_last_digit(bytes: &mut [u8], at: usize, number: u64) -> usize
     put_digit(bytes, at, number % 10)
 }
 
-/// Puts the last four decimal digits of a number behind those before them.
+/// Writes the last four decimal digits of a number behind those before them.
 #[inline(always)]
 fn put_last_four(bytes: &mut [u8], at: usize, number: u64) -> usize
     requires { at + 4 ≤ length bytes.old }
@@ -128,7 +128,7 @@ fn put_last_four(bytes: &mut [u8], at: usize, number: u64) -> usize
     put_last_digit(bytes, fourth, number)
 }
 
-/// Puts the decimal digits of a number below 10,000.
+/// Writes the decimal digits of a number below 10,000.
 #[inline(always)]
 fn put_four(bytes: &mut [u8], at: usize, number: u64) -> usize
     requires small { number < 10000 }
@@ -151,7 +151,7 @@ fn put_four(bytes: &mut [u8], at: usize, number: u64) -> usize
     put_last_four(bytes, at, number)
 }
 
-/// Puts the decimal digits of any number.
+/// Writes the decimal digits of any number.
 #[inline(never)]
 fn put_long(bytes: &mut [u8], at: usize, number: u64) -> usize
     requires { at + 20 ≤ length bytes.old }
@@ -162,7 +162,7 @@ fn put_long(bytes: &mut [u8], at: usize, number: u64) -> usize
     put_word(bytes, at, buffer.format(number).as_bytes())
 }
 
-/// Puts the decimal digits of a number of more than one digit.
+/// Writes the decimal digits of a number of more than one digit.
 #[inline(never)]
 fn put_more_digits(bytes: &mut [u8], at: usize, number: u64) -> usize
     requires { at + 20 ≤ length bytes.old }
@@ -179,7 +179,7 @@ fn put_more_digits(bytes: &mut [u8], at: usize, number: u64) -> usize
     put_long(bytes, at, number)
 }
 
-/// Puts the decimal digits of a number, of which there are 20 at most.
+/// Writes the decimal digits of a number, at most 20.
 #[inline(always)]
 pub fn put_number(bytes: &mut [u8], at: usize, number: u64) -> usize
     requires { at + 20 ≤ length bytes.old }
@@ -192,7 +192,7 @@ pub fn put_number(bytes: &mut [u8], at: usize, number: u64) -> usize
     put_more_digits(bytes, at, number)
 }
 
-/// Puts the clock, a dot and the node.
+/// Writes the clock, a dot and the node.
 #[inline(always)]
 pub fn put_version(bytes: &mut [u8], at: usize, version: Version) -> usize
     requires { at + 41 ≤ length bytes.old }
@@ -205,7 +205,7 @@ pub fn put_version(bytes: &mut [u8], at: usize, version: Version) -> usize
     put_number(bytes, node, version.place() as u64)
 }
 
-/// Puts a key, of 64 bytes at most.
+/// Writes a key, at most 64 bytes.
 #[inline(always)]
 pub fn put_key(bytes: &mut [u8], at: usize, key: &Key) -> usize
     requires { at + 64 ≤ length bytes.old }
@@ -216,7 +216,7 @@ pub fn put_key(bytes: &mut [u8], at: usize, key: &Key) -> usize
     put_word(bytes, at, key.bytes())
 }
 
-/// Puts the key, a colon and the version.
+/// Writes the key, a colon and the version.
 pub(crate) fn put_pair(bytes: &mut [u8], at: usize, pair: &Pair) -> usize
     requires { at + 106 ≤ length bytes.old }
     ensures text { take result bytes.new ≡ take at bytes.old ++ pair_text pair.now }
@@ -228,7 +228,7 @@ pub(crate) fn put_pair(bytes: &mut [u8], at: usize, pair: &Pair) -> usize
     put_version(bytes, version, pair.version)
 }
 
-/// Puts each pair after a comma.
+/// Writes each pair after a comma.
 pub(crate) fn put_more_pairs(bytes: &mut [u8], at: usize, pairs: &[Pair]) -> usize
     requires { at + 107 * length pairs.now ≤ length bytes.old }
     ensures text { take result bytes.new ≡ take at bytes.old ++ more_text pairs.now }
@@ -243,7 +243,7 @@ pub(crate) fn put_more_pairs(bytes: &mut [u8], at: usize, pairs: &[Pair]) -> usi
     end
 }
 
-/// Puts the pairs with commas between, or a hyphen for none.
+/// Writes the pairs separated by commas, or a hyphen for none.
 pub(crate) fn put_pairs(bytes: &mut [u8], at: usize, pairs: &[Pair]) -> usize
     requires { at + 107 * length pairs.now + 1 ≤ length bytes.old }
     ensures text { take result bytes.new ≡ take at bytes.old ++ list_text pairs.now }
@@ -259,7 +259,7 @@ pub(crate) fn put_pairs(bytes: &mut [u8], at: usize, pairs: &[Pair]) -> usize
     }
 }
 
-/// Puts the pairs with commas between, or a hyphen for none.
+/// Writes the pairs separated by commas, or a hyphen for none.
 pub fn put_deps(bytes: &mut [u8], at: usize, deps: &OwnedDeps) -> usize
     requires { at + 107 * length deps.now + 1 ≤ length bytes.old }
     ensures text { take result bytes.new ≡ take at bytes.old ++ list_text deps.now }
@@ -269,7 +269,7 @@ pub fn put_deps(bytes: &mut [u8], at: usize, deps: &OwnedDeps) -> usize
     deps.packed().put(bytes, at)
 }
 
-/// Puts the pairs with commas between, or a hyphen for none.
+/// Writes the pairs separated by commas, or a hyphen for none.
 pub fn put_near(bytes: &mut [u8], at: usize, near: &OwnedNear) -> usize
     requires { at + 107 * length near.now + 1 ≤ length bytes.old }
     ensures text { take result bytes.new ≡ take at bytes.old ++ list_text near.now }

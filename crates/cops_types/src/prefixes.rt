@@ -1,6 +1,6 @@
-//! Texts of numbers, versions, keys and pairs, compared with the front of bytes where they stand.
+//! Texts of numbers, versions, keys and pairs, compared with a prefix of bytes in place.
 //!
-//! The answer is what stands behind the text, where the bytes begin with it. No text is made for it.
+//! Each function returns the bytes after the text, if they begin with it. No text is built.
 ghost use Rattle.std.specs.Prelude.{◌≡◌, ◌<◌, ◌≤◌, ◌∷◌, [], decimal, drop, length, None, Some, IfNone, IfSome, IsTrue};
 ghost use Rattle.std.specs.List.{list_all};
 ghost use Rattle.std.specs.Option.{option_map};
@@ -16,7 +16,7 @@ use crate::near::OwnedNear;
 use crate::pairs::Pair;
 use crate::versions::Version;
 
-/// What stands behind a byte.
+/// Returns the bytes after a byte.
 #[inline(always)]
 pub fn behind_byte(bytes: &[u8], byte: u8) -> Option<&[u8]>
     ensures { option_map (λ rest. rest.now) result ≡ behind (byte ∷ []) bytes.now }
@@ -27,7 +27,7 @@ pub fn behind_byte(bytes: &[u8], byte: u8) -> Option<&[u8]>
     Some(&bytes[1..])
 }
 
-/// What stands behind these bytes.
+/// Returns the bytes after this prefix.
 #[inline(always)]
 pub fn behind_bytes<'a>(bytes: &'a [u8], front: &[u8]) -> Option<&'a [u8]>
     ensures { option_map (λ rest. rest.now) result ≡ behind front.now bytes.now }
@@ -51,7 +51,7 @@ static TWO_DIGITS: [u8; 200] = *b"\
     6061626364656667686970717273747576777879\
     8081828384858687888990919293949596979899";
 
-/// What stands behind the last two decimal digits of a number.
+/// Returns the bytes after the last two decimal digits of a number.
 #[inline(always)]
 fn behind_last_two(bytes: &[u8], number: u64) -> Option<&[u8]>
     ensures { option_map (λ rest. rest.now) result ≡ behind (last_two number) bytes.now }
@@ -63,7 +63,7 @@ fn behind_last_two(bytes: &[u8], number: u64) -> Option<&[u8]>
     Some(&bytes[2..])
 }
 
-/// What stands behind the last four decimal digits of a number.
+/// Returns the bytes after the last four decimal digits of a number.
 #[inline(always)]
 fn behind_last_four(bytes: &[u8], number: u64) -> Option<&[u8]>
     ensures { option_map (λ rest. rest.now) result ≡ behind (last_four number) bytes.now }
@@ -72,7 +72,7 @@ fn behind_last_four(bytes: &[u8], number: u64) -> Option<&[u8]>
     behind_last_two(rest, number)
 }
 
-/// What stands behind the digit of a number.
+/// Returns the bytes after the digit of a number.
 #[inline(always)]
 fn behind_digit(bytes: &[u8], number: u64) -> Option<&[u8]>
     requires { number < 10 }
@@ -81,7 +81,7 @@ fn behind_digit(bytes: &[u8], number: u64) -> Option<&[u8]>
     behind_byte(bytes, b'0' + number as u8)
 }
 
-/// What stands behind the decimal digits of a number below 10,000.
+/// Returns the bytes after the decimal digits of a number below 10,000.
 #[inline(always)]
 fn behind_four(bytes: &[u8], number: u64) -> Option<&[u8]>
     requires { number < 10000 }
@@ -100,7 +100,7 @@ fn behind_four(bytes: &[u8], number: u64) -> Option<&[u8]>
     behind_last_four(bytes, number)
 }
 
-/// What stands behind the decimal digits of any number.
+/// Returns the bytes after the decimal digits of any number.
 #[inline(never)]
 fn behind_long(bytes: &[u8], number: u64) -> Option<&[u8]>
     ensures { option_map (λ rest. rest.now) result ≡ behind (decimal number) bytes.now }
@@ -112,7 +112,7 @@ fn behind_long(bytes: &[u8], number: u64) -> Option<&[u8]>
     behind_last_four(rest, number)
 }
 
-/// How many bytes at the front are the decimal digits of any number.
+/// Returns how many bytes at the start are the decimal digits of any number.
 #[inline(never)]
 fn many_digits_at_front(bytes: &[u8], number: u64) -> Option<usize>
     ensures some { IfSome result (λ count. (count ≤ length bytes.now) × (behind (decimal number) bytes.now ≡ Some (drop count bytes.now))) }
@@ -122,7 +122,7 @@ fn many_digits_at_front(bytes: &[u8], number: u64) -> Option<usize>
     Some(bytes.len() - rest.len())
 }
 
-/// What stands behind the decimal digits of a number below a hundred millions.
+/// Returns the bytes after the decimal digits of a number below a hundred million.
 #[inline(always)]
 fn behind_eight(bytes: &[u8], number: u64) -> Option<&[u8]>
     requires { number < 100000000 }
@@ -135,7 +135,7 @@ fn behind_eight(bytes: &[u8], number: u64) -> Option<&[u8]>
     behind_last_four(rest, number)
 }
 
-/// How many bytes at the front are the decimal digits of a number.
+/// Returns how many bytes at the start are the decimal digits of a number.
 #[inline(never)]
 fn digits_at_front(bytes: &[u8], number: u64) -> Option<usize>
     ensures some { IfSome result (λ count. (count ≤ length bytes.now) × (behind (decimal number) bytes.now ≡ Some (drop count bytes.now))) }
@@ -148,7 +148,7 @@ fn digits_at_front(bytes: &[u8], number: u64) -> Option<usize>
     Some(bytes.len() - rest.len())
 }
 
-/// What stands behind the decimal digits of a number.
+/// Returns the bytes after the decimal digits of a number.
 #[inline(always)]
 pub fn behind_number(bytes: &[u8], number: u64) -> Option<&[u8]>
     ensures { option_map (λ rest. rest.now) result ≡ behind (decimal number) bytes.now }
@@ -160,7 +160,7 @@ pub fn behind_number(bytes: &[u8], number: u64) -> Option<&[u8]>
     Some(&bytes[count..])
 }
 
-/// What stands behind the clock, a dot and the node.
+/// Returns the bytes after the clock, a dot and the node.
 #[tactic(auto, using(crate::proofs::BehindLemmas::behind_both, crate::proofs::BehindLemmas::behind_more))]
 #[inline(always)]
 pub fn behind_version(bytes: &[u8], version: Version) -> Option<&[u8]>
@@ -172,7 +172,7 @@ pub fn behind_version(bytes: &[u8], version: Version) -> Option<&[u8]>
     behind_number(node, version.place() as u64)
 }
 
-/// What stands behind a key.
+/// Returns the bytes after a key.
 #[inline(always)]
 pub fn behind_key<'a>(bytes: &'a [u8], key: &Key) -> Option<&'a [u8]>
     ensures text { option_map (λ rest. rest.now) result ≡ behind key.now bytes.now }
@@ -181,7 +181,7 @@ pub fn behind_key<'a>(bytes: &'a [u8], key: &Key) -> Option<&'a [u8]>
     behind_bytes(bytes, key.bytes())
 }
 
-/// What stands behind the key, a colon and the version.
+/// Returns the bytes after the key, a colon and the version.
 #[tactic(auto, using(crate::proofs::BehindLemmas::behind_both, crate::proofs::BehindLemmas::behind_more))]
 fn behind_pair<'a>(bytes: &'a [u8], pair: &Pair) -> Option<&'a [u8]>
     ensures text { option_map (λ rest. rest.now) result ≡ behind (pair_text pair.now) bytes.now }
@@ -192,7 +192,7 @@ fn behind_pair<'a>(bytes: &'a [u8], pair: &Pair) -> Option<&'a [u8]>
     behind_version(version, pair.version)
 }
 
-/// What stands behind the pairs, each after a comma.
+/// Returns the bytes after the pairs, each of which follows a comma.
 #[tactic(auto, using(crate::proofs::BehindLemmas::behind_both, crate::proofs::BehindLemmas::behind_more))]
 fn behind_more_pairs<'a>(bytes: &'a [u8], pairs: &[Pair]) -> Option<&'a [u8]>
     ensures text { option_map (λ rest. rest.now) result ≡ behind (more_text pairs.now) bytes.now }
@@ -206,7 +206,7 @@ fn behind_more_pairs<'a>(bytes: &'a [u8], pairs: &[Pair]) -> Option<&'a [u8]>
     Some(rest)
 }
 
-/// What stands behind the pairs with commas between, or behind a hyphen for none.
+/// Returns the bytes after the pairs separated by commas, or after a hyphen for none.
 pub(crate) fn behind_pairs<'a>(bytes: &'a [u8], pairs: &[Pair]) -> Option<&'a [u8]>
     ensures text { option_map (λ rest. rest.now) result ≡ behind (list_text pairs.now) bytes.now }
     ensures formed { IfSome result (λ _. IsTrue (list_all is_pair pairs.now)) }
@@ -220,7 +220,7 @@ pub(crate) fn behind_pairs<'a>(bytes: &'a [u8], pairs: &[Pair]) -> Option<&'a [u
     }
 }
 
-/// What stands behind the pairs with commas between, or behind a hyphen for none.
+/// Returns the bytes after the pairs separated by commas, or after a hyphen for none.
 pub fn behind_deps<'a>(bytes: &'a [u8], deps: &OwnedDeps) -> Option<&'a [u8]>
     ensures text { option_map (λ rest. rest.now) result ≡ behind (list_text deps.now) bytes.now }
     ensures formed { IfSome result (λ _. IsTrue (are_deps deps.now)) }
@@ -228,7 +228,7 @@ pub fn behind_deps<'a>(bytes: &'a [u8], deps: &OwnedDeps) -> Option<&'a [u8]>
     deps.packed().behind(bytes)
 }
 
-/// What stands behind the pairs with commas between, or behind a hyphen for none.
+/// Returns the bytes after the pairs separated by commas, or after a hyphen for none.
 pub fn behind_near<'a>(bytes: &'a [u8], near: &OwnedNear) -> Option<&'a [u8]>
     ensures text { option_map (λ rest. rest.now) result ≡ behind (list_text near.now) bytes.now }
     ensures formed { IfSome result (λ _. IsTrue (are_near near.now)) }

@@ -12,8 +12,8 @@ use std::alloc::{AllocError, Global};
 use std::marker::Model;
 use std::sync::Arc;
 
-/// What an entry says of a put: the pair and its value, its dependencies, and the version that
-/// this origin sent before it.
+/// The parts of a put's entry: the pair and its value, its dependencies, and the version that this
+/// origin sent before it.
 #[derive(Debug, Drop)]
 pub struct EntryParts {
     pub key: Key,
@@ -24,8 +24,8 @@ pub struct EntryParts {
     pub prev: Version,
 }
 
-/// The parts of an entry as they are kept, with the key in little memory. Values and lists that
-/// share the entry's memory are owners of it.
+/// The stored parts of an entry, with the key in little memory. Values and lists that share the
+/// entry's memory own a reference to it.
 #[derive(Debug, Drop)]
 pub(crate) struct KeptParts {
     key: KeptKey,
@@ -36,7 +36,8 @@ pub(crate) struct KeptParts {
     prev: Version,
 }
 
-/// What one data centre sends to another of a put. Contracts see its parts; a copy shares them.
+/// A put's entry, which one data centre sends to another. Contracts see its parts; a copy shares
+/// them.
 #[derive(Debug, Drop)]
 pub struct Entry {
     parts: Arc<KeptParts>,
@@ -61,7 +62,7 @@ pub struct Record {
 }
 
 impl Entry {
-    /// The entry of these parts.
+    /// Returns the entry of these parts. Fails with `AllocError` if memory runs out.
     pub fn new(alloc: Global, parts: EntryParts) -> Result<Self, AllocError>
         ensures { IfOk result (λ entry. entry ≡ parts) }
     {
@@ -78,14 +79,14 @@ impl Entry {
         })
     }
 
-    /// The key.
+    /// Returns the key.
     pub fn key(&self) -> Key
         ensures { result ≡ self.now.key }
     {
         self.parts.key.key()
     }
 
-    /// Puts the key at a place of bytes.
+    /// Writes the key at `at`. Returns the place behind it.
     #[inline(always)]
     pub fn put_key(&self, bytes: &mut [u8], at: usize) -> usize
         requires { at + 64 ≤ length bytes.old }
@@ -96,70 +97,72 @@ impl Entry {
         self.parts.key.put(bytes, at)
     }
 
-    /// The version.
+    /// Returns the version.
     pub fn version(&self) -> Version
         ensures { result ≡ self.now.version }
     {
         self.parts.version
     }
 
-    /// The value.
+    /// Returns the value.
     pub fn value(&self) -> &OwnedValue
         ensures { result.now ≡ self.now.value }
     {
         &self.parts.value
     }
 
-    /// The dependencies.
+    /// Returns the dependencies.
     pub fn deps(&self) -> &OwnedDeps
         ensures { result.now ≡ self.now.deps }
     {
         &self.parts.deps
     }
 
-    /// The nearest dependencies.
+    /// Returns the nearest dependencies.
     pub fn near(&self) -> &OwnedNear
         ensures { result.now ≡ self.now.near }
     {
         &self.parts.near
     }
 
-    /// The value, over the entry's memory.
+    /// Returns the value, over the entry's memory. Fails with `AllocError` if memory runs out.
     pub fn shared_value(&self, alloc: Global) -> Result<Value, AllocError>
         ensures { IfOk result (λ value. value ≡ self.now.value) }
     {
         shared_value(alloc, &self.parts)
     }
 
-    /// The dependencies, over the entry's memory.
+    /// Returns the dependencies, over the entry's memory. Fails with `AllocError` if memory runs
+    /// out.
     pub fn shared_deps(&self, alloc: Global) -> Result<Deps, AllocError>
         ensures { IfOk result (λ deps. deps ≡ self.now.deps) }
     {
         shared_deps(alloc, &self.parts)
     }
 
-    /// The nearest dependencies, over the entry's memory.
+    /// Returns the nearest dependencies, over the entry's memory. Fails with `AllocError` if memory
+    /// runs out.
     pub fn shared_near(&self, alloc: Global) -> Result<Near, AllocError>
         ensures { IfOk result (λ near. near ≡ self.now.near) }
     {
         shared_near(alloc, &self.parts)
     }
 
-    /// The version that the origin sent before.
+    /// Returns the version that the origin sent before.
     pub fn prev(&self) -> Version
         ensures { result ≡ self.now.prev }
     {
         self.parts.prev
     }
 
-    /// The record of this entry, committed at a moment.
+    /// Returns the record of this entry, committed at the timestamp `at`.
     pub fn committed(self, at: u64) -> Record
         ensures { result ≡ record { entry = self; at = at } }
     {
         Record { entry: self, at }
     }
 
-    /// A copy of the parts.
+    /// Returns a copy of the parts.
     fn to_parts(&self, alloc: Global) -> Result<EntryParts, AllocError>
         ensures { IfOk result (λ parts. parts ≡ self.now) }
     {
@@ -173,7 +176,7 @@ impl Entry {
         })
     }
 
-    /// The same entry, over memory of its own.
+    /// Returns the same entry, over memory of its own.
     #[inline(never)]
     fn copy_apart(&self, alloc: Global) -> Result<Self, AllocError>
         ensures { IfOk result (λ entry. entry ≡ self.now) }
@@ -181,7 +184,8 @@ impl Entry {
         Entry::new(alloc, self.to_parts(alloc)?)
     }
 
-    /// The same entry, over the same memory. Where no more owners can be counted, it is copied.
+    /// Returns the same entry, over the same memory. Copies it if the count of owners is full.
+    /// Fails with `AllocError` if memory runs out.
     #[inline(always)]
     pub fn copy(&self, alloc: Global) -> Result<Self, AllocError>
         ensures { IfOk result (λ entry. entry ≡ self.now) }
@@ -233,7 +237,7 @@ impl Record {
     }
 }
 
-/// A record that a node keeps, with the moment from which it is stale.
+/// A stored record, with the timestamp from which it is stale.
 #[derive(Debug, Drop)]
 pub struct Dated {
     pub record_of: Record,

@@ -1,4 +1,4 @@
-//! What the tables are hashed with whose keys strangers choose.
+//! Seeds for tables whose keys strangers choose.
 ghost use Rattle.std.specs.Prelude.{◌≡◌, map};
 ghost use Rattle.cops_types.specs.Seeds.{digest, start_of};
 
@@ -6,8 +6,8 @@ use crate::configs::Tenant;
 use std::hash::{BuildHasher, DefaultHasher, Hasher};
 use std::marker::Model;
 
-/// What each hash of a table begins with. Whoever doesn't know it can't choose keys that collide.
-/// Contracts see what the hasher has read.
+/// The state from which each hash of a table starts. Whoever does not know it cannot choose keys
+/// that collide. Contracts see what the hasher has read.
 #[derive(Clone, Copy)]
 pub struct Seeds {
     start: DefaultHasher,
@@ -24,7 +24,7 @@ impl Model for Seeds {
 }
 
 impl Seeds {
-    /// SipHash that has read these two numbers.
+    /// Returns SipHash after reading these two numbers.
     pub fn new(one: u64, other: u64) -> Self
         ensures { result ≡ start_of one other }
     {
@@ -34,7 +34,7 @@ impl Seeds {
         Seeds { start }
     }
 
-    /// Seeds that rest on the tokens of all these tenants.
+    /// Returns seeds that depend on the tokens of all these tenants.
     pub fn of_tokens(tenants: &[Tenant]) -> Self
         ensures { let tokens = map (λ tenant. tenant.token) tenants.now in result ≡ start_of (digest 1 tokens) (digest 2 tokens) }
     {
@@ -42,7 +42,7 @@ impl Seeds {
     }
 }
 
-/// A number that rests on the tokens of all these tenants.
+/// Returns a number that depends on the tokens of all these tenants.
 fn digest(tenants: &[Tenant], first: u64) -> u64
     ensures { result ≡ digest first (map (λ tenant. tenant.token) tenants.now) }
 {

@@ -1,4 +1,4 @@
-//! Keys of few bytes, as entries and audits keep them.
+//! Keys of few bytes, for entries and audits.
 ghost use Rattle.std.specs.Prelude.{◌≡◌, ◌≤◌, ◌+◌, ◌++◌, length, take, IfSome, IfOk, IsTrue};
 ghost use Rattle.cops_types.specs.Key.{is_key};
 
@@ -28,7 +28,7 @@ impl Model for ShortKey {
 }
 
 impl ShortKey {
-    /// The key, where it has at most 15 bytes.
+    /// Returns the key in the short form, if it has at most 15 bytes.
     pub fn of(key: &Key) -> Option<Self>
         ensures { IfSome result (λ short. short ≡ key.now) }
     {
@@ -41,14 +41,14 @@ impl ShortKey {
         })
     }
 
-    /// The same key, like any other.
+    /// Returns the same key in full.
     pub fn key(&self) -> Key
         ensures { result ≡ self.now }
     {
         Key::of_cells(&self.bytes, usize::from(self.len))
     }
 
-    /// Puts the key at a place.
+    /// Writes the key at `at`. Returns the place behind it.
     #[inline(always)]
     pub fn put(&self, bytes: &mut [u8], at: usize) -> usize
         requires { at + 64 ≤ length bytes.old }
@@ -60,14 +60,15 @@ impl ShortKey {
     }
 }
 
-/// A key where it stands, or in a block of its own.
+/// A key in place, or in a block of its own.
 #[derive(Debug, Drop)]
 enum KeyForm {
     Short(ShortKey),
     Long(Box<Key>),
 }
 
-/// A key in 24 bytes; one of more than 15 bytes has a block beside. Contracts see the list of its bytes.
+/// A key in 24 bytes; one of more than 15 bytes needs a block beside. Contracts see the list of its
+/// bytes.
 #[derive(Debug, Drop)]
 pub(crate) struct KeptKey {
     form: KeyForm,
@@ -84,7 +85,7 @@ impl Model for KeptKey {
 }
 
 impl KeptKey {
-    /// The key, to be kept.
+    /// Converts the key for storage.
     pub(crate) fn of(alloc: Global, key: Key) -> Result<Self, AllocError>
         ensures { IfOk result (λ kept. kept ≡ key) }
     {
@@ -98,7 +99,7 @@ impl KeptKey {
         }
     }
 
-    /// Puts the key at a place.
+    /// Writes the key at a place.
     #[inline(always)]
     pub(crate) fn put(&self, bytes: &mut [u8], at: usize) -> usize
         requires { at + 64 ≤ length bytes.old }
@@ -112,7 +113,7 @@ impl KeptKey {
         }
     }
 
-    /// The same key, like any other.
+    /// Returns the same key in full.
     pub(crate) fn key(&self) -> Key
         ensures { result ≡ self.now }
     {

@@ -32,7 +32,7 @@ impl Model for Tenants {
     ghost invariant = { λ t. AreIndexed t.tenants.items t.names.keys t.tokens.keys };
 }
 
-/// The name, which is one.
+/// Returns the name, which is one.
 fn name_of(tenant: &Tenant) -> Name
     ensures value { result ≡ tenant.now.name }
     ensures name { IsName tenant.now.name }
@@ -42,7 +42,7 @@ fn name_of(tenant: &Tenant) -> Name
     name
 }
 
-/// The place of these bytes among names.
+/// Returns the index of these bytes among names.
 fn place_of_name(names: &IndexSet<Name>, name: &[u8]) -> Option<usize>
     requires { AllByRecursion IsName names.now.keys }
     ensures { result ≡ position (key_eq name.now) names.now.keys }
@@ -54,7 +54,7 @@ fn place_of_name(names: &IndexSet<Name>, name: &[u8]) -> Option<usize>
 }
 
 impl Tenants {
-    /// No tenant.
+    /// Returns an empty list: no tenant.
     pub fn new(alloc: Global) -> Self
         ensures { result ≡ [] }
     {
@@ -65,14 +65,14 @@ impl Tenants {
         }
     }
 
-    /// How many there are.
+    /// Returns the number of tenants.
     pub fn len(&self) -> usize
         ensures { result ≡ length self.now }
     {
         self.tenants.len()
     }
 
-    /// All tenants, by slot.
+    /// Returns all tenants, by slot.
     pub fn as_slice(&self) -> &[Tenant]
         ensures value { result.now ≡ self.now }
         ensures named { AreNamed self.now }
@@ -81,7 +81,7 @@ impl Tenants {
         self.tenants.as_slice()
     }
 
-    /// The tenant of a slot.
+    /// Returns the tenant of a slot.
     pub fn tenant(&self, slot: u64) -> &Tenant
         requires { slot < length self.now }
         ensures { slice_get self.now slot ≡ Some result.now }
@@ -89,7 +89,7 @@ impl Tenants {
         &self.tenants[slot as usize]
     }
 
-    /// The slot of the tenant with this name.
+    /// Returns the slot of the tenant with this name.
     pub fn slot_of_name(&self, name: &[u8]) -> Option<u64>
         ensures { result ≡ slot_of_name self.now name.now }
     {
@@ -99,7 +99,7 @@ impl Tenants {
         }
     }
 
-    /// The slot of the tenant with this token.
+    /// Returns the slot of the tenant with this token.
     pub fn slot_of_token(&self, token: &Uuid) -> Option<u64>
         ensures { result ≡ slot_of_token self.now token.now }
     {
@@ -109,14 +109,15 @@ impl Tenants {
         }
     }
 
-    /// Whether no tenant has this one's name or token.
+    /// Returns `true` if no tenant has this one's name or token.
     pub fn is_distinct(&self, tenant: &Tenant) -> bool
         ensures { result ≡ is_distinct self.now tenant.now }
     {
         !self.names.contains(&tenant.name) && !self.tokens.contains(tenant.token.as_bytes())
     }
 
-    /// Gives the next slot to a tenant with a name and a token of its own.
+    /// Gives the next slot to a tenant whose name and token are new. Fails with `AllocError` if
+    /// memory runs out.
     pub fn push(&mut self, tenant: Tenant) -> Result<(), AllocError>
         requires { IsTrue (is_distinct self.old tenant) }
         ensures ok { OnOk result (self.new ≡ self.old ++ tenant ∷ []) }

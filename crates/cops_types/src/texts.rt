@@ -1,4 +1,4 @@
-//! Texts of numbers, versions, pairs and faults, put at the end of a vector.
+//! Texts of numbers, versions, pairs and faults, appended to a vector.
 ghost use Rattle.std.specs.Prelude.{◌≡◌, ◌<◌, ◌+◌, ◌%◌, ◌++◌, length, drop, decimal, IsTrue, OnOk, OnErr};
 ghost use Rattle.std.specs.List.{list_all};
 ghost use Rattle.cops_types.specs.FaultText.{fault_text};
@@ -13,9 +13,10 @@ use crate::pairs::Pair;
 use crate::versions::Version;
 use std::alloc::AllocError;
 
-/// Puts the decimal digits of a number at the end. After an `Err` nothing is put.
+/// Appends the decimal digits of a number. Fails with `AllocError` if memory runs out; then nothing
+/// was appended.
 ///
-/// Most numbers of a script have few digits: nodes, lengths of lists, first clocks. So many are
+/// Most numbers of a script have few digits: nodes, lengths of lists, first clocks. These are
 /// written as one word.
 pub fn push_number(out: &mut Vec<u8>, number: u64) -> Result<(), AllocError>
     ensures ok { OnOk result (out.new.items ≡ out.old.items ++ decimal number) }
@@ -45,7 +46,7 @@ pub fn push_number(out: &mut Vec<u8>, number: u64) -> Result<(), AllocError>
     push_long(out, number)
 }
 
-/// The last decimal digit of a number.
+/// Returns the last decimal digit of a number.
 #[inline(always)]
 fn digit(number: u64) -> u8
     ensures { result ≡ 48 + number % 10 }
@@ -53,7 +54,7 @@ fn digit(number: u64) -> u8
     b'0' + (number % 10) as u8
 }
 
-/// Puts the decimal digits of any number at the end. After an `Err` nothing is put.
+/// Appends the decimal digits of any number. On `Err` nothing was appended.
 #[inline(never)]
 fn push_long(out: &mut Vec<u8>, number: u64) -> Result<(), AllocError>
     ensures ok { OnOk result (out.new.items ≡ out.old.items ++ decimal number) }
@@ -64,7 +65,8 @@ fn push_long(out: &mut Vec<u8>, number: u64) -> Result<(), AllocError>
     Ok(())
 }
 
-/// Puts the clock, a dot and the node at the end. After an `Err` a front of it may be there.
+/// Appends the clock, a dot and the node. Fails with `AllocError` if memory runs out; then a prefix
+/// may have been appended.
 pub fn push_version(out: &mut Vec<u8>, version: Version) -> Result<(), AllocError>
     ensures ok { OnOk result (out.new.items ≡ out.old.items ++ version_text version) }
     ensures front { StartsWith out.new.items out.old.items }
@@ -76,7 +78,8 @@ pub fn push_version(out: &mut Vec<u8>, version: Version) -> Result<(), AllocErro
     Ok(())
 }
 
-/// Puts the key, a colon and the version at the end. After an `Err` a front of it may be there.
+/// Appends the key, a colon and the version. Fails with `AllocError` if memory runs out; then a
+/// prefix may have been appended.
 pub fn push_pair(out: &mut Vec<u8>, pair: &Pair) -> Result<(), AllocError>
     ensures ok { OnOk result (out.new.items ≡ out.old.items ++ pair_text pair.now) }
     ensures front { StartsWith out.new.items out.old.items }
@@ -88,8 +91,8 @@ pub fn push_pair(out: &mut Vec<u8>, pair: &Pair) -> Result<(), AllocError>
     Ok(())
 }
 
-/// Puts the pairs with commas between, or a hyphen for none, at the end. After an `Err` a front of
-/// it may be there.
+/// Appends the pairs separated by commas, or a hyphen for none. Fails with `AllocError` if memory
+/// runs out; then a prefix may have been appended.
 pub fn push_deps(out: &mut Vec<u8>, deps: &OwnedDeps) -> Result<(), AllocError>
     ensures ok { OnOk result (out.new.items ≡ out.old.items ++ list_text deps.now) }
     ensures front { StartsWith out.new.items out.old.items }
@@ -98,8 +101,8 @@ pub fn push_deps(out: &mut Vec<u8>, deps: &OwnedDeps) -> Result<(), AllocError>
     push_list(out, deps.packed())
 }
 
-/// Puts the pairs with commas between, or a hyphen for none, at the end. After an `Err` a front of
-/// it may be there.
+/// Appends the pairs separated by commas, or a hyphen for none. Fails with `AllocError` if memory
+/// runs out; then a prefix may have been appended.
 pub fn push_near(out: &mut Vec<u8>, near: &OwnedNear) -> Result<(), AllocError>
     ensures ok { OnOk result (out.new.items ≡ out.old.items ++ list_text near.now) }
     ensures front { StartsWith out.new.items out.old.items }
@@ -108,7 +111,7 @@ pub fn push_near(out: &mut Vec<u8>, near: &OwnedNear) -> Result<(), AllocError>
     push_list(out, near.packed())
 }
 
-/// Puts the pairs with commas between, or a hyphen for none, at the end.
+/// Appends the pairs separated by commas, or a hyphen for none.
 fn push_list(out: &mut Vec<u8>, pairs: &PackedPairs) -> Result<(), AllocError>
     ensures ok { OnOk result (out.new.items ≡ out.old.items ++ list_text pairs.now) }
     ensures front { StartsWith out.new.items out.old.items }
@@ -122,7 +125,7 @@ fn push_list(out: &mut Vec<u8>, pairs: &PackedPairs) -> Result<(), AllocError>
     push_more(out, pairs)
 }
 
-/// Puts each pair but the first after a comma at the end.
+/// Appends each pair except the first after a comma.
 fn push_more(out: &mut Vec<u8>, pairs: &PackedPairs) -> Result<(), AllocError>
     requires { 0 < length pairs.now }
     ensures ok { OnOk result (out.new.items ≡ out.old.items ++ more_text (drop 1 pairs.now)) }
@@ -136,7 +139,8 @@ fn push_more(out: &mut Vec<u8>, pairs: &PackedPairs) -> Result<(), AllocError>
     Ok(())
 }
 
-/// Puts `E` and two digits at the end. After an `Err` nothing is put.
+/// Appends `E` and two digits. Fails with `AllocError` if memory runs out; then nothing was
+/// appended.
 pub fn push_fault(out: &mut Vec<u8>, fault: Fault) -> Result<(), AllocError>
     ensures ok { OnOk result (out.new.items ≡ out.old.items ++ fault_text fault) }
     ensures err { OnErr result (out.new.items ≡ out.old.items) }

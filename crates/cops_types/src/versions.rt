@@ -11,7 +11,7 @@ use std::cmp::Ordering;
 use std::fmt;
 use std::marker::Model;
 
-/// A version, a Lamport timestamp: a clock and the node that issued it. Contracts see that pair.
+/// A version is a Lamport timestamp: a clock, and the node that issued it. Contracts see that pair.
 #[derive(Clone, Copy, Debug)]
 pub struct Version {
     bits: u64,
@@ -33,20 +33,20 @@ impl Model for Version {
 }
 
 impl Version {
-    /// How many node numbers there are: a node has the last 16 bits of a version.
+    /// The number of node numbers: a node has the last 16 bits of a version.
     pub const NODES: u64 = 1 << 16;
 
     /// The greatest clock: it has the other 48 bits.
     pub const LAST_CLOCK: u64 = (1 << 48) - 1;
 
-    /// The version 0.0, which means that there is none.
+    /// Returns the version 0.0, which stands for none.
     pub fn none() -> Self
         ensures { result ≡ no_version }
     {
         Version { bits: 0 }
     }
 
-    /// The version of a clock and a node.
+    /// Returns the version of a clock and a node.
     pub fn of(clock: u64, node: u64) -> Self
         requires clock_fits { clock ≤ last_clock }
         requires node_fits { node < NODES }
@@ -70,7 +70,7 @@ impl Version {
         self.bits % Self::NODES
     }
 
-    /// The node, as a place in a list of all nodes.
+    /// Returns the node, as an index into a list of all nodes.
     pub fn place(self) -> usize
         ensures value { result ≡ self.node }
         ensures small { result < NODES }
@@ -78,28 +78,29 @@ impl Version {
         (self.bits % Self::NODES) as usize
     }
 
-    /// The version in one number, as frames write it.
+    /// Returns the version as one number, as frames write it.
     pub fn to_u64(self) -> u64
         ensures { result ≡ number_of_version self }
     {
         self.bits
     }
 
-    /// The version that a number stands for.
+    /// Returns the version that a number represents.
     pub fn from_u64(bits: u64) -> Self
         ensures { result ≡ version_of_number bits }
     {
         Version { bits }
     }
 
-    /// The greater of two versions.
+    /// Returns the greater of two versions.
     pub fn greater(self, other: Version) -> Self
         ensures { result ≡ version_max self other }
     {
         if self <= other { other } else { self }
     }
 
-    /// The version that a node issues after two clocks.
+    /// Returns the version that a node issues after two clocks. Fails with a `Fault` if the clock
+    /// is exhausted.
     pub fn next(clock: u64, deps_clock: u64, node: u64) -> Result<Self, Fault>
         requires clock_fits { clock ≤ last_clock }
         requires deps_clock_fits { deps_clock ≤ last_clock }

@@ -8,13 +8,13 @@ ghost use Rattle.cops_types.specs.Words.{IsUnspaced, first_word, is_u64, no_word
 
 use std::marker::Model;
 
-/// How many bytes are looked at one by one.
+/// The most bytes that are compared one by one.
 const FEW: usize = 8;
 
-/// A number of so many digits is below 2 to the 64, whichever they are.
+/// A number of this many digits is below 2 to the 64, whatever they are.
 const SURE_DIGITS: usize = 19;
 
-/// The words of a line that are still to come, between single spaces. Contracts see the list.
+/// The remaining words of a line, between single spaces. Contracts see the list.
 #[derive(Debug, Drop)]
 pub struct Words<'a> {
     rest: Option<&'a [u8]>,
@@ -30,7 +30,7 @@ impl<'a> Model for Words<'a> {
     ghost view = { λ w. option_map_or (λ rest. parts_at space rest.now) w.rest [] };
 }
 
-/// The bytes before the first space, and those after it where there is one.
+/// Returns the bytes before the first space, and those after it if there is one.
 pub fn split_word(bytes: &[u8]) -> (&[u8], Option<&[u8]>)
     ensures word { result.0.now ≡ first_word bytes.now }
     ensures parts { parts_at space bytes.now ≡ result.0.now ∷ option_map_or (λ rest. parts_at space rest.now) result.1 [] }
@@ -41,8 +41,8 @@ pub fn split_word(bytes: &[u8]) -> (&[u8], Option<&[u8]>)
     }
 }
 
-/// Where the first space is. Most words are short, so a few bytes are looked at one by one before
-/// the others are searched many at a time.
+/// Returns the index of the first space. Most words are short, so a few bytes are compared one by
+/// one before the others are searched many at a time.
 fn place_of_space(bytes: &[u8]) -> Option<usize>
     ensures { IsFirstByte (is_byte space) bytes.now result }
 {
@@ -61,7 +61,7 @@ fn place_of_space(bytes: &[u8]) -> Option<usize>
     Some(few + more)
 }
 
-/// The bytes before the first space, and those after it.
+/// Returns the bytes before the first space, and those after it.
 pub fn split_at_space(bytes: &[u8]) -> Option<(&[u8], &[u8])>
     ensures some { IfSome result (λ parts. IsUnspaced parts.0.now × (bytes.now ≡ parts.0.now ++ 32 ∷ parts.1.now)) }
     ensures none { IfNone result (IsUnspaced bytes.now) }
@@ -70,7 +70,7 @@ pub fn split_at_space(bytes: &[u8]) -> Option<(&[u8], &[u8])>
     Some((&bytes[..at], &bytes[at + 1..]))
 }
 
-/// What stands behind the space at a place, where one is there.
+/// Returns the bytes after the space at a place, if there is one.
 #[inline(always)]
 pub(crate) fn behind_space(bytes: &[u8], at: usize) -> Option<&[u8]>
     requires { at ≤ length bytes.now }
@@ -86,7 +86,7 @@ pub(crate) fn behind_space(bytes: &[u8], at: usize) -> Option<&[u8]>
     Some(&bytes[at + 1..])
 }
 
-/// What stands behind this word and a space, where the bytes begin so.
+/// Returns the bytes after this word and a space, if the bytes begin with them.
 #[inline(always)]
 pub fn behind_word<'a>(bytes: &'a [u8], word: &[u8]) -> Option<&'a [u8]>
     ensures some { IfSome result (λ rest. bytes.now ≡ word.now ++ 32 ∷ rest.now) }
@@ -104,8 +104,8 @@ pub fn behind_word<'a>(bytes: &'a [u8], word: &[u8]) -> Option<&'a [u8]>
     Some(rest)
 }
 
-/// The number of the digits at the front, and how many they are. They are looked at only as long as
-/// the number is below 2 to the 64, whichever they are.
+/// Returns the number that the digits at the start write, and how many digits there are. Stops
+/// before the number could reach 2 to the 64.
 #[inline(always)]
 fn digits_at_front(bytes: &[u8]) -> (u64, usize)
     ensures within { result.1 ≤ length bytes.now }
@@ -127,7 +127,7 @@ fn digits_at_front(bytes: &[u8]) -> (u64, usize)
     (value, most)
 }
 
-/// The number at the front, as far as a space, and what stands behind the space.
+/// Returns the number at the start, up to a space, and the bytes after the space.
 #[inline(always)]
 pub fn number_at_front(bytes: &[u8]) -> Option<(u64, &[u8])>
     ensures some { IfSome result (λ parts. IsTrue (is_u64 parts.0) × (bytes.now ≡ decimal parts.0 ++ 32 ∷ parts.1.now)) }
@@ -147,7 +147,7 @@ pub fn number_at_front(bytes: &[u8]) -> Option<(u64, &[u8])>
     Some((value, rest))
 }
 
-/// The same of any number.
+/// Does the same for any number.
 #[inline(never)]
 fn long_number_at_front(bytes: &[u8]) -> Option<(u64, &[u8])>
     ensures some { IfSome result (λ parts. IsTrue (is_u64 parts.0) × (bytes.now ≡ decimal parts.0 ++ 32 ∷ parts.1.now)) }
@@ -159,14 +159,14 @@ fn long_number_at_front(bytes: &[u8]) -> Option<(u64, &[u8])>
 }
 
 impl<'a> Words<'a> {
-    /// The words of a line.
+    /// Returns the words of a line.
     pub fn of(line: &'a [u8]) -> Self
         ensures { result ≡ parts_at space line.now }
     {
         Words { rest: Some(line) }
     }
 
-    /// The next word. What stands between two spaces side by side is an empty one.
+    /// Removes and returns the next word. Between two adjacent spaces it is empty.
     pub fn next_word(&mut self) -> Option<&'a [u8]>
         ensures { MatchOption result ((self.old ≡ []) × (self.new ≡ [])) (λ word. self.old ≡ word.now ∷ self.new) }
     {
@@ -175,7 +175,7 @@ impl<'a> Words<'a> {
         Some(word)
     }
 
-    /// Whether no word is to come.
+    /// Returns `true` if no word remains.
     pub fn is_empty(&self) -> bool
         ensures { result ≡ no_words self.now }
     {
@@ -183,7 +183,7 @@ impl<'a> Words<'a> {
     }
 }
 
-/// The number that decimal digits write, where it is below 2 to the 64.
+/// Returns the number that decimal digits write, if it is below 2 to the 64.
 fn value_of(word: &[u8]) -> Option<u64>
     ensures some { IfSome result (λ n. (n < 2 ^ 64) × AllDigits 10 word.now × (n ≡ digits_value 10 word.now)) }
     ensures none { IfNone result (AllDigits 10 word.now → 2 ^ 64 ≤ digits_value 10 word.now) }
@@ -201,7 +201,7 @@ fn value_of(word: &[u8]) -> Option<u64>
     Some(value)
 }
 
-/// The same of more digits, which may write a greater number.
+/// Does the same for more digits, which may write a greater number.
 #[inline(never)]
 fn value_of_many(word: &[u8]) -> Option<u64>
     ensures some { IfSome result (λ n. (n < 2 ^ 64) × AllDigits 10 word.now × (n ≡ digits_value 10 word.now)) }
@@ -214,7 +214,7 @@ fn value_of_many(word: &[u8]) -> Option<u64>
     Some(value)
 }
 
-/// The number with one more digit at its end, where it is below 2 to the 64.
+/// Returns the number with one more digit at its end, if it is below 2 to the 64.
 fn with_digit(value: u64, byte: u8) -> Option<u64>
     ensures some { IfSome result (λ n. (48 ≤ byte) × (byte ≤ 57) × (n ≡ value * 10 + (byte - 48)) × (n < 2 ^ 64)) }
     ensures none { IfNone result (48 ≤ byte → byte ≤ 57 → 2 ^ 64 ≤ value * 10 + (byte - 48)) }
@@ -225,7 +225,7 @@ fn with_digit(value: u64, byte: u8) -> Option<u64>
     value.checked_mul(10)?.checked_add(u64::from(byte - b'0'))
 }
 
-/// The number that the word writes: decimal, without a leading zero, and below 2 to the 64.
+/// Returns the number that the word writes: decimal, without a leading zero, and below 2 to the 64.
 pub fn parse_number(word: &[u8]) -> Option<u64>
     ensures { result ≡ number_of word.now }
 {
@@ -238,7 +238,7 @@ pub fn parse_number(word: &[u8]) -> Option<u64>
     value_of(word)
 }
 
-/// Whether a zero stands before more.
+/// Returns `true` if more follows a leading zero.
 fn has_leading_zero(word: &[u8]) -> bool
     ensures { result ≡ (nat_lt 1 (length word.now) && (slice_index word.now 0 == 48)) }
 {

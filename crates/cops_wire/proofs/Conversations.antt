@@ -7,25 +7,25 @@ use Rattle.std.specs.List.{flat_map}
 use Rattle.std.proofs.KnownBytes.{Appends-trans, Consumes-trans}
 use Rattle.cops_types.specs.declared.configs.Config.{Config}
 use Rattle.cops_types.specs.declared.configs.Tenant.{Tenant}
+use Rattle.cops_types.specs.declared.faults.Fault.{Fault}
 use Rattle.cops_types.specs.HeadLines.{are_sizes}
-use Rattle.cops_types.specs.TenantConfig.{tenant_config}
+use Rattle.cops_types.specs.TenantConfig.{TenantConfig, tenant_config}
 use Rattle.cops_model.specs.declared.calls.NodeCall.{NodeCall}
 use Rattle.cops_model.specs.declared.calls.NodeId.{NodeId}
 use Rattle.cops_model.specs.declared.calls.NodeReply.{NodeReply}
-use Rattle.cops_node.specs.Clusters.{Cluster, nodes_of}
+use Rattle.cops_model.specs.SoloNode.{SoloNode}
 use Rattle.cops_model.specs.Session.{new_session}
 use Rattle.cops_wire.specs.declared.messages.Message.{Message}
 use Rattle.cops_wire.specs.declared.messages.Message.TheVariants.{Ready}
 use Rattle.cops_wire.specs.declared.serving.Ended.{Ended}
 use Rattle.cops_wire.specs.declared.serving.Ended.TheVariants.{Clean, Torn}
-use Rattle.cops_wire.specs.Alone.{CallsAmid, CallsCluster, IsConnectionToldAlone, replies_alone}
+use Rattle.cops_wire.specs.Alone.{IsConnectionToldAlone, left_alone, replies_alone}
 use Rattle.cops_wire.specs.Conversation.{IsConversation, IsReceivedAlone, are_requests, behind_first, conversation_end, ended_at, requests_in, unless_other}
 use Rattle.cops_wire.specs.Greeting.{greeted}
 use Rattle.cops_wire.specs.Requests.{HasFewRestarts, backend}
 use Rattle.cops_wire.specs.Serving.{AreFront, AreRequests, EndsSo, is_request, last_reply}
 use Rattle.cops_wire.specs.Spelling.{spelling}
 use Rattle.cops_wire.specs.Streams.{SplitStream, split_after, split_of}
-use Rattle.cops_wire.proofs.AloneLemmas.{served_alone, served_alone_amid}
 use Rattle.cops_wire.proofs.StreamLaws.{split_of-append}
 
 -- ---- requests
@@ -81,7 +81,7 @@ more_messages split more = by_test split.broken refl
 broken_same : (split : SplitStream) (more : List ℕ) → split.broken ≡ true → split_after split more ≡ split
 broken_same split more e = rw e refl
 
--- the requests of what was read, where nothing more is to be looked at
+-- the requests of what was read, if nothing more is to be looked at
 here : (all : Bool) (split : SplitStream) (hello : Message) (messages requests : List Message) → split.messages ≡ hello ∷ messages → AreFront all messages requests → AreRequests requests
     → requests ≡ requests_in (behind_first split.messages)
 here all split hello messages requests e front asked = front_is all messages requests front asked ∙ ap (λ l. requests_in (behind_first l)) (sym e)
@@ -134,13 +134,14 @@ few_restarts config tenant h = let few : config.restarts ≤ 15 = grind (arith, 
 
 -- ---- whole connections
 
-module _ {M : Type 0} (Calls : Cluster → NodeId → ℕ → ℕ → NodeCall → NodeReply → Cluster → Type 0) (Gives : M → ℕ → M → Type 0) (config : Config) (sent received : List ℕ) (nodes new_nodes : Cluster) (moments new_moments : M) where
-  -- what was read is a front of what was sent, and tells the requests, the end and the tenant of all of it
-  pub record IsAllOf (h : IsConversation Calls Gives config sent received nodes new_nodes moments new_moments) : Type 0 where
+module _ {N M : Type 0} (Calls : N → NodeId → ℕ → ℕ → NodeCall → NodeReply → N → Type 0) (Gives : M → ℕ → M → Type 0) (lost : Fault → Bool) (nodes_at : TenantConfig → ℕ → N → List SoloNode)
+    (config : Config) (sent received : List ℕ) (nodes new_nodes : N) (moments new_moments : M) where
+  -- what was read is a prefix of what was sent, and tells the requests, the end and the tenant of all of it
+  pub record IsAllOf (h : IsConversation Calls Gives lost config sent received nodes new_nodes moments new_moments) : Type 0 where
     pub whole : IsWhole (split_of sent) h.conversed.serves.requests h.ended
     pub first : slice_get (split_of sent).messages 0 ≡ Some h.conversed.hello
 
-  sent_whole : (h : IsConversation Calls Gives config sent received nodes new_nodes moments new_moments) → IsAllOf h
+  sent_whole : (h : IsConversation Calls Gives lost config sent received nodes new_nodes moments new_moments) → IsAllOf h
   sent_whole h =
       by_rest h.new_remaining (Consumes-trans (Some sent) h.conversed.greeted_remaining h.new_remaining h.conversed.greets.came.input h.conversed.serves.input h.conversed.greets.came.read h.conversed.serves.read) h.conversed.serves.ends
     where
@@ -157,40 +158,29 @@ module _ {M : Type 0} (Calls : Cluster → NodeId → ℕ → ℕ → NodeCall �
             first = begins (split_of input) (split_of sent) h.conversed.hello h.conversed.serves.messages rest on h.conversed.serves.are;
           }
 
-  received_is : (h : IsConversation Calls Gives config sent received nodes new_nodes moments new_moments)
-      → IsConnectionToldAlone Gives (tenant_config config h.conversed.tenant) h.conversed.slot (backend (new_session h.conversed.dc 1) nodes moments) h.conversed.serves.requests h.conversed.serves.replies new_moments
-      → IsReceivedAlone Gives config sent received nodes moments new_moments
+  pub received_is : (h : IsConversation Calls Gives lost config sent received nodes new_nodes moments new_moments)
+      (told : IsConnectionToldAlone Gives (tenant_config config h.conversed.tenant) (nodes_at (tenant_config config h.conversed.tenant) h.conversed.slot) (backend (new_session h.conversed.dc 1) nodes moments)
+      h.conversed.serves.requests h.conversed.serves.replies (backend h.conversed.after new_nodes new_moments))
+      → (alone : IsReceivedAlone Gives nodes_at config sent received nodes new_nodes moments new_moments) × (alone.given ≡ told.given)
   received_is h told =
       let c = h.conversed in
       let own = tenant_config config c.tenant in
-      let alone = backend (new_session c.dc 1) (nodes_of own c.slot nodes) told.given in
-      let all = sent_whole h in
-      record {
-        slot = c.slot;
-        dc = c.dc;
-        tenant = c.tenant;
-        tenant_is = c.tenant_is;
-        greeted_is = c.greets.answer_is ∙ ap (λ (l : List Message). greeted config.tenants config.data_centres (slice_get l 0)) c.first ∙ ap (greeted config.tenants config.data_centres) (sym all.first);
-        given = told.given;
-        are = told.are;
-        received_is =
-            Appends-trans (Some []) c.greeted_contents (Some received) (spelling Ready) (flat_map spelling (c.serves.replies ++ last_reply h.ended)) c.greets.written c.serves.written
-            ∙ ap (λ l. spelling Ready ++ flat_map spelling (l ++ last_reply h.ended)) (told.told ∙ ap (λ l. replies_alone own l alone) all.whole.requests_are)
-            ∙ ap (λ (e : Ended). spelling Ready ++ flat_map spelling (replies_alone own (requests_in (behind_first (split_of sent).messages)) alone ++ last_reply e)) all.whole.end_is;
-      }
-
-pub conversation_alone : {M : Type 0} (Gives : M → ℕ → M → Type 0) (config : Config) (sent received : List ℕ) (nodes new_nodes : Cluster) (moments new_moments : M)
-    → IsConversation CallsCluster Gives config sent received nodes new_nodes moments new_moments → IsReceivedAlone Gives config sent received nodes moments new_moments
-conversation_alone Gives config sent received nodes new_nodes moments new_moments h =
-    let c = h.conversed in
-    received_is CallsCluster Gives config sent received nodes new_nodes moments new_moments h
-    (served_alone Gives (tenant_config config c.tenant) c.slot (backend (new_session c.dc 1) nodes moments) c.serves.requests c.serves.replies (backend c.after new_nodes new_moments)
-    (record { tenant = h.tenant; shards = h.shards; served = c.serves.served; spared = h.spared }))
-
-pub conversation_alone_amid : {M : Type 0} (Gives : M → ℕ → M → Type 0) (config : Config) (sent received : List ℕ) (nodes new_nodes : Cluster) (moments new_moments : M)
-    → IsConversation CallsAmid Gives config sent received nodes new_nodes moments new_moments → IsReceivedAlone Gives config sent received nodes moments new_moments
-conversation_alone_amid Gives config sent received nodes new_nodes moments new_moments h =
-    let c = h.conversed in
-    received_is CallsAmid Gives config sent received nodes new_nodes moments new_moments h
-    (served_alone_amid Gives (tenant_config config c.tenant) c.slot (backend (new_session c.dc 1) nodes moments) c.serves.requests c.serves.replies (backend c.after new_nodes new_moments)
-    (record { tenant = h.tenant; shards = h.shards; served = c.serves.served; spared = h.spared }))
+      let alone = backend (new_session c.dc 1) (nodes_at own c.slot nodes) told.given in
+      let all = sent_whole h in (
+        record {
+          slot = c.slot;
+          dc = c.dc;
+          tenant = c.tenant;
+          tenant_is = c.tenant_is;
+          greeted_is = c.greets.answer_is ∙ ap (λ (l : List Message). greeted config.tenants config.data_centres (slice_get l 0)) c.first ∙ ap (greeted config.tenants config.data_centres) (sym all.first);
+          given = told.given;
+          are = told.are;
+          received_is =
+              Appends-trans (Some []) c.greeted_contents (Some received) (spelling Ready) (flat_map spelling (c.serves.replies ++ last_reply h.ended)) c.greets.written c.serves.written
+              ∙ ap (λ l. spelling Ready ++ flat_map spelling (l ++ last_reply h.ended)) (told.told ∙ ap (λ l. replies_alone own l alone) all.whole.requests_are)
+              ∙ ap (λ (e : Ended). spelling Ready ++ flat_map spelling (replies_alone own (requests_in (behind_first (split_of sent).messages)) alone ++ last_reply e)) all.whole.end_is;
+          after = c.after;
+          left = ap (λ l. left_alone own l alone) (sym all.whole.requests_are) ∙ told.left;
+        },
+        refl,
+      )

@@ -65,7 +65,7 @@ conversed Calls Gives config remaining greeted_remaining new_remaining contents 
           (backend (new_session dc 1) nodes moments) (backend served.0 new_nodes new_moments) ended) slot_is served.2;
     }
 
--- ---- where something failed
+-- ---- if something failed
 
 -- why a greeting was refused or stopped, and what of its answer was written
 pub greeted_in_part : (tenants : List Tenant) (dcs : ℕ) (remaining new_remaining contents new_contents : Option (List ℕ)) (kept : KeptBytes) (waiting : List Message) (fault : Fault) (same read write : Type 0)

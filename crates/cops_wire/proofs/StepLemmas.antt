@@ -47,7 +47,7 @@ module _ {N M : Type 0} (Calls : N → NodeId → ℕ → ℕ → NodeCall → N
       (session_after session running (record { moment = moment; outcome = Late }) shown, d.1.stands, (d.0, record { shown_is = d.1.shown_is; wants = d.1.wants; after_is = refl }))
   does_next Keeps session running moment old new shown kept (Ended answer) keeps d = absurd d
 
-  -- whatever the step is told to have shown
+  -- whatever the step has shown
   pub stepped : (shape : N → Shape) (session : Session) (running : Running) (old new : N) (old_moments new_moments : M) (given : ℕ) (told : Result Progress AllocError) (kept : KeptSession) (answer : Option Answer)
       → session.running ≡ Some running → GivesMoment old_moments given new_moments → shape new ≡ shape old
       → TellsNext (λ id call reply. Calls old id slot (moment_at given session) call reply new) (new ≡ old) config session running (moment_at given session) told kept (next config (request_of session running) running.log (moment_at given session))
@@ -263,7 +263,7 @@ pub put_gives : (put : Result Unit AllocError) (old new : List ℕ) (answer : Op
 put_gives put old new (Some given) puts = (given, refl, puts)
 put_gives put old new None puts = absurd puts
 
--- where none was put there is no answer
+-- if none was put there is no answer
 pub none_gives : (old new : List ℕ) (answer : Option Answer) → PutsAnswer None old new answer → (answer ≡ None) × (new ≡ old)
 none_gives old new (Some given) puts = absurd puts
 none_gives old new None puts = (refl, puts)

@@ -1,4 +1,4 @@
--- Requests that are answered where they lie.
+-- Requests that are answered in place.
 use Rattle.std.proofs.Common.{◌≡◌, ℕ, ◌+◌, ◌<◌, ◌≤◌, Bool, true, false, List, [], ◌∷◌, ◌++◌, length, take, drop, inl, inr, Option, Some, arith, refl, sym, ap, subst, ◌∙◌, append-nil}
 use Rattle.cops_types.specs.Sink.{AppendsFront}
 use Rattle.cops_wire.specs.declared.decoders.Fed.{Fed}
@@ -107,7 +107,7 @@ module _ {S : Type 0} (answers : S → Message → Message → S → Type 0) whe
 
   -- ---- pieces that are cut
 
-  -- what stands behind the messages of the front
+  -- what stands behind the messages of the prefix
   cut_messages : (rest piece : List ℕ) (used : ℕ) → (later : List Message) × ((split_of (rest ++ piece)).messages ≡ (split_of (rest ++ take used piece)).messages ++ later)
   cut_messages rest piece used = by_cause (split_of (rest ++ take used piece)).broken refl
     where
@@ -118,7 +118,7 @@ module _ {S : Type 0} (answers : S → Message → Message → S → Type 0) whe
         ap (λ s. s.messages) (cut rest piece used ∙ split_after_whole (split_of (rest ++ take used piece)) (drop used piece) e),
       )
 
-  -- one of the front was no request
+  -- one of the prefix was no request
   pub cut_stays : (rest piece : List ℕ) (used : ℕ) (kept : KeptBytes) (old new : S) (a b : Option (List ℕ)) (start output : List ℕ) (all : Bool) → all ≡ false
       → IsTakenUp (rest ++ take used piece) kept (λ messages every. GathersFront answers old new messages a b start output every) all
       → IsTakenUp (rest ++ piece) kept (λ messages every. GathersFront answers old new messages a b start output every) false
@@ -133,7 +133,7 @@ module _ {S : Type 0} (answers : S → Message → Message → S → Type 0) whe
       let m = cut_messages rest piece used in
       subst (λ l. GathersSome answers old new l a b start) (sym m.1) (some_stays answers old new _ m.0 a b start h)
 
-  -- the front breaks the stream
+  -- the prefix breaks the stream
   pub cut_broken : (rest piece : List ℕ) (used : ℕ) (kept : KeptBytes) (old new : S) (a b : Option (List ℕ)) (start output : List ℕ) (all : Bool) → all ≡ true
       → IsTakenUp (rest ++ take used piece) kept (λ messages every. GathersFront answers old new messages a b start output every) all → kept.broken ≡ true
       → IsTakenUp (rest ++ piece) kept (λ messages all. GathersFront answers old new messages a b start output all) true
@@ -146,7 +146,7 @@ module _ {S : Type 0} (answers : S → Message → Message → S → Type 0) whe
         λ same_all. is ∙ ap (λ s. let k : KeptBytes = record { rest = s.rest; broken = s.broken } in k) (sym same),
       )
 
-  -- the bytes behind the front go on from what it left
+  -- the bytes behind the prefix go on from what it left
   cut_on : (rest piece : List ℕ) (used : ℕ) (kept : KeptBytes) → kept ≡ kept_of (rest ++ take used piece) → kept.broken ≡ false
       → split_of (rest ++ piece) ≡ after_messages (split_of (rest ++ take used piece)).messages (split_of (kept.rest ++ drop used piece))
   cut_on rest piece used kept is whole =

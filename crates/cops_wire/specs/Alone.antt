@@ -1,4 +1,4 @@
--- Requests at nodes that their tenant has to himself, at moments that are known: what they are told.
+-- Requests at nodes that their tenant has to itself, with timestamps and calls between that are known: their replies.
 use Rattle.std.specs.Prelude.{◌≡◌, ◌≢◌, ℕ, Bool, true, false, List, [], ◌∷◌, slice_index_or, slice_set, Option, Some, None}
 use Rattle.std.specs.List.{AllByRecursion}
 use Rattle.cops_types.specs.declared.faults.Fault.{Fault}
@@ -8,11 +8,11 @@ use Rattle.cops_handles.specs.Wire.{wire_of}
 use Rattle.cops_model.specs.declared.calls.NodeCall.{NodeCall}
 use Rattle.cops_model.specs.declared.calls.NodeId.{NodeId}
 use Rattle.cops_model.specs.declared.calls.NodeReply.{NodeReply}
-use Rattle.cops_node.specs.Clusters.{Cluster, HasTenant, IsCall, nodes_of}
+use Rattle.cops_node.specs.Clusters.{Cluster, HasTenant, IsCall}
 use Rattle.cops_model.specs.Log.{LogStep, Late, Replied, Next, Call, Restart, Ended}
 use Rattle.cops_model.specs.Place.{node_number, place_of}
 use Rattle.cops_model.specs.SoloNode.{SoloNode, new_node}
-use Rattle.cops_model.specs.Step.{node_step}
+use Rattle.cops_model.specs.Step.{CallEffect, node_step}
 use Rattle.cops_model.specs.declared.requests.Answer.{Answer}
 use Rattle.cops_model.specs.declared.requests.Progress.{Progress}
 use Rattle.cops_model.specs.declared.requests.Progress.TheVariants.{Working, Restarted, Done}
@@ -24,9 +24,39 @@ use Rattle.cops_wire.specs.Requests.{Answers, Backend, KeepsShape, backend, dele
 use Rattle.cops_wire.specs.Serving.{Serves}
 use Rattle.cops_session.specs.Tags.{context_tag}
 
--- a session, the tenant's own nodes by number, and the moments to come
+-- ---- calls between
+
+-- a call that somebody else makes for the tenant: another connection, or the service's carrier or collector
+pub record OwnCall : Type 0 where
+  pub node : NodeId
+  pub moment : ℕ
+  pub call : NodeCall
+
+-- what a step of a request is given: its timestamp, and the tenant's calls by others since the step before
+pub record Given : Type 0 where
+  pub moment : ℕ
+  pub before : List OwnCall
+
+-- a call at one of the tenant's nodes
+abbrev pub call_alone : TenantConfig → NodeId → ℕ → NodeCall → List SoloNode → CallEffect
+call_alone config id moment call nodes = node_step (place_of config id) moment call (slice_index_or nodes (node_number config.shards id) (new_node config.data_centres))
+
+-- the nodes after a call, of which only one changes
+abbrev pub after_call : TenantConfig → NodeId → ℕ → NodeCall → List SoloNode → List SoloNode
+after_call config id moment call nodes = slice_set nodes (node_number config.shards id) (call_alone config id moment call nodes).after
+
+-- the nodes after some calls
+abbrev pub after_calls : TenantConfig → List OwnCall → List SoloNode → List SoloNode
+after_calls config [] nodes = nodes
+after_calls config (c ∷ calls) nodes = after_calls config calls (after_call config c.node c.moment c.call nodes)
+
+-- nobody else made a call for the tenant
+abbrev pub AreUninterrupted : List Given → Type 0
+AreUninterrupted given = AllByRecursion (λ g. g.before ≡ []) given
+
+-- a session, the tenant's own nodes by number, and what the steps to come are given
 abbrev pub Alone : Type 0
-Alone = Backend Session (List SoloNode) (List ℕ)
+Alone = Backend Session (List SoloNode) (List Given)
 
 -- ---- steps
 
@@ -44,15 +74,16 @@ stepped config session running step nodes =
 -- the running request does what comes next: its call is the turn of one of the tenant's nodes
 abbrev pub does_alone : TenantConfig → Session → Running → ℕ → List SoloNode → Next Answer → StepAlone
 does_alone config session running moment nodes (Call directed) =
-    let number = node_number config.shards directed.node in
-    let turn = node_step (place_of config directed.node) moment directed.call (slice_index_or nodes number (new_node config.data_centres)) in
-    stepped config session running (record { moment = moment; outcome = Replied turn.reply }) (slice_set nodes number turn.after)
+    let turn = call_alone config directed.node moment directed.call nodes in
+    stepped config session running (record { moment = moment; outcome = Replied turn.reply }) (after_call config directed.node moment directed.call nodes)
 does_alone config session running moment nodes Restart = stepped config session running (record { moment = moment; outcome = Late }) nodes
 does_alone config session running moment nodes (Ended ended) = record { shown = Done ended; session = session; nodes = nodes }
 
-abbrev pub step_alone : TenantConfig → Session → Running → ℕ → List SoloNode → StepAlone
+-- the calls of others come first
+abbrev pub step_alone : TenantConfig → Session → Running → Given → List SoloNode → StepAlone
 step_alone config session running given nodes =
-    let moment = moment_at given session in does_alone config session running moment nodes (next config (request_of session running) running.log moment)
+    let moment = moment_at given.moment session in
+    does_alone config session running moment (after_calls config given.before nodes) (next config (request_of session running) running.log moment)
 
 -- an answer, and what is left with it
 pub record EndAlone : Type 0 where
@@ -60,20 +91,20 @@ pub record EndAlone : Type 0 where
   pub after : Alone
 
 -- the request has ended, or goes on
-abbrev pub further : StepAlone → Progress → List ℕ → (Session → List SoloNode → Option EndAlone) → Option EndAlone
-further step (Done ended) moments go_on = Some (record { answer = ended; after = backend step.session step.nodes moments })
-further step Working moments go_on = go_on step.session step.nodes
-further step (Restarted times) moments go_on = go_on step.session step.nodes
+abbrev pub further : StepAlone → Progress → List Given → (Session → List SoloNode → Option EndAlone) → Option EndAlone
+further step (Done ended) later go_on = Some (record { answer = ended; after = backend step.session step.nodes later })
+further step Working later go_on = go_on step.session step.nodes
+further step (Restarted times) later go_on = go_on step.session step.nodes
 
-abbrev pub runs_on : TenantConfig → ℕ → List ℕ → Session → List SoloNode → (Session → List SoloNode → Option EndAlone) → Option Running → Option EndAlone
-runs_on config given moments session nodes go_on None = None
-runs_on config given moments session nodes go_on (Some running) =
-    let step = step_alone config session running given nodes in further step step.shown moments go_on
+abbrev pub runs_on : TenantConfig → Given → List Given → Session → List SoloNode → (Session → List SoloNode → Option EndAlone) → Option Running → Option EndAlone
+runs_on config given later session nodes go_on None = None
+runs_on config given later session nodes go_on (Some running) =
+    let step = step_alone config session running given nodes in further step step.shown later go_on
 
--- steps of the running request, one at each moment, until it has its answer
-abbrev pub steps_alone : TenantConfig → List ℕ → Session → List SoloNode → Option EndAlone
+-- steps of the running request, each as it is given, until it has its answer
+abbrev pub steps_alone : TenantConfig → List Given → Session → List SoloNode → Option EndAlone
 steps_alone config [] session nodes = None
-steps_alone config (given ∷ moments) session nodes = runs_on config given moments session nodes (steps_alone config moments) session.running
+steps_alone config (given ∷ later) session nodes = runs_on config given later session nodes (steps_alone config later) session.running
 
 -- ---- requests
 
@@ -90,7 +121,7 @@ abbrev pub replied : Option EndAlone → Option ReplyAlone
 replied None = None
 replied (Some end) = Some (record { reply = message_of_answer end.answer; after = end.after })
 
--- the reply to a request, if the moments last for it
+-- the reply to a request, if what is given lasts for it
 abbrev pub answer_alone : TenantConfig → Alone → Message → Option ReplyAlone
 answer_alone config old CreateContext =
     unless_told (create_refusal config old.session) old
@@ -112,17 +143,55 @@ abbrev pub replies_after : Option ReplyAlone → (Alone → List Message) → Li
 replies_after None later = []
 replies_after (Some told) later = told.reply ∷ later told.after
 
--- the replies to requests, one after another, as far as the moments last
+-- the replies to requests, one after another, as far as what is given lasts
 abbrev pub replies_alone : TenantConfig → List Message → Alone → List Message
 replies_alone config [] old = []
 replies_alone config (request ∷ requests) old = replies_after (answer_alone config old request) (replies_alone config requests)
 
--- ---- among other tenants
+abbrev pub left_after : Option ReplyAlone → (Alone → Option Alone) → Option Alone
+left_after None later = None
+left_after (Some told) later = later told.after
 
--- these moments were given, one after another
-abbrev pub AreGiven : {M : Type 0} → (M → ℕ → M → Type 0) → M → List ℕ → M → Type 0
+-- what requests leave, if what is given lasts for all of them
+abbrev pub left_alone : TenantConfig → List Message → Alone → Option Alone
+left_alone config [] old = Some old
+left_alone config (request ∷ requests) old = left_after (answer_alone config old request) (left_alone config requests)
+
+-- these timestamps were given, one after another
+abbrev pub AreGiven : {M : Type 0} → (M → ℕ → M → Type 0) → M → List Given → M → Type 0
 AreGiven Gives old [] new = new ≡ old
-AreGiven {M = M} Gives old (given ∷ moments) new = (mid : M) × Gives old given mid × AreGiven Gives mid moments new
+AreGiven {M = M} Gives old (given ∷ later) new = (mid : M) × Gives old given.moment mid × AreGiven Gives mid later new
+
+-- The replies are those at nodes that the tenant has to itself, and these nodes are left as there. The timestamps are the ones
+-- that were given. So the calls between are calls of the tenant: each stands in the trail of a node that is left, unless that was full.
+pub record IsConnectionToldAlone {N M : Type 0} (Gives : M → ℕ → M → Type 0) (config : TenantConfig) (nodes_at : N → List SoloNode)
+    (old : Backend Session N M) (requests replies : List Message) (new : Backend Session N M) : Type 0 where
+  pub given : List Given
+  pub are : AreGiven Gives old.moments given new.moments
+  pub told : replies ≡ replies_alone config requests (backend old.session (nodes_at old.nodes) given)
+  pub left : left_alone config requests (backend old.session (nodes_at old.nodes) given) ≡ Some (backend new.session (nodes_at new.nodes) [])
+
+-- the same, and nobody else made a call for the tenant
+abbrev pub IsToldUninterrupted : {N M : Type 0} → (M → ℕ → M → Type 0) → TenantConfig → (N → List SoloNode) → Backend Session N M → List Message → List Message → Backend Session N M → Type 0
+IsToldUninterrupted Gives config nodes_at old requests replies new =
+    (alone : IsConnectionToldAlone Gives config nodes_at old requests replies new) × AreUninterrupted alone.given
+
+-- ---- replies that say nothing of the tenant's own calls
+
+abbrev pub is_memory_refusal : Fault → Bool
+is_memory_refusal OutOfMemory = true
+is_memory_refusal fault = false
+
+-- the reply is a refusal with one of these faults
+abbrev pub tells : (Fault → Bool) → Message → Bool
+tells lost (Refused fault) = lost fault
+tells lost reply = false
+
+-- no reply is one of these refusals
+abbrev pub TellNone : (Fault → Bool) → List Message → Type 0
+TellNone lost replies = AllByRecursion (λ reply. tells lost reply ≡ false) replies
+
+-- ---- at the nodes of a cluster
 
 -- a call for the tenant of a slot, and its reply
 pub record SlotCall : Type 0 where
@@ -132,38 +201,35 @@ pub record SlotCall : Type 0 where
   pub call : NodeCall
   pub reply : NodeReply
 
+-- the call may be of any slot
+abbrev pub OfAny : ℕ → SlotCall → Type 0
+OfAny slot c = Unit {0}
+
+-- the call is of another slot
+abbrev pub OfOthers : ℕ → SlotCall → Type 0
+OfOthers slot c = slot ≢ c.slot
+
 -- calls at the nodes of a cluster leave its sizes
 abbrev pub CallsCluster : Cluster → NodeId → ℕ → ℕ → NodeCall → NodeReply → Cluster → Type 0
 CallsCluster = KeepsShape (λ cluster. cluster.shape) IsCall
 
--- these calls were made, one after another, and none for the tenant of this slot
-abbrev pub OthersCall : ℕ → Cluster → List SlotCall → Cluster → Type 0
-OthersCall slot old [] new = new ≡ old
-OthersCall slot old (c ∷ calls) new = (mid : Cluster) × (slot ≢ c.slot) × CallsCluster old c.node c.slot c.moment c.call c.reply mid × OthersCall slot mid calls new
+-- these calls were made, one after another, each of a slot that it may be of
+abbrev pub CallsOf : (SlotCall → Type 0) → Cluster → List SlotCall → Cluster → Type 0
+CallsOf May old [] new = new ≡ old
+CallsOf May old (c ∷ calls) new = (mid : Cluster) × May c × CallsCluster old c.node c.slot c.moment c.call c.reply mid × CallsOf May mid calls new
 
--- a call, before which others may have made theirs
-abbrev pub CallsAmid : Cluster → NodeId → ℕ → ℕ → NodeCall → NodeReply → Cluster → Type 0
-CallsAmid old id slot moment call reply new = (others : List SlotCall) × (mid : Cluster) × OthersCall slot old others mid × CallsCluster mid id slot moment call reply new
+-- a call, before which calls of slots of this kind may have been made
+abbrev pub CallsAmid : (ℕ → SlotCall → Type 0) → Cluster → NodeId → ℕ → ℕ → NodeCall → NodeReply → Cluster → Type 0
+CallsAmid May old id slot moment call reply new = (between : List SlotCall) × (mid : Cluster) × CallsOf (May slot) old between mid × CallsCluster mid id slot moment call reply new
 
--- the reply says that memory was refused
-abbrev pub tells_out_of_memory : Message → Bool
-tells_out_of_memory (Refused OutOfMemory) = true
-tells_out_of_memory reply = false
+-- the tenant of the slot is there, and the cluster has its number of shards
+pub record IsTenantAt (config : TenantConfig) (slot : ℕ) (cluster : Cluster) : Type 0 where
+  pub tenant : HasTenant config slot cluster
+  pub shards : config.shards ≡ cluster.shape.shards
 
--- no reply says so
-abbrev pub AreMessagesSpared : List Message → Type 0
-AreMessagesSpared replies = AllByRecursion (λ reply. tells_out_of_memory reply ≡ false) replies
-
--- the tenant was told what he is told at nodes that he has to himself, at the moments that were given
-pub record IsConnectionToldAlone {M : Type 0} (Gives : M → ℕ → M → Type 0) (config : TenantConfig) (slot : ℕ) (old : Backend Session Cluster M) (requests replies : List Message) (new_moments : M) : Type 0 where
-  pub given : List ℕ
-  pub are : AreGiven Gives old.moments given new_moments
-  pub told : replies ≡ replies_alone config requests (backend old.session (nodes_of config slot old.nodes) given)
-
--- requests that were answered so by the nodes of a cluster
+-- requests of the tenant, to which the nodes of a cluster led to these replies; none of them says that memory was refused
 pub record IsServedAt {M : Type 0} (Calls : Cluster → NodeId → ℕ → ℕ → NodeCall → NodeReply → Cluster → Type 0) (Gives : M → ℕ → M → Type 0) (config : TenantConfig) (slot : ℕ)
     (old : Backend Session Cluster M) (requests replies : List Message) (new : Backend Session Cluster M) : Type 0 where
-  pub tenant : HasTenant config slot old.nodes
-  pub shards : config.shards ≡ old.nodes.shape.shards
+  pub there : IsTenantAt config slot old.nodes
   pub served : Serves (Answers Calls Gives config slot) old requests replies new
-  pub spared : AreMessagesSpared replies
+  pub spared : TellNone is_memory_refusal replies

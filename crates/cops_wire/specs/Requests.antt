@@ -68,7 +68,7 @@ reading_refusal config handle keys session =
 abbrev pub link_to : Pair → Link
 link_to pair = record { key = pair.key; version = pair.version }
 
--- what a key had: nothing where it was absent
+-- what a key had: nothing if it was absent
 abbrev pub outcome_of_read : Read → Outcome
 outcome_of_read read = record { key = read.key; held = option_map (λ value. record { value = value; version = read.version; deps = map link_to read.deps }) read.value }
 
@@ -118,7 +118,7 @@ pub record Backend (S N M : Type 0) : Type 0 where
 abbrev pub backend : {S N M : Type 0} → S → N → M → Backend S N M
 backend session nodes moments = record { session = session; nodes = nodes; moments = moments }
 
--- what the step shows, and the session after it; that memory was refused may come in place of what it shows, only where memory was wanted
+-- what the step shows, and the session after it; that memory was refused may come in place of what it shows, only if memory was needed
 pub record HasShown (config : TenantConfig) (session : Session) (running : Running) (step : LogStep) (shown : Progress) (after : Session) : Type 0 where
   pub shown_is : (shown ≡ progress config (request_of session running) running.log step) ⊎ (shown ≡ Done (answer.Refused OutOfMemory))
   pub wants : shown ≡ Done (answer.Refused OutOfMemory) → WantsMemory config (request_of session running) running.log step running.action

@@ -28,7 +28,7 @@ abbrev pub HasFewKeys : Action → Type 0
 HasFewKeys (Write key value) = Unit {0}
 HasFewKeys (Fetch keys) = length keys ≤ 32
 
--- the answer is there exactly where the step ends the request
+-- the answer is there exactly if the step ends the request
 abbrev pub ShowsAnswer : Progress → Option Answer → Type 0
 ShowsAnswer shown (Some ended) = shown ≡ Done ended
 ShowsAnswer shown None = RequestGoesOn shown
@@ -65,7 +65,7 @@ pub record AreKeysOf (lists : List (List ℕ)) (made : Result (Result Unit Fault
   pub same : IfOk made (λ told. OnOk told (keys ≡ lists))
   pub told_is : OnOk made (first_refusal ((nat_lt (length lists) 1, Syntax) ∷ (not (list_all is_key lists), BadKey) ∷ []) ≡ told_refusal made)
 
--- the frame of a reply was put at the end, or nothing for want of memory
+-- the frame of a reply was put at the end, or nothing if memory ran out
 abbrev pub PutsFrame : Result Unit AllocError → List ℕ → List ℕ → Message → Type 0
 PutsFrame result old new reply = OnOk result (new ≡ old ++ spelling reply) × OnErr result (new ≡ old)
 

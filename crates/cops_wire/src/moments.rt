@@ -1,11 +1,11 @@
 ghost use Rattle.std.specs.Prelude.{ℕ};
 
-/// The moments at which requests take their steps, in milliseconds.
+/// A source of timestamps for the steps of requests, in milliseconds.
 pub trait Moments {
-    /// Which moment may come next, and what then tells the later ones.
+    /// Which timestamp may come next, and the state that then gives the later ones.
     ghost Gives: { Self → ℕ → Self → Type 0 };
 
-    /// The moment that comes next.
+    /// Returns the next timestamp.
     fn now(&mut self) -> u64
         ensures { Gives self.old result self.new };
 }

@@ -41,7 +41,7 @@ fn key_bytes(key: &Key) -> &[u8]
     key.bytes()
 }
 
-/// Puts a pair at a place where there is room for it.
+/// Puts a pair at a place with room for it.
 #[inline(always)]
 fn put_pair(bytes: &mut [u8], at: usize, pair: &Pair) -> usize
     requires { at + LONGEST_PAIR ≤ length bytes.old }
@@ -52,7 +52,7 @@ fn put_pair(bytes: &mut [u8], at: usize, pair: &Pair) -> usize
     put_version(bytes, of_version, pair.version)
 }
 
-/// Puts a pair at the end. After an `Err` nothing is put.
+/// Puts a pair at the end. On `Err` nothing is put.
 #[inline(always)]
 fn push_pair(out: &mut Vec<u8>, pair: &Pair) -> Result<(), AllocError>
     ensures ok { OnOk result (out.new.items ≡ out.old.items ++ link_of (link_to pair.now)) }
@@ -65,7 +65,7 @@ fn push_pair(out: &mut Vec<u8>, pair: &Pair) -> Result<(), AllocError>
     Ok(())
 }
 
-/// Puts a pair with a short key at a place where there is room for it.
+/// Puts a pair with a short key at a place with room for it.
 #[inline(always)]
 fn put_short_pair(bytes: &mut [u8], at: usize, pair: &ShortPair) -> usize
     requires { at + LONGEST_SHORT_PAIR ≤ length bytes.old }
@@ -77,7 +77,7 @@ fn put_short_pair(bytes: &mut [u8], at: usize, pair: &ShortPair) -> usize
     put_version(bytes, of_version, pair.version())
 }
 
-/// Puts a pair with a short key at the end. After an `Err` nothing is put.
+/// Puts a pair with a short key at the end. On `Err` nothing is put.
 #[inline(always)]
 fn push_short_pair(out: &mut Vec<u8>, pair: &ShortPair) -> Result<(), AllocError>
     ensures ok { OnOk result (out.new.items ≡ out.old.items ++ link_of (link_to pair.now)) }
@@ -90,7 +90,7 @@ fn push_short_pair(out: &mut Vec<u8>, pair: &ShortPair) -> Result<(), AllocError
     Ok(())
 }
 
-/// Puts pairs with short keys at the end. After an `Err` a front of them may be there.
+/// Puts pairs with short keys at the end. On `Err` a prefix of them may be there.
 fn push_short_pairs(out: &mut Vec<u8>, pairs: &[ShortPair]) -> Result<(), AllocError>
     ensures ok { OnOk result (out.new.items ≡ out.old.items ++ flat_map link_of (map link_to pairs.now)) }
     ensures front { StartsWith out.new.items out.old.items }
@@ -101,7 +101,7 @@ fn push_short_pairs(out: &mut Vec<u8>, pairs: &[ShortPair]) -> Result<(), AllocE
     Ok(())
 }
 
-/// Puts dependencies of any kind at the end. After an `Err` a front of them may be there.
+/// Puts dependencies of any kind at the end. On `Err` a prefix of them may be there.
 #[inline(never)]
 fn push_any_pairs(out: &mut Vec<u8>, deps: &OwnedDeps) -> Result<(), AllocError>
     ensures ok { OnOk result (out.new.items ≡ out.old.items ++ flat_map link_of (map link_to deps.now)) }
@@ -113,7 +113,7 @@ fn push_any_pairs(out: &mut Vec<u8>, deps: &OwnedDeps) -> Result<(), AllocError>
     Ok(())
 }
 
-/// Puts the dependencies at the end. After an `Err` a front of them may be there.
+/// Puts the dependencies at the end. On `Err` a prefix of them may be there.
 fn push_pairs(out: &mut Vec<u8>, deps: &OwnedDeps) -> Result<(), AllocError>
     ensures ok { OnOk result (out.new.items ≡ out.old.items ++ flat_map link_of (map link_to deps.now)) }
     ensures front { StartsWith out.new.items out.old.items }
@@ -124,7 +124,7 @@ fn push_pairs(out: &mut Vec<u8>, deps: &OwnedDeps) -> Result<(), AllocError>
     }
 }
 
-/// Puts a key and what it had, up to its dependencies, of which it puts how many there are, where there is room for a short value.
+/// Puts a key and what it had, up to its dependencies, of which it puts the number, if there is room for a short value.
 #[inline(always)]
 fn put_held(
     bytes: &mut [u8],
@@ -147,7 +147,7 @@ fn put_held(
     put_number_16(bytes, of_deps, deps)
 }
 
-/// Puts a key and what it had at the end, with room that is asked for once, up to its dependencies. After an `Err` nothing is put.
+/// Puts a key and what it had at the end, with room that is asked for once, up to its dependencies. On `Err` nothing is put.
 #[inline(always)]
 fn push_short_held(
     out: &mut Vec<u8>,
@@ -168,7 +168,7 @@ fn push_short_held(
     Ok(())
 }
 
-/// Puts a value, its version, and how many dependencies there are at the end. After an `Err` a front of that may be there.
+/// Puts a value, its version, and how many dependencies there are at the end. On `Err` a prefix of that may be there.
 fn push_valued(
     out: &mut Vec<u8>,
     value: &[u8],
@@ -205,7 +205,7 @@ fn push_long_held(
 
 /// Puts a key and what it had at the end, up to its dependencies, of which it puts how many there are.
 ///
-/// After an `Err` a front of that may be there.
+/// On `Err` a prefix of that may be there.
 #[inline(always)]
 fn push_held(
     out: &mut Vec<u8>,
@@ -225,7 +225,7 @@ fn push_held(
     push_long_held(out, key, value, version, deps)
 }
 
-/// Puts a key that had nothing at the end. After an `Err` a front of that may be there.
+/// Puts a key that had nothing at the end. On `Err` a prefix of that may be there.
 fn push_absent(out: &mut Vec<u8>, key: &[u8]) -> Result<(), AllocError>
     requires { length key.now ≤ 64 }
     ensures ok { OnOk result (out.new.items ≡ out.old.items ++ (spelled_key key.now ++ (0 ∷ []))) }
@@ -265,7 +265,7 @@ fn can_be_counted(read: &Read) -> bool
 
 /// Puts the reads at the end, as the body of a message, or finds that one of their counts can't be written.
 ///
-/// A front of them may be there where it finds so, and after an `Err`.
+/// A prefix of them may be there if it finds so, and on `Err`.
 fn push_reads(out: &mut Vec<u8>, reads: &[Read]) -> Result<bool, AllocError>
     ensures ok { IfOk result (λ counted. (counted ≡ are_counted reads.now) × OnTrue counted (out.new.items ≡ out.old.items ++ body_of (values_of reads.now))) }
     ensures front { StartsWith out.new.items out.old.items }
@@ -284,7 +284,7 @@ fn push_reads(out: &mut Vec<u8>, reads: &[Read]) -> Result<bool, AllocError>
     Ok(true)
 }
 
-/// Puts a frame with the reads at the end, if one can hold them. Otherwise, and after an `Err`, a front of it may be there.
+/// Puts a frame with the reads at the end, if one can hold them. Otherwise, and on `Err`, a prefix of it may be there.
 fn push_values(out: &mut Vec<u8>, reads: &[Read]) -> Result<bool, AllocError>
     ensures held { IfOk result (λ held. held ≡ is_one_frame reads.now) }
     ensures ok { IfOk result (λ held. MatchBool held (out.new.items ≡ out.old.items ++ spelling (values_of reads.now)) (StartsWith out.new.items out.old.items)) }
@@ -303,7 +303,7 @@ fn push_values(out: &mut Vec<u8>, reads: &[Read]) -> Result<bool, AllocError>
     Ok(true)
 }
 
-/// Puts a frame with a stored pair at a place where there is room for it.
+/// Puts a frame with a stored pair at a place with room for it.
 #[inline(always)]
 fn put_stored(bytes: &mut [u8], at: usize, pair: &Pair) -> usize
     requires { at + 5 + LONGEST_PAIR ≤ length bytes.old }
@@ -316,7 +316,7 @@ fn put_stored(bytes: &mut [u8], at: usize, pair: &Pair) -> usize
     put_pair(bytes, of_pair, pair)
 }
 
-/// Puts a frame with a stored pair at the end. After an `Err` nothing is put.
+/// Puts a frame with a stored pair at the end. On `Err` nothing is put.
 fn push_stored(out: &mut Vec<u8>, pair: &Pair) -> Result<(), AllocError>
     ensures ok { OnOk result (out.new.items ≡ out.old.items ++ spelling (Message.Stored pair.now.key pair.now.version)) }
     ensures err { OnErr result (out.new.items ≡ out.old.items) }
@@ -328,7 +328,7 @@ fn push_stored(out: &mut Vec<u8>, pair: &Pair) -> Result<(), AllocError>
     Ok(())
 }
 
-/// Puts the reply that gives an answer at the end. After an `Err` nothing is put.
+/// Puts the reply that gives an answer at the end. On `Err` nothing is put.
 pub(crate) fn push_reply(out: &mut Vec<u8>, answer: &Answer) -> Result<(), AllocError>
     ensures ok { OnOk result (out.new.items ≡ out.old.items ++ spelling (message_of_answer answer.now)) }
     ensures err { OnErr result (out.new.items ≡ out.old.items) }

@@ -40,7 +40,7 @@ fn context_of(session: &Session, handle: &[u8; 9]) -> Result<Handle<Contexts>, F
     Handle::from_wire(*handle)
 }
 
-/// Opens a context, and tells its handle. That there was no memory is the error.
+/// Opens a context and returns its handle. Fails with `AllocError` if memory runs out.
 fn create(session: &mut Session) -> Result<Message, AllocError>
     ensures created { (config : TenantConfig) (solo : SoloSession) → SessionStandsFor config session.old solo →
         IfOk result (λ reply. IsRequestDone config (create_refusal config solo) solo (context_created solo) (Message.Created (wire_of context_tag solo.next_context)) session.new reply) }
@@ -68,7 +68,7 @@ fn close(session: &mut Session, handle: &[u8; 9]) -> Result<(), Fault>
     session.delete_context(context)
 }
 
-/// Closes a context, and tells that it is closed.
+/// Closes a context.
 fn delete(session: &mut Session, handle: &[u8; 9]) -> Message
     ensures deleted { (config : TenantConfig) (solo : SoloSession) → SessionStandsFor config session.old solo →
         IsRequestDone config (deletion_refusal handle.now solo) solo (context_deleted (number_in handle.now) solo) Message.Deleted session.new result }
@@ -81,7 +81,7 @@ fn delete(session: &mut Session, handle: &[u8; 9]) -> Message
     }
 }
 
-/// Begins a put. That there was no memory is the error, where the key is one.
+/// Begins a put. Fails with `AllocError` if memory runs out.
 fn begin_put(
     alloc: Global,
     session: &mut Session,
@@ -117,9 +117,9 @@ fn begin_put(
     }
 }
 
-/// Makes keys of these lists, where each is one and there are some.
+/// Makes keys of these lists, if each is one and there are some.
 ///
-/// They take the place of those that stood there, in the same room. That there was no memory is the error.
+/// They replace the earlier ones in the same room. Fails with `AllocError` if memory runs out.
 fn take_keys(keys: &mut Vec<Key>, lists: &ByteLists) -> Result<Result<(), Fault>, AllocError>
     ensures { AreKeysOf lists.now result keys.new.items }
 {
@@ -137,9 +137,9 @@ fn take_keys(keys: &mut Vec<Key>, lists: &ByteLists) -> Result<Result<(), Fault>
     Ok(Ok(()))
 }
 
-/// Makes keys of those that lie behind one another, where each is one and there are some.
+/// Makes keys of those that lie behind one another, if each is one and there are some.
 ///
-/// They take the place of those that stood there, in the same room. That there was no memory is the error.
+/// They replace the earlier ones in the same room. Fails with `AllocError` if memory runs out.
 fn take_keys_at(
     keys: &mut Vec<Key>,
     count: u8,

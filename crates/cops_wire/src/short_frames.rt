@@ -58,7 +58,7 @@ fn end_frame(out: &mut Vec<u8>, start: usize, end: usize)
     BigEndian::write_u32(&mut out[start..], len);
 }
 
-/// Puts the frame of a put at the end, with room for so many bytes that is asked for once. After an `Err` nothing is put.
+/// Puts the frame of a put at the end, with room for so many bytes that is asked for once. On `Err` nothing is put.
 #[inline(always)]
 fn push_put_within<const ROOM: usize>(
     out: &mut Vec<u8>,
@@ -80,7 +80,7 @@ fn push_put_within<const ROOM: usize>(
     Ok(())
 }
 
-/// Puts the frame of a put at the end, if it is short. It tells whether it is; otherwise nothing is put.
+/// Puts the frame of a put at the end, if it is short, and returns whether it is.
 fn push_short_put(
     out: &mut Vec<u8>,
     handle: &[u8; 9],
@@ -104,7 +104,7 @@ fn push_short_put(
     Ok(true)
 }
 
-/// Puts the frame of a get transaction at the end, if it is short. It tells whether it is; otherwise nothing is put.
+/// Puts the frame of a get transaction at the end, if it is short, and returns whether it is.
 fn push_short_get(out: &mut Vec<u8>, handle: &[u8; 9], keys: &[Bytes]) -> Result<bool, AllocError>
     requires { PartsFit 1 (IsCounted 1) keys.now }
     ensures ok { IfOk result (λ short. MatchBool short (out.new.items ≡ out.old.items ++ spelling (Message.GetTrans handle.now keys.now)) (out.new.items ≡ out.old.items)) }
@@ -120,7 +120,7 @@ fn push_short_get(out: &mut Vec<u8>, handle: &[u8; 9], keys: &[Bytes]) -> Result
     Ok(true)
 }
 
-/// Puts the frame of a put or a get transaction at the end, if it is short. It tells whether it is; otherwise nothing is put.
+/// Puts the frame of a put or a get transaction at the end, if it is short, and returns whether it is.
 pub(crate) fn push_short(out: &mut Vec<u8>, message: &Message) -> Result<bool, AllocError>
     requires { CanBeWritten message.now }
     ensures ok { IfOk result (λ short. MatchBool short (out.new.items ≡ out.old.items ++ spelling message.now) (out.new.items ≡ out.old.items)) }

@@ -16,9 +16,9 @@ use cops_session::{Progress, Session};
 use cops_types::Fault;
 use std::alloc::AllocError;
 
-/// Takes a step of the running request, at the moment that comes next. If the request ends with it, its reply is put at the end.
+/// Takes a step of the running request at the next timestamp. If the request ends with it, appends its reply.
 ///
-/// The answer is looked at where the step left it, and not moved.
+/// The answer is read in place.
 fn step_once<N: Nodes, M: Moments>(
     session: &mut Session,
     nodes: &mut N,

@@ -1,4 +1,4 @@
-//! Requests that are answered where they lie in what was read.
+//! Requests that are answered in place, in the bytes that were read.
 ghost use Rattle.std.specs.Prelude.{◌≡◌, ◌⊎◌, [], ◌++◌, IfOk, IfErr, OnOk, OnErr};
 ghost use Rattle.cops_types.specs.Counts.{HasRisen};
 ghost use Rattle.cops_types.specs.Sink.{sink_failures, sink_writer};
@@ -85,7 +85,7 @@ fn answer_any<N: Nodes, M: Moments>(
 
 /// Answers the request that stands first, and puts its reply at the end. After an `Err` it may have been answered, with no reply there.
 ///
-/// Puts and get transactions are answered where they lie, and the others that are requests are read there.
+/// Answers puts and get transactions in place, and reads other requests there.
 fn answer_first_frame<N: Nodes, M: Moments>(
     alloc: Global,
     session: &mut Session,
@@ -148,8 +148,8 @@ fn answer_first_frame<N: Nodes, M: Moments>(
     answer_any(alloc, session, nodes, moments, bytes, out)
 }
 
-/// Answers the requests of the bytes in order, up to what is no whole frame, and tells how far that is. It gives none where a message
-/// comes before that is no request.
+/// Answers the requests of the bytes in order, up to the first that is no whole frame, and returns how far that is. Returns `None` if
+/// a message before that is no request.
 fn answer_frames<N: Nodes, M: Moments, W: Write>(
     alloc: Global,
     session: &mut Session,
@@ -190,7 +190,7 @@ fn answer_frames<N: Nodes, M: Moments, W: Write>(
     }
 }
 
-/// Answers the requests of a piece as `answer_piece` does, where no frame is begun. Their replies are gathered.
+/// Answers the requests of a piece as `answer_piece` does, if no frame is begun. Buffers their replies.
 fn answer_in_place<N: Nodes, M: Moments, W: Write>(
     alloc: Global,
     session: &mut Session,
@@ -279,9 +279,9 @@ fn answer_on<N: Nodes, M: Moments, W: Write>(
     )
 }
 
-/// Answers the requests of a piece as `answer_piece` does, where a frame is begun. Their replies are gathered.
+/// Answers the requests of a piece as `answer_piece` does, if a frame is begun. Buffers their replies.
 ///
-/// What the begun frame lacks is put behind it, and the requests after it are answered where they lie.
+/// Completes the begun frame, and answers the requests after it in place.
 fn answer_cut<N: Nodes, M: Moments, W: Write>(
     alloc: Global,
     session: &mut Session,
@@ -346,10 +346,10 @@ fn answer_taken<N: Nodes, M: Moments, W: Write>(
     )
 }
 
-/// Answers the requests that a piece completes, in order, up to the first message that is no request. It tells whether all were requests.
+/// Answers the requests that a piece completes, in order, up to the first message that is no request. Returns whether all were requests.
 ///
-/// Requests that lie whole in the piece are answered there. Their replies are gathered in `out`, which is emptied before, and written with
-/// one write; where they get long, with one write for each 4 KiB or so.
+/// Answers requests that lie whole in the piece there. Buffers the replies in `out`, which it empties first, and writes them at once, or
+/// about 4 KiB at a time if they are long.
 pub(crate) fn answer_piece<N: Nodes, M: Moments, W: Write>(
     alloc: Global,
     session: &mut Session,

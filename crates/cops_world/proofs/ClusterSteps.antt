@@ -83,7 +83,7 @@ module _ (config : TenantConfig) (name : List ℕ) (before : SoloCluster) (nodes
     session_does_next at shown (Call d) comes reply_is (replied, made, stepped) = by_turn made
       where
         by_turn : AtNodes at d.node d.call replied → Took (request_does config name s running at before (Call d))
-        by_turn (inl (lack, stays)) =
+        by_turn (inl (lack, room, stays)) =
             let refused : session.progress config (request_of s running) running.log (record { moment = at; outcome = Replied replied }) ≡ session_progress.Done (answer.Refused OutOfMemory) =
             ap (λ r. session.progress config (request_of s running) running.log (record { moment = at; outcome = Replied r })) lack ∙ request_refused config (request_of s running) running.log at at d OutOfMemory comes in
             let lacks : shown ≡ session_progress.Done (answer.Refused OutOfMemory) = elim stepped.shown_is [ inl is ↦ is ∙ refused | inr is ↦ is ] in
@@ -149,7 +149,7 @@ module _ (config : TenantConfig) (name : List ℕ) (before : SoloCluster) (nodes
       whole_turn = ap (carrier_does config name c at before) p.step_of.asked
 
       by_turn : AtNodes at d.node d.call p.reply → TookOver (carrier_step config name c at before)
-      by_turn (inl (lack, stays)) =
+      by_turn (inl (lack, room, stays)) =
           let ends : carrier.delivery_progress config.shards c (step_of_reply p.reply) ≡ carrying.Done (delivery.Refused OutOfMemory) =
           ap (λ r. carrier.delivery_progress config.shards c (step_of_reply r)) lack ∙ ap carrier.progress_of (carrier_refused config.shards c.stream c.log d at OutOfMemory p.step_of.asked) in
           absurd (not_spared (told_act stepped.answered) spared (reply_told ∙ ap reply_of_carrying (p.step_of.shown ∙ ends)))

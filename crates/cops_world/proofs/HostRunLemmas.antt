@@ -1,4 +1,4 @@
--- What tenants who come and go are told, one event after another.
+-- The replies to tenants that come and go, one event after another.
 use Rattle.std.proofs.Common.{◌≡◌, ℕ, ◌+◌, ◌<◌, true, inl, List, [], ◌∷◌, ◌++◌, length, map, refl, sym, subst, ap, ◌∙◌, append_assoc, append-nil, length-append, Bor}
 use Rattle.std.specs.Prelude.{is_some, IfSome, Option, Some, None, Result, Ok, Err}
 use Rattle.std.specs.Option.{option_copied}
@@ -25,7 +25,7 @@ use Rattle.cops_script.specs.Answers.{Answer, ToHost, ToTenant}
 use Rattle.cops_script.specs.Doing.{IsDone, IsHosted}
 use Rattle.cops_world.specs.HostRuns.{TellsLives, acts_at, admits_at, admits_unless, answer_at, closes_at, reply_of, said_after_head, said_heard, said_of}
 use Rattle.cops_script.specs.ScriptRuns.{heard}
-use Rattle.cops_script.specs.Lacks.{Lacks}
+use Rattle.cops_model.specs.Lacks.{Lacks}
 use Rattle.cops_world.specs.Worlds.{Admits as IsAdmitted, HasOpenCluster, KeptWorld, Leaves, Moves, open_setup, world_of}
 use Rattle.cops_script.proofs.LifeAnswers.{answered_said, told_said}
 use Rattle.cops_script.proofs.LifeLines.{done_setup, heard_placed}

@@ -1,6 +1,6 @@
 -- A step for which there was no memory: what it leaves of the cluster.
 use Rattle.std.proofs.Common.{◌≡◌, ◌⊎◌, ◌++◌, ℕ, Bool, true, false, cond, inl, inr, List, [], ◌∷◌, append-nil, refl, sym, ◌∙◌, ap, subst, max, true≢false}
-use Rattle.std.specs.Prelude.{Option, Some, None, Result, ◌==◌, slice_index_or}
+use Rattle.std.specs.Prelude.{Option, Some, None, Result, ◌==◌, slice_index_or, IsTrue}
 use Rattle.std.specs.declared.alloc.AllocError.{AllocError}
 use Rattle.cops_types.specs.declared.faults.Fault.{Fault}
 use Rattle.cops_types.specs.declared.faults.Fault.TheVariants.{OutOfMemory}
@@ -22,7 +22,8 @@ use Rattle.cops_model.specs.Session.{OpenContext, Running, Session, context_exte
 use Rattle.cops_session.specs.SessionStands.{SessionStandsFor}
 use Rattle.cops_session.specs.Stepping.{DoesNext, HasStepped, told_shown}
 use Rattle.cops_session.proofs.StepLaws.{as_told}
-use Rattle.cops_session.specs.Wants.{EndsRound, WantsMemory}
+use Rattle.cops_model.specs.Lacks.{EndsRound, ActorStops, CarrierStops, IsLastRead, SessionStops, StepStops, has_room, without_request}
+use Rattle.cops_session.specs.Wants.{WantsMemory}
 use Rattle.cops_model.specs.declared.deliveries.Progress.{Progress as CarrierProgress}
 use Rattle.cops_model.specs.declared.deliveries.Progress.TheVariants as carrying
 use Rattle.cops_model.specs.Carrier.{Carrier}
@@ -35,7 +36,6 @@ use Rattle.cops_world.specs.declared.actors.Actor.{Actor as Kept}
 use Rattle.cops_world.specs.declared.actors.Actor.TheVariants as kept
 use Rattle.cops_world.specs.ActorsStand.{ActorSteps, CarrierSteps, SessionSteps, NodesTurn, IsAfter, StepsCluster, reply_of_carrying, Stepped}
 use Rattle.cops_script.specs.Acting.{told_act}
-use Rattle.cops_script.specs.Lacks.{ActorStops, IsLastRead, SessionStops, StepStops, without_request}
 use Rattle.cops_world.proofs.ClusterSteps.{told_of_carried, told_of_shown}
 use Rattle.cops_world.proofs.SparedCalls.{carrier_spared, lacks, node_spared}
 
@@ -106,7 +106,7 @@ module _ (config : TenantConfig) (name : List ℕ) (before : SoloCluster) (nodes
     -- the session has ended so in its cluster
     stops : (d : Directed) (shown : Progress) (replied : NodeReply) → next config (request_of s running) running.log at ≡ Call d → shown ≡ session_progress.Done (answer.Refused OutOfMemory) →
         HasStepped config s running (step replied) shown kept_after → moment_after running (step replied) ≡ at →
-        (left ≡ without_request name moment s before) ⊎ (IsLastRead config s running (step (turn d).reply) × (left ≡ without_request name moment s (turn d).after)) → Stopped
+        (IsTrue (has_room config d.node before) × (left ≡ without_request name moment s before)) ⊎ (IsLastRead config s running (step (turn d).reply) × (left ≡ without_request name moment s (turn d).after)) → Stopped
     stops d shown replied calls ends stepped same_moment is_left = (
       left,
       record { running = running; directed = d; runs = runs; calls = calls; left = is_left },
@@ -150,7 +150,7 @@ module _ (config : TenantConfig) (name : List ℕ) (before : SoloCluster) (nodes
         ends = shown_of_lack shown (ap is_out_of_memory (sym is) ∙ lack)
 
         by_turn : AtNodes at d.node d.call replied → Stopped
-        by_turn (inl (refused, stays)) = stops d shown replied calls ends stepped (unmoved replied refused) (inl (ap (λ (ns : List SoloNode). without_request name moment s (record before { nodes = ns })) stays))
+        by_turn (inl (refused, room, stays)) = stops d shown replied calls ends stepped (unmoved replied refused) (inl (room, ap (λ (ns : List SoloNode). without_request name moment s (record before { nodes = ns })) stays))
         by_turn (inr (turned, changed)) =
             let spared : lacks replied ≡ false = ap lacks turned ∙ node_spared (place_of config d.node) at d.call (slice_index_or before.nodes (node_number config.shards d.node) (new_node config.data_centres)) in
             let read = last_read running.action replied refl spared (stepped.wants ends) in
@@ -173,13 +173,18 @@ module _ (config : TenantConfig) (name : List ℕ) (before : SoloCluster) (nodes
   -- ---- carriers
 
   carrier_stops : (c : Carrier) (kept_after : KeptCarrier) (stepped : Stepped) → is_out_of_memory (told_act stepped.answered) ≡ true → CarrierSteps AtNodes config c moment stepped kept_after →
-      (after : SoloCluster) × (after ≡ without_actor name before)
+      (after : SoloCluster) × CarrierStops config name c before after
       × StepsCluster config name before nodes (record { reply = told_act stepped.answered; after = after }) stepped (kept.OfCarrier kept_after)
   carrier_stops c kept_after stepped lack p =
       let over : stepped.is_over ≡ true = p.over_is ∙ carrying_of_lack (told_progress p.told) (ap is_out_of_memory (sym reply_told) ∙ lack) in
       let after : SoloCluster = record { nodes = nodes; actors = (without_actor name before).actors } in (
         after,
-        ap (λ (ns : List SoloNode). record { nodes = ns; actors = (without_actor name before).actors }) (by_turn p.made),
+        (let stayed = by_turn p.made in record {
+          directed = d;
+          calls = p.step_of.asked;
+          room = stayed.0;
+          left = ap (λ (ns : List SoloNode). record { nodes = ns; actors = (without_actor name before).actors }) stayed.1;
+        }),
         record { reply_is = refl; nodes_are = refl; actors_are = subst (IsAfter config name before after (kept.OfCarrier kept_after)) (sym over) refl },
       )
     where
@@ -192,8 +197,8 @@ module _ (config : TenantConfig) (name : List ℕ) (before : SoloCluster) (nodes
       d : Directed
       d = p.directed
 
-      by_turn : AtNodes at d.node d.call p.reply → nodes ≡ before.nodes
-      by_turn (inl (refused, stays)) = stays
+      by_turn : AtNodes at d.node d.call p.reply → IsTrue (has_room config d.node before) × (nodes ≡ before.nodes)
+      by_turn (inl (refused, room, stays)) = (room, stays)
       by_turn (inr (turned, changed)) =
           let spared : lacks p.reply ≡ false = ap lacks turned ∙ node_spared (place_of config d.node) at d.call (slice_index_or before.nodes (node_number config.shards d.node) (new_node config.data_centres)) in
           absurd (true≢false (sym lack ∙ ap is_out_of_memory reply_told ∙ ap (λ shown. is_out_of_memory (reply_of_carrying shown)) p.step_of.shown

@@ -1,5 +1,5 @@
 -- A new actor in the world, and a refusal.
-use Rattle.std.proofs.Common.{◌≡◌, ◌≢◌, ℕ, ◌+◌, true, false, cond, not, List, [], ◌∷◌, length, refl, sym, subst, ap, ◌∙◌}
+use Rattle.std.proofs.Common.{◌≡◌, ◌≢◌, ℕ, ◌+◌, Bool, true, false, cond, not, List, [], ◌∷◌, length, refl, sym, subst, ap, ◌∙◌}
 use Rattle.std.specs.Prelude.{Option, Some, None, Result, Ok, Err, is_some, nat_le}
 use Rattle.std.specs.declared.alloc.AllocError.{AllocError}
 use Rattle.std.proofs.lemmas.Result.{IfOk-weaker}
@@ -9,7 +9,8 @@ use Rattle.cops_types.specs.Search.{first_refusal}
 use Rattle.cops_types.specs.TenantConfig.{TenantConfig}
 use Rattle.cops_model.specs.declared.replies.Reply.{Reply}
 use Rattle.cops_model.specs.declared.replies.Reply.TheVariants.{Refused}
-use Rattle.cops_model.specs.Cluster.{ActEffect, Actor, SoloCluster, reply_with, unless_refused, with_new_actor}
+use Rattle.cops_model.specs.Cluster.{ActEffect, Actor, SoloCluster, actor_refusal, reply_with, unless_refused, with_new_actor}
+use Rattle.cops_model.specs.Lacks.{is_refusal}
 use Rattle.cops_model.specs.Setups.{config_in}
 use Rattle.cops_world.specs.declared.actors.Actor.{Actor as Kept}
 use Rattle.cops_world.specs.declared.actors.ActorId.{ActorId}
@@ -36,7 +37,7 @@ refused_moves Exact turn_of old slot fault refuses = record {
   others = λ other differ cluster h. h;
 }
 
--- want of memory may leave the world in place of any act
+-- any act may run out of memory and leave the world as it is
 pub lack_moves : (Exact : Reply → Type 0) (turn_of : TenantConfig → SoloCluster → ActEffect) (old : World) (slot : ℕ) (error : AllocError) (new : World) → new ≡ old → Moves Exact turn_of old slot (Err error) new
 lack_moves Exact turn_of old slot error new same = subst (Moves Exact turn_of old slot (Err error)) (sym same) (record { same = refl; own = tt; others = λ other differ cluster h. h })
 
@@ -65,7 +66,7 @@ module _ (old : World) (slot : ℕ) (name : List ℕ) (solo : Actor) (reply : Re
       (λ i. unless_refused (first_refusal ((not true, NoSuchPlace) ∷ (is_some (gone i), NameTaken) ∷ (nat_le (config_in old.setup slot).quota.actors (sym h.count_is i), ActorsFull) ∷ [])) cluster (reply_with reply (with_new_actor name solo cluster)))
       ∙ ap (λ b. unless_refused (first_refusal ((not true, NoSuchPlace) ∷ (false, NameTaken) ∷ (b, ActorsFull) ∷ [])) cluster (reply_with reply (with_new_actor name solo cluster))) full
 
-  room_joins : old.actors (id_of slot name) ≡ None → nat_le (config_in old.setup slot).quota.actors (old.count slot) ≡ false → (cluster : SoloCluster) → ClusterStandsAt old slot cluster →
+  pub room_joins : old.actors (id_of slot name) ≡ None → nat_le (config_in old.setup slot).quota.actors (old.count slot) ≡ false → (cluster : SoloCluster) → ClusterStandsAt old slot cluster →
       join_step name solo reply (config_in old.setup slot) cluster ≡ reply_with reply (with_new_actor name solo cluster)
   room_joins none room cluster h =
       let gone = absent_too (ActorStandsFor (config_in old.setup slot)) name (λ n. old.actors (id_of slot n)) (λ n. old.actors (id_of slot n)) cluster h.actors_are none in
@@ -101,3 +102,11 @@ module _ (old : World) (slot : ℕ) (name : List ℕ) (solo : Actor) (reply : Re
     others = λ other differ. others_stay old old.nodes actors count slot other differ (λ config. refl) (λ config has. has)
         (λ q apart. updates q ∙ rw (other_slot (id_of slot name) q apart) refl) (others_count other differ);
   }
+
+-- a new actor for which memory was refused is one that may join
+pub join_leaves : (old : World) (slot : ℕ) (name : List ℕ) (exists : TenantConfig → Bool) (solo : Actor) (told : Reply) → is_refusal told ≡ false → exists (config_in old.setup slot) ≡ true → old.actors (id_of slot name) ≡ None →
+    nat_le (config_in old.setup slot).quota.actors (old.count slot) ≡ false → (cluster : SoloCluster) → ClusterStandsAt old slot cluster →
+    is_refusal (unless_refused (actor_refusal (config_in old.setup slot) (exists (config_in old.setup slot)) name cluster) cluster (reply_with told (with_new_actor name solo cluster))).reply ≡ false
+join_leaves old slot name exists solo told fine there none room cluster h =
+    ap (λ b. is_refusal (unless_refused (actor_refusal (config_in old.setup slot) b name cluster) cluster (reply_with told (with_new_actor name solo cluster))).reply) there
+    ∙ ap (λ (t : ActEffect). is_refusal t.reply) (room_joins old slot name solo told none room cluster h) ∙ fine

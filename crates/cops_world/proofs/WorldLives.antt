@@ -33,7 +33,7 @@ use Rattle.cops_script.specs.Acting.{HasActed, HasClosed, IsAdmission, TellsExac
 use Rattle.cops_world.specs.Actors.{ActorsStandFor, AreSame}
 use Rattle.cops_world.specs.ActorTables.{Table, table_of}
 use Rattle.cops_world.specs.ActorsStand.{ActorStandsFor}
-use Rattle.cops_script.specs.Lacks.{Lacks}
+use Rattle.cops_model.specs.Lacks.{Lacks}
 use Rattle.cops_world.specs.Worlds.{Admits, AreSitesIn, ClusterStandsAt, Closes, HasOpenCluster, IsKeptWorld, IsSiteIn, IsWorld, KeptWorld, Leaves, Moves, StaysOpen, World, open_setup, world_of}
 use Rattle.cops_world.proofs.ActorTableLemmas.{actor_elsewhere, count_elsewhere, nobody, table_here}
 use Rattle.cops_script.proofs.OpenSets.{MayBeGiven, may_be_given, open_set_other, open_set_same}
@@ -77,7 +77,7 @@ unrefused_if (Some fault) done h = absurd cc
 pub was_given : (tenants : List (Option Tenant)) (slot : ℕ) (tenant : Tenant) (done : Unit {0}) → IfSome (admission_refusal tenants slot tenant) (OkIsErr done) → MayBeGiven tenants slot
 was_given tenants slot tenant done h = may_be_given tenants slot tenant (unrefused_if (admission_refusal tenants slot tenant) done h)
 
--- and nothing refuses that but want of memory
+-- and only running out of memory refuses that
 pub no_refusal : (P : Fault → Type 0) (tenants : List (Option Tenant)) (slot : ℕ) (tenant : Tenant) (done : Unit {0}) → IfSome (admission_refusal tenants slot tenant) (OkIsErr done) → IfSome (admission_refusal tenants slot tenant) P
 no_refusal P tenants slot tenant done h = subst (λ o. IfSome o P) (sym (unrefused_if (admission_refusal tenants slot tenant) done h)) tt
 

@@ -1,5 +1,5 @@
 -- What a deed, a new actor, a step or a collection does to each tenant's part of the world.
-use Rattle.std.proofs.Common.{◌≡◌, ◌≢◌, ℕ, cond, List, length, refl, sym, subst, ap, ◌∙◌}
+use Rattle.std.proofs.Common.{◌≡◌, ◌≢◌, ℕ, false, cond, List, length, refl, sym, subst, ap, ◌∙◌}
 use Rattle.std.specs.Prelude.{Option, Some, None, Result, Ok, find}
 use Rattle.std.specs.declared.alloc.AllocError.{AllocError}
 use Rattle.std.proofs.lemmas.Result.{IfOk-at_ok}
@@ -15,6 +15,7 @@ use Rattle.cops_model.specs.Session.{Session, context_created, context_deleted, 
 use Rattle.cops_model.specs.declared.replies.Reply.{Reply}
 use Rattle.cops_model.specs.declared.replies.Reply.TheVariants.{Created, Deleted, Started, Lists, Refused}
 use Rattle.cops_model.specs.Cluster.{ActEffect, Actor, NamedActor, OfCarrier, OfSession, SoloCluster, find_actor, on_found, reply_with, session_in, unless_refused, with_actor}
+use Rattle.cops_model.specs.Lacks.{is_refusal}
 use Rattle.cops_model.specs.Setups.{config_in}
 use Rattle.cops_world.specs.declared.actors.Actor.{Actor as Kept}
 use Rattle.cops_world.specs.declared.actors.ActorId.{ActorId}
@@ -66,6 +67,15 @@ deed_found config name deed cluster (OfSession s) distinct found =
 deed_found config name deed cluster (OfCarrier c) distinct found =
     subst (λ o. Agrees name cluster (on_found (option_and_then session_in o) cluster (session_deed config name cluster deed)) (actor_turn (Refused UnknownName) (OfCarrier c))) (sym found)
     (record { reply_is = refl; actors_are = sym (with_actor-same name (OfCarrier c) cluster distinct found); nodes_stay = refl })
+
+-- what is not refused of the actor is not refused of the cluster
+pub deed_unrefused : (old : World) (slot : ℕ) (name : List ℕ) (deed : Deed) (before : Kept) → old.actors (record { slot = slot; name = name }) ≡ Some before → (cluster : SoloCluster) → ClusterStandsAt old slot cluster →
+    ((solo : Actor) → ActorStandsFor (config_in old.setup slot) before solo → is_refusal (actor_does (config_in old.setup slot) deed solo).reply ≡ false) → is_refusal (deed_step (config_in old.setup slot) name deed cluster).reply ≡ false
+deed_unrefused old slot name deed before there cluster h unrefused =
+    let config = config_in old.setup slot in
+    let kept : List ℕ → Option Kept = λ n. old.actors (record { slot = slot; name = n }) in
+    let solo = found_too (ActorStandsFor config) name kept kept cluster h.actors_are before there in
+    ap is_refusal (deed_found config name deed cluster solo.0 h.actors_are.distinct solo.1).reply_is ∙ unrefused solo.0 solo.2
 
 deed_absent : (config : TenantConfig) (name : List ℕ) (deed : Deed) (cluster : SoloCluster) → find_actor name cluster ≡ None → deed_step config name deed cluster ≡ reply_with (Refused UnknownName) cluster
 deed_absent config name deed cluster none = ap (λ o. on_found (option_and_then session_in o) cluster (session_deed config name cluster deed)) none

@@ -1,15 +1,16 @@
 -- A step of an actor, steps in a row, and a collection, in the world.
 use Rattle.std.proofs.Common.{◌≡◌, ◌≢◌, ◌⊎◌, inl, inr, ℕ, zero, suc, ◌+◌, Bool, true, false, cond, List, length, refl, sym, subst, ap, ◌∙◌, arith}
-use Rattle.std.specs.Prelude.{Option, Some, None, Result, Ok, slice_index_or, slice_set}
+use Rattle.std.specs.Prelude.{Option, Some, None, Result, Ok, nat_lt, slice_index_or, slice_set}
 use Rattle.std.specs.declared.alloc.AllocError.{AllocError}
 use Rattle.std.proofs.lemmas.Result.{IfOk-at_ok, IfOk-weaker}
-use Rattle.cops_types.specs.declared.faults.Fault.TheVariants.{UnknownName}
+use Rattle.cops_types.specs.declared.faults.Fault.TheVariants.{AuditFull, OutOfMemory, UnknownName}
 use Rattle.cops_types.specs.TenantConfig.{TenantConfig}
 use Rattle.cops_model.specs.declared.calls.NodeCall.{NodeCall}
 use Rattle.cops_model.specs.declared.calls.NodeCall.TheVariants as node_call
 use Rattle.cops_model.specs.declared.calls.NodeId.{NodeId}
 use Rattle.cops_model.specs.declared.calls.NodeReply.{NodeReply}
-use Rattle.cops_node.specs.Clusters.{Cluster, HasTenant, nodes_of, IsCall, IsTurnOf}
+use Rattle.cops_model.specs.declared.calls.NodeReply.TheVariants as node_reply
+use Rattle.cops_node.specs.Clusters.{Cluster, HasTenant, nodes_of, IsCall, IsTurnOf, solo_at}
 use Rattle.cops_model.specs.Log.{Next, Call, Restart, Ended}
 use Rattle.cops_model.specs.Place.{node_number, place_of}
 use Rattle.cops_model.specs.SoloNode.{SoloNode, new_node}
@@ -45,11 +46,20 @@ id_of slot name = record { slot = slot; name = name }
 
 -- ---- calls at the nodes
 
+-- memory is refused only to a call that the audit has room for
+pub room_for : (config : TenantConfig) (old new : Cluster) (slot at : ℕ) (id : NodeId) (call : NodeCall) (reply : NodeReply) → config.shards ≡ old.shape.shards → HasTenant config slot old →
+    IsCall old id slot at call reply new → reply ≡ node_reply.Refused OutOfMemory → nat_lt (length (solo_at config id slot old).trail) config.quota.audit ≡ true
+room_for config old new slot at id call reply shards has h lack = by (nat_lt (length (solo_at config id slot old).trail) config.quota.audit) refl
+  where
+    by : (b : Bool) → nat_lt (length (solo_at config id slot old).trail) config.quota.audit ≡ b → b ≡ true
+    by true is = refl
+    by false is = let clash : node_reply.Refused OutOfMemory ≡ node_reply.Refused AuditFull = sym lack ∙ h.full config shards has is in absurd cc
+
 -- what a call does for its tenant
 call_turns : (config : TenantConfig) (old new : Cluster) (slot at : ℕ) (id : NodeId) (call : NodeCall) (reply : NodeReply) → config.shards ≡ old.shape.shards → HasTenant config slot old →
     IsCall old id slot at call reply new → NodesTurn config (nodes_of config slot old) (nodes_of config slot new) at id call reply
 call_turns config old new slot at id call reply shards has h = elim h.turn [
-  | inl lack ↦ inl (lack.0, ap (nodes_of config slot) lack.1)
+  | inl lack ↦ inl (lack.0, room_for config old new slot at id call reply shards has h lack.0, ap (nodes_of config slot) lack.1)
   | inr turn ↦ let is = turn config shards has in inr (is.reply_is, is.after)
 ]
 

@@ -1,5 +1,5 @@
 -- Sessions and carriers as they are kept, and those of the definition that they stand for.
-use Rattle.std.specs.Prelude.{◌≡◌, ◌⊎◌, ℕ, Bool, true, false, max, IfOk, List, slice_index_or, slice_set, Option, Some, None, Result, Ok, Err}
+use Rattle.std.specs.Prelude.{◌≡◌, ◌⊎◌, ℕ, Bool, true, false, nat_lt, max, IfOk, IsTrue, List, length, slice_index_or, slice_set, Option, Some, None, Result, Ok, Err}
 use Rattle.std.specs.declared.alloc.AllocError.{AllocError}
 use Rattle.cops_types.specs.declared.faults.Fault.TheVariants.{Idle, OutOfMemory}
 use Rattle.cops_types.specs.TenantConfig.{TenantConfig}
@@ -77,7 +77,7 @@ abbrev pub answer_carried : Result CarrierProgress AllocError → Result Reply A
 answer_carried (Ok shown) = Ok (reply_of_carrying shown)
 answer_carried (Err error) = Err error
 
--- a carrier makes its next call, and is over where it is done
+-- a carrier makes its next call, and is over if it is done
 pub record CarrierSteps (called : ℕ → NodeId → NodeCall → NodeReply → Type 0) (config : TenantConfig) (carrier : Carrier) (moment : ℕ) (stepped : Stepped) (after : KeptCarrier) : Type 0 where
   pub directed : Directed
   pub reply : NodeReply
@@ -94,16 +94,16 @@ ActorSteps called stays config moment stepped (OfCarrier carrier) (kept.OfCarrie
 ActorSteps called stays config moment stepped (OfSession session) (kept.OfCarrier after) = ⊥
 ActorSteps called stays config moment stepped (OfCarrier carrier) (kept.OfSession after) = ⊥
 
--- the actor did what the definition's does, where memory was not refused
+-- the actor did what the definition's does, unless memory ran out
 abbrev pub HasDone : TenantConfig → ActorTurn → Result Reply AllocError → Kept → Type 0
 HasDone config turn answered after = IfOk answered (λ reply. (reply ≡ turn.reply) × ActorStandsFor config after turn.after)
 
 -- ---- what the step of an actor does to its cluster
 
--- the nodes' turn: the reply and the next nodes are the definition's, or memory was refused and nothing changed
+-- the nodes' turn: the reply and the next nodes are the definition's, or memory was refused, for a call that the audit has room for, and nothing changed
 abbrev pub NodesTurn : TenantConfig → List SoloNode → List SoloNode → ℕ → NodeId → NodeCall → NodeReply → Type 0
 NodesTurn config before after at id call reply =
-    ((reply ≡ node_reply.Refused OutOfMemory) × (after ≡ before))
+    ((reply ≡ node_reply.Refused OutOfMemory) × IsTrue (nat_lt (length (slice_index_or before (node_number config.shards id) (new_node config.data_centres)).trail) config.quota.audit) × (after ≡ before))
     ⊎ (let number = node_number config.shards id in
     let turn = node_step (place_of config id) at call (slice_index_or before number (new_node config.data_centres)) in
     (reply ≡ turn.reply) × (after ≡ slice_set before number turn.after))

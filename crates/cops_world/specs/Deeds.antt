@@ -1,10 +1,16 @@
 -- What a deed does to the cluster of a tenant.
-use Rattle.std.specs.Prelude.{ℕ, List}
+use Rattle.std.specs.Prelude.{◌≡◌, ℕ, Bool, true, false, List}
 use Rattle.cops_types.specs.TenantConfig.{TenantConfig}
 use Rattle.cops_model.specs.Session.{Session}
 use Rattle.cops_model.specs.Cluster.{ActEffect, SoloCluster, create_act, delete_act, get_act, on_session, put_act, session_acts, session_shows, show_act}
+use Rattle.cops_model.specs.Lacks.{is_refusal}
 use Rattle.cops_world.specs.declared.actors.Deed.{Deed}
 use Rattle.cops_world.specs.declared.actors.Deed.TheVariants.{Create, Delete, Put, Get, Show}
+
+-- deleting a context needs no memory
+abbrev pub needs_memory : Deed → Bool
+needs_memory (Delete number) = false
+needs_memory deed = true
 
 -- as the act of the same name, once keys and values are known to be some
 abbrev pub session_deed : TenantConfig → List ℕ → SoloCluster → Deed → Session → ActEffect
@@ -16,3 +22,7 @@ session_deed config name cluster (Show number) s = session_shows cluster (show_a
 
 abbrev pub deed_step : TenantConfig → List ℕ → Deed → SoloCluster → ActEffect
 deed_step config name deed cluster = on_session name cluster (session_deed config name cluster deed)
+
+-- memory was refused to a deed that needs some and that the definition doesn't refuse, and nothing changed
+abbrev pub DeedLacks : List ℕ → Deed → TenantConfig → SoloCluster → SoloCluster → Type 0
+DeedLacks name deed config before after = (needs_memory deed ≡ true) × (is_refusal (deed_step config name deed before).reply ≡ false) × (after ≡ before)

@@ -1,4 +1,4 @@
--- What is told in a run of events of tenants who come and go.
+-- The replies in a run of events of tenants that come and go.
 use Rattle.std.specs.Prelude.{◌≡◌, ℕ, List, [], ◌∷◌, length, map, IsTrue, Option, Some, None}
 use Rattle.cops_types.specs.declared.configs.Config.{Config}
 use Rattle.cops_types.specs.declared.configs.Tenant.{Tenant}
@@ -27,7 +27,7 @@ IsWithin Close = Unit {0}
 abbrev pub IsWithinLimits : HostEvent → Type 0
 IsWithinLimits event = IsWithin event.doing
 
--- ---- what an event says, where these tenants are open
+-- ---- what an event says while these tenants are open
 
 abbrev pub admits_unless : ℕ → Tenant → Option Fault → HostDeed
 admits_unless slot tenant None = Admits slot tenant
@@ -64,7 +64,7 @@ said_heard tenants (event ∷ events) (answer ∷ told) =
 abbrev pub said_after_head : Config → List HostEvent → List Answer → List Said
 said_after_head config events told = said_heard (begun_with config.tenants) events told
 
--- ---- what is told
+-- ---- replies
 
 -- a reply, as an answer to this number
 abbrev pub answer_at : ℕ → LifeReply → Answer
@@ -75,7 +75,7 @@ abbrev pub reply_of : Answer → LifeReply
 reply_of (ToHost told) = reply.ToHost told
 reply_of (ToTenant number told) = reply.ToTenant told
 
--- The replies are answers to the lives of the run, which are the tenants of the theorem. Where none is for want of memory, they are those of
+-- The replies are answers to the lives of the run, which are the tenants of the theorem. If none is out of memory, they are those of
 -- the definition.
 pub record TellsLives (config : Config) (events : List HostEvent) (replies : List LifeReply) : Type 0 where
   pub told : List Answer

@@ -83,14 +83,14 @@ HasOpenCluster kept slot cluster = ClusterStandsAt (world_of kept) slot cluster
 abbrev pub AnyReply : Reply → Type 0
 AnyReply reply = Unit {0}
 
--- the tenant's cluster took this turn where there is such a reply, and no other tenant's changed; that memory was refused is the error
+-- the tenant's cluster took this turn if there is this reply, and no other tenant's changed; out of memory is the error
 pub record Moves (Exact : Reply → Type 0) (turn_of : TenantConfig → SoloCluster → ActEffect) (old : World) (slot : ℕ) (answered : Result Reply AllocError) (new : World) : Type 0 where
   pub same : new.setup ≡ old.setup
   pub own : IfOk answered (λ reply. Exact reply → (cluster : SoloCluster) → ClusterStandsAt old slot cluster →
       (reply ≡ (turn_of (config_in old.setup slot) cluster).reply) × ClusterStandsAt new slot (turn_of (config_in old.setup slot) cluster).after)
   pub others : (other : ℕ) → slot ≢ other → (cluster : SoloCluster) → ClusterStandsAt old other cluster → ClusterStandsAt new other cluster
 
--- where memory was refused, this holds of what is left of the tenant's cluster
+-- if memory ran out, this holds of the tenant's cluster afterwards
 abbrev pub Leaves : (TenantConfig → SoloCluster → SoloCluster → Type 0) → World → ℕ → Result Reply AllocError → World → Type 0
 Leaves Left old slot answered new =
     IsTrue (is_out_of_memory (told_act answered)) → (cluster : SoloCluster) → ClusterStandsAt old slot cluster → (after : SoloCluster) × Left (config_in old.setup slot) cluster after × ClusterStandsAt new slot after
@@ -105,7 +105,7 @@ pub record IsTakenOut (old : KeptWorld) (id : ActorId) (new : KeptWorld) : Type 
 abbrev pub IsLeft : ActorId → KeptWorld → KeptWorld → Type 0
 IsLeft id old new = (actor : Kept) → actor_at old.tables id ≡ Some actor → ((actor_ended actor ≡ true) × IsTakenOut old id new) ⊎ ((actor_ended actor ≡ false) × (new ≡ old))
 
--- a new actor joins, where its place exists, unless its name is taken or the tenant has as many as he may
+-- a new actor joins if its place exists, unless its name is taken or the tenant has as many as its quota allows
 abbrev pub join_step : List ℕ → Actor → Reply → TenantConfig → SoloCluster → ActEffect
 join_step name actor reply config cluster = unless_refused (actor_refusal config true name cluster) cluster (reply_with reply (with_new_actor name actor cluster))
 

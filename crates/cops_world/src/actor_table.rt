@@ -28,7 +28,7 @@ use indexmap::IndexMap;
 use std::alloc::{AllocError, Global};
 use std::marker::Model;
 
-/// How many actors are looked at one by one, which takes less than a hash of a name.
+/// Tables of at most this many actors are searched one by one, which is faster than hashing a name.
 const FEW: usize = 8;
 
 /// The actors of one tenant. Contracts see each with its name.
@@ -56,7 +56,7 @@ impl ActorTable {
     ghost use Rattle.cops_world.specs.contracts.actor_table.ActorTable.{the_row};
     ghost use Rattle.cops_world.specs.contracts.actors.Actor.{the_row as actor_row};
 
-    /// A table without actors. It asks for no memory.
+    /// Creates an empty table. Asks for no memory.
     ///
     /// Names that collide slow only the tenant whose table it is.
     pub(crate) fn new(alloc: Global, seeds: Seeds) -> Self
@@ -67,14 +67,14 @@ impl ActorTable {
         }
     }
 
-    /// How many actors there are.
+    /// Returns the number of actors.
     pub(crate) fn len(&self) -> usize
         ensures { result ≡ length self.now }
     {
         self.actors.len()
     }
 
-    /// Whether there is an actor of this name.
+    /// Returns whether there is an actor of this name.
     pub(crate) fn has(&self, name: &Name) -> bool
         ensures { result ≡ is_some (lookup (key_eq name.now) self.now) }
     {
@@ -84,14 +84,14 @@ impl ActorTable {
         self.has_among_few(name)
     }
 
-    /// The same, where there are few.
+    /// The same, in a small table.
     fn has_among_few(&self, name: &Name) -> bool
         ensures { result ≡ list_any (key_eq name.now) (keys_of self.now) }
     {
         self.actors.keys().any(|other| name == other)
     }
 
-    /// The place of an actor. Where the guess is right, nothing is hashed.
+    /// Returns the place of an actor. Hashes nothing if the cached index is right.
     fn place_of(&self, guess: usize, name: &Name) -> Option<usize>
         ensures index { result ≡ position (key_eq name.now) (keys_of self.now) }
         ensures found { is_some result ≡ is_some (lookup (key_eq name.now) self.now) }
@@ -102,7 +102,7 @@ impl ActorTable {
         }
     }
 
-    /// The actor at a place, to be changed where it stands.
+    /// Lends the actor at a place.
     pub(crate) fn actor_mut(&mut self, place: usize, name: &Name) -> &mut Actor
         requires { Some place ≡ position (key_eq name.now) (keys_of self.old) }
         ensures* lent { sem 𝓛 (Lends the_row actor_row self.entry result (set_value_at self.old place)) }
@@ -114,7 +114,7 @@ impl ActorTable {
         &mut self.actors[place]
     }
 
-    /// Puts in an actor.
+    /// Adds an actor.
     fn put(&mut self, name: Name, actor: Actor) -> Result<(), AllocError>
         ensures ok { OnOk result (PlacesIn self.old name (Some actor) self.new) }
         ensures len { OnOk result (length self.new ≡ length self.old + (if is_some (lookup (key_eq name) self.old) then 0 else 1)) }
@@ -124,7 +124,7 @@ impl ActorTable {
         Ok(())
     }
 
-    /// Whether the actor at a place is a carrier that has ended.
+    /// Returns whether the actor at a place is a carrier that has ended.
     fn has_ended(&self, place: usize, name: &Name) -> bool
         requires { Some place ≡ position (key_eq name.now) (keys_of self.now) }
         ensures { (actor : Kept) → lookup (key_eq name.now) self.now ≡ Some actor → result ≡ actor_ended actor }
@@ -133,7 +133,7 @@ impl ActorTable {
         actor.has_ended()
     }
 
-    /// Takes out the actor at a place.
+    /// Removes the actor at a place.
     fn take_out(&mut self, place: usize, name: &Name)
         requires { Some place ≡ position (key_eq name.now) (keys_of self.old) }
         ensures out { PlacesIn self.old name.now None self.new }
@@ -143,7 +143,7 @@ impl ActorTable {
     }
 }
 
-/// That many tables without actors.
+/// Creates this many empty tables.
 pub(crate) fn empty_tables(
     alloc: Global,
     slots: usize,
@@ -158,7 +158,7 @@ pub(crate) fn empty_tables(
     Ok(tables)
 }
 
-/// The place of an actor in the table of its slot. Where the guess is right, nothing is hashed.
+/// Returns the place of an actor in the table of its slot. Hashes nothing if the cached index is right.
 pub(crate) fn place_of(actors: &Vec<ActorTable>, guess: usize, id: &ActorId) -> Option<usize>
     ensures within { IfSome result (λ _. id.now.slot < length actors.now.items) }
     ensures index { IfSome result (λ place. Some place ≡ position (key_eq id.now.name) (names_at id.now.slot actors.now.items)) }
@@ -170,7 +170,7 @@ pub(crate) fn place_of(actors: &Vec<ActorTable>, guess: usize, id: &ActorId) -> 
     }
 }
 
-/// Puts in an actor. Its place, behind the others, is noted.
+/// Adds an actor behind the others, and caches its place.
 pub(crate) fn put_new(
     actors: &mut Vec<ActorTable>,
     guesses: &mut Guesses,
@@ -187,7 +187,7 @@ pub(crate) fn put_new(
     table.put(id.name, actor)
 }
 
-/// Whether the actor at a place of its table is a carrier that has ended.
+/// Returns whether the actor at a place of its table is a carrier that has ended.
 pub(crate) fn has_ended(actors: &Vec<ActorTable>, place: usize, id: &ActorId) -> bool
     requires within { id.now.slot < length actors.now.items }
     requires place { Some place ≡ position (key_eq id.now.name) (names_at id.now.slot actors.now.items) }
@@ -197,7 +197,7 @@ pub(crate) fn has_ended(actors: &Vec<ActorTable>, place: usize, id: &ActorId) ->
     table.has_ended(place, &id.name)
 }
 
-/// Takes out the actor at a place of its table.
+/// Removes the actor at a place of its table.
 pub(crate) fn take_out(actors: &mut Vec<ActorTable>, place: usize, id: &ActorId)
     requires within { id.now.slot < length actors.old.items }
     requires place { Some place ≡ position (key_eq id.now.name) (names_at id.now.slot actors.old.items) }

@@ -1,5 +1,5 @@
 //! The actors of tenants: sessions and carriers.
-ghost use Rattle.std.specs.Prelude.{◌≡◌, ◌<◌, ◌⊎◌, ℕ, true, false, IfOk, IsTrue, Ok};
+ghost use Rattle.std.specs.Prelude.{◌≡◌, ◌<◌, ◌⊎◌, ℕ, true, false, IfOk, IsTrue, Ok, OnErr};
 ghost use Rattle.cops_types.specs.TenantConfig.{TenantConfig};
 ghost use Rattle.cops_node.specs.declared.Shape.{Shape};
 ghost use Rattle.cops_model.specs.Session.{Session as SoloSession};
@@ -11,8 +11,10 @@ ghost use Rattle.cops_model.specs.Carrier.{Carrier as SoloCarrier};
 ghost use Rattle.cops_repl.specs.Stands.{CarrierStandsFor, RunsIn, has_ended};
 ghost use Rattle.cops_model.specs.Cluster.{Actor as Solo, goes_on, reply_of_answer, reply_of_delivery, reply_of_progress};
 ghost use Rattle.cops_model.specs.Events.{is_out_of_memory};
+ghost use Rattle.cops_model.specs.Lacks.{is_refusal};
 ghost use Rattle.cops_script.specs.Acting.{told_act};
 ghost use Rattle.cops_world.specs.ActorsStand.{ActorStandsFor, ActorSteps, CarrierSteps, SessionSteps, RunsAt, HasDone, actor_ended, stepped_to};
+ghost use Rattle.cops_world.specs.Deeds.{needs_memory};
 ghost use Rattle.cops_world.specs.ActorTurns.{actor_does, session_does};
 ghost use Rattle.cops_world.specs.declared.actors.Actor.TheVariants.{OfCarrier as KeptCarrier, OfSession as KeptSession};
 ghost use Rattle.cops_world.specs.declared.actors.Deed.TheVariants as deeds;
@@ -72,24 +74,25 @@ impl Keys {
     }
 }
 
-/// What a session is asked to do without a step.
+/// A session command: what a session does without a step.
 #[derive(Debug, Drop)]
 pub enum Deed {
-    /// To create a context.
+    /// Creates a context.
     Create,
-    /// To delete a context.
+    /// Deletes a context.
     Delete(u64),
-    /// To begin a put, in a context.
+    /// Begins a put, in a context.
     Put(u64, Key, Value),
-    /// To begin a get transaction, in a context.
+    /// Begins a get transaction, in a context.
     Get(u64, Keys),
-    /// To show the two lists of a context.
+    /// Shows the two lists of a context.
     Show(u64),
 }
 
 fn create(session: &mut Session) -> Result<Reply, AllocError>
     ensures own { (config : TenantConfig) (solo : SoloSession) → SessionStandsFor config session.old solo →
         HasDone config (session_does config solo deeds.Create) result (KeptSession session.new) }
+    ensures asks { OnErr result ((config : TenantConfig) (solo : SoloSession) → SessionStandsFor config session.old solo → is_refusal (session_does config solo deeds.Create).reply ≡ false) }
     ensures setting { session.new.setting ≡ session.old.setting }
     ensures lack { IsTrue (is_out_of_memory (told_act result)) → session.new ≡ session.old }
 {
@@ -120,6 +123,7 @@ fn begin_put(
 ) -> Result<Reply, AllocError>
     ensures own { (config : TenantConfig) (solo : SoloSession) → SessionStandsFor config session.old solo →
         HasDone config (session_does config solo (deeds.Put number key value)) result (KeptSession session.new) }
+    ensures asks { OnErr result ((config : TenantConfig) (solo : SoloSession) → SessionStandsFor config session.old solo → is_refusal (session_does config solo (deeds.Put number key value)).reply ≡ false) }
     ensures setting { session.new.setting ≡ session.old.setting }
     ensures lack { IsTrue (is_out_of_memory (told_act result)) → session.new ≡ session.old }
 {
@@ -133,6 +137,7 @@ fn begin_put(
 fn begin_get(session: &mut Session, number: u64, keys: &Keys) -> Result<Reply, AllocError>
     ensures own { (config : TenantConfig) (solo : SoloSession) → SessionStandsFor config session.old solo →
         HasDone config (session_does config solo (deeds.Get number keys.now)) result (KeptSession session.new) }
+    ensures asks { OnErr result ((config : TenantConfig) (solo : SoloSession) → SessionStandsFor config session.old solo → is_refusal (session_does config solo (deeds.Get number keys.now)).reply ≡ false) }
     ensures setting { session.new.setting ≡ session.old.setting }
     ensures lack { IsTrue (is_out_of_memory (told_act result)) → session.new ≡ session.old }
 {
@@ -154,8 +159,9 @@ fn lists_of(alloc: Global, context: &Context) -> Result<(Deps, Near), AllocError
 }
 
 fn show(alloc: Global, session: &Session, number: u64) -> Result<Reply, AllocError>
-    ensures { (config : TenantConfig) (solo : SoloSession) → SessionStandsFor config session.now solo →
+    ensures own { (config : TenantConfig) (solo : SoloSession) → SessionStandsFor config session.now solo →
         HasDone config (session_does config solo (deeds.Show number)) result (KeptSession session.now) }
+    ensures asks { OnErr result ((config : TenantConfig) (solo : SoloSession) → SessionStandsFor config session.now solo → is_refusal (session_does config solo (deeds.Show number)).reply ≡ false) }
 {
     match session.context(Handle::of_number(number)) {
         Ok(context) => match lists_of(alloc, context) {
@@ -166,10 +172,12 @@ fn show(alloc: Global, session: &Session, number: u64) -> Result<Reply, AllocErr
     }
 }
 
-/// Does what a session is asked to do. That memory was refused is the error, and changes nothing.
+/// Carries out a session command. Fails with `AllocError` if memory runs out, and changes nothing then.
 fn act_in(alloc: Global, session: &mut Session, deed: Deed) -> Result<Reply, AllocError>
     ensures own { (config : TenantConfig) (solo : SoloSession) → SessionStandsFor config session.old solo →
         HasDone config (session_does config solo deed) result (KeptSession session.new) }
+    ensures asks { OnErr result ((config : TenantConfig) (solo : SoloSession) → SessionStandsFor config session.old solo → is_refusal (session_does config solo deed).reply ≡ false) }
+    ensures needs { OnErr result (needs_memory deed ≡ true) }
     ensures setting { session.new.setting ≡ session.old.setting }
     ensures lack { IsTrue (is_out_of_memory (told_act result)) → session.new ≡ session.old }
 {
@@ -182,7 +190,7 @@ fn act_in(alloc: Global, session: &mut Session, deed: Deed) -> Result<Reply, All
     }
 }
 
-/// What an answer is as a reply.
+/// Turns an answer into a reply.
 fn reply_of_answer(answer: Answer) -> Reply
     ensures { result ≡ reply_of_answer answer }
 {
@@ -193,7 +201,7 @@ fn reply_of_answer(answer: Answer) -> Reply
     }
 }
 
-/// What a step of a session shows, as a reply.
+/// Turns what a step of a session shows into a reply.
 fn reply_of_progress(progress: Progress) -> Reply
     ensures { result ≡ reply_of_progress progress }
 {
@@ -204,7 +212,7 @@ fn reply_of_progress(progress: Progress) -> Reply
     }
 }
 
-/// How a carrier ended, as a reply.
+/// Turns the end of a carrier into a reply.
 fn reply_of_delivery(delivery: Delivery) -> Reply
     ensures reply { result ≡ reply_of_delivery delivery }
     ensures last { goes_on result ≡ false }
@@ -218,7 +226,7 @@ fn reply_of_delivery(delivery: Delivery) -> Reply
     }
 }
 
-/// A step of a session. Where memory was refused the request has ended.
+/// Takes a step of a session. If memory runs out, the request has ended.
 #[inline(always)]
 fn step_session<N: Nodes>(
     session: &mut Session,
@@ -244,7 +252,7 @@ fn step_session<N: Nodes>(
     }
 }
 
-/// A step of a carrier, which has ended where memory was refused.
+/// Takes a step of a carrier. If memory runs out, the carrier has ended.
 #[inline(always)]
 fn step_carrier<N: Nodes>(
     carrier: &mut Carrier,
@@ -270,10 +278,12 @@ fn step_carrier<N: Nodes>(
 }
 
 impl Actor {
-    /// Does what it is asked to do, where it is a session. That memory was refused is the error, and
-    /// changes nothing.
+    /// Does what it is asked to do, if it is a session. Fails with `AllocError` if memory runs out: then
+    /// nothing changed, and what was asked isn't refused otherwise.
     pub(crate) fn act(&mut self, alloc: Global, deed: Deed) -> Result<Reply, AllocError>
         ensures own { (config : TenantConfig) (solo : Solo) → ActorStandsFor config self.old solo → HasDone config (actor_does config deed solo) result self.new }
+        ensures asks { OnErr result ((config : TenantConfig) (solo : Solo) → ActorStandsFor config self.old solo → is_refusal (actor_does config deed solo).reply ≡ false) }
+        ensures needs { OnErr result (needs_memory deed ≡ true) }
         ensures runs { (shape : Shape) (slot : ℕ) → RunsAt shape slot self.old → RunsAt shape slot self.new }
         ensures lack { IsTrue (is_out_of_memory (told_act result)) → self.new ≡ self.old }
     {
@@ -283,8 +293,8 @@ impl Actor {
         }
     }
 
-    /// Takes a step at a moment, for the tenant of a slot. Where memory was refused a session's request
-    /// or a carrier has ended.
+    /// Takes a step at a timestamp, for the tenant of a slot. If memory runs out, a session's request or
+    /// the carrier has ended.
     #[inline(never)]
     pub(crate) fn step<N: Nodes>(
         &mut self,
@@ -312,7 +322,7 @@ impl Actor {
         }
     }
 
-    /// Whether it is a carrier that has ended.
+    /// Returns whether it is a carrier that has ended.
     pub(crate) fn has_ended(&self) -> bool
         ensures { result ≡ actor_ended self.now }
     {

@@ -9,10 +9,10 @@ ghost use Rattle.cops_script.specs.GoodHeads.{is_good};
 
 use cops_types::{Config, Name, Quota, Tenant, Version};
 
-/// The greatest limit of a quota, but for that of `deps`.
+/// The greatest limit of a quota, except that of `deps`.
 const GREATEST_QUOTA: u64 = 4_294_967_295;
 
-/// Whether a tenant may have the quota.
+/// Returns whether a tenant may have the quota.
 fn is_quota(quota: &Quota) -> bool
     ensures { result ≡ is_quota quota.now }
 {
@@ -25,15 +25,15 @@ fn is_quota(quota: &Quota) -> bool
         && quota.audit <= GREATEST_QUOTA
 }
 
-/// A name is one.
+/// Every `Name` is a name of a head.
 fn see_name(name: Name)
     ensures { IsName name }
 {
     let _bytes = name.bytes();
 }
 
-/// Whether a head may give the tenant: its first clock and its quota are within the limits. A world requires
-/// that of whom it admits.
+/// Returns whether a head may give the tenant: its first clock and its quota are within the limits. A
+/// world admits no other.
 pub fn is_tenant(tenant: &Tenant) -> bool
     ensures { result ≡ is_tenant tenant.now }
 {
@@ -41,14 +41,14 @@ pub fn is_tenant(tenant: &Tenant) -> bool
     tenant.first_clock <= Version::LAST_CLOCK && is_quota(&tenant.quota)
 }
 
-/// Whether all these tenants are.
+/// Returns whether all these tenants are within the limits.
 fn are_tenants(tenants: &[Tenant]) -> bool
     ensures { result ≡ list_all is_tenant tenants.now }
 {
     tenants.iter().all(|tenant| is_tenant(tenant))
 }
 
-/// Whether a cluster may have these sizes and this many restarts.
+/// Returns whether a cluster may have these sizes and this many restarts.
 fn are_sizes(data_centres: u64, shards: u64, trans_time: u64, restarts: u64) -> bool
     ensures { result ≡ (is_between 1 8 data_centres && is_between 1 most_shards shards && is_u64 trans_time && nat_le restarts 15) }
 {
@@ -59,7 +59,7 @@ fn are_sizes(data_centres: u64, shards: u64, trans_time: u64, restarts: u64) -> 
         && restarts <= 15
 }
 
-/// Whether the sizes, and each tenant, are within the limits.
+/// Returns whether the sizes, and each tenant, are within the limits.
 fn is_within(config: &Config) -> bool
     ensures { result ≡ is_good config.now }
 {
@@ -71,8 +71,8 @@ fn is_within(config: &Config) -> bool
     ) && are_tenants(config.tenants.as_slice())
 }
 
-/// Whether a head may give the configuration: its sizes, and each of its tenants, are within the limits.
-/// A world and a run require that, and a node the two parts of it that are said beside it.
+/// Returns whether a head may give the configuration: its sizes, and each of its tenants, are within the
+/// limits. Worlds and runs require this. Nodes require the two parts that the last clauses name.
 pub fn is_good(config: &Config) -> bool
     ensures good { result ≡ is_good config.now }
     ensures sizes { IsTrue result → IsTrue (are_sizes config.now) }

@@ -1,34 +1,34 @@
-//! Guesses where each actor is in the table of its slot.
+//! Cached indices: where each actor was last in the table of its slot.
 
 use crate::actors::ActorId;
 use std::alloc::{AllocError, Global};
 use std::hash::{FoldHasher, Hash, Hasher};
 
-/// How many guesses are kept.
+/// The size of the cache.
 const GUESSES: usize = 1024;
 
-/// Where actors joined, or were found last. Several share a guess, which may be any number.
+/// Where actors joined, or were found last. Several share an entry, so it may be any number.
 #[derive(Drop)]
 pub struct Guesses {
     places: Vec<usize>,
 }
 
 impl Guesses {
-    /// Guesses that nothing rests on yet.
+    /// Creates a cache that says nothing yet.
     pub(crate) fn new(alloc: Global) -> Result<Self, AllocError> {
         Ok(Guesses {
             places: vec![in alloc; 0; GUESSES]?,
         })
     }
 
-    /// Where the guess for an actor lies.
+    /// Returns the entry of an actor.
     pub(crate) fn cell_of(id: &ActorId) -> usize {
         let mut hasher = FoldHasher::default();
         id.hash(&mut hasher);
         hasher.finish() as usize % GUESSES
     }
 
-    /// The guess that lies there.
+    /// Returns the cached index of an entry.
     pub(crate) fn guess(&self, cell: usize) -> usize {
         match self.places.get(cell) {
             Some(place) => *place,
@@ -36,7 +36,7 @@ impl Guesses {
         }
     }
 
-    /// Notes a guess there.
+    /// Sets the cached index of an entry.
     pub(crate) fn note(&mut self, cell: usize, place: usize) {
         if let Some(guess) = self.places.get_mut(cell) {
             *guess = place;

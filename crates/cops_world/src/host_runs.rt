@@ -17,9 +17,9 @@ use std::alloc::{AllocError, Global};
 /// What happens at a slot.
 #[derive(Debug, Drop)]
 pub enum Doing<'a> {
-    /// The tenant who is open there acts.
+    /// The tenant that is open there acts.
     Own(Act<'a>),
-    /// The host gives the slot to a tenant.
+    /// The host gives the slot to this tenant.
     Admit(Tenant),
     /// The host takes it from its tenant.
     Close,
@@ -32,14 +32,14 @@ pub struct HostEvent<'a> {
     pub doing: Doing<'a>,
 }
 
-/// What is told after such an event. An act at a slot without a tenant is refused as the host's.
+/// The reply to an event. An act at a slot without a tenant is refused to the host.
 #[derive(Debug, Drop)]
 pub enum LifeReply {
     ToHost(HostReply),
     ToTenant(Reply),
 }
 
-/// Has the tenant of a slot act, if it has one.
+/// Lets the tenant of a slot act, if it has one.
 fn act_at(world: &mut World, slot: u64, act: &Act) -> LifeReply
     ensures { IsDone open_setup HasOpenCluster world.old (acts_at slot act.now (open_at slot world.old.setup.tenants)) (answer_at slot result) world.new }
 {
@@ -73,7 +73,7 @@ fn close_at(world: &mut World, slot: u64) -> HostReply
     HostReply::Closed(name)
 }
 
-/// One event.
+/// Applies one event.
 fn happen(world: &mut World, event: &HostEvent) -> LifeReply
     requires { IsWithinLimits event.now }
     ensures { IsDone open_setup HasOpenCluster world.old (said_of world.old.setup.tenants event.now) (answer_at event.now.slot result) world.new }
@@ -85,8 +85,9 @@ fn happen(world: &mut World, event: &HostEvent) -> LifeReply
     }
 }
 
-/// The replies to events in a row, in a new world of a configuration, whose tenants come and go. The
-/// main theorem speaks of each life: from the head or an admission to the next close of the slot.
+/// Applies events in a new world of a configuration, whose tenants come and go, and returns a reply to
+/// each. The main theorem holds of each life: from the head or an admission to the next close of the
+/// slot. Fails with `AllocError` if there is no memory for the world or the list of replies.
 pub fn run_lives(
     alloc: Global,
     config: Config,

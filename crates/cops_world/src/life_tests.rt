@@ -1,5 +1,5 @@
-//! Tenants come to a world and go from it: that this succeeds, and that who comes then acts as the
-//! first tenants do. Run with the Nth request for memory refused, for each N.
+//! Tenants come to a world and go from it: this succeeds, and later tenants act as the
+//! first do. Run with the Nth request for memory refused, for each N.
 ghost use Rattle.std.specs.Prelude.{IsTrue};
 ghost use Rattle.cops_types.specs.HeadLines.{is_tenant};
 
@@ -9,12 +9,12 @@ use cops_types::Tenant;
 use std::alloc::Global;
 use std::process::Abort;
 
-const ACME_AND_BETA: &str = "cluster 1 1 5000 1
+pub(crate) const ACME_AND_BETA: &str = "cluster 1 1 5000 1
 tenant acme 00000000-0000-0000-0000-000000000001 0 100 10000 10 4 20 8 1000
 tenant beta 00000000-0000-0000-0000-000000000002 0 100 10000 10 4 20 8 1000
 begin";
 
-const GAMA: &str = "cluster 1 1 5000 1
+pub(crate) const GAMA: &str = "cluster 1 1 5000 1
 tenant gama 00000000-0000-0000-0000-000000000003 7 100 10000 10 4 20 8 1000
 begin";
 
@@ -32,7 +32,7 @@ beta ctx a > context 1
 beta put a 1 x 99 > started
 beta done a 0 > stored x 1.0";
 
-/// Nothing is left of the tenant before him, whose session had the same name.
+/// Nothing is left of the tenant before, whose session had the same name.
 const GAMA_PUTS: &str = "gama open a 0 > opened
 
 gama ctx a > context 1
@@ -47,7 +47,7 @@ const ACME_GETS: &str = "acme get a 1 x > started
 acme done a 0 > x=10@1.0";
 
 /// The first tenant of a head.
-fn first_tenant(rt: &impl Abort, alloc: Global, head: &str) -> Tenant
+pub(crate) fn first_tenant(rt: &impl Abort, alloc: Global, head: &str) -> Tenant
     ensures { IsTrue (is_tenant result) }
 {
     let config = config_of(rt, alloc, head);
@@ -57,7 +57,7 @@ fn first_tenant(rt: &impl Abort, alloc: Global, head: &str) -> Tenant
     tenant
 }
 
-/// Gives the least free slot to the tenant, and tells which it is.
+/// Gives the least free slot to the tenant, and returns it.
 fn admit(rt: &impl Abort, world: &mut World, tenant: &Tenant) -> u64
     requires { IsTrue (is_tenant tenant.now) }
 {

@@ -5,9 +5,9 @@ use cops_session::Session;
 use std::alloc::{AllocError, Global};
 use std::marker::Model;
 
-/// A session that stands apart from the table of its tenant's actors. A place of the table is as
-/// large as its largest actor. A session is more than twice a carrier, which is put in and taken
-/// out for each entry that it carries. Contracts see the session.
+/// A session outside the table of its tenant's actors. A place of the table is as large as its largest
+/// actor, and a session is more than twice as large as a carrier, which comes and goes for each entry.
+/// Contracts see the session.
 #[derive(Drop)]
 pub struct OwnSession {
     pub(crate) session: Box<Session>,
@@ -22,7 +22,7 @@ impl Model for OwnSession {
 }
 
 impl OwnSession {
-    /// The session, in a block of memory.
+    /// Moves a session into a block of memory. Fails with `AllocError` if memory runs out.
     pub(crate) fn new(alloc: Global, session: Session) -> Result<Self, AllocError>
         ensures { IfOk result (λ own. own ≡ session) }
     {

@@ -5,9 +5,9 @@ ghost use Rattle.cops_script.specs.GoodHeads.{is_good};
 
 use crate::test_streams::{Endless, Pieces, Trickle};
 use crate::test_worlds::{config_of, event_of, row, says};
-use crate::{Event, Reply, World, run, run_script, solo};
+use crate::{Event, Reply, World, run, run_script, run_world, solo};
 use cops_script::{BadConfig, RunFault, run_script_in};
-use cops_types::{Config, Sink, Source, Tenants};
+use cops_types::{Config, Fault, Sink, Source, Tenants};
 use std::alloc::{AllocError, Global};
 use std::process::Abort;
 
@@ -105,7 +105,7 @@ fn a_tenant_between_the_rounds_is_not_noticed(rt: HostRuntime) {
     assert_told(&rt, alloc, &told, BOTH, "");
 }
 
-/// Asserts that a tenant alone is told what his rows say, which begin with this.
+/// Asserts that a tenant alone gets the replies of its rows, which begin with this.
 fn assert_alone(
     rt: &impl Abort,
     alloc: Global,
@@ -129,6 +129,50 @@ fn a_tenant_alone_is_told_the_same(rt: HostRuntime) {
     assert!(rt; config.tenants.len() == 2);
     assert_alone(&rt, alloc, &config, 0, &events, "acme ");
     assert_alone(&rt, alloc, &config, 1, &events, "beta ");
+}
+
+/// Returns whether no reply says that memory was refused.
+fn is_spared(told: &[Reply]) -> bool {
+    for reply in told {
+        if let Reply::Refused(Fault::OutOfMemory) = reply {
+            return false;
+        }
+    }
+    true
+}
+
+/// The replies to all events, if memory was never refused. Two nodes are left.
+fn told_to_all(rt: &impl Abort, alloc: Global) -> Option<Vec<Reply>> {
+    let config = config_of(rt, alloc, TWO_SHARDS);
+    let events = events_of(rt, alloc, &config.tenants, BOTH, "").ok()?;
+    let (world, told) = run_world(alloc, config, &events).ok()?;
+    assert!(rt; world.nodes().len() == 2);
+    if is_spared(&told) { Some(told) } else { None }
+}
+
+/// The replies to the first tenant alone, if memory was never refused.
+fn told_to_one(rt: &impl Abort, alloc: Global) -> Option<Vec<Reply>> {
+    let config = config_of(rt, alloc, TWO_SHARDS);
+    let events = events_of(rt, alloc, &config.tenants, BOTH, "").ok()?;
+    assert!(rt; config.tenants.len() == 2);
+    let told = solo(alloc, &config, 0, &events).ok()?;
+    if is_spared(&told) { Some(told) } else { None }
+}
+
+/// One request for memory may be refused: then the same run is made once more.
+#[test]
+fn refused_memory_in_whole_runs(rt: HostRuntime) {
+    let alloc = rt.alloc();
+    let told = match told_to_all(&rt, alloc) {
+        Some(told) => told,
+        None => told_to_all(&rt, alloc).expect(&rt, "memory"),
+    };
+    assert_told(&rt, alloc, &told, BOTH, "");
+    let told = match told_to_one(&rt, alloc) {
+        Some(told) => told,
+        None => told_to_one(&rt, alloc).expect(&rt, "memory"),
+    };
+    assert_told(&rt, alloc, &told, BOTH, "acme ");
 }
 
 const SCRIPT: &[u8] = b"cluster 1 1 5000 1
@@ -185,7 +229,7 @@ fn code(ran: Result<(), RunFault<BadConfig>>) -> u64 {
     }
 }
 
-/// With a reader that fails after some reads, a front is written, and no read follows.
+/// If a reader fails after some reads, a prefix is written, and no read follows.
 fn assert_read_fault(rt: &impl Abort, alloc: Global, reads: u64) {
     let mut source = Source::new(Pieces {
         bytes: SCRIPT,

@@ -1,4 +1,4 @@
-//! A script as a whole, answered in a new world.
+//! Answers a whole script in a new world.
 ghost use Rattle.std.specs.Prelude.{◌≡◌, ◌⊎◌, IfErr, IfSome, IsErrOf, OnErr, OnOk};
 ghost use Rattle.std.specs.Io.KnownBytes.{IsAtEnd, Keeps};
 ghost use Rattle.cops_types.specs.Counts.{HasRisen, HasRisenBy};
@@ -17,23 +17,23 @@ use std::io::{Read, Write};
 
 /// Answers a script: reads its head, and writes one line for each line after it.
 ///
-/// The reader is asked for at most 4,096 bytes a turn, for at most 4,294,967,296 turns. No more of a
-/// line is kept than 8,193 bytes. What is answered is written about once a turn.
+/// Asks the reader for at most 4,096 bytes a turn, for at most 4,294,967,296 turns. Keeps at most
+/// 8,193 bytes of a line. Writes replies about once a turn.
 ///
-/// This is a program's last work: the memory of the world stays taken until the process ends.
+/// A program calls this last: the world's memory is freed only when the process ends.
 pub fn run_script<R: Read, O: Write>(
     alloc: Global,
     source: &mut Source<R>,
     sink: &mut Sink<O>,
 ) -> Result<(), RunFault<BadConfig>>
-    // All is read, and each line after the head is answered, or a front of the answers is written.
+    // All is read, and each line after the head is answered; or a prefix of the replies is written.
     ensures end { OnOk result (IsAtEnd (R.remaining (source_reader source.new))) }
     ensures ok { OnOk result (IfSome (R.remaining (source_reader source.old)) (λ bytes.
         WritesScript bytes (O.contents (sink_writer sink.old)) (O.contents (sink_writer sink.new)))) }
     ensures err { OnErr result (IfSome (R.remaining (source_reader source.old)) (λ bytes.
         WritesFront bytes (O.contents (sink_writer sink.old)) (O.contents (sink_writer sink.new)))) }
 
-    // A head is refused where it is bad, and nothing is written then.
+    // A bad head is refused, and nothing is written.
     ensures bad_head { IfErr result (λ fault. IfRunRefused fault (λ bad.
         IfSome (R.remaining (source_reader source.old)) (λ bytes. head_of (lines_of bytes) ≡ BadAt bad.line))) }
     ensures unwritten { IfErr result (λ fault. IfRunRefused fault (λ bad.

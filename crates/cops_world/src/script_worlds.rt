@@ -1,4 +1,4 @@
-//! The world that a script leaves, over any reader.
+//! Builds the world that a script leaves, over any reader.
 ghost use Rattle.std.specs.Prelude.{◌≡◌, ◌⊎◌, IfErr, IfOk, IfSome, IsErrOf, OnOk};
 ghost use Rattle.std.specs.Io.KnownBytes.{IsAtEnd};
 ghost use Rattle.cops_types.specs.Counts.{HasRisen, HasRisenBy};
@@ -15,10 +15,10 @@ use cops_types::Source;
 use std::alloc::Global;
 use std::io::Read;
 
-/// The world that a script leaves: reads its head, and does what each line after it says. It ends
-/// where a reply would say that memory was refused.
+/// Reads a script's head, does what each line after it says, and returns the world. Fails at the first
+/// line whose reply would be that memory ran out.
 ///
-/// It reads as `run_script` does, and writes nothing.
+/// Reads as `run_script` does, and writes nothing.
 pub fn script_world<R: Read>(
     alloc: Global,
     source: &mut Source<R>,
@@ -28,7 +28,7 @@ pub fn script_world<R: Read>(
     ensures ok { IfOk result (λ world. IfSome (R.remaining (source_reader source.old)) (λ bytes. IsLeftBy open_setup HasOpenCluster bytes world)) }
     ensures read { IfOk result (IsLeftByRead open_setup HasOpenCluster (R.remaining (source_reader source.old)) (R.remaining (source_reader source.new))) }
 
-    // A head is refused where it is bad.
+    // A bad head is refused.
     ensures bad_head { IfErr result (λ fault. IfRunRefused fault (λ bad.
         IfSome (R.remaining (source_reader source.old)) (λ bytes. head_of (lines_of bytes) ≡ BadAt bad.line))) }
 

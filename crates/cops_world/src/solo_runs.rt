@@ -1,4 +1,4 @@
-//! A script of which one tenant's lines are answered, in a new world of his own.
+//! Answers one tenant's lines of a script, in a world of its own.
 ghost use Rattle.std.specs.Prelude.{◌≡◌, ◌⊎◌, IfErr, IfSome, IsErrOf, OnErr, OnOk};
 ghost use Rattle.std.specs.Io.KnownBytes.{IsAtEnd, Keeps};
 ghost use Rattle.cops_types.specs.Counts.{HasRisen, HasRisenBy};
@@ -13,26 +13,26 @@ use cops_types::{Sink, Source};
 use std::alloc::Global;
 use std::io::{Read, Write};
 
-/// Answers the lines of one name's tenants of a script, each in a cluster that he has to himself: reads
-/// all of it, and writes one line for each line that a tenant of the name says while he is open.
+/// Answers the lines of a script that tenants of one name say, each tenant in a cluster of its own: reads
+/// all of it, and writes one line for each line that such a tenant says while it is open.
 ///
-/// Tenants come and go by the lines of the host, for which nothing is written.
+/// Tenants come and go by the host's lines, for which nothing is written.
 ///
-/// It reads and writes as `run_script` does.
+/// Reads and writes as `run_script` does.
 pub fn solo_script<R: Read, O: Write>(
     alloc: Global,
     source: &mut Source<R>,
     sink: &mut Sink<O>,
     tenant: &[u8],
 ) -> Result<(), RunFault<SoloRefusal>>
-    // All is read, and each line of these tenants is answered, or a front of the answers is written.
+    // All is read, and each line of these tenants is answered; or a prefix of the replies is written.
     ensures end { OnOk result (IsAtEnd (R.remaining (source_reader source.new))) }
     ensures ok { OnOk result (IfSome (R.remaining (source_reader source.old)) (λ bytes.
         WritesSolo tenant.now bytes (O.contents (sink_writer sink.old)) (O.contents (sink_writer sink.new)))) }
     ensures err { OnErr result (IfSome (R.remaining (source_reader source.old)) (λ bytes.
         WritesSoloFront tenant.now bytes (O.contents (sink_writer sink.old)) (O.contents (sink_writer sink.new)))) }
 
-    // The head is refused where it is bad, and the name where no tenant of it was ever open; nothing is written then.
+    // A bad head is refused, and a name that no open tenant ever had; nothing is written then.
     ensures refused { IfErr result (λ fault. IfRunRefused fault (λ refusal.
         IfSome (R.remaining (source_reader source.old)) (λ bytes. IsRefusedFor tenant.now bytes refusal))) }
     ensures unwritten { IfErr result (λ fault. IfRunRefused fault (λ refusal.

@@ -1,5 +1,5 @@
-//! Runs of a script for one name: of a tenant with two lives, one who is admitted by a line to the slot
-//! of another, one who says nothing, and one who was never open.
+//! Runs of a script for one name: a tenant with two lives, one that a line admits to another's slot, one
+//! that says nothing, and one that was never open.
 use crate::solo_script;
 use cops_script::{RunFault, SoloRefusal};
 use cops_types::{Sink, Source};
@@ -25,7 +25,7 @@ acme fly
 acme ctx a
 gama ctx a";
 
-/// Nothing is left of his first life, and what comes between the two is not for him.
+/// Nothing is left of its first life, and what comes between the two is not for it.
 const ACME: &[u8] = b"acme opened
 acme E03
 acme opened
@@ -33,7 +33,7 @@ acme E01
 acme context 1
 ";
 
-/// 0 for an answered script, 2 where nobody of the name was ever open, and else 1.
+/// 0 for an answered script, 2 if nobody of the name was ever open, and else 1.
 fn code(ran: Result<(), RunFault<SoloRefusal>>) -> u64 {
     match ran {
         Ok(()) => 0,

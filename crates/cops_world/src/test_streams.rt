@@ -51,7 +51,7 @@ impl Write for Trickle {
     }
 }
 
-/// Gives some bytes, and then one byte of a line that never ends, for ever.
+/// Gives some bytes, and then the bytes of a line that never ends.
 #[derive(Drop)]
 pub(crate) struct Endless<'a> {
     pub bytes: &'a [u8],

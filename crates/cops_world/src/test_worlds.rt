@@ -1,4 +1,4 @@
-//! Worlds, events and replies by their texts. Each call is made once more where memory was refused.
+//! Worlds, events and replies by their texts. Each call is made once more if memory is refused.
 ghost use Rattle.std.specs.Prelude.{◌<◌, length, IsTrue, IfSome};
 ghost use Rattle.cops_script.specs.GoodHeads.{is_good};
 
@@ -22,7 +22,7 @@ fn read(rt: &impl Abort, alloc: Global, head: &mut HeadSoFar, line: &[u8]) -> Op
     }
 }
 
-/// The configuration that these lines give.
+/// Returns the configuration that these lines give.
 pub(crate) fn config_of(rt: &impl Abort, alloc: Global, head: &str) -> Config
     ensures { IsTrue (is_good result) }
 {
@@ -45,14 +45,14 @@ pub(crate) fn new_world(rt: &impl Abort, alloc: Global, head: &str) -> World {
     }
 }
 
-fn act_of<'a>(rt: &impl Abort, line: &'a [u8]) -> Act<'a> {
+pub(crate) fn act_of<'a>(rt: &impl Abort, line: &'a [u8]) -> Act<'a> {
     match parse_act(line) {
         Some(act) => act,
         None => panic!(rt; "a line of some form"),
     }
 }
 
-/// The event that a line writes.
+/// Returns the event that a line is.
 pub(crate) fn event_of<'a>(rt: &impl Abort, tenants: &Tenants, line: &'a str) -> Event<'a>
     ensures { result.slot < length tenants.now }
 {
@@ -71,7 +71,7 @@ fn text_of(alloc: Global, reply: &Reply) -> Result<Vec<u8>, AllocError> {
     Ok(out)
 }
 
-/// Whether the text of the reply is one of these.
+/// Returns whether the text of the reply is one of these.
 pub(crate) fn says(rt: &impl Abort, alloc: Global, reply: &Reply, texts: &str) -> bool {
     let said = match text_of(alloc, reply) {
         Ok(said) => said,
@@ -85,7 +85,7 @@ pub(crate) fn says(rt: &impl Abort, alloc: Global, reply: &Reply, texts: &str) -
     false
 }
 
-/// A line, and what may be said to it.
+/// Splits a row into a line and the replies that it may get.
 pub(crate) fn row<'a>(rt: &impl Abort, row: &'a str) -> (&'a str, &'a str) {
     match row.split_once(" > ") {
         Some(parts) => parts,
@@ -93,7 +93,7 @@ pub(crate) fn row<'a>(rt: &impl Abort, row: &'a str) -> (&'a str, &'a str) {
     }
 }
 
-/// Applies an event. Whether memory was not refused; then the reply has one of these texts.
+/// Applies an event. Returns `false` if memory is refused; else the reply has one of these texts.
 fn is_told(rt: &impl Abort, alloc: Global, world: &mut World, event: &Event, texts: &str) -> bool {
     match world.apply(event) {
         Ok(reply) => {
@@ -104,8 +104,8 @@ fn is_told(rt: &impl Abort, alloc: Global, world: &mut World, event: &Event, tex
     }
 }
 
-/// Applies the events of these rows. Whether memory was never refused.
-fn goes_through(rt: &impl Abort, alloc: Global, world: &mut World, rows: &str) -> bool {
+/// Applies the events of these rows. Returns `false` if memory is refused.
+pub(crate) fn goes_through(rt: &impl Abort, alloc: Global, world: &mut World, rows: &str) -> bool {
     for line in rows.lines() {
         let (line, texts) = row(rt, line);
         let event = event_of(rt, &world.config().tenants, line);
@@ -116,7 +116,7 @@ fn goes_through(rt: &impl Abort, alloc: Global, world: &mut World, rows: &str) -
     true
 }
 
-/// Applies the acts of these rows at a slot, whoever has it. Whether memory was never refused.
+/// Applies the acts of these rows at a slot, whoever has it. Returns `false` if memory is refused.
 fn goes_through_at(
     rt: &impl Abort,
     alloc: Global,
@@ -134,8 +134,7 @@ fn goes_through_at(
     true
 }
 
-/// Applies the events of these rows. After a refusal of memory those since the last empty line are
-/// begun anew.
+/// Applies the events of these rows. If memory is refused, those since the last empty line begin anew.
 pub(crate) fn check(rt: &impl Abort, alloc: Global, world: &mut World, rows: &str) {
     for part in rows.split("\n\n") {
         if !goes_through(rt, alloc, world, part) {

@@ -1,9 +1,10 @@
-//! Runs of events in a new world: of all tenants, and of one alone.
+//! Runs events in a new world: those of all tenants, or of one alone.
 ghost use Rattle.std.specs.Prelude.{◌≡◌, ◌<◌, ℕ, All, IfOk, IsTrue, length};
-ghost use Rattle.cops_model.specs.Events.{config_at, own, replies, solo_replies, before_lack, IsFrontOf, IsSpared};
-ghost use Rattle.cops_model.specs.Laws.{cluster_of};
+ghost use Rattle.cops_model.specs.Events.{config_at, own, replies};
+ghost use Rattle.cops_model.specs.Cluster.{SoloCluster, new_cluster};
+ghost use Rattle.cops_model.specs.Goes.{Goes};
 ghost use Rattle.cops_model.specs.Setups.{new_setup};
-ghost use Rattle.cops_model.specs.MainTheorem.{MainTheorem, with_tenant_alone};
+ghost use Rattle.cops_model.specs.MainTheorem.{IsCausalRun, MainTheorem};
 ghost use Rattle.cops_script.specs.GoodHeads.{is_good};
 ghost use Rattle.cops_world.specs.Worlds.{HasOpenCluster, open_setup};
 
@@ -12,8 +13,8 @@ use cops_script::{Tenancy, as_reply, run_all, with_tenant_alone};
 use cops_types::Config;
 use std::alloc::{AllocError, Global};
 
-/// A new world of a configuration after events in a row, and the replies to them. What its audits
-/// show of a tenant is what those of his own cluster show.
+/// A new world of a configuration after events in a row, and the replies to them. Each tenant has the
+/// cluster in it that a run of its own acts leaves, with these replies, however often memory ran out.
 pub fn run_world(
     alloc: Global,
     config: Config,
@@ -24,15 +25,15 @@ pub fn run_world(
     ensures length { IfOk result (λ run. length run.1.items ≡ length events.now) }
     ensures setup { IfOk result (λ run. open_setup run.0 ≡ new_setup config) }
     ensures theorem { IfOk result (λ run. MainTheorem config events.now run.1.items) }
-    ensures clusters { IfOk result (λ run. (slot : ℕ) → slot < length config.tenants → IsSpared (replies slot events.now run.1.items) →
-        HasOpenCluster run.0 slot (cluster_of (config_at config slot) (own slot events.now))) }
+    ensures left { IfOk result (λ run. (slot : ℕ) → slot < length config.tenants →
+        (left : SoloCluster) × Goes (config_at config slot) (own slot events.now) (replies slot events.now run.1.items) (new_cluster (config_at config slot)) left × HasOpenCluster run.0 slot left) }
 {
     let mut world = World::new(alloc, config)?;
     let told = run_all(alloc, &mut world, events)?;
     Ok((world, told))
 }
 
-/// The replies to events in a row, in a new world of a configuration.
+/// Applies events in a new world of a configuration, and returns a reply to each.
 pub fn run(alloc: Global, config: Config, events: &[Event]) -> Result<Vec<Reply>, AllocError>
     requires good { IsTrue (is_good config) }
     requires slots { All (λ e. e.slot < length config.tenants) events.now }
@@ -43,7 +44,7 @@ pub fn run(alloc: Global, config: Config, events: &[Event]) -> Result<Vec<Reply>
     Ok(told)
 }
 
-/// The replies to one tenant's events among these, in a cluster that he has to himself.
+/// The replies to one tenant's events among these, in a cluster that it has to itself.
 pub fn solo(
     alloc: Global,
     config: &Config,
@@ -53,8 +54,7 @@ pub fn solo(
     requires good { IsTrue (is_good config.now) }
     requires slot { slot < length config.now.tenants }
     ensures length { IfOk result (λ told. length told.items ≡ length (own slot events.now)) }
-    ensures alone { IfOk result (λ told. IsSpared told.items → told.items ≡ solo_replies (config_at config.now slot) (own slot events.now)) }
-    ensures at_first { IfOk result (λ told. IsFrontOf (before_lack told.items) (solo_replies (config_at config.now slot) (own slot events.now))) }
+    ensures run { IfOk result (λ told. IsCausalRun (config_at config.now slot) (own slot events.now) told.items) }
 {
     let alone = with_tenant_alone(alloc, config, config.tenants.tenant(slot))?;
     let mut world = World::new(alloc, alone)?;

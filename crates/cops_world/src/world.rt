@@ -20,8 +20,8 @@ ghost use Rattle.cops_script.specs.Acting.{HasActed, IsNew, IsSparedReply, Tells
 ghost use Rattle.cops_script.specs.GoodHeads.{is_good};
 ghost use Rattle.cops_world.specs.ActorTables.{names_at};
 ghost use Rattle.cops_world.specs.ActorsStand.{ActorStandsFor, RunsAt};
-ghost use Rattle.cops_world.specs.Deeds.{deed_step};
-ghost use Rattle.cops_script.specs.Lacks.{Lacks, Stays, StepStops, StepsStop};
+ghost use Rattle.cops_world.specs.Deeds.{DeedLacks, deed_step};
+ghost use Rattle.cops_model.specs.Lacks.{Lacks, StepStops, StepsStop};
 ghost use Rattle.cops_world.specs.Trails.{audited_at};
 ghost use Rattle.cops_world.specs.Worlds.{Admits, AnyReply, AreSitesIn, ClusterStandsAt, Closes, HasOpenCluster, IsLeft, KeptWorld, Leaves, Moves, StaysOpen, open_setup, join_step, world_of};
 ghost use Rattle.cops_script.specs.Sizes.{HasSizes};
@@ -43,7 +43,7 @@ use std::mem;
 /// The most tenants that may be open at once. No slot has this number.
 const MOST_OPEN: u64 = 64;
 
-/// The nodes of a cluster, and the sessions and carriers of all its tenants, who may come and go.
+/// The nodes of a cluster, and the sessions and carriers of all its tenants, which may come and go.
 #[derive(Drop)]
 pub struct World {
     alloc: Global,
@@ -52,7 +52,7 @@ pub struct World {
     nodes: Cluster0,
     /// The actors of each slot.
     actors: Vec<ActorTable>,
-    /// What their tables are hashed with.
+    /// The seeds of their tables' hashes.
     seeds: Seeds,
     guesses: Guesses,
 }
@@ -67,7 +67,7 @@ impl Model for World {
     ghost invariant = { λ w. IsKeptWorld (record { setup = record { head = w.config; tenants = w.tenants }; nodes = w.nodes; tables = w.actors.items }) };
 }
 
-/// The keys, where each is one.
+/// Parses the keys, if each is one.
 fn keys_of(alloc: Global, slices: &ByteSlices) -> Result<Result<Keys, Fault>, AllocError>
     ensures keys { IfOk result (λ told. IfOk told (λ keys. keys ≡ slices.now)) }
     ensures good { IfOk result (λ told. OnOk told (list_all is_key slices.now ≡ true)) }
@@ -86,7 +86,7 @@ fn keys_of(alloc: Global, slices: &ByteSlices) -> Result<Result<Keys, Fault>, Al
     Ok(Ok(Keys::of(keys)))
 }
 
-/// The answer to an act that is refused with this fault, which may be that memory was refused.
+/// The answer to an act that is refused with this fault, which may be that memory ran out.
 fn refused_with(fault: Fault) -> Result<Reply, AllocError>
     ensures reply { IfOk result (λ reply. reply ≡ Refused fault) }
     ensures spared { IfOk result (λ _. fault ≢ OutOfMemory) }
@@ -125,14 +125,14 @@ fn new_carrier(config: &Config, origin: NodeId, to_dc: u64) -> Actor
     Actor::OfCarrier(Carrier::new(config, origin, to_dc))
 }
 
-/// Whether the actor goes on after a step that was answered so.
+/// Returns whether the actor goes on after a step with this answer.
 fn goes_on(answered: &Result<Reply, AllocError>) -> bool
     ensures { result ≡ goes_on (told_act answered.now) }
 {
     matches!(answered, Ok(Reply::Working | Reply::Restarted(_)))
 }
 
-/// What a collection answered, as a reply.
+/// Turns what a collection answered into a reply.
 fn reply_of_collect(reply: NodeReply) -> Reply
     ensures { result ≡ reply_of_collect reply }
 {
@@ -144,10 +144,10 @@ fn reply_of_collect(reply: NodeReply) -> Reply
 }
 
 impl World {
-    /// Has a session of a tenant do what is asked.
+    /// Lets a session of a tenant carry out a command.
     fn ask(&mut self, slot: u64, name: &Name, deed: Deed) -> Result<Reply, AllocError>
         ensures moves { Moves AnyReply (λ config. deed_step config name.now deed) (world_of self.old) slot result (world_of self.new) }
-        ensures lack { Leaves Stays (world_of self.old) slot result (world_of self.new) }
+        ensures lack { Leaves (DeedLacks name.now deed) (world_of self.old) slot result (world_of self.new) }
     {
         let id = ActorId { slot, name: *name };
         let cell = Guesses::cell_of(&id);
@@ -164,7 +164,7 @@ impl World {
     #[inline(never)]
     fn create(&mut self, slot: u64, name: &Name) -> Result<Reply, AllocError>
         ensures moves { Moves AnyReply (λ config. cluster_step config (acts.Create name.now)) (world_of self.old) slot result (world_of self.new) }
-        ensures lack { Leaves Stays (world_of self.old) slot result (world_of self.new) }
+        ensures lack { Leaves (λ config. Lacks config (acts.Create name.now)) (world_of self.old) slot result (world_of self.new) }
     {
         self.ask(slot, name, Deed::Create)
     }
@@ -173,7 +173,7 @@ impl World {
     #[inline(never)]
     fn delete(&mut self, slot: u64, name: &Name, number: u64) -> Result<Reply, AllocError>
         ensures moves { Moves AnyReply (λ config. cluster_step config (acts.Delete name.now number)) (world_of self.old) slot result (world_of self.new) }
-        ensures lack { Leaves Stays (world_of self.old) slot result (world_of self.new) }
+        ensures lack { Leaves (λ config. Lacks config (acts.Delete name.now number)) (world_of self.old) slot result (world_of self.new) }
     {
         self.ask(slot, name, Deed::Delete(number))
     }
@@ -182,19 +182,19 @@ impl World {
     #[inline(never)]
     fn show(&mut self, slot: u64, name: &Name, number: u64) -> Result<Reply, AllocError>
         ensures moves { Moves AnyReply (λ config. cluster_step config (acts.Show name.now number)) (world_of self.old) slot result (world_of self.new) }
-        ensures lack { Leaves Stays (world_of self.old) slot result (world_of self.new) }
+        ensures lack { Leaves (λ config. Lacks config (acts.Show name.now number)) (world_of self.old) slot result (world_of self.new) }
     {
         self.ask(slot, name, Deed::Show(number))
     }
 
-    /// Whether a tenant is open at a slot.
+    /// Returns whether a tenant is open at a slot.
     fn has_tenant(&self, slot: u64) -> bool
         ensures { result ≡ is_open_at self.now.setup slot }
     {
         self.tenants.tenant(slot).is_some()
     }
 
-    /// The tenant who is open at a slot.
+    /// Returns the tenant that is open at a slot.
     fn tenant(&self, slot: u64) -> &Tenant
         requires { IsTrue (is_open_at self.now.setup slot) }
         ensures there { open_at slot self.now.setup.tenants ≡ Some result.now }
@@ -207,7 +207,7 @@ impl World {
         }
     }
 
-    /// Whether a tenant has as many actors as he may.
+    /// Returns whether a tenant has as many actors as it may.
     fn is_full(&self, slot: u64) -> bool
         requires { IsTrue (is_open_at self.now.setup slot) }
         ensures { result ≡ nat_le (config_in self.now.setup slot).quota.actors ((world_of self.now).count slot) }
@@ -217,7 +217,7 @@ impl World {
         table.len() as u64 >= tenant.quota.actors
     }
 
-    /// Whether an actor has this name.
+    /// Returns whether an actor has this name.
     fn has_actor(&self, id: &ActorId) -> bool
         requires { IsTrue (is_open_at self.now.setup id.now.slot) }
         ensures { result ≡ is_some ((world_of self.now).actors id.now) }
@@ -226,10 +226,11 @@ impl World {
         table.has(&id.name)
     }
 
-    /// Why a new actor may not join: its name is taken, or its tenant has as many as he may.
+    /// Returns why a new actor may not join: its name is taken, or its tenant has as many as it may.
     fn refuses(&self, id: ActorId) -> Option<Fault>
         requires { IsTrue (is_open_at self.now.setup id.slot) }
         ensures refused { IfSome result (λ fault. (solo : Solo) (reply : Reply) → Moves AnyReply (join_step id.name solo reply) (world_of self.now) id.slot (Ok (Refused fault)) (world_of self.now)) }
+        ensures spared { IfSome result (λ fault. fault ≢ OutOfMemory) }
         ensures free { IfNone result ((world_of self.now).actors id ≡ None) }
         ensures room { IfNone result (nat_le (config_in self.now.setup id.slot).quota.actors ((world_of self.now).count id.slot) ≡ false) }
     {
@@ -242,7 +243,7 @@ impl World {
         None
     }
 
-    /// Takes in a new actor, whose name is free and whose tenant may have one more.
+    /// Adds a new actor, whose name is free and whose tenant may have one more.
     fn join(&mut self, id: ActorId, actor: Actor) -> Result<(), AllocError>
         requires slot { IsTrue (is_open_at self.old.setup id.slot) }
         requires runs { RunsAt (shape_of self.old.setup.head) id.slot actor }
@@ -260,7 +261,7 @@ impl World {
     fn open(&mut self, slot: u64, name: &Name, dc: u64) -> Result<Reply, AllocError>
         requires { IsTrue (is_open_at self.old.setup slot) }
         ensures moves { Moves AnyReply (λ config. cluster_step config (acts.Open name.now dc)) (world_of self.old) slot result (world_of self.new) }
-        ensures lack { Leaves Stays (world_of self.old) slot result (world_of self.new) }
+        ensures lack { Leaves (λ config. Lacks config (acts.Open name.now dc)) (world_of self.old) slot result (world_of self.new) }
     {
         if dc >= self.config.data_centres {
             return Ok(Reply::Refused(Fault::NoSuchPlace));
@@ -276,14 +277,14 @@ impl World {
         }
     }
 
-    /// Whether there is such a node.
+    /// Returns whether there is a node of this id.
     fn has_node(&self, dc: u64, shard: u64) -> bool
         ensures { (config : TenantConfig) → HasSizes config self.now.setup.head → result ≡ has_node config dc shard }
     {
         dc < self.config.data_centres && shard < self.config.shards
     }
 
-    /// Whether there is such a node, and this data centre, which is another one.
+    /// Returns whether there is a node of this id, and this data centre, which is another one.
     fn has_stream(&self, origin: NodeId, to_dc: u64) -> bool
         ensures { (config : TenantConfig) → HasSizes config self.now.setup.head → result ≡ has_stream config origin.dc origin.shard to_dc }
     {
@@ -303,7 +304,7 @@ impl World {
     ) -> Result<Reply, AllocError>
         requires { IsTrue (is_open_at self.old.setup slot) }
         ensures moves { Moves AnyReply (λ config. cluster_step config (acts.Carry name.now origin.dc origin.shard to_dc)) (world_of self.old) slot result (world_of self.new) }
-        ensures lack { Leaves Stays (world_of self.old) slot result (world_of self.new) }
+        ensures lack { Leaves (λ config. Lacks config (acts.Carry name.now origin.dc origin.shard to_dc)) (world_of self.old) slot result (world_of self.new) }
     {
         if !self.has_stream(origin, to_dc) {
             return Ok(Reply::Refused(Fault::NoSuchPlace));
@@ -318,7 +319,7 @@ impl World {
         }
     }
 
-    /// The place of an actor. It is looked for first where its guess says, and noted there.
+    /// Returns the place of an actor: its cached index, if that is right. Caches what it finds.
     fn place_of(&mut self, id: &ActorId) -> Option<usize>
         ensures same { self.new ≡ self.old }
         ensures place { IfSome result (λ place. Some place ≡ position (key_eq id.now.name) (names_at id.now.slot self.old.tables)) }
@@ -345,7 +346,7 @@ impl World {
         actor.step(&mut self.nodes, id.slot, moment)
     }
 
-    /// Takes out the actor at a place of its table if it is a carrier that has ended.
+    /// Removes the actor at a place of its table if it is a carrier that has ended.
     fn leave(&mut self, place: usize, id: &ActorId)
         requires slot { IsTrue (is_open_at self.old.setup id.now.slot) }
         requires place { Some place ≡ position (key_eq id.now.name) (names_at id.now.slot self.old.tables) }
@@ -356,8 +357,8 @@ impl World {
         }
     }
 
-    /// Takes steps of an actor at one moment until it has answered, at most `more` after the first. Only
-    /// where it has answered may it have ended: an answer that is kept meanwhile is copied.
+    /// Takes steps of an actor at one timestamp until it has answered, at most `more` after the first. It
+    /// can have ended only if it has answered: an answer that is kept meanwhile is copied.
     fn steps(
         &mut self,
         slot: u64,
@@ -392,7 +393,7 @@ impl World {
     fn collect(&mut self, slot: u64, id: NodeId, moment: u64) -> Result<Reply, AllocError>
         requires { IsTrue (is_open_at self.old.setup slot) }
         ensures moves { Moves AnyReply (λ config. cluster_step config (acts.Collect id.dc id.shard moment)) (world_of self.old) slot result (world_of self.new) }
-        ensures lack { Leaves Stays (world_of self.old) slot result (world_of self.new) }
+        ensures lack { Leaves (λ config. Lacks config (acts.Collect id.dc id.shard moment)) (world_of self.old) slot result (world_of self.new) }
     {
         if !self.has_node(id.dc, id.shard) {
             return Ok(Reply::Refused(Fault::NoSuchPlace));
@@ -403,7 +404,7 @@ impl World {
         }
     }
 
-    /// Begins a put of a session, where the key and the value are some.
+    /// Begins a put of a session, if the key and the value are valid.
     fn put(
         &mut self,
         slot: u64,
@@ -413,7 +414,7 @@ impl World {
         value: &ByteSlice,
     ) -> Result<Reply, AllocError>
         ensures moves { Moves AnyReply (λ config. cluster_step config (acts.Put name.now number key.now value.now)) (world_of self.old) slot result (world_of self.new) }
-        ensures lack { Leaves Stays (world_of self.old) slot result (world_of self.new) }
+        ensures lack { Leaves (λ config. Lacks config (acts.Put name.now number key.now value.now)) (world_of self.old) slot result (world_of self.new) }
     {
         let key = match Key::new(key.as_slice()) {
             Ok(key) => key,
@@ -425,7 +426,7 @@ impl World {
         }
     }
 
-    /// Begins a get transaction of a session, where there are keys and each is one.
+    /// Begins a get transaction of a session, if there are keys and each is valid.
     fn get(
         &mut self,
         slot: u64,
@@ -434,7 +435,7 @@ impl World {
         keys: &ByteSlices,
     ) -> Result<Reply, AllocError>
         ensures moves { Moves AnyReply (λ config. cluster_step config (acts.Get name.now number keys.now)) (world_of self.old) slot result (world_of self.new) }
-        ensures lack { Leaves Stays (world_of self.old) slot result (world_of self.new) }
+        ensures lack { Leaves (λ config. Lacks config (acts.Get name.now number keys.now)) (world_of self.old) slot result (world_of self.new) }
     {
         if keys.is_empty() {
             return Ok(Reply::Refused(Fault::Syntax));
@@ -446,7 +447,7 @@ impl World {
         }
     }
 
-    /// More steps than any request of a session or any carrier takes.
+    /// Returns more steps than any request of a session or any carrier takes.
     fn most_steps(&self, slot: u64) -> u64
         requires { IsTrue (is_open_at self.now.setup slot) }
         ensures { result ≡ most_steps (config_in self.now.setup slot) }
@@ -467,9 +468,9 @@ impl World {
         Tenancy::act(self, event.slot, &event.act)
     }
 
-    /// Gives a slot to a tenant, who begins with an empty cluster and without actors: at all nodes, or
-    /// at none. `NameTaken` where an open tenant has that name or token, `NoSlot` where the slot has a
-    /// tenant or is none of the 64, in this order. The tenant is within the limits that a head sets.
+    /// Gives a slot to a tenant, which begins with an empty cluster and without actors: at all nodes, or
+    /// at none. Fails with `NameTaken` if an open tenant has that name or token, then with `NoSlot` if
+    /// the slot has a tenant or is none of the 64, then with `OutOfMemory` if memory runs out.
     pub fn admit_at(&mut self, slot: u64, tenant: Tenant) -> Result<(), Fault>
         requires { IsTrue (is_tenant tenant) }
         ensures ok { OnOk result (Admits slot tenant self.old self.new) }
@@ -487,7 +488,7 @@ impl World {
         Ok(())
     }
 
-    /// The least free slot, or the number of all slots where none is free.
+    /// Returns the least free slot, or the number of all slots if none is free.
     fn next_slot(&self) -> u64
         ensures { result ≡ next_slot self.now.setup.tenants }
     {
@@ -497,7 +498,7 @@ impl World {
         }
     }
 
-    /// Gives the least free slot to a tenant, as `admit_at` does, and tells which it is.
+    /// Gives the least free slot to a tenant, as `admit_at` does, and returns it.
     pub fn admit(&mut self, tenant: Tenant) -> Result<u64, Fault>
         requires { IsTrue (is_tenant tenant) }
         ensures least { IfOk result (λ slot. slot ≡ next_slot self.old.setup.tenants) }
@@ -514,7 +515,7 @@ impl World {
     }
 
     /// Takes a slot from its tenant, and drops all of it: what the nodes have, sessions and carriers.
-    /// `UnknownTenant` where it has none. It asks for no memory, and goes through no other tenant's actors.
+    /// Fails with `UnknownTenant` if it has none. Asks for no memory, and visits no other tenant's actors.
     pub fn close(&mut self, slot: u64) -> Result<(), Fault>
         ensures closed { OnOk result (Closes slot self.old self.new) }
         ensures there { IsTrue (is_open_at self.old.setup slot) → IsOk result }
@@ -527,14 +528,14 @@ impl World {
         Ok(())
     }
 
-    /// The tenants who are open now, by slot.
+    /// Returns the tenants that are open now, by slot.
     pub fn tenants(&self) -> &OpenTenants
         ensures { result.now ≡ self.now.setup.tenants }
     {
         &self.tenants
     }
 
-    /// A new world of a configuration.
+    /// Creates a world of a configuration. Fails with `AllocError` if memory runs out.
     pub fn new(alloc: Global, config: Config) -> Result<Self, AllocError>
         requires { IsTrue (is_good config) }
         ensures { IfOk result (IsNew open_setup HasOpenCluster config) }
@@ -555,7 +556,7 @@ impl World {
         })
     }
 
-    /// The configuration of the head, whoever is open now.
+    /// Returns the configuration of the head, whoever is open now.
     pub fn config(&self) -> &Config
         ensures value { result.now ≡ self.now.setup.head }
         ensures good { IsTrue (is_good self.now.setup.head) }
@@ -563,7 +564,7 @@ impl World {
         &self.config
     }
 
-    /// The nodes of the configuration, by number.
+    /// Returns the nodes of the configuration, by number.
     pub fn nodes(&self) -> &[Node]
         ensures value { result.now ≡ self.now.nodes.nodes }
         ensures sites { AreSitesIn self.now.setup (map site_in self.now.nodes.nodes) }
@@ -573,11 +574,13 @@ impl World {
         self.nodes.nodes()
     }
 
-    /// The call at a place of the audit of a node, for the tenant of a slot.
+    /// Returns the call at a place of a node's audit that the tenant of this slot made. A slot without a
+    /// tenant has none.
     pub fn audit(&self, id: NodeId, slot: u64, place: u64) -> Option<&AuditRow>
         requires dc { id.dc < self.now.setup.head.data_centres }
         requires shard { id.shard < self.now.setup.head.shards }
         ensures shows { (cluster : SoloCluster) → ClusterStandsAt (world_of self.now) slot cluster → option_copied result ≡ audited_at (config_in self.now.setup slot) id place cluster }
+        ensures vacant { IsFalse (is_open_at self.now.setup slot) → result ≡ None }
     {
         let cluster = &self.nodes;
         let nodes = cluster.nodes();
@@ -599,7 +602,7 @@ impl Tenancy for World {
         World::tenants(self)
     }
 
-    /// The answer is made here and handed to nobody between: each such function would copy it.
+    /// Makes the answer here: each function between would copy it.
     #[inline(never)]
     fn act(&mut self, slot: u64, act: &Act) -> Result<Reply, AllocError>
         ensures moves { Moves (TellsExactly act.now) (λ config. cluster_step config act.now) (world_of self.old) slot result (world_of self.new) }

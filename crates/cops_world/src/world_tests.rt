@@ -1,7 +1,7 @@
-//! Worlds act by act: that calls succeed, that replies are those of the worked examples, and that
-//! refused memory is as if the act had not been. Run with the Nth request refused, for each N.
+//! Worlds act by act: calls succeed, replies are those of the worked examples, and an act that ran out
+//! of memory is as if it had not been. Run with the Nth request refused, for each N.
 use crate::World;
-use crate::test_worlds::{check, new_world};
+use crate::test_worlds::{check, goes_through, new_world};
 use cops_node::Node;
 use std::alloc::Global;
 use std::process::Abort;
@@ -123,4 +123,53 @@ beta show a 1 > all x:1.2 near x:1.2";
 fn refused_memory_is_not_noticed_later(rt: HostRuntime) {
     let mut world = new_world(&rt, rt.alloc(), TWO_BY_TWO);
     check(&rt, rt.alloc(), &mut world, SPARED);
+}
+
+/// Before the steps that may be refused memory: b has seen nothing.
+const BEGUN: &str = "acme open a 0 > opened
+
+acme ctx a > context 1
+
+acme put a 1 x 10 > started
+acme done a 0 > stored x 1.0
+
+acme open b 0 > opened
+
+acme ctx b > context 1
+
+acme get b 1 x > started
+
+acme carry c 0 0 1 > started";
+
+/// Asserts that these acts go on. If memory is refused, other ones show what that leaves, and the first
+/// are made once more.
+fn assert_goes(rt: &impl Abort, alloc: Global, world: &mut World, acts: &str, left: &str) {
+    if !goes_through(rt, alloc, world, acts) {
+        assert!(rt; goes_through(rt, alloc, world, left));
+        assert!(rt; goes_through(rt, alloc, world, acts));
+    }
+}
+
+/// After refused memory a request has ended, and the lists of its context are as before; a carrier is
+/// gone, and its name is free.
+#[test]
+fn refused_memory_ends_a_request_or_a_carrier(rt: HostRuntime) {
+    let alloc = rt.alloc();
+    let mut world = new_world(&rt, alloc, TWO_BY_TWO);
+    check(&rt, alloc, &mut world, BEGUN);
+    let got = "acme done b 6 > x=10@1.0";
+    let idle = "acme step b 6 > E06
+acme show b 1 > all - near -
+acme get b 1 x > started";
+    assert_goes(&rt, alloc, &mut world, got, idle);
+    let carried = "acme done c 5 > committed x 1.0 acked | already x 1.0 acked";
+    let free = "acme step c 5 > E03
+acme carry c 0 0 1 > started";
+    assert_goes(&rt, alloc, &mut world, carried, free);
+    check(
+        &rt,
+        alloc,
+        &mut world,
+        "acme show b 1 > all x:1.0 near x:1.0",
+    );
 }

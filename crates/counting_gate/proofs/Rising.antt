@@ -50,7 +50,7 @@ grows_on : (a b : Counter) (xs : List T) → Leads counts a xs b → a.count ≤
 grows_on a b [] l = let same : a.count ≡ b.count = ap (λ (x : Counter). x.count) l in omega arith
 grows_on a b (t ∷ xs) l = let up = counted a l.0 t.entry l.1 in let later = grows_on l.0 b xs l.2 in omega arith
 
--- where a history begins with another, it goes on from what that one leaves
+-- if a history begins with another, it goes on from what that one leaves
 goes_on : (a c : Counter) (xs ys : List T) → Leads counts a (xs ++ ys) c → (b : Counter) × Leads counts a xs b × Leads counts b ys c
 goes_on a c [] ys l = (a, refl, l)
 goes_on a c (t ∷ xs) ys l = let p = goes_on l.0 c xs ys l.2 in (p.0, (l.0, l.1, p.1), p.2)

@@ -1,4 +1,4 @@
-//! A counter behind a gate. The replies that one seat gets rise, whoever else makes turns between.
+//! A counter behind a gate. The replies to one seat rise, whoever else makes turns in between.
 #![tactic(auto)]
 
 ghost use Rattle.std.specs.Prelude.{◌≡◌, ◌<◌, ◌≤◌, IfOk, IfSome};
@@ -11,7 +11,7 @@ use cops_types::Fault;
 pub use counter::{Ask, Counter};
 use std::sync::Wait;
 
-/// Two turns of one seat: the second reply is greater.
+/// Makes two turns of one seat: the second reply is greater.
 pub fn two_turns<R: Wait>(
     rt: &R,
     gate: &Gate<Counter>,
@@ -25,7 +25,7 @@ pub fn two_turns<R: Wait>(
     Ok((first, second))
 }
 
-/// One turn, and then the gate closes: the counter that is left has not lost the turn.
+/// Makes one turn, and closes the gate: the remaining counter has not lost the turn.
 pub fn last_turn<R: Wait>(
     rt: &R,
     gate: Gate<Counter>,

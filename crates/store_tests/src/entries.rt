@@ -1,4 +1,4 @@
-//! Keys, values and entries of few words. Where memory is refused once, they are made all the same.
+//! Keys, values and entries of few words, made again if memory runs out once.
 use cops_types::{Deps, Entry, EntryParts, Fault, Found, FoundParts, Key, Near, Value, Version};
 use std::alloc::Global;
 use std::process::Abort;
@@ -21,7 +21,7 @@ fn bare_parts(rt: &impl Abort, alloc: Global, version: Version) -> FoundParts {
     }
 }
 
-/// What is found at a version, which depends on nothing. It is made again where memory was refused.
+/// Returns what is found at a version without dependencies, made again if memory ran out.
 pub(crate) fn bare_found(rt: &impl Abort, alloc: Global, version: Version) -> Found {
     match Found::new(alloc, bare_parts(rt, alloc, version)) {
         Ok(found) => found,
@@ -40,7 +40,7 @@ pub(crate) fn value(rt: &impl Abort, alloc: Global) -> Value {
     }
 }
 
-/// What an entry of the value 10 says, which depends on nothing and is the first of its origin.
+/// Returns the parts of an entry of the value 10 without dependencies, the first of its origin.
 fn parts(rt: &impl Abort, alloc: Global, name: &[u8], clock: u64) -> EntryParts {
     EntryParts {
         key: key(rt, name),

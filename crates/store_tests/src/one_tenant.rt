@@ -1,4 +1,4 @@
-//! A cluster of one node and one tenant, and his session there.
+//! A cluster of one node and one tenant, and the tenant's session there.
 ghost use Rattle.std.specs.Prelude.{◌≡◌, length, IsTrue};
 ghost use Rattle.cops_types.specs.HeadLines.{are_sizes};
 ghost use Rattle.cops_node.specs.Parts.{are_clocks};

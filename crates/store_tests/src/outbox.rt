@@ -1,3 +1,3 @@
-//! What waits for other data centres.
+//! The entries that wait for other data centres.
 
 mod queues;

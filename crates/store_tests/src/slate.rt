@@ -3,7 +3,7 @@ ghost use Rattle.std.specs.Prelude.{◌≤◌};
 
 use std::io::{self, Write};
 
-/// Keeps what it takes, up to 128 bytes, and needs no memory.
+/// Keeps what it takes, up to 128 bytes, and allocates nothing.
 #[derive(Drop)]
 pub(crate) struct Slate {
     pub(crate) bytes: [u8; 128],
@@ -19,7 +19,7 @@ impl Slate {
         }
     }
 
-    /// What was written.
+    /// Returns the bytes written.
     pub(crate) fn written(&self) -> &[u8] {
         &self.bytes[..self.len]
     }

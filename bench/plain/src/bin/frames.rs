@@ -66,7 +66,7 @@ fn message_of(body: &[u8]) -> Option<Message> {
     rest.0.is_empty().then_some(message)
 }
 
-/// The message at the front, and the length of its frame. None where less than a frame is there; an error where it is none.
+/// The message at the front, and the length of its frame. None if less than a frame is there; an error if it is none.
 fn front_of(bytes: &[u8]) -> Result<Option<(Message, usize)>, ()> {
     let Some((head, rest)) = bytes.split_first_chunk::<4>() else {
         return Ok(None);

@@ -12,7 +12,7 @@ pub enum RunFault<F> {
     /// The machine refused to go on.
     Refused(F),
     OutOfMemory,
-    /// The reader failed, or the bound on turns was met.
+    /// The reader failed, or the turns are used up.
     ReadFault,
     WriteFault,
 }

@@ -1,4 +1,4 @@
-//! What answers lines.
+//! Machines that answer lines.
 ghost use Rattle.std.specs.Prelude.{◌≡◌, OnOk, IfErr};
 ghost use Rattle.cops_script.specs.declared.line_runs.machine.Stop.TheVariants.{OutOfMemory};
 ghost use Rattle.cops_script.specs.LineAnswers.{Answers, IfRefused};
@@ -21,15 +21,15 @@ impl<F> From<AllocError> for Stop<F> {
     }
 }
 
-/// A machine that answers each line of a text with some text of its own.
+/// A machine that answers each line of a text.
 pub trait LineMachine {
     /// Why it refuses to go on.
     type Refusal;
 
-    // What it may answer, and when it refuses.
+    // Its permitted answers, and when it refuses.
     ghost rules: { LineRules Self Self.Refusal };
 
-    /// Answers the next line, which comes without its newline, at the end of `out`.
+    /// Appends the answer to the next line, which comes without its newline, to `out`.
     fn line(
         &mut self,
         alloc: Global,
@@ -39,7 +39,7 @@ pub trait LineMachine {
         ensures ok { OnOk result (Answers (rules.answers self.old line.now) self.new out.old.items out.new.items) }
         ensures err { IfErr result (λ stop. IfRefused stop (rules.refuses self.old line.now)) };
 
-    /// Answers the end of the input at the end of `out`.
+    /// Appends the answer to the end of the input to `out`.
     fn end(&mut self, alloc: Global, out: &mut Vec<u8>) -> Result<(), Stop<Self::Refusal>>
         ensures ok { OnOk result (Answers (rules.ends self.old) self.new out.old.items out.new.items) }
         ensures err { IfErr result (λ stop. IfRefused stop (rules.refuses_end self.old)) };

@@ -1,4 +1,4 @@
-//! Runs of a machine over what a reader gives, with the answers written to a writer.
+//! Runs of a machine over the lines of a reader, with the answers written to a writer.
 ghost use Rattle.std.specs.Prelude.{◌≡◌, ◌≢◌, ◌+◌, ◌-◌, ◌^◌, ◌<◌, ◌≤◌, [], ◌∷◌, ◌++◌, ◌⊎◌, length, OnOk, OnErr, IfErr, IsOk, IsErrOf};
 ghost use Rattle.cops_types.specs.Counts.{HasRisen, HasRisenBy};
 ghost use Rattle.cops_types.specs.Sink.{AppendsAllBut, AppendsFront, sink_failures, sink_writer};
@@ -16,13 +16,14 @@ use std::alloc::Global;
 use std::io;
 use std::io::{Read, Write};
 
-/// How many bytes are read in a turn, at most.
+/// The most bytes read in a turn.
 const PIECE: usize = 4096;
 
-/// Answers that wait are written once they are this long, and at the end of each turn.
+/// Flush threshold: buffered answers are written once they are this long, and at the end of each
+/// turn.
 const FULL: usize = 8192;
 
-/// Answers a line, of which the front was kept.
+/// Answers a line whose beginning was stored.
 fn answer_line<M: LineMachine>(
     machine: &mut M,
     alloc: Global,
@@ -48,7 +49,7 @@ fn answer_line<M: LineMachine>(
     result
 }
 
-/// Writes the answers that wait.
+/// Writes the buffered answers.
 fn drain<W: Write>(out: &mut Vec<u8>, sink: &mut Sink<W>) -> io::Result<()>
     ensures written { OnOk result (AppendsAllBut (W.contents (sink_writer sink.old)) (W.contents (sink_writer sink.new)) out.old.items out.new.items) }
     ensures empty { OnOk result (out.new.items ≡ []) }
@@ -65,7 +66,7 @@ fn drain<W: Write>(out: &mut Vec<u8>, sink: &mut Sink<W>) -> io::Result<()>
     Ok(())
 }
 
-/// Writes the answers that wait, once they are many.
+/// Writes the buffered answers, once they reach the threshold.
 fn drain_full<W: Write>(out: &mut Vec<u8>, sink: &mut Sink<W>) -> io::Result<()>
     ensures written { OnOk result (AppendsAllBut (W.contents (sink_writer sink.old)) (W.contents (sink_writer sink.new)) out.old.items out.new.items) }
     ensures nothing { out.old.items ≡ [] → IsOk result }
@@ -79,7 +80,7 @@ fn drain_full<W: Write>(out: &mut Vec<u8>, sink: &mut Sink<W>) -> io::Result<()>
     drain(out, sink)
 }
 
-/// Answers the lines that a piece ends, and keeps the front of the next.
+/// Answers the lines that a piece completes, and stores the beginning of the next.
 fn answer_piece<W: Write, M: LineMachine>(
     machine: &mut M,
     alloc: Global,
@@ -117,7 +118,7 @@ fn answer_piece<W: Write, M: LineMachine>(
     Ok(())
 }
 
-/// Answers the last line, where it lacks a newline.
+/// Answers the last line, if it lacks a newline.
 fn answer_last<M: LineMachine>(
     machine: &mut M,
     alloc: Global,
@@ -133,7 +134,8 @@ fn answer_last<M: LineMachine>(
     machine.line(alloc, front, out)
 }
 
-/// Answers the last line, where it lacks a newline, and the end of the input, and writes the answers that wait.
+/// Answers the last line, if it lacks a newline, and the end of the input, and writes the buffered
+/// answers.
 fn finish<W: Write, M: LineMachine>(
     machine: &mut M,
     alloc: Global,
@@ -159,9 +161,10 @@ fn finish<W: Write, M: LineMachine>(
 
 /// Answers each line that the reader gives, and writes the answers in order.
 ///
-/// It reads at most 4,096 bytes in a turn and ends with `ReadFault` after `turns` turns. A machine sees at most
-/// one byte more of a line than `limit`. After an `Err` the machine may have gone on by some lines. The writer
-/// is not flushed, and where there is nothing to write it is not called.
+/// Reads at most 4,096 bytes in a turn. A machine sees at most one byte past `limit` of a line.
+/// Does not flush the writer, and does not call it if there is nothing to write. Fails with
+/// `ReadFault` if the reader fails or after `turns` turns; on any error the machine may have
+/// advanced by some lines.
 pub fn run_lines<R: Read, W: Write, M: LineMachine>(
     machine: &mut M,
     alloc: Global,
@@ -172,7 +175,7 @@ pub fn run_lines<R: Read, W: Write, M: LineMachine>(
 ) -> Result<(), RunFault<M::Refusal>>
     requires { limit < 2 ^ 63 }
 
-    // All is read and answered, or a front of the answers is written.
+    // All is read and answered, or a prefix of the answers is written.
     ensures ok { OnOk result (AnswersAll M.rules limit
         (R.remaining (source_reader source.old)) (R.remaining (source_reader source.new)) machine.old machine.new
         (W.contents (sink_writer sink.old)) (W.contents (sink_writer sink.new))) }
@@ -180,13 +183,13 @@ pub fn run_lines<R: Read, W: Write, M: LineMachine>(
         (R.remaining (source_reader source.old)) (R.remaining (source_reader source.new)) machine.old
         (W.contents (sink_writer sink.old)) (W.contents (sink_writer sink.new))) }
 
-    // The reader or the writer failed in this call, or the bound on turns was met.
+    // The reader or the writer failed in this call, or the turns are used up.
     ensures read_fault { IsErrOf result RunFault.ReadFault →
         HasRisen (source_failures source.old) (source_failures source.new)
         ⊎ HasRisenBy (source_reads source.old) (source_reads source.new) turns }
     ensures write_fault { IsErrOf result RunFault.WriteFault → HasRisen (sink_failures sink.old) (sink_failures sink.new) }
 
-    // A turn is one read at most, and a failure ends the run and is told.
+    // A turn is at most one read, and a failure ends the run and is its error.
     ensures turns { source_reads source.new ≤ source_reads source.old + turns }
     ensures told_read { (source_failures source.new ≡ source_failures source.old) ⊎ IsErrOf result RunFault.ReadFault }
     ensures told_write { (sink_failures sink.new ≡ sink_failures sink.old) ⊎ IsErrOf result RunFault.WriteFault }

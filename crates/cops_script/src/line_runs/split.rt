@@ -1,10 +1,10 @@
-//! Lines out of pieces.
+//! Splits pieces into lines.
 ghost use Rattle.std.specs.Prelude.{◌≡◌, ◌+◌, ◌-◌, ◌^◌, ◌<◌, ◌≤◌, ◌∷◌, ◌++◌, length, take, IfSome, IfNone, OnOk};
 ghost use Rattle.cops_types.specs.Lines.{IsUnbroken, cut_line};
 
 use std::alloc::AllocError;
 
-/// The line at the front, without its newline, and what stands after it.
+/// Returns the first line, without its newline, and the bytes after it.
 pub(crate) fn split_line(bytes: &[u8]) -> Option<(&[u8], &[u8])>
     ensures some { IfSome result (λ parts. IsUnbroken parts.0.now × (bytes.now ≡ parts.0.now ++ 10 ∷ parts.1.now)) }
     ensures none { IfNone result (IsUnbroken bytes.now) }
@@ -13,7 +13,7 @@ pub(crate) fn split_line(bytes: &[u8]) -> Option<(&[u8], &[u8])>
     Some((&bytes[..at], &bytes[at + 1..]))
 }
 
-/// A line as a machine sees it.
+/// Returns a line as a machine sees it.
 pub(crate) fn cut(line: &[u8], limit: usize) -> &[u8]
     ensures { result.now ≡ cut_line limit line.now }
 {
@@ -24,7 +24,7 @@ pub(crate) fn cut(line: &[u8], limit: usize) -> &[u8]
     }
 }
 
-/// Puts more of a line that isn't over at the end of its front, as far as a machine sees it.
+/// Appends more of a line that is not over to its stored beginning, as far as a machine sees it.
 pub(crate) fn extend_cut(front: &mut Vec<u8>, more: &[u8], limit: usize) -> Result<(), AllocError>
     requires limit { limit < 2 ^ 63 }
     requires front { length front.old.items ≤ limit + 1 }

@@ -1,5 +1,5 @@
-//! Each request for memory may be refused: the context is then as it was, and the same call again
-//! is answered. Run with the Nth request refused, for each N.
+//! Each allocation may fail: the context is then as it was, and the same call again is answered.
+//! Run with the Nth allocation failing, for each N.
 
 use super::lists::{assert_lists, long, x, y, z};
 use crate::entries::bare_found;
@@ -37,7 +37,7 @@ fn refused_memory_leaves_a_new_context(rt: HostRuntime) {
     assert_lists(&rt, &context, &[x(&rt), y(&rt)], &[y(&rt)]);
 }
 
-/// Observes a pair in a context that has these lists, again where memory was refused.
+/// Observes a pair in a context that has these lists, again if memory ran out.
 fn observe(
     rt: &impl Abort,
     context: &mut Context,

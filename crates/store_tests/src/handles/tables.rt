@@ -62,7 +62,7 @@ fn on_the_wire(rt: HostRuntime) {
     assert!(rt; matches!(other, Err(Fault::NoContext)));
 }
 
-/// Opens a row, again where memory was refused: the row then came back, and the table was as before.
+/// Opens a row, again if memory ran out: the row was then returned, and the table was as before.
 fn insist(rt: &impl Abort, table: &mut Table<Numbers>, row: u8, number: u64) {
     let before = table.len();
     let told = match table.open(row) {
@@ -82,7 +82,7 @@ fn insist(rt: &impl Abort, table: &mut Table<Numbers>, row: u8, number: u64) {
     }
 }
 
-/// Each request for memory may be refused: run with the Nth request refused, for each N.
+/// Each allocation may fail: run with the Nth allocation failing, for each N.
 #[test]
 fn refused_memory_hands_the_row_back(rt: HostRuntime) {
     let mut table: Table<Numbers> = Table::starting_at(rt.alloc(), 1, 40);

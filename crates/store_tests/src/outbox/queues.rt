@@ -1,5 +1,5 @@
-//! Worked examples. In a run in which one request for memory is refused, the call is made again
-//! where nothing has changed.
+//! Worked examples. In a run in which one allocation fails, the call is made again, after a check
+//! that nothing has changed.
 ghost use Rattle.std.specs.Prelude.{◌≡◌, ◌<◌, length};
 
 use crate::entries::{entry, version};
@@ -8,7 +8,7 @@ use cops_types::Fault;
 use std::alloc::Global;
 use std::process::Abort;
 
-/// What the first of some data centres sends, for two tenants.
+/// Returns the outbox of the first of some data centres, for two tenants.
 fn outbox(rt: &impl Abort, alloc: Global, data_centres: usize) -> Outbox
     ensures tenants { result.tenants ≡ 2 }
     ensures data_centres { length result.queues ≡ data_centres }
@@ -19,7 +19,7 @@ fn outbox(rt: &impl Abort, alloc: Global, data_centres: usize) -> Outbox
     }
 }
 
-/// The clock of the slot's first entry, or 0 where there is none.
+/// Returns the clock of the slot's head, or 0 without one.
 fn front(outbox: &Outbox, slot: usize, dc: usize) -> u64
     requires slot { slot < outbox.now.tenants }
     requires dc { dc < length outbox.now.queues }
@@ -30,7 +30,7 @@ fn front(outbox: &Outbox, slot: usize, dc: usize) -> u64
     }
 }
 
-/// The front of each tenant and how many entries wait, for a data centre.
+/// Returns the head of each tenant's queue and the number of its entries, for a data centre.
 fn seen(outbox: &Outbox, dc: usize) -> ((u64, usize), (u64, usize))
     requires tenants { outbox.now.tenants ≡ 2 }
     requires dc { dc < length outbox.now.queues }
@@ -64,7 +64,7 @@ fn push_within(
     }
 }
 
-/// Adds the entry with this clock where no queue is limited.
+/// Adds the entry with this clock; no queue has a limit.
 fn push(rt: &impl Abort, alloc: Global, outbox: &mut Outbox, slot: usize, clock: u64)
     requires slot { slot < 2 }
     requires tenants { outbox.old.tenants ≡ 2 }
@@ -173,7 +173,7 @@ fn one_data_centre_sends_nothing(rt: HostRuntime) {
     assert!(rt; !outbox.is_full(0, 0));
 }
 
-/// Makes the slot, again where memory was refused, which leaves the outbox as it was.
+/// Makes the slot, again if memory ran out, which leaves the outbox as it was.
 fn admit(rt: &impl Abort, outbox: &mut Outbox, slot: usize)
     requires { slot < 64 }
     ensures tenants { slot < outbox.new.tenants }

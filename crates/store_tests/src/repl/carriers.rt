@@ -9,7 +9,7 @@ use cops_types::{Config, Deps, Entry, EntryParts, Fault, Pair, Tenants, Version}
 use std::alloc::{AllocError, Global};
 use std::process::Abort;
 
-/// A call that came, with its node and its moment.
+/// A call that came, with its node and its timestamp.
 #[derive(Drop)]
 struct Asked {
     id: NodeId,
@@ -20,7 +20,7 @@ struct Asked {
 /// Nodes that answer what a test wrote down, and note what they were asked.
 #[derive(Drop)]
 struct Script {
-    /// What is still to be answered, the last first.
+    /// The replies still to give, the last first.
     replies: Vec<NodeReply>,
     asked: Vec<Asked>,
 }
@@ -92,7 +92,7 @@ fn y_carrier(alloc: Global) -> Carrier
     Carrier::new(&config(alloc), NodeId { dc: 0, shard: 1 }, 1)
 }
 
-/// Steps a carrier to its end, or until memory is refused, which ends it too.
+/// Steps a carrier to its end, or until memory runs out, which ends it too.
 fn carry(rt: &impl Abort, nodes: &mut Script, mut carrier: Carrier) -> Result<Delivery, AllocError>
     requires { RunsIn (record { data_centres = 2; shards = 2 }) carrier.shards carrier.stream }
 {
@@ -126,7 +126,7 @@ fn answers(rt: &impl Abort, alloc: Global, count: usize, last: NodeReply) -> Vec
     replies
 }
 
-/// How the carrier of y ends where its call after so many good answers is answered so.
+/// Returns how the carrier of y ends if its call after this many good replies gets this reply.
 fn ending(rt: &impl Abort, alloc: Global, count: usize, last: NodeReply) -> Delivery {
     let mut nodes = nodes_with(alloc, answers(rt, alloc, count, last));
     let ending = carry(rt, &mut nodes, y_carrier(alloc)).expect(rt, "memory");
@@ -134,7 +134,7 @@ fn ending(rt: &impl Abort, alloc: Global, count: usize, last: NodeReply) -> Deli
     ending
 }
 
-/// Asserts what is told of an entry that was carried.
+/// Asserts the outcome for an entry that was carried.
 fn assert_carried(rt: &impl Abort, ending: Delivery, of: Pair, is_fresh: bool, is_acked: bool) {
     match ending {
         Delivery::Carried { pair, fresh, acked } => {
@@ -162,6 +162,22 @@ fn replies_not_asked_for(rt: HostRuntime) {
     assert_torn(&rt, rt.alloc(), 1, NodeReply::Nothing);
     assert_torn(&rt, rt.alloc(), 2, NodeReply::Acked);
     assert_torn(&rt, rt.alloc(), 3, NodeReply::Already);
+}
+
+/// Asserts that the entry before is missing at the destination, which committed this version last.
+fn assert_out_of_order(rt: &impl Abort, ending: Delivery, mark: Version) {
+    match ending {
+        Delivery::OutOfOrder(last) => assert!(rt; last == mark),
+        _ => panic!(rt; "the entry before is missing"),
+    }
+}
+
+#[test]
+fn an_entry_out_of_order(rt: HostRuntime) {
+    let put = pair(&rt, b"y", 1, 1);
+    let mark = put.version;
+    let ending = ending(&rt, rt.alloc(), 2, NodeReply::OutOfOrder(mark));
+    assert_out_of_order(&rt, ending, mark);
 }
 
 #[test]
@@ -193,7 +209,7 @@ fn what_each_node_removes_is_counted(rt: HostRuntime) {
     assert_eq!(rt; nodes.asked.len(), 8);
 }
 
-// For runs in which one request for memory is refused: that is the error, and no sum is told.
+// For runs in which one allocation fails: that is the error, and there is no sum.
 #[test]
 fn refused_memory_ends_a_collection(rt: HostRuntime) {
     let config = config(rt.alloc());
@@ -204,7 +220,8 @@ fn refused_memory_ends_a_collection(rt: HostRuntime) {
     }
 }
 
-// The carrier takes no memory itself. Where the node has none, that is the error, and it has ended.
+// The carrier allocates nothing itself. If the node runs out of memory, that is the error, and the
+// carrier has ended.
 #[test]
 fn refused_memory_ends_a_carrier(rt: HostRuntime) {
     let replies = answers(&rt, rt.alloc(), 3, NodeReply::Acked);

@@ -1,5 +1,5 @@
-//! Each request for memory may be refused: the same call again, or the same request again, is as
-//! if it had not been. Run with the Nth request refused, for each N.
+//! Each allocation may fail: the same call again, or the same request again, is as if it had not
+//! been. Run with the Nth allocation failing, for each N.
 ghost use Rattle.cops_session.specs.Kept.{IsOfSizes};
 
 use super::sessions::{assert_lists, context, found, get, put, session, step, try_step};
@@ -12,7 +12,7 @@ use cops_types::{Deps, Version};
 use std::alloc::Global;
 use std::process::Abort;
 
-/// The two reads of a transaction over x and y, unless it ended for want of memory.
+/// Returns the two reads of a transaction over x and y, unless memory ran out.
 fn reads_both(
     rt: &impl Abort,
     alloc: Global,

@@ -45,7 +45,7 @@ pub(crate) fn session(rt: &impl Abort, alloc: Global, first: u64) -> Session
     one_tenant::session(alloc, &one_node(rt, alloc), first)
 }
 
-/// A new context, created again where memory was refused.
+/// A new context, created again if memory ran out.
 pub(crate) fn context(rt: &impl Abort, session: &mut Session) -> Handle<Contexts>
     requires { IsOfSizes 1 1 session.old.setting }
     ensures { IsOfSizes 1 1 session.new.setting }
@@ -59,7 +59,7 @@ pub(crate) fn context(rt: &impl Abort, session: &mut Session) -> Handle<Contexts
     }
 }
 
-/// A put, begun again where memory was refused.
+/// A put, begun again if memory ran out.
 pub(crate) fn put(
     rt: &impl Abort,
     alloc: Global,
@@ -79,7 +79,7 @@ pub(crate) fn put(
     }
 }
 
-/// A transaction, begun again where memory was refused.
+/// A transaction, begun again if memory ran out.
 pub(crate) fn get(
     rt: &impl Abort,
     session: &mut Session,
@@ -98,7 +98,7 @@ pub(crate) fn get(
     }
 }
 
-/// A step in which the node answers this, unless memory was refused.
+/// Takes a step in which the node gives this reply, unless memory ran out.
 pub(crate) fn try_step(
     rt: &impl Abort,
     session: &mut Session,
@@ -120,7 +120,7 @@ pub(crate) fn try_step(
     }
 }
 
-/// The same where there is memory.
+/// Does the same with memory.
 pub(crate) fn step(
     rt: &impl Abort,
     session: &mut Session,
@@ -174,7 +174,7 @@ pub(crate) fn assert_lists(
     }
 }
 
-/// Puts x in the context, which gives version 1.0. The number of the request.
+/// Puts x in the context, which gives version 1.0. Returns the number of the request.
 fn put_x(
     rt: &impl Abort,
     alloc: Global,
@@ -191,7 +191,7 @@ fn put_x(
     request
 }
 
-/// A transaction over x and y in its second round, where x is wanted at 1.0.
+/// Returns a transaction over x and y in its second round, whose wish for x is 1.0.
 fn in_second_round(
     rt: &impl Abort,
     alloc: Global,

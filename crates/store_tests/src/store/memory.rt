@@ -1,5 +1,5 @@
-//! Each request for memory may be refused: the store is then as it was, and the same call again
-//! is answered. Run with the Nth request refused, for each N.
+//! Each allocation may fail: the store is then as it was, and the same call again is answered. Run
+//! with the Nth allocation failing, for each N.
 ghost use Rattle.std.specs.Prelude.{◌≡◌, ◌<◌};
 
 use super::records::{QUOTA, assert_in_use, clock};
@@ -53,7 +53,7 @@ fn insert(
     store.insert(slot, copy, now, &QUOTA)
 }
 
-/// Inserts with no `reserve` before it, again where memory was refused.
+/// Inserts with no `reserve` before it, again if memory ran out.
 fn insist(rt: &impl Abort, alloc: Global, store: &mut Store, slot: usize, kept: &Entry)
     requires { slot < store.old.tenants }
     ensures { store.new.tenants ≡ store.old.tenants }
@@ -70,7 +70,7 @@ fn insist(rt: &impl Abort, alloc: Global, store: &mut Store, slot: usize, kept: 
     }
 }
 
-/// Reserves, again where memory was refused.
+/// Reserves, again if memory ran out.
 fn reserve(rt: &impl Abort, store: &mut Store, slot: usize, kept: &Entry)
     requires { slot < store.old.tenants }
     ensures { store.new.tenants ≡ store.old.tenants }
@@ -129,7 +129,7 @@ fn refused_growth_changes_nothing(rt: HostRuntime) {
     assert_in_use(&rt, store.in_use(1), 18, 54);
 }
 
-/// Makes the slot, again where memory was refused, which leaves the store as it was.
+/// Makes the slot, again if memory ran out, which leaves the store as it was.
 fn admit(rt: &impl Abort, store: &mut Store, slot: usize)
     requires { slot < 64 }
     ensures { slot < store.new.tenants }

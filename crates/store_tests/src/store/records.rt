@@ -62,7 +62,7 @@ fn keep_within(
     store.insert(slot, kept, now, quota)
 }
 
-/// The clock of what was found; 0 where nothing was.
+/// Returns the clock of what was found; 0 if nothing was.
 pub(crate) fn clock(found: Option<&Record>) -> u64 {
     match found {
         Some(record_of) => record_of.version().clock(),
@@ -92,7 +92,7 @@ fn collect(rt: &impl Abort, store: &mut Store, slot: usize, now: u64, time: u64,
     assert_eq!(rt; store.collect(slot, now, time), count);
 }
 
-/// Versions 1 and 2 of x, the first stale since moment 9.
+/// Versions 1 and 2 of x, the first stale since timestamp 9.
 fn with_a_smaller_version(rt: &impl Abort, alloc: Global) -> Store
     ensures { result.tenants ≡ 2 }
 {

@@ -22,7 +22,7 @@ fn taken(line: HeadLine) -> usize {
     number
 }
 
-/// What a line says, as a number.
+/// Returns the meaning of a line, as a number.
 fn said(rt: &impl Abort, reader: &mut ConfigReader, alloc: Global, line: &[u8]) -> usize {
     taken(reader.line(alloc, line).expect(rt, "memory"))
 }
@@ -63,7 +63,7 @@ cluster 01 1 5000 1
 
 cluster +1 1 5000 1";
 
-/// What a line alone says.
+/// Returns the meaning of a line alone.
 fn said_alone(rt: &impl Abort, alloc: Global, line: &str) -> usize {
     let mut reader = ConfigReader::new();
     let number = said_to(rt, &mut reader, alloc, line);
@@ -104,7 +104,8 @@ tenant A 00000000-0000-0000-0000-000000000001 0 0 0 0 0 0 0 0
 tenant a 0000000000000000000000000000001 0 0 0 0 0 0 0 0
 tenant  00000000-0000-0000-0000-000000000001 0 0 0 0 0 0 0 0";
 
-/// What a line says after a line of a cluster, once it is asserted whether a head may end there.
+/// Returns the meaning of a line after a line of a cluster, once it is asserted whether a head may
+/// end there.
 fn said_behind(rt: &impl Abort, reader: &mut ConfigReader, alloc: Global, line: &str) -> usize {
     assert_said(rt, reader, alloc, CLUSTER, 0);
     let number = said_to(rt, reader, alloc, line);
@@ -113,7 +114,7 @@ fn said_behind(rt: &impl Abort, reader: &mut ConfigReader, alloc: Global, line: 
     number
 }
 
-/// What a line says as that of the first tenant.
+/// Returns the meaning of a line as that of the first tenant.
 fn said_of_tenant(rt: &impl Abort, alloc: Global, line: &str) -> usize {
     let mut reader = ConfigReader::new();
     let number = said_behind(rt, &mut reader, alloc, line);
@@ -134,7 +135,8 @@ fn limits_of_a_tenant(rt: HostRuntime) {
     assert_first_tenant(&rt, rt.alloc(), BAD_TENANTS, 1);
 }
 
-/// What the line of a tenant says. It is read again where memory was refused, and says the same.
+/// Returns the meaning of a tenant's line. It is read again if memory ran out, with the same
+/// meaning.
 fn said_in_the_end(rt: &impl Abort, reader: &mut ConfigReader, alloc: Global) -> usize {
     match reader.line(alloc, ACME) {
         Ok(line) => taken(line),
@@ -156,7 +158,7 @@ fn a_line_is_read_again_after_want_of_memory(rt: HostRuntime) {
     drop(reader);
 }
 
-/// What a line of a head of layout 1 says, as a number.
+/// Returns the meaning of a line of a head of layout 1, as a number.
 fn old_said(rt: &impl Abort, reader: &mut OldConfigReader, alloc: Global, line: &[u8]) -> usize {
     taken(reader.line(alloc, line).expect(rt, "memory"))
 }
@@ -209,7 +211,8 @@ fn a_clock_past_the_last_of_layout_1(rt: HostRuntime) {
     drop(reader);
 }
 
-/// What the line of a tenant says. It is read again where memory was refused, and says the same.
+/// Returns the meaning of a tenant's line. It is read again if memory ran out, with the same
+/// meaning.
 fn old_said_in_the_end(rt: &impl Abort, reader: &mut OldConfigReader, alloc: Global) -> usize {
     match reader.line(alloc, ACME) {
         Ok(line) => taken(line),

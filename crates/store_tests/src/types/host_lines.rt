@@ -5,7 +5,7 @@ const ADMISSIONS: &str = "+ a 00000000-0000-0000-0000-000000000001 2814749767106
 + abcdefghijklmnop 00000000-0000-0000-0000-000000000001 0 4294967295 4294967295 4294967295 4294967295 1024 4294967295 4294967295
 + tenant 00000000000000000000000000000001 0 0 0 0 0 0 0 0";
 
-/// Among them are lines with nine words after the sign, with eleven, and with spaces where none may be.
+/// Among them are lines with nine words after the sign, with eleven, and with forbidden spaces.
 const NO_ADMISSIONS: &str = "+
 +\x20
 

@@ -18,7 +18,7 @@ struct Lengths;
 #[derive(Clone, Copy, Debug, PartialEq, Eq)]
 struct Stopped;
 
-/// Puts the length and a newline at the end.
+/// Appends the length and a newline.
 fn push_length(out: &mut Vec<u8>, len: usize) -> Result<(), AllocError>
     ensures { StartsWith out.new.items out.old.items }
 {

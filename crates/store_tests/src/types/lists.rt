@@ -68,6 +68,19 @@ fn nearest_pairs_have_a_limit(rt: HostRuntime) {
     assert!(rt; near.len() == 2);
 }
 
+#[test]
+fn nearest_pairs_that_are_held_are_dropped(rt: HostRuntime) {
+    let mut near = two_nearest(&rt, rt.alloc());
+    let held = deps(
+        &rt,
+        rt.alloc(),
+        &[pair(&rt, b"x", 2, 0), pair(&rt, b"y", 1, 0)],
+    );
+    near.drop_held(held.owned());
+    let kept = near.to_near().expect(&rt, "memory");
+    assert_near(&rt, &kept, &[pair(&rt, b"x", 1, 0)]);
+}
+
 /// A thing of this type may be sent to a thread, and be read by several at once.
 fn is_for_threads<T: Send + Sync>(_thing: &T) -> bool {
     true

@@ -1,5 +1,5 @@
-//! Each request for memory may be refused: what the call was made on is then as it was, and the
-//! same call again is answered. Run with the Nth request refused, for each N.
+//! Each allocation may fail: what the call was made on is then as it was, and the same call again
+//! is answered. Run with the Nth allocation failing, for each N.
 use crate::entries::{bare_found, entry, value};
 use crate::pairs::{assert_deps, assert_near, pair};
 use cops_types::{Deps, Fault, Near, Pair, Version};
@@ -18,7 +18,7 @@ fn long(rt: &impl Abort) -> Pair {
     pair(rt, b"a_key_of_many_letters", 2, 1)
 }
 
-/// Adds a pair to a list of these, again where memory was refused.
+/// Adds a pair to a list of these, again if memory ran out.
 fn add(rt: &impl Abort, list: &mut Deps, pair: &Pair, before: &[Pair]) {
     if let Err(fault) = list.add(*pair, LIMIT) {
         assert_eq!(rt; fault, Fault::OutOfMemory);
@@ -27,7 +27,7 @@ fn add(rt: &impl Abort, list: &mut Deps, pair: &Pair, before: &[Pair]) {
     }
 }
 
-/// Adds a pair to a list of nearest ones, again where memory was refused.
+/// Adds a pair to a list of nearest ones, again if memory ran out.
 fn add_near(rt: &impl Abort, list: &mut Near, pair: &Pair, before: &[Pair]) {
     if let Err(fault) = list.add(*pair, LIMIT) {
         assert_eq!(rt; fault, Fault::OutOfMemory);

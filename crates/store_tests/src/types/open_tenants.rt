@@ -48,8 +48,8 @@ fn a_closed_slot_is_given_again(rt: HostRuntime) {
     drop(tenants);
 }
 
-/// Each request for memory of an admission may be refused. Then nothing is noted of the tenant, and
-/// he can be admitted again.
+/// Each allocation of an admission may fail. Then nothing is recorded of the tenant, and it can be
+/// admitted again.
 #[test]
 fn admissions_under_want_of_memory(rt: HostRuntime) {
     let mut tenants = OpenTenants::new(rt.alloc()).expect(&rt, "memory");
@@ -68,7 +68,7 @@ fn admissions_under_want_of_memory(rt: HostRuntime) {
     drop(tenants);
 }
 
-/// The tenants of a head, made again where memory was refused.
+/// The tenants of a head, made again if memory ran out.
 fn tenants_of(rt: &impl Abort, alloc: Global, head: &Tenants) -> OpenTenants {
     match OpenTenants::of(alloc, head) {
         Ok(tenants) => tenants,

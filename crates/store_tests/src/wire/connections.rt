@@ -55,7 +55,7 @@ fn an_absent_key_and_two_keys(rt: HostRuntime) {
     assert_served(&rt, rt.alloc(), client, Ended::Clean, server);
 }
 
-/// What comes behind a greeting tears the connection.
+/// The bytes after a greeting tear the connection.
 fn assert_torn(rt: &impl Abort, alloc: Global, frame: &str) {
     let mut client = bytes_of(rt, alloc, "00000012 07 00000000000000000000000000000001 00");
     let frame = bytes_of(rt, alloc, frame);
@@ -159,7 +159,7 @@ fn a_greeting_to_a_missing_data_centre(rt: HostRuntime) {
     );
 }
 
-/// Whether frames end at this place: after a greeting, and after each request.
+/// Returns `true` if frames end at this place: after a greeting, and after each request.
 fn is_between_frames(len: usize) -> bool {
     matches!(len, 22 | 27 | 47 | 64 | 78 | 95)
 }
@@ -208,7 +208,7 @@ impl Write for Trickle {
     }
 }
 
-/// With a writer that fails at this write, a front of the replies is written.
+/// With a writer that fails at this write, a prefix of the replies is written.
 fn assert_write_fault(rt: &impl Abort, alloc: Global, writes_to_failure: u64) {
     let client = bytes_of(rt, alloc, CLIENT);
     let server = bytes_of(rt, alloc, SERVER);

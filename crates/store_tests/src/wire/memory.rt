@@ -1,12 +1,12 @@
-//! Each request for memory may be refused: the same call again is as if it had not been, and what is
-//! written is a front of the replies. Run with the Nth request refused, for each N.
+//! Each allocation may fail: the same call again is as if it had not failed, and the bytes written
+//! are a prefix of the replies. Run with the Nth allocation failing, for each N.
 use super::exchanges::{CLIENT, SERVER, bytes_of, exchange};
 use crate::slate::Slate;
 use cops_types::Fault;
 use cops_wire::{Decoder, Ended, Message, encode};
 use std::process::Abort;
 
-/// How many messages a piece gives. It is fed again where memory was refused.
+/// Returns how many messages a piece gives. It is fed again if memory ran out.
 fn messages_of(rt: &impl Abort, decoder: &mut Decoder, piece: &[u8]) -> usize {
     let pending = decoder.pending();
     if let Ok(fed) = decoder.feed(piece) {
@@ -39,7 +39,7 @@ fn refused_memory_puts_no_message(rt: HostRuntime) {
     assert_eq!(rt; out.as_slice(), [0, 0, 0, 1, 129].as_slice());
 }
 
-/// Whether some reply says that memory was refused.
+/// Returns `true` if some reply is out of memory.
 fn tells_of_memory(replies: &[u8]) -> bool {
     for place in 0..replies.len() {
         if replies[place..].starts_with(&[0, 0, 0, 2, 255, 23]) {

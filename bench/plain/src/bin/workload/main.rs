@@ -23,7 +23,7 @@ fn shard_of(key: &str, shards: u64) -> u64 {
     key.bytes().map(u64::from).sum::<u64>() % shards
 }
 
-/// Sets each option of the command line; None where one isn't known.
+/// Sets each option of the command line; None if one isn't known.
 fn options(words: &[String], mut set: impl FnMut(&str, u64) -> Option<()>) -> Option<()> {
     for option in words.chunks(2) {
         let [name, number] = option else {
@@ -34,7 +34,7 @@ fn options(words: &[String], mut set: impl FnMut(&str, u64) -> Option<()>) -> Op
     Some(())
 }
 
-/// Writes what the command line asks for; None where it asks for nothing known.
+/// Writes what the command line asks for; None if it asks for nothing known.
 fn write(words: &[String], out: impl Write) -> Option<io::Result<()>> {
     let (preset, rest) = words.split_first()?;
     if let Some(case) = requests::Case::named(preset) {

@@ -40,7 +40,7 @@ impl Case {
         })
     }
 
-    /// How many requests there are where no option says so; in `lives` and
+    /// How many requests there are if no option says so; in `lives` and
     /// `lives_beside`, how many lives.
     fn usual_requests(self) -> u64 {
         match self {
@@ -63,7 +63,7 @@ pub struct Plan {
 }
 
 impl Plan {
-    /// The plan of a case and options; None where they aren't known.
+    /// The plan of a case and options; None if they aren't known.
     pub fn of(case: Case, words: &[String]) -> Option<Plan> {
         let mut plan = Plan {
             case,
@@ -258,7 +258,7 @@ impl<W: Write> Script<W> {
     }
 
     /// Tenants in turn, half of whose requests are gets of two keys. In two data centres each has a client in both,
-    /// carries what he puts, and collects now and then.
+    /// carries what it puts, and collects now and then.
     fn shared(&mut self, requests: u64, tenants: u64, data_centres: u64) -> io::Result<()> {
         let names: Vec<String> = (0..tenants).map(|n| format!("tenant{n}")).collect();
         self.head(data_centres, &names)?;

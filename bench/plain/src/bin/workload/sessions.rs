@@ -39,14 +39,14 @@ pub struct Plan {
     fill: bool,
     /// Whether all nodes are collected at the end.
     sweep: bool,
-    /// Whether the first tenant leaves all his entries queued and stale in the
+    /// Whether the first tenant leaves all its entries queued and stale in the
     /// first half, and the others work beside them in the second.
     crowd: bool,
     head_alone: bool,
 }
 
 impl Plan {
-    /// The plan of a preset and options; None where they aren't known.
+    /// The plan of a preset and options; None if they aren't known.
     pub fn of(preset: &str, words: &[String]) -> Option<Plan> {
         let mut plan = Plan::preset(preset)?;
         options(words, |option, number| plan.set(option, number))?;

@@ -67,7 +67,7 @@ returns-in_err-answered-clause-room c =
 abbrev next : goal.After-push → Part
 next c = record c.args.part.now { moment = c.max-now.result; counters = c.act.new.counters; trail = c.push.new.self }
 
--- the row has the moment, the call and what was told
+-- the row has the timestamp, the call and the reply
 row_is : (c : goal.After-push) → c.new-row.result ≡ record { moment = c.args.moment; call = c.args.call; reply = c.in_ok-answered.answered.told }
 row_is c = c.new-row.ensures ∙ ap (λ (e : Exchange). record { moment = c.args.moment; call = e.call; reply = e.reply }) c.in_ok-answered.ensures.kept
 

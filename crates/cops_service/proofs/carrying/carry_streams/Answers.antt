@@ -5,9 +5,9 @@ use Rattle.cops_service.proofs.carrying.carry_streams.Goals as goal
 
 pub loop-stream-preserved : goal.loop-stream-preserved
 loop-stream-preserved g c = (
-  c.carry_next.ensures.shape ∙ c.loop-stream.invariant.0,
-  done_more (λ stream. CallsOnlyFor g.N.Nodes.Answers stream.from.slot) c.args.streams.now c.loop-stream.stream-index _ c.args.nodes.now c.loop-stream.nodes c.carry_next.new.nodes c.loop-stream-test.true
-      c.loop-stream.invariant.1 c.carry_next.ensures.slot,
+  c.carry_next-carried.ensures.shape ∙ c.loop-stream.invariant.0,
+  done_more (λ stream. CallsOnlyFor g.N.Nodes.Answers stream.from.slot) c.args.streams.now c.loop-stream.stream-index _ c.args.nodes.now c.loop-stream.nodes c.carry_next-carried.new.nodes c.loop-stream-test.true
+      c.loop-stream.invariant.1 c.carry_next-carried.ensures.slot,
 )
 
 pub returns-clause-slots : goal.returns-clause-slots

@@ -1,5 +1,9 @@
+use Rattle.cops_wire.proofs.FoundLimits.{found_fit}
 use Rattle.cops_wire.proofs.LimitedAnswers.{limited}
 use Rattle.cops_wire.proofs.laws.limited_answers_fit.Goals as goal
 
-pub returns : goal.returns
-returns c = limited
+pub returns-clause-limited : goal.returns-clause-limited
+returns-clause-limited c = limited
+
+pub returns-clause-found : goal.returns-clause-found
+returns-clause-found c = found_fit

@@ -1,11 +1,12 @@
 use Rattle.std.proofs.Common.{◌≡◌, take, length}
-use Rattle.cops_model.specs.Cluster.{new_cluster}
-use Rattle.cops_model.specs.Events.{config_at, own, solo_replies, before_lack, IsFrontOf, IsSpared, ToldAlone}
+use Rattle.cops_model.specs.Cluster.{SoloCluster, new_cluster}
+use Rattle.cops_model.specs.Events.{config_at, own}
+use Rattle.cops_model.specs.Goes.{Goes}
 use Rattle.cops_model.specs.Setups.{config_in}
 use Rattle.cops_world.specs.Worlds.{HasOpenCluster}
 use Rattle.cops_world.proofs.whole_runs.solo.Given as goal
 
--- the tenant was told so far what the definition tells him, and the world is his cluster then
+-- the replies so far are those of a run of the tenant's acts, and the world has the cluster that it leaves
 abbrev pub invariant-loop-event : goal.invariant-loop-event
 invariant-loop-event l =
     let config = config_at l.config l.slot in
@@ -13,6 +14,5 @@ invariant-loop-event l =
     record {
       same : config_in l.world.setup 0 ≡ config;
       as_long : length l.told.items ≡ length (own l.slot past);
-      alone : IsSpared l.told.items → ToldAlone config (new_cluster config) (own l.slot past) l.told.items (HasOpenCluster l.world 0);
-      at_first : IsFrontOf (before_lack l.told.items) (solo_replies config (own l.slot past));
+      run : (left : SoloCluster) × Goes config (own l.slot past) l.told.items (new_cluster config) left × HasOpenCluster l.world 0 left;
     }

@@ -32,7 +32,8 @@ returns-clause-answers c =
     let new : Cluster = record { shape = shape; nodes = set c.self.inside.nodes.items (node_number shape.shards c.args.id) c.step.new.self } in
     subst (λ (v : Cluster). IsCall v c.args.id c.args.slot c.args.moment c.args.call (told_reply c.step.result) new) c.self.view_is
     (call_is shape c.self.inside.nodes.items c.args.id c.args.slot c.args.moment c.args.call (told_reply c.step.result) c.index_mut-node.result.now c.step.new.self within c.index_mut-node.ensures.value
-    (at.0 ∙ id_is shape.shards c.args.id fitting.shard_exists) (turn_told c.args.slot c.args.moment c.args.call c.index_mut-node.result.now c.step.new.self c.step.result c.step.ensures.turn c.step.ensures.err) (full_told c.args.slot c.args.moment c.args.call c.index_mut-node.result.now c.step.new.self c.step.result c.step.ensures.full) c.step.ensures.others c.step.ensures.home c.step.ensures.terms)
+    (at.0 ∙ id_is shape.shards c.args.id fitting.shard_exists) (turn_told c.args.slot c.args.moment c.args.call c.index_mut-node.result.now c.step.new.self c.step.result c.step.ensures.turn c.step.ensures.err) (full_told c.args.slot c.args.moment c.args.call c.index_mut-node.result.now c.step.new.self c.step.result c.step.ensures.full) c.step.ensures.others c.step.ensures.home c.step.ensures.terms
+    (λ none. (ap told_reply (c.step.ensures.vacant none), c.step.ensures.unchanged none)))
 
 pub returns-clause-ok : goal.returns-clause-ok
 returns-clause-ok c =

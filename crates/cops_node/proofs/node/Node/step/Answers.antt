@@ -9,7 +9,7 @@ use Rattle.cops_model.specs.Step.{CallEffect}
 use Rattle.cops_node.proofs.Slots.{OnErr-any, fits_under, has_room, lack_shown, node_joined, node_same, solo_turned, step_full, terms_set, trail_elsewhere, trail_joined, view_of, view_set}
 use Rattle.cops_node.proofs.node.Node.step.Goals as goal
 
--- the part of the slot, where the call has returned
+-- the part of the slot, if the call has returned
 at_err : (c : goal.After-from_residual) → get_or c.self.inside.parts.items c.args.slot None ≡ Some c.in-Some.part
 at_err c =
     let long = c.len.ensures ∙ c.self.inside.parts.ok.0 in

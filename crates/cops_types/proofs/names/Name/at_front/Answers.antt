@@ -9,7 +9,7 @@ use Rattle.cops_types.proofs.FrontWords.{name_ends, name_filled, word_rest}
 use Rattle.cops_types.proofs.Padded.{IsPadded-made}
 use Rattle.cops_types.proofs.names.Name.at_front.Goals as goal
 
--- some bytes of keys are a name, where there is room for them
+-- some bytes of keys are a name, if there is room for them
 is_front_name : (bytes : List ℕ) (len : ℕ) → len ≤ length bytes → len ≤ 16 → 0 < len → list_all is_key_byte (take len bytes) ≡ true → is_name (take len bytes) ≡ true
 is_front_name bytes len within room some key =
     let size : length (take len bytes) ≡ len = length-take-le len bytes within in

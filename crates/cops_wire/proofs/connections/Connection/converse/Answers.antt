@@ -1,8 +1,9 @@
-use Rattle.std.proofs.Common.{rules, ◌<◌, ◌∷◌, ◌∙◌, [], inl, length, refl, sym, ap}
+use Rattle.std.proofs.Common.{rules, ◌<◌, ◌∷◌, ◌∙◌, [], inl, inr, length, refl, sym, ap}
 use Rattle.cops_types.specs.Sink.{sink_writer}
 use Rattle.cops_wire.specs.Requests.{KeepsShape}
 use Rattle.cops_wire.proofs.AnsweredRequests.{map_err, map_ok, on_err}
 use Rattle.cops_wire.proofs.Conversations.{first_of}
+use Rattle.cops_wire.proofs.Greetings.{if_err, stopped_later}
 use Rattle.cops_wire.proofs.NewSessions.{conversed, conversed_in_part, greeted_in_part, new_sizes, there_is}
 use Rattle.cops_wire.proofs.connections.Connection.converse.Goals as goal
 
@@ -33,3 +34,7 @@ pub returns-in_err-slot-clause-front : goal.returns-in_err-slot-clause-front
 returns-in_err-slot-clause-front g c =
     on_err c.from_residual.result
     (inl (greeted_in_part c.args.config.now.tenants c.args.config.now.data_centres _ _ _ _ _ _ _ _ _ _ (λ same. ap (λ s. g.W.Write.contents (sink_writer s)) same) c.in_err-slot.ensures.refused, refl, refl))
+
+pub returns-clause-err : goal.returns-clause-err
+returns-clause-err g c = if_err c.serve.result _ _ c.serve.ensures.err (λ fault stopped.
+    inr (stopped_later fault _ _ _ _ _ _ _ _ _ _ c.in_ok-slot.ensures.read_failures c.in_ok-slot.ensures.reads c.in_ok-slot.ensures.write_failures stopped))

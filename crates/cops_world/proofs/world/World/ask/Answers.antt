@@ -11,14 +11,14 @@ use Rattle.cops_world.specs.declared.actors.Actor.{Actor}
 use Rattle.cops_world.specs.declared.actors.ActorId.{ActorId}
 use Rattle.cops_world.specs.ActorsStand.{ActorStandsFor, RunsAt}
 use Rattle.cops_world.specs.ActorTables.{Table, actor_at, count_at, same_actor}
-use Rattle.cops_world.specs.Deeds.{deed_step}
-use Rattle.cops_script.specs.Lacks.{Stays}
+use Rattle.cops_world.specs.Deeds.{DeedLacks, deed_step}
+use Rattle.cops_model.specs.Setups.{config_in}
 use Rattle.cops_world.specs.Worlds.{AnyReply, KeptWorld, Leaves, Moves, world_of}
 use Rattle.cops_world.proofs.ActorTableLemmas.{actor_read, back_now, counts_now, own, same_actor-is}
 use Rattle.cops_world.proofs.WorldCalls.{none_there}
 use Rattle.cops_world.proofs.WorldKeeps.{kept_placed}
-use Rattle.cops_world.proofs.WorldLacks.{deed_leaves, spared_leaves}
-use Rattle.cops_world.proofs.WorldMoves.{deed_moves}
+use Rattle.cops_world.proofs.WorldLacks.{deed_leaves, on_err_then, on_lack, spared_leaves}
+use Rattle.cops_world.proofs.WorldMoves.{deed_moves, deed_unrefused}
 use Rattle.cops_world.proofs.world.World.ask.Goals as goal
 
 pub returns-in_default-clause-moves : goal.returns-in_default-clause-moves
@@ -34,7 +34,7 @@ returns-in_default-clause-moves c =
     }))
 
 pub returns-in_default-clause-lack : goal.returns-in_default-clause-lack
-returns-in_default-clause-lack c = spared_leaves Stays (world_of c.args.self.now) c.args.slot (Ok (Refused UnknownName)) (world_of c.args.self.now) refl
+returns-in_default-clause-lack c = spared_leaves (DeedLacks c.args.name.now c.args.deed) (world_of c.args.self.now) c.args.slot (Ok (Refused UnknownName)) (world_of c.args.self.now) refl
 
 pub actor_mut-actor-requires : goal.actor_mut-actor-requires
 actor_mut-actor-requires c =
@@ -100,9 +100,19 @@ returns-clause-lack c =
     let new = set_value_at table c.in-Some.place after in
     let mid = set old.tables slot new in
     let back = back_now old.tables id within table c.index_mut-table.ensures.value new after (lent.placed after) (lent.len after) in
-    subst (λ (kept : KeptWorld). Leaves Stays (world_of kept) slot c.act.result (record (world_of old) { actors = actor_at mid; count = count_at mid })) c.self.view_is
-    (deed_leaves (world_of old) slot c.act.result (actor_at mid) (count_at mid)
-    (λ lack q. back.0.at q ∙ kept old.tables id after before (c.act.ensures.lack lack) there q (same_actor id q) refl)
+    let moved = deed_moves (world_of old) slot name (actor_at mid) (count_at mid) c.args.deed c.act.result (record {
+      found = λ found e. (
+        after,
+        (back.0.at, λ config solo stands. c.act.ensures.own config solo (subst (λ (a : Actor). ActorStandsFor config a solo) (same_value found before (sym e ∙ there)) stands)),
+      );
+      absent = λ e. absurd (true≢false (sym (ap is_some there) ∙ ap is_some e));
+      counts = counts_now old.tables id within table c.index_mut-table.ensures.value new (lent.len after);
+    }) in
+    subst (λ (kept : KeptWorld). Leaves (DeedLacks name c.args.deed) (world_of kept) slot c.act.result (record (world_of old) { actors = actor_at mid; count = count_at mid })) c.self.view_is
+    (deed_leaves (world_of old) slot name c.args.deed c.act.result (actor_at mid) (count_at mid) moved c.act.ensures.needs
+    (on_err_then c.act.result c.act.ensures.asks (λ unrefused cluster h.
+    deed_unrefused (world_of old) slot name c.args.deed before there cluster h (λ solo stands. unrefused (config_in old.setup slot) solo stands)))
+    (on_lack c.act.result (λ lack q. back.0.at q ∙ kept old.tables id after before (c.act.ensures.lack lack) there q (same_actor id q) refl))
     (counts_now old.tables id within table c.index_mut-table.ensures.value new (lent.len after) slot))
   where
     kept : (tables : List Table) (id : ActorId) (after before : Actor) → after ≡ before → actor_at tables id ≡ Some before → (q : ActorId) (t : Bool) → same_actor id q ≡ t → cond t (Some after) (actor_at tables q) ≡ actor_at tables q

@@ -1,15 +1,16 @@
 use Rattle.std.proofs.Common.{◌≡◌, ◌+◌, ◌*◌, ◌<◌, List, length, sym, ap, ◌∙◌, subst, get_or}
+use Rattle.std.specs.Prelude.{IsFalse, None}
 use Rattle.std.specs.Option.{option_copied}
 use Rattle.cops_node.specs.Clusters.{shape_of}
 use Rattle.cops_node.specs.Parts.{Shared}
 use Rattle.cops_node.specs.declared.Shape.{Shape}
 use Rattle.cops_node.proofs.Clusters.{number_within}
 use Rattle.cops_model.specs.Cluster.{SoloCluster}
-use Rattle.cops_model.specs.Setups.{config_in}
+use Rattle.cops_model.specs.Setups.{config_in, is_open_at}
 use Rattle.cops_world.specs.Trails.{audited_at}
 use Rattle.cops_world.specs.Worlds.{ClusterStandsAt, KeptWorld, world_of}
 use Rattle.cops_world.proofs.WorldKeeps.{sizes_in}
-use Rattle.cops_world.proofs.WorldTrails.{shows_own}
+use Rattle.cops_world.proofs.WorldTrails.{shows_own, vacant_at}
 use Rattle.cops_world.proofs.world.World.audit.Goals as goal
 
 pub returns : goal.returns
@@ -29,4 +30,6 @@ returns c =
     record {
       shows = subst (λ (k : KeptWorld). (cluster : SoloCluster) → ClusterStandsAt (world_of k) slot cluster → option_copied c.audit.result ≡ audited_at (config_in k.setup slot) id c.args.place cluster) c.self.view_is
           (λ cluster stood. shows_own (world_of old) slot id c.args.place node (option_copied c.audit.result) (sizes_in old.setup slot stood.open_there).shards within read c.audit.ensures.solo cluster stood);
+      vacant = subst (λ (k : KeptWorld). IsFalse (is_open_at k.setup slot) → c.audit.result ≡ None) c.self.view_is
+          (λ closed. c.audit.ensures.vacant (vacant_at old.setup slot nodes.nodes number node c.self.invariant.whole.sites_are within read closed));
     }

@@ -7,12 +7,13 @@ use Rattle.cops_model.specs.declared.replies.Reply.TheVariants.{Started, Refused
 use Rattle.cops_model.specs.Cluster.{OfCarrier, has_stream}
 use Rattle.cops_model.specs.Setups.{Setup, config_in, is_open_at}
 use Rattle.cops_world.specs.ActorsStand.{RunsAt}
-use Rattle.cops_script.specs.Lacks.{Stays}
+use Rattle.cops_model.specs.declared.acts.Act.TheVariants as acts
+use Rattle.cops_model.specs.Lacks.{Lacks}
 use Rattle.cops_world.specs.Worlds.{AnyReply, KeptWorld, world_of}
 use Rattle.cops_world.proofs.WorldCalls.{joins_there, no_place_moves, stream_runs}
-use Rattle.cops_world.proofs.WorldJoins.{lack_moves}
+use Rattle.cops_world.proofs.WorldJoins.{join_leaves, lack_moves}
 use Rattle.cops_world.proofs.WorldKeeps.{sizes_in}
-use Rattle.cops_world.proofs.WorldLacks.{same_leaves, spared_leaves}
+use Rattle.cops_world.proofs.WorldLacks.{fault_spared, spared_leaves, stayed_leaves}
 use Rattle.cops_world.proofs.world.World.carry.Goals as goal
 
 pub returns-then-not-has_stream-clause-moves : goal.returns-then-not-has_stream-clause-moves
@@ -56,16 +57,25 @@ returns-in-Ok-clause-moves c =
     (c.in-Ok.ensures.joined solo Started (c.new_carrier-carrier.ensures.stands config (sizes.shards ∙ sym (ap (λ (k : KeptWorld). k.setup.head.shards) c.self.view_is))))
 
 pub returns-then-not-has_stream-clause-lack : goal.returns-then-not-has_stream-clause-lack
-returns-then-not-has_stream-clause-lack c = same_leaves (world_of c.args.self.now) c.args.slot (Ok (Refused NoSuchPlace)) (world_of c.args.self.now) refl
+returns-then-not-has_stream-clause-lack c = spared_leaves (λ config. Lacks config (acts.Carry c.args.name.now c.args.origin.dc c.args.origin.shard c.args.to_dc)) (world_of c.args.self.now) c.args.slot (Ok (Refused NoSuchPlace)) (world_of c.args.self.now) refl
 
 pub returns-in-Some-clause-lack : goal.returns-in-Some-clause-lack
-returns-in-Some-clause-lack c = same_leaves (world_of c.args.self.now) c.args.slot (Ok (Refused c.in-Some.fault)) (world_of c.args.self.now) refl
+returns-in-Some-clause-lack c =
+    spared_leaves (λ config. Lacks config (acts.Carry c.args.name.now c.args.origin.dc c.args.origin.shard c.args.to_dc)) (world_of c.args.self.now) c.args.slot (Ok (Refused c.in-Some.fault)) (world_of c.args.self.now) (fault_spared c.in-Some.fault c.in-Some.ensures.spared)
 
 pub returns-in-Ok-clause-lack : goal.returns-in-Ok-clause-lack
-returns-in-Ok-clause-lack c = spared_leaves Stays (world_of c.args.self.now) c.args.slot (Ok Started) (world_of c.join.new.self) refl
+returns-in-Ok-clause-lack c = spared_leaves (λ config. Lacks config (acts.Carry c.args.name.now c.args.origin.dc c.args.origin.shard c.args.to_dc)) (world_of c.args.self.now) c.args.slot (Ok Started) (world_of c.join.new.self) refl
 
 pub returns-in-Err-clause-lack : goal.returns-in-Err-clause-lack
-returns-in-Err-clause-lack c = same_leaves (world_of c.args.self.now) c.args.slot (Err c.in-Err.error) (world_of c.join.new.self) c.in-Err.ensures.err
+returns-in-Err-clause-lack c =
+    let setup = c.args.self.now.setup in
+    let solo = OfCarrier (new_carrier (record { origin = c.args.origin; to_dc = c.args.to_dc })) in
+    stayed_leaves (λ config. Lacks config (acts.Carry c.args.name.now c.args.origin.dc c.args.origin.shard c.args.to_dc)) (world_of c.args.self.now) c.args.slot (Err c.in-Err.error) (world_of c.join.new.self) c.in-Err.ensures.err
+    (λ cluster stands. (
+      join_leaves (world_of c.args.self.now) c.args.slot c.args.name.now (λ config. has_stream config c.args.origin.dc c.args.origin.shard c.args.to_dc) solo Started refl
+          (sym (c.has_stream.ensures (config_in setup c.args.slot) (sizes_in setup c.args.slot c.requires)) ∙ c.if-not-has_stream.false) c.in_default.ensures.free c.in_default.ensures.room cluster stands,
+      refl,
+    ))
 
 pub returns-in-Err-clause-moves : goal.returns-in-Err-clause-moves
 returns-in-Err-clause-moves c = lack_moves AnyReply _ (world_of c.args.self.now) c.args.slot c.in-Err.error (world_of c.join.new.self) c.in-Err.ensures.err

@@ -6,12 +6,12 @@ use Rattle.cops_model.specs.declared.acts.Act.TheVariants as acts
 use Rattle.cops_model.specs.declared.replies.Reply.TheVariants.{Refused}
 use Rattle.cops_model.specs.Cluster.{cluster_step, has_node}
 use Rattle.cops_model.specs.Setups.{config_in}
-use Rattle.cops_script.specs.Lacks.{Stays}
+use Rattle.cops_model.specs.Lacks.{Lacks}
 use Rattle.cops_world.specs.Worlds.{AnyReply, KeptWorld, Leaves, Moves, world_of}
 use Rattle.cops_world.proofs.WorldJoins.{lack_moves}
 use Rattle.cops_world.proofs.WorldKeeps.{kept_called, sizes_in}
 use Rattle.cops_world.proofs.WorldCalls.{node_fits, no_node_moves, node_collects}
-use Rattle.cops_world.proofs.WorldLacks.{collect_leaves, same_leaves}
+use Rattle.cops_world.proofs.WorldLacks.{collect_leaves, collect_stops, spared_leaves}
 use Rattle.cops_world.proofs.WorldSteps.{collect_moves}
 use Rattle.cops_world.proofs.world.World.collect.Goals as goal
 use Rattle.cops_world.proofs.world.World.collect.Goals.{in-Ok, in-Err}
@@ -56,7 +56,7 @@ returns-clause-moves c =
     ])
 
 pub returns-then-not-has_node-clause-lack : goal.returns-then-not-has_node-clause-lack
-returns-then-not-has_node-clause-lack c = same_leaves (world_of c.args.self.now) c.args.slot (Ok (Refused NoSuchPlace)) (world_of c.args.self.now) refl
+returns-then-not-has_node-clause-lack c = spared_leaves (λ config. Lacks config (acts.Collect c.args.id.dc c.args.id.shard c.args.moment)) (world_of c.args.self.now) c.args.slot (Ok (Refused NoSuchPlace)) (world_of c.args.self.now) refl
 
 pub returns-clause-lack : goal.returns-clause-lack
 returns-clause-lack c =
@@ -64,12 +64,16 @@ returns-clause-lack c =
     let old : KeptWorld = record { setup = record { head = c.self.inside.config; tenants = c.self.inside.tenants }; nodes = c.self.inside.nodes; tables = c.self.inside.actors.items } in
     let new : KeptWorld = record old { nodes = c.step.new.self } in
     let shards = subst (λ (k : KeptWorld). (config_in k.setup c.args.slot).shards ≡ k.setup.head.shards) (sym c.self.view_is) sizes.shards ∙ sym (ap (λ (s : Shape). s.shards) c.self.invariant.whole.shape_is) in
-    subst (λ (kept : KeptWorld). Leaves Stays (world_of kept) c.args.slot c.match-step.result (world_of new)) c.self.view_is
+    let there = sym (c.has_node.ensures (config_in c.args.self.now.setup c.args.slot) sizes) ∙ c.if-not-has_node.false in
+    subst (λ (kept : KeptWorld). Leaves (λ config. Lacks config (acts.Collect c.args.id.dc c.args.id.shard c.args.moment)) (world_of kept) c.args.slot c.match-step.result (world_of new)) c.self.view_is
     (elim c.match-step.branch [
       | in-Ok w ↦
-          subst (λ answered. Leaves Stays (world_of old) c.args.slot answered (world_of new)) (sym w.result-is)
-          (collect_leaves (world_of old) c.args.slot c.args.id c.args.moment w.in-Ok.reply c.step.new.self w.reply_of_collect.result shards w.in-Ok.ensures.answers w.reply_of_collect.ensures)
-      | in-Err w ↦ same_leaves (world_of old) c.args.slot c.match-step.result (world_of new) (ap (λ nodes. world_of (record old { nodes = nodes })) w.in-Err.ensures.err)
+          subst (λ answered. Leaves (λ config. Lacks config (acts.Collect c.args.id.dc c.args.id.shard c.args.moment)) (world_of old) c.args.slot answered (world_of new)) (sym w.result-is)
+          (collect_leaves (world_of old) c.args.slot c.args.id c.args.moment c.step.new.self shards w.in-Ok.reply w.reply_of_collect.result w.in-Ok.ensures.ok w.reply_of_collect.ensures)
+      | in-Err w ↦
+          subst (λ answered. Leaves (λ config. Lacks config (acts.Collect c.args.id.dc c.args.id.shard c.args.moment)) (world_of old) c.args.slot answered (world_of new)) (sym w.result-is)
+          (collect_stops (world_of old) c.args.slot c.args.id c.args.moment c.step.new.self shards w.in-Err.error w.in-Err.ensures.answers w.in-Err.ensures.err
+          (subst (λ (k : KeptWorld). has_node (config_in k.setup c.args.slot) c.args.id.dc c.args.id.shard ≡ true) (sym c.self.view_is) there))
     ])
 
 pub invariant_of-self : goal.invariant_of-self

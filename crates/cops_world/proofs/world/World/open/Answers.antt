@@ -8,12 +8,13 @@ use Rattle.cops_model.specs.declared.replies.Reply.TheVariants.{Opened, Refused}
 use Rattle.cops_model.specs.Cluster.{OfSession}
 use Rattle.cops_model.specs.Setups.{config_in, config_of}
 use Rattle.cops_world.specs.ActorsStand.{ActorStandsFor}
-use Rattle.cops_script.specs.Lacks.{Stays}
+use Rattle.cops_model.specs.declared.acts.Act.TheVariants as acts
+use Rattle.cops_model.specs.Lacks.{Lacks}
 use Rattle.cops_world.specs.Worlds.{AnyReply, KeptWorld, world_of}
 use Rattle.cops_world.proofs.WorldCalls.{joins_there, no_place_moves}
-use Rattle.cops_world.proofs.WorldJoins.{lack_moves}
+use Rattle.cops_world.proofs.WorldJoins.{join_leaves, lack_moves}
 use Rattle.cops_world.proofs.WorldKeeps.{sizes_in}
-use Rattle.cops_world.proofs.WorldLacks.{same_leaves, spared_leaves}
+use Rattle.cops_world.proofs.WorldLacks.{fault_spared, spared_leaves, stayed_leaves}
 use Rattle.cops_world.proofs.world.World.open.Goals as goal
 
 pub returns-then-dc-self-clause-moves : goal.returns-then-dc-self-clause-moves
@@ -46,16 +47,26 @@ returns-in-Ok-clause-moves c =
     (subst (λ o. ActorStandsFor (config_of c.self.inside.config o) c.in_ok-session.session solo) (sym (ap (λ (k : KeptWorld). open_at c.args.slot k.setup.tenants) c.self.view_is ∙ c.tenant-tenant.ensures.there)) c.in_ok-session.ensures.stands)))
 
 pub returns-then-dc-self-clause-lack : goal.returns-then-dc-self-clause-lack
-returns-then-dc-self-clause-lack c = same_leaves (world_of c.args.self.now) c.args.slot (Ok (Refused NoSuchPlace)) (world_of c.args.self.now) refl
+returns-then-dc-self-clause-lack c = spared_leaves (λ config. Lacks config (acts.Open c.args.name.now c.args.dc)) (world_of c.args.self.now) c.args.slot (Ok (Refused NoSuchPlace)) (world_of c.args.self.now) refl
 
 pub returns-in-Some-clause-lack : goal.returns-in-Some-clause-lack
-returns-in-Some-clause-lack c = same_leaves (world_of c.args.self.now) c.args.slot (Ok (Refused c.in-Some.fault)) (world_of c.args.self.now) refl
+returns-in-Some-clause-lack c =
+    spared_leaves (λ config. Lacks config (acts.Open c.args.name.now c.args.dc)) (world_of c.args.self.now) c.args.slot (Ok (Refused c.in-Some.fault)) (world_of c.args.self.now) (fault_spared c.in-Some.fault c.in-Some.ensures.spared)
 
 pub returns-in-Ok-clause-lack : goal.returns-in-Ok-clause-lack
-returns-in-Ok-clause-lack c = spared_leaves Stays (world_of c.args.self.now) c.args.slot (Ok Opened) (world_of c.join.new.self) refl
+returns-in-Ok-clause-lack c = spared_leaves (λ config. Lacks config (acts.Open c.args.name.now c.args.dc)) (world_of c.args.self.now) c.args.slot (Ok Opened) (world_of c.join.new.self) refl
 
 pub returns-in-Err-clause-lack : goal.returns-in-Err-clause-lack
-returns-in-Err-clause-lack c = same_leaves (world_of c.args.self.now) c.args.slot (Err c.in-Err.error) (world_of c.join.new.self) c.in-Err.ensures.err
+returns-in-Err-clause-lack c =
+    let setup = c.args.self.now.setup in
+    let sizes = sizes_in setup c.args.slot c.requires in
+    let there = subst (λ n. c.args.dc < n) (ap (λ (k : KeptWorld). k.setup.head.data_centres) c.self.view_is ∙ sym sizes.data_centres) c.if-dc-self.false in
+    stayed_leaves (λ config. Lacks config (acts.Open c.args.name.now c.args.dc)) (world_of c.args.self.now) c.args.slot (Err c.in-Err.error) (world_of c.join.new.self) c.in-Err.ensures.err
+    (λ cluster stands. (
+      join_leaves (world_of c.args.self.now) c.args.slot c.args.name.now (λ config. nat_lt c.args.dc config.data_centres) (OfSession (new_session c.args.dc 1)) Opened refl
+          (lt-ltb c.args.dc (config_in setup c.args.slot).data_centres there) c.in_default.ensures.free c.in_default.ensures.room cluster stands,
+      refl,
+    ))
 
 pub returns-in-Err-clause-moves : goal.returns-in-Err-clause-moves
 returns-in-Err-clause-moves c = lack_moves AnyReply _ (world_of c.args.self.now) c.args.slot c.in-Err.error (world_of c.join.new.self) c.in-Err.ensures.err

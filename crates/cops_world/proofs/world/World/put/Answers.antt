@@ -6,11 +6,13 @@ use Rattle.cops_types.specs.Value.{is_too_long}
 use Rattle.cops_model.specs.declared.acts.Act.TheVariants as acts
 use Rattle.cops_model.specs.declared.replies.Reply.TheVariants.{Refused}
 use Rattle.cops_model.specs.Cluster.{cluster_step}
+use Rattle.cops_model.specs.Events.{is_out_of_memory}
+use Rattle.cops_model.specs.Lacks.{Lacks}
 use Rattle.cops_world.specs.declared.actors.Deed.TheVariants as deeds
-use Rattle.cops_world.specs.Deeds.{deed_step}
+use Rattle.cops_world.specs.Deeds.{DeedLacks, deed_step}
 use Rattle.cops_world.specs.Worlds.{AnyReply, Moves, world_of}
 use Rattle.cops_world.proofs.PutsAndGets.{bad_key, bad_key_moves, good_key, key_or_fault, no_value_moves, put_moves, short_value}
-use Rattle.cops_world.proofs.WorldLacks.{same_leaves}
+use Rattle.cops_world.proofs.WorldLacks.{leaves_too, spared_leaves, stayed_leaves}
 use Rattle.cops_world.proofs.world.World.put.Goals as goal
 
 pub returns-in-Err-clause-moves : goal.returns-in-Err-clause-moves
@@ -43,7 +45,16 @@ returns-in-Ok-new-clause-moves c =
     (subst (λ v. Moves AnyReply (λ config. deed_step config name (deeds.Put number c.in-Ok.key v)) old slot reply new) value c.ask.ensures.moves))
 
 pub returns-in-Err-clause-lack : goal.returns-in-Err-clause-lack
-returns-in-Err-clause-lack c = same_leaves (world_of c.args.self.now) c.args.slot (Ok (Refused c.in-Err.fault)) (world_of c.args.self.now) refl
+returns-in-Err-clause-lack c =
+    let bad = bad_key c.args.key.now c.in-Err.fault (sym c.in-Err.is ∙ c.new.ensures ∙ ap key_or_fault c.as_slice.ensures) in
+    spared_leaves (λ config. Lacks config (acts.Put c.args.name.now c.args.number c.args.key.now c.args.value.now)) (world_of c.args.self.now) c.args.slot (Ok (Refused c.in-Err.fault)) (world_of c.args.self.now) (ap (λ f. is_out_of_memory (Refused f)) bad.0)
 
 pub returns-in-Err-new-clause-lack : goal.returns-in-Err-new-clause-lack
-returns-in-Err-new-clause-lack c = same_leaves (world_of c.args.self.now) c.args.slot c.refused_with.result (world_of c.args.self.now) refl
+returns-in-Err-new-clause-lack c =
+    let good = good_key c.args.key.now c.in-Ok.key (sym c.in-Ok.is ∙ c.new.ensures ∙ ap key_or_fault c.as_slice.ensures) in
+    stayed_leaves (λ config. Lacks config (acts.Put c.args.name.now c.args.number c.args.key.now c.args.value.now)) (world_of c.args.self.now) c.args.slot c.refused_with.result (world_of c.args.self.now) refl (λ cluster stands. (good.1, refl))
+
+pub returns-in-Ok-new-clause-lack : goal.returns-in-Ok-new-clause-lack
+returns-in-Ok-new-clause-lack c =
+    let good = good_key c.args.key.now c.in-Ok.key (sym c.in-Ok.is ∙ c.new.ensures ∙ ap key_or_fault c.as_slice.ensures) in
+    leaves_too (DeedLacks c.args.name.now (deeds.Put c.args.number c.in-Ok.key c.in-Ok-new.value)) (λ config. Lacks config (acts.Put c.args.name.now c.args.number c.args.key.now c.args.value.now)) (world_of c.args.self.now) c.args.slot c.ask.result (world_of c.ask.new.self) (λ config before after is. (good.1, is.2)) c.ask.ensures.lack

@@ -13,7 +13,7 @@ use Rattle.cops_world.specs.declared.actors.ActorId.{ActorId}
 use Rattle.cops_world.specs.ActorsStand.{RunsAt, actor_ended, stepped_to}
 use Rattle.cops_world.specs.ActorTables.{Table, names_at}
 use Rattle.cops_script.specs.Acting.{IsSparedReply, told_act}
-use Rattle.cops_script.specs.Lacks.{StepStops}
+use Rattle.cops_model.specs.Lacks.{StepStops}
 use Rattle.cops_world.specs.Worlds.{KeptWorld, Leaves, Moves, world_of}
 use Rattle.cops_world.proofs.ActorTableLemmas.{actor_read, back_now, own, table_here}
 use Rattle.cops_world.proofs.WorldCalls.{steps_world}

@@ -6,7 +6,7 @@ use Rattle.cops_model.specs.declared.replies.Reply.TheVariants.{Refused}
 use Rattle.cops_model.specs.Cluster.{actor_steps}
 use Rattle.cops_model.specs.Setups.{Setup, is_open_at}
 use Rattle.cops_script.specs.Acting.{IsSparedReply}
-use Rattle.cops_script.specs.Lacks.{StepsStop}
+use Rattle.cops_model.specs.Lacks.{StepsStop}
 use Rattle.cops_world.specs.ActorTables.{names_at}
 use Rattle.cops_world.specs.Worlds.{KeptWorld, Leaves, Moves, open_setup, world_of}
 use Rattle.cops_world.proofs.WorldLacks.{spared_leaves, steps_end_leaves, steps_on_leaves}

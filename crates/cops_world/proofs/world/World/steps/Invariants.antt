@@ -5,7 +5,7 @@ use Rattle.cops_types.specs.Key.{key_eq}
 use Rattle.cops_model.specs.declared.replies.Reply.{Reply}
 use Rattle.cops_model.specs.Cluster.{actor_steps}
 use Rattle.cops_script.specs.Acting.{IsSparedReply}
-use Rattle.cops_script.specs.Lacks.{StepsStop}
+use Rattle.cops_model.specs.Lacks.{StepsStop}
 use Rattle.cops_world.specs.ActorTables.{names_at}
 use Rattle.cops_world.specs.Worlds.{World, Leaves, Moves, world_of}
 use Rattle.cops_world.proofs.world.World.steps.Given as goal

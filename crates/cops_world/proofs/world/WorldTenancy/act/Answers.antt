@@ -6,7 +6,7 @@ use Rattle.cops_model.specs.declared.replies.Reply.TheVariants.{Refused}
 use Rattle.cops_model.specs.Cluster.{actor_steps, cluster_step}
 use Rattle.cops_model.specs.Setups.{config_in}
 use Rattle.cops_script.specs.Acting.{IsSparedReply, TellsExactly}
-use Rattle.cops_script.specs.Lacks.{Lacks, StepsStop}
+use Rattle.cops_model.specs.Lacks.{Lacks, StepsStop}
 use Rattle.cops_world.specs.Worlds.{world_of}
 use Rattle.cops_world.proofs.WorldJoins.{same_moves}
 use Rattle.cops_world.proofs.WorldCalls.{acted}

@@ -1,0 +1,133 @@
+//! Standard input behind the head, where a line ends the service.
+ghost use Rattle.std.specs.Prelude.{◌≡◌, IfErr};
+
+use crate::faults::CliFault;
+use cops_service::Stop;
+use std::alloc::Global;
+use std::io::{ErrorKind, Read};
+use std::sync::Arc;
+use std::thread;
+use std::thread::Threads;
+use std::time::Clock;
+
+/// The line that ends the service.
+const END: [u8; 3] = *b"end";
+
+/// What a line says.
+#[derive(Clone, Copy, Debug, PartialEq, Eq)]
+enum Said {
+    /// It is empty, or not whole.
+    Nothing,
+    /// The service is to end.
+    End,
+    /// The line of this number says something else.
+    Other(u64),
+}
+
+/// Lines of standard input, which come byte by byte.
+#[derive(Clone, Copy)]
+struct Lines {
+    // How many have come.
+    count: u64,
+    // How many bytes of the next one have come, and whether they are the first ones of `end`.
+    length: usize,
+    begins_end: bool,
+}
+
+impl Lines {
+    fn new(count: u64) -> Lines {
+        Lines {
+            count,
+            length: 0,
+            begins_end: true,
+        }
+    }
+
+    // A byte comes.
+    fn take(&mut self, byte: u8) -> Said {
+        if byte == b'\n' {
+            return self.end();
+        }
+        self.begins_end = self.begins_end && END.get(self.length) == Some(&byte);
+        self.length = self.length.saturating_add(1);
+        Said::Nothing
+    }
+
+    // The line is whole.
+    fn end(&mut self) -> Said {
+        let line = self.count.saturating_add(1);
+        let said = if self.length == 0 {
+            Said::Nothing
+        } else if self.begins_end && self.length == END.len() {
+            Said::End
+        } else {
+            Said::Other(line)
+        };
+        *self = Lines::new(line);
+        said
+    }
+}
+
+// Does what a line says.
+fn follow<R: Eprint + Clock>(rt: &R, stop: &Stop, said: Said) {
+    match said {
+        Said::Nothing => (),
+        Said::End => stop.ask(rt),
+        Said::Other(line) => {
+            let _ = eprintln!(rt; "cops: line {line}: only 'end' may follow 'begin'");
+        }
+    }
+}
+
+// Follows the lines of standard input to its end. So many lines have come before.
+fn follow_lines<R: Input + Eprint + Clock>(rt: &R, stop: &Stop, before: u64) {
+    let mut reader = rt.reader();
+    let mut lines = Lines::new(before);
+    let mut buffer = [0u8; 256];
+    for _ in 0..u64::MAX {
+        match reader.read(&mut buffer) {
+            Ok(0) => break,
+            Ok(count) => {
+                for byte in &buffer[..count] {
+                    let said = lines.take(*byte);
+                    follow(rt, stop, said);
+                }
+            }
+            Err(error) if error.kind() == ErrorKind::Interrupted => (),
+            Err(_) => break,
+        }
+    }
+    let said = lines.end();
+    follow(rt, stop, said);
+}
+
+/// A runtime that is the system's own, which a thread may take along.
+pub(crate) trait Hosted {
+    /// Returns it.
+    fn host(&self) -> HostRuntime;
+}
+
+impl Hosted for HostRuntime {
+    fn host(&self) -> HostRuntime {
+        *self
+    }
+}
+
+/// Starts a thread that follows standard input, of which so many lines have come. Nobody joins it: it ends with the
+/// process. Fails if it can't be started.
+pub(crate) fn follow_input<R: Threads + Hosted>(
+    rt: &R,
+    stop: &Arc<Stop, Global>,
+    before: u64,
+) -> Result<(), CliFault>
+    ensures { IfErr result (λ fault. fault ≡ CliFault.ReadFault) }
+{
+    let Ok(theirs) = Arc::try_clone(stop) else {
+        return Err(CliFault::ReadFault);
+    };
+    let own = rt.host();
+    match thread::spawn(rt, move || follow_lines(&own, &theirs, before)) {
+        Ok(_) => Ok(()),
+        Err(_) => Err(CliFault::ReadFault),
+    }
+}

@@ -1,0 +1,46 @@
+//! The time of a service.
+use cops_wire::Moments;
+use std::time::{Clock, Duration};
+
+/// Milliseconds since 1970. It reads the system's clock once, and adds the time of a monotonic clock, so it doesn't jump
+/// when the system's clock is set.
+#[derive_where(Clone, Copy)]
+pub(crate) struct SteadyMoments<'a, R: Clock> {
+    clock: &'a R,
+    // What the steady clock showed at the start.
+    start: Duration,
+    // How many milliseconds there were since 1970 at the start, and 0 where the system's clock can't be read.
+    first: u64,
+}
+
+impl<'a, R: Clock> SteadyMoments<'a, R> {
+    /// Reads both clocks.
+    pub(crate) fn new(clock: &'a R) -> SteadyMoments<'a, R> {
+        SteadyMoments {
+            clock,
+            start: clock.monotonic().unwrap_or(Duration::ZERO),
+            first: match clock.since_1970() {
+                Ok(time) => millis(time),
+                Err(_) => 0,
+            },
+        }
+    }
+}
+
+impl<R: Clock> Moments for SteadyMoments<'_, R> {
+    ghost Gives = { λ _ _ _. Unit {0} };
+
+    fn now(&mut self) -> u64 {
+        match self.clock.monotonic() {
+            Ok(time) => self
+                .first
+                .saturating_add(millis(time.saturating_sub(self.start))),
+            Err(_) => self.first,
+        }
+    }
+}
+
+// Its milliseconds, and 0 where they are too many.
+fn millis(time: Duration) -> u64 {
+    u64::try_from(time.as_millis()).unwrap_or(0)
+}

@@ -1,0 +1,4 @@
+pub mod Turns
+pub mod Commands
+pub mod History
+pub mod Example

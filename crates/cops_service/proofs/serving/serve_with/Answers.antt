@@ -1,0 +1,13 @@
+use Rattle.cops_node.specs.Parts.{home_in, IsMachineTurn}
+use Rattle.cops_service.specs.Gates.{EndEach}
+use Rattle.cops_service.proofs.Leaving.{are_left, at_some}
+use Rattle.cops_service.proofs.serving.serve_with.Goals as goal
+
+pub invariant_of-seated : goal.invariant_of-seated
+invariant_of-seated g c =
+    record { nodes = c.in-Ok.ensures.nodes; shape = c.in-Ok.ensures.shape; own = c.in-Ok.ensures.own; sizes = c.requires.sizes }
+
+pub returns-in-Ok-Some-clause-left : goal.returns-in-Ok-Some-clause-left
+returns-in-Ok-Some-clause-left g c =
+    are_left c.in-Ok.cluster c.into_seat-seat.result c.in-Ok-Some.nodes.items _ c.in-Ok.ensures.openings
+    (at_some c.in-Ok-Some.field-0 c.in-Ok-Some.nodes (λ machines. EndEach IsMachineTurn home_in c.in-Ok.cluster.gates c.into_seat-seat.result machines.items) c.in-Ok-Some.field-0-is c.in-Ok-Some.ensures.machines)

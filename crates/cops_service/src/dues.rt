@@ -1,0 +1,199 @@
+//! When a tenant's part of a node is to be collected.
+use crate::notes::{Noted, Notes, Sizes, TenantNode, Visit};
+use cops_types::Config;
+use std::alloc::{AllocError, Global};
+use std::time::Duration;
+
+/// Stands for no time.
+const NEVER: u64 = u64::MAX;
+
+/// After how many milliseconds a collection that failed is tried again.
+const AGAIN: u64 = 1000;
+
+/// How many milliseconds a rest has, at most.
+const LONGEST_REST: u64 = 60_000;
+
+/// What one collection came to.
+#[derive(Clone, Copy)]
+pub(crate) enum Collected {
+    /// So many versions were removed.
+    Removed(u64),
+    /// It was refused.
+    Refused,
+}
+
+#[derive(Clone, Copy)]
+struct Due {
+    // It is among the places that are kept.
+    is_kept: bool,
+    // It is to be collected at once.
+    is_asked: bool,
+    // When what no collection has covered is due.
+    at: u64,
+    // When a version last came.
+    latest: u64,
+}
+
+/// The places where something may be stale, each with the time from which a collection removes it.
+///
+/// A collection covers all that became stale longer ago than the transaction time. No call takes memory.
+#[derive(Drop)]
+pub(crate) struct Dues {
+    sizes: Sizes,
+    trans_time: u64,
+    dues: Vec<Due>,
+    kept: Vec<TenantNode>,
+    // No kept place is due earlier.
+    next: u64,
+}
+
+impl Dues {
+    /// Nothing is due at any place of the configuration.
+    pub(crate) fn new(
+        alloc: Global,
+        config: &Config,
+        sizes: Sizes,
+        places: usize,
+    ) -> Result<Self, AllocError> {
+        let none = Due {
+            is_kept: false,
+            is_asked: false,
+            at: NEVER,
+            latest: 0,
+        };
+        Ok(Dues {
+            sizes,
+            trans_time: config.trans_time,
+            dues: Vec::from_elem(alloc, none, places)?,
+            kept: Vec::with_capacity(alloc, places)?,
+            next: NEVER,
+        })
+    }
+
+    /// A version came at the place, or was refused for lack of room.
+    pub(crate) fn note(&mut self, visit: &Visit, now: u64) {
+        let at = due_after(now, self.trans_time);
+        let number = visit.place.number(self.sizes) as usize;
+        let Some(due) = self.dues.get_mut(number) else {
+            return;
+        };
+        if visit.at_once {
+            due.is_asked = true;
+            self.next = 0;
+        } else {
+            due.latest = now;
+            due.at = due.at.min(at);
+            self.next = self.next.min(due.at);
+        }
+        let is_new = !due.is_kept && (due.is_asked || due.at != NEVER);
+        if is_new && self.kept.len() < self.kept.capacity() {
+            due.is_kept = true;
+            self.kept.push_reserved(visit.place);
+        }
+    }
+
+    /// For how long nothing is due, if anything will be.
+    pub(crate) fn rest(&self, now: u64) -> Option<Duration> {
+        rest_until(self.next, now)
+    }
+
+    /// Lists the places that are due, or asked for at once, in an empty list with room for all.
+    pub(crate) fn ready(&self, now: u64, ready: &mut Vec<TenantNode>) {
+        if now < self.next {
+            return;
+        }
+        for place in self.kept.as_slice() {
+            if self.is_ready(place, now) && ready.len() < ready.capacity() {
+                ready.push_reserved(*place);
+            }
+        }
+    }
+
+    // Whether the place is due, or asked for at once.
+    fn is_ready(&self, place: &TenantNode, now: u64) -> bool {
+        let due = self.dues.get(place.number(self.sizes) as usize);
+        due.is_some_and(|due| due.is_asked || due.at <= now)
+    }
+
+    /// The place was collected at this time. If it was refused it is tried again a little later.
+    pub(crate) fn collected(&mut self, place: &TenantNode, time: u64, came: Collected) {
+        let Some(due) = self.dues.get_mut(place.number(self.sizes) as usize) else {
+            return;
+        };
+        due.is_asked = false;
+        if due.at > time {
+            return;
+        }
+        due.at = match came {
+            Collected::Refused => time.saturating_add(AGAIN),
+            Collected::Removed(_) => due_again(due.latest, self.trans_time, time),
+        };
+    }
+
+    /// Forgets the places where nothing is due any more.
+    pub(crate) fn settle(&mut self) {
+        let sizes = self.sizes;
+        let dues = &mut self.dues;
+        let mut next = NEVER;
+        self.kept.retain(|place| match dues.get_mut(place.number(sizes) as usize) {
+            Some(due) => {
+                due.is_kept = due.at != NEVER;
+                next = next.min(due.at);
+                due.is_kept
+            }
+            None => false,
+        });
+        self.next = next;
+    }
+}
+
+// When a place is due again that was collected at this time, if a version last came at another.
+fn due_again(latest: u64, trans_time: u64, time: u64) -> u64 {
+    let at = due_after(latest, trans_time);
+    if at > time { at } else { NEVER }
+}
+
+// From when on a collection removes what becomes stale at this time.
+fn due_after(time: u64, trans_time: u64) -> u64 {
+    time.saturating_add(trans_time).saturating_add(1)
+}
+
+/// How long it is until then, if that is ever.
+pub(crate) fn rest_until(time: u64, now: u64) -> Option<Duration> {
+    if time == NEVER {
+        return None;
+    }
+    Some(Duration::from_millis(time.saturating_sub(now).min(LONGEST_REST)))
+}
+
+/// What a thread that collects keeps: the work items that it took, the places that it collects now, and what is due.
+#[derive(Drop)]
+pub(crate) struct Collecting {
+    pub(crate) visits: Vec<Visit>,
+    pub(crate) places: Vec<TenantNode>,
+    pub(crate) dues: Dues,
+}
+
+impl Collecting {
+    /// Nothing is due.
+    pub(crate) fn new(alloc: Global, config: &Config, notes: &Notes) -> Result<Self, AllocError> {
+        let visits = notes.grown.room(alloc)?;
+        let places = Vec::with_capacity(alloc, visits.capacity())?;
+        let dues = Dues::new(alloc, config, notes.sizes, visits.capacity() / 2)?;
+        Ok(Collecting {
+            visits,
+            places,
+            dues,
+        })
+    }
+
+    /// Sorts the work items that were taken, and lists the places that are to be collected now.
+    pub(crate) fn sort(&mut self, now: u64) {
+        for visit in self.visits.as_slice() {
+            self.dues.note(visit, now);
+        }
+        self.visits.clear();
+        self.places.clear();
+        self.dues.ready(now, &mut self.places);
+    }
+}

@@ -1,0 +1,229 @@
+//! A running cluster when memory is refused: what a call was made on is as it was, and the same call
+//! again is answered. Run with the Nth request refused, for each N.
+ghost use Rattle.std.specs.Prelude.{◌≡◌, ◌<◌, ◌≤◌, IfOk, IsTrue, length};
+ghost use Rattle.cops_types.specs.HeadLines.{are_sizes};
+ghost use Rattle.cops_node.specs.Clusters.{new_nodes};
+ghost use Rattle.cops_node.specs.Parts.{are_clocks};
+ghost use Rattle.cops_service.specs.Desks.{AreNodes, shape_in};
+ghost use Rattle.cops_service.specs.Gates.{IsSeatOf};
+
+use crate::hosted_tests::{admit, beta, put, two_tenants};
+use crate::tests::closed;
+use crate::{Cluster, HostedDesk, ServiceSeat};
+use cops_node::{HostedNode, Node, NodeId, has_clocks};
+use cops_types::{Config, Fault, Machine};
+use std::alloc::{AllocError, Global};
+use std::process::Abort;
+use std::sync::Wait;
+
+/// Opens a cluster at which tenants come and go, again if memory is refused.
+fn hosted(
+    rt: &impl Abort,
+    alloc: Global,
+    config: &Config,
+) -> (Cluster<HostedNode>, ServiceSeat<HostedNode>)
+    requires sizes { IsTrue (are_sizes config.now) }
+    requires clocks { IsTrue (are_clocks config.now) }
+    ensures own { IsSeatOf result.0 result.1 }
+    ensures nodes { AreNodes result.0 }
+    ensures shape { shape_in result.0 ≡ (new_nodes config.now).shape }
+{
+    match Cluster::host(alloc, config) {
+        Ok(both) => both,
+        Err(_) => Cluster::host(alloc, config).expect(rt, "memory"),
+    }
+}
+
+/// Opens a cluster of nodes, again if memory is refused.
+fn opened(rt: &impl Abort, alloc: Global, config: &Config) -> (Cluster<Node>, ServiceSeat<Node>)
+    requires sizes { IsTrue (are_sizes config.now) }
+    requires clocks { IsTrue (are_clocks config.now) }
+    ensures { IsSeatOf result.0 result.1 }
+{
+    match Cluster::open(alloc, config) {
+        Ok(both) => both,
+        Err(_) => Cluster::open(alloc, config).expect(rt, "memory"),
+    }
+}
+
+/// Splits a seat, again if memory is refused.
+fn second<M: Machine>(
+    rt: &impl Abort,
+    alloc: Global,
+    cluster: &Cluster<M>,
+    seat: &mut ServiceSeat<M>,
+) -> ServiceSeat<M>
+    requires { IsSeatOf cluster.now seat.old }
+    ensures same { seat.new ≡ seat.old }
+    ensures seat { IsSeatOf cluster.now result }
+{
+    match seat.split(alloc, cluster) {
+        Ok(second) => second,
+        Err(_) => seat.split(alloc, cluster).expect(rt, "memory"),
+    }
+}
+
+/// Closes a cluster, again if memory is refused.
+fn closed_again<M: Machine + Drop>(
+    rt: &impl Abort,
+    alloc: Global,
+    cluster: Cluster<M>,
+    seat: ServiceSeat<M>,
+) -> Vec<M>
+    requires { IsSeatOf cluster seat }
+{
+    match cluster.close(alloc, seat) {
+        Ok(Some(machines)) => machines,
+        Ok(None) => panic!(rt; "a turn is open"),
+        Err((cluster, seat)) => closed(rt, alloc, cluster, seat),
+    }
+}
+
+/// Asserts that the third slot is given to beta, again if memory is refused.
+fn assert_comes<R: Wait + Abort>(rt: &R, desk: &mut HostedDesk<'_, R>)
+    requires { (0 < (shape_in desk.old.cluster.now).data_centres) × ((shape_in desk.old.cluster.now).shards ≡ 1) }
+    ensures { (desk.new.cluster.now ≡ desk.old.cluster.now) × (desk.new.seat.ghost_name ≡ desk.old.seat.ghost_name) }
+{
+    if let Some(fault) = admit(desk, 2, beta(rt)) {
+        assert!(rt; fault == Fault::OutOfMemory);
+        assert!(rt; admit(desk, 2, beta(rt)).is_none());
+    }
+}
+
+/// Asserts that beta's first put has the first version. It is made again if memory is refused.
+fn assert_puts<R: Wait + Abort>(rt: &R, alloc: Global, desk: &mut HostedDesk<'_, R>)
+    requires { (0 < (shape_in desk.old.cluster.now).data_centres) × ((shape_in desk.old.cluster.now).shards ≡ 1) }
+    ensures { (desk.new.cluster.now ≡ desk.old.cluster.now) × (desk.new.seat.ghost_name ≡ desk.old.seat.ghost_name) }
+{
+    let clock = match put(alloc, desk) {
+        Some(clock) => clock,
+        None => put(alloc, desk).expect(rt, "memory"),
+    };
+    assert!(rt; clock == 1);
+}
+
+/// Beta comes and puts.
+fn visit<R: Wait + Abort>(
+    rt: &R,
+    alloc: Global,
+    cluster: &Cluster<HostedNode>,
+    mut seat: ServiceSeat<HostedNode>,
+) -> ServiceSeat<HostedNode>
+    requires nodes { AreNodes cluster.now }
+    requires seat { IsSeatOf cluster.now seat }
+    requires shape { (0 < (shape_in cluster.now).data_centres) × ((shape_in cluster.now).shards ≡ 1) }
+    ensures { IsSeatOf cluster.now result }
+{
+    let mut desk = HostedDesk::new(rt, cluster, &mut seat);
+    assert_comes(rt, &mut desk);
+    assert_puts(rt, alloc, &mut desk);
+    seat
+}
+
+/// The nodes of a cluster that beta came to.
+fn nodes_after_visit<R: Wait + Abort>(rt: &R, alloc: Global, config: &Config) -> Vec<HostedNode>
+    requires sizes { IsTrue (are_sizes config.now) }
+    requires clocks { IsTrue (are_clocks config.now) }
+    requires one { (config.now.data_centres ≡ 1) × (config.now.shards ≡ 1) }
+{
+    let (cluster, mut seat) = hosted(rt, alloc, config);
+    let other = second(rt, alloc, &cluster, &mut seat);
+    let mut last = visit(rt, alloc, &cluster, other);
+    seat.meet(&cluster, &mut last);
+    closed_again(rt, alloc, cluster, last)
+}
+
+#[test]
+fn refused_memory_at_a_running_node(rt: HostRuntime) {
+    let config = two_tenants(&rt, rt.alloc());
+    assert!(&rt; has_clocks(&config));
+    let nodes = nodes_after_visit(&rt, rt.alloc(), &config);
+    assert!(rt; nodes.len() == 1);
+    assert!(rt; nodes[0].node().audit_len(2) == 1);
+}
+
+#[test]
+fn refused_memory_opens_and_closes(rt: HostRuntime) {
+    let config = two_tenants(&rt, rt.alloc());
+    assert!(&rt; has_clocks(&config));
+    let (cluster, seat) = opened(&rt, rt.alloc(), &config);
+    let nodes = closed_again(&rt, rt.alloc(), cluster, seat);
+    assert!(rt; nodes.len() == 1);
+}
+
+/// A machine that counts its turns.
+#[derive(Drop)]
+struct Counter {
+    turns: u64,
+}
+
+impl Machine for Counter {
+    type Call = ();
+
+    type Reply = u64;
+
+    type Place = ();
+
+    ghost place = { λ _. tt };
+
+    ghost fits = { λ _ _ _. Unit {0} };
+
+    ghost turns = { λ _ _ _ _ _ _. Unit {0} };
+
+    ghost may_lack = { λ _ _ _. ⊥ };
+
+    fn turn(&mut self, _slot: u64, _moment: u64, _call: ()) -> Result<u64, AllocError> {
+        self.turns = self.turns.saturating_add(1);
+        Ok(self.turns)
+    }
+}
+
+/// Returns how many turns the first machine has made after one more, which is made again if memory is refused.
+fn turned<R: Wait + Abort>(
+    rt: &R,
+    cluster: &Cluster<Counter>,
+    seat: &mut ServiceSeat<Counter>,
+) -> u64
+    requires { IsSeatOf cluster.now seat.old × (cluster.now.shards ≡ 1) × (1 ≤ length cluster.now.gates) }
+    ensures { IsSeatOf cluster.now seat.new }
+{
+    let id = NodeId { dc: 0, shard: 0 };
+    match seat.step(rt, cluster, id, 0, 0, ()) {
+        Ok(turns) => turns,
+        Err(fault) => {
+            assert!(rt; fault == Fault::OutOfMemory);
+            seat.step(rt, cluster, id, 0, 0, ()).expect(rt, "memory")
+        }
+    }
+}
+
+/// One machine.
+fn one_counter(alloc: Global) -> Result<Vec<Counter>, AllocError>
+    ensures { IfOk result (λ machines. length machines.items ≡ 1) }
+{
+    let mut machines = Vec::new(alloc);
+    machines.push(Counter { turns: 0 })?;
+    Ok(machines)
+}
+
+/// A cluster of one machine, made again if memory is refused.
+fn one_machine(rt: &impl Abort, alloc: Global) -> (Cluster<Counter>, ServiceSeat<Counter>)
+    ensures own { IsSeatOf result.0 result.1 }
+    ensures one { (result.0.shards ≡ 1) × (1 ≤ length result.0.gates) }
+{
+    match Cluster::of(alloc, 1, one_counter(alloc).expect(rt, "memory")) {
+        Ok(both) => both,
+        Err(_) => Cluster::of(alloc, 1, one_counter(alloc).expect(rt, "memory")).expect(
+            rt, "memory",
+        ),
+    }
+}
+
+#[test]
+fn refused_memory_makes_no_turn(rt: HostRuntime) {
+    let (cluster, mut seat) = one_machine(&rt, rt.alloc());
+    assert!(rt; turned(&rt, &cluster, &mut seat) == 1);
+    assert!(rt; turned(&rt, &cluster, &mut seat) == 2);
+    let machines = closed_again(&rt, rt.alloc(), cluster, seat);
+    assert!(rt; machines.len() == 1);
+}

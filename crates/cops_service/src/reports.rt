@@ -1,0 +1,103 @@
+//! What a service tells its operator.
+use cops_types::Fault;
+use cops_wire::Ended;
+use std::net::SocketAddr;
+use std::sync::atomic::{AtomicU64, Ordering};
+
+/// Why a connection ended otherwise than cleanly.
+#[derive(Clone, Copy, Debug)]
+pub enum Cause {
+    /// The first message was refused.
+    Refused,
+    /// What came was no frame, or no request.
+    BrokenFrame,
+    /// The input ended inside a frame, or before the first one.
+    CutOff,
+    /// The client sent nothing, took nothing or didn't finish a frame for too long.
+    Idle,
+    ReadingFailed,
+    WritingFailed,
+    OutOfMemory,
+}
+
+/// Hears of connections that end otherwise than cleanly, and of a listener that works again.
+pub trait Reports {
+    /// A connection ended.
+    fn ended(&self, peer: &SocketAddr, cause: Cause);
+
+    /// A connection was accepted after so many failures in a row.
+    fn accepts_again(&self, failures: u64);
+}
+
+/// Tells nobody.
+#[derive(Clone, Copy)]
+pub struct Silent;
+
+impl Reports for Silent {
+    fn ended(&self, _peer: &SocketAddr, _cause: Cause) {}
+
+    fn accepts_again(&self, _failures: u64) {}
+}
+
+/// What came of a connection, beside what `Connection::converse` says.
+#[derive(Clone, Copy)]
+pub(crate) struct Course {
+    pub(crate) saw_end: bool,
+    pub(crate) is_idle: bool,
+}
+
+/// Why a connection ended, unless it ended cleanly.
+pub(crate) fn cause_of(ended: &Result<Ended, Fault>, course: Course) -> Option<Cause> {
+    match ended {
+        Ok(Ended::Clean) => None,
+        Ok(Ended::Torn) if course.saw_end => Some(Cause::CutOff),
+        Ok(Ended::Torn) => Some(Cause::BrokenFrame),
+        Err(Fault::OutOfMemory) => Some(Cause::OutOfMemory),
+        Err(Fault::ReadFault) if !course.is_idle => Some(Cause::ReadingFailed),
+        Err(Fault::WriteFault) if !course.is_idle => Some(Cause::WritingFailed),
+        Err(Fault::ReadFault | Fault::WriteFault) => Some(Cause::Idle),
+        Err(Fault::Syntax) if course.saw_end => Some(Cause::CutOff),
+        Err(_) => Some(Cause::Refused),
+    }
+}
+
+/// How many connections were served, how many requests were answered on them, and how many of those were refused.
+#[derive(Drop)]
+pub(crate) struct Totals {
+    connections: AtomicU64,
+    requests: AtomicU64,
+    refused: AtomicU64,
+}
+
+/// The totals of a service that has ended.
+#[derive(Clone, Copy, Debug)]
+pub struct Counts {
+    pub connections: u64,
+    pub requests: u64,
+    pub refused: u64,
+}
+
+impl Totals {
+    pub(crate) fn new() -> Totals {
+        Totals {
+            connections: AtomicU64::new(0),
+            requests: AtomicU64::new(0),
+            refused: AtomicU64::new(0),
+        }
+    }
+
+    /// Adds a connection that has ended.
+    pub(crate) fn add(&self, requests: u64, refused: u64) {
+        self.connections.fetch_add(1, Ordering::SeqCst);
+        self.requests.fetch_add(requests, Ordering::SeqCst);
+        self.refused.fetch_add(refused, Ordering::SeqCst);
+    }
+
+    pub(crate) fn counts(&self) -> Counts {
+        Counts {
+            connections: self.connections.load(Ordering::SeqCst),
+            requests: self.requests.load(Ordering::SeqCst),
+            refused: self.refused.load(Ordering::SeqCst),
+        }
+    }
+}

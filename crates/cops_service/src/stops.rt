@@ -1,0 +1,65 @@
+//! An orderly end of a service.
+use std::io;
+use std::net::{Shutdown, TcpListener, TcpStream};
+use std::os::fd::OwnedFd;
+use std::sync::atomic::{AtomicU64, Ordering};
+use std::time::{Clock, Duration};
+
+/// Stands for a time at which nobody has asked yet.
+const NOT_ASKED: u64 = u64::MAX;
+
+/// Lets another thread end a service: it stops accepting, and open connections may finish what they sent.
+#[derive(Drop)]
+pub struct Stop {
+    // When somebody asked, in milliseconds of the monotonic clock.
+    asked: AtomicU64,
+    // The listener's socket under another descriptor.
+    listener: Option<TcpStream>,
+}
+
+impl Stop {
+    /// An end that nobody asks for.
+    pub fn never() -> Stop {
+        Stop {
+            asked: AtomicU64::new(NOT_ASKED),
+            listener: None,
+        }
+    }
+
+    /// An end of the service that listens here. Fails if the process may open no more descriptors.
+    pub fn of(listener: &TcpListener) -> io::Result<Stop> {
+        let socket = OwnedFd::from(listener.try_clone()?);
+        Ok(Stop {
+            asked: AtomicU64::new(NOT_ASKED),
+            listener: Some(TcpStream::from(socket)),
+        })
+    }
+
+    /// Asks for the end, and shuts the listener, so that nobody waits at it.
+    pub fn ask<C: Clock>(&self, clock: &C) {
+        self.asked.store(millis(clock), Ordering::SeqCst);
+        if let Some(listener) = &self.listener {
+            let _ = listener.shutdown(Shutdown::Both);
+        }
+    }
+
+    /// Whether somebody has asked.
+    pub(crate) fn is_asked(&self) -> bool {
+        self.asked.load(Ordering::SeqCst) != NOT_ASKED
+    }
+
+    /// Whether somebody asked longer ago than so many milliseconds.
+    #[inline(always)]
+    pub(crate) fn is_over<C: Clock>(&self, clock: &C, grace: u64) -> bool {
+        let asked = self.asked.load(Ordering::SeqCst);
+        asked != NOT_ASKED && millis(clock) >= asked.saturating_add(grace)
+    }
+}
+
+/// Milliseconds of the monotonic clock.
+pub(crate) fn millis<C: Clock>(clock: &C) -> u64 {
+    let time = clock.monotonic().unwrap_or(Duration::ZERO);
+    time.as_secs()
+        .saturating_mul(1000)
+        .saturating_add(u64::from(time.subsec_millis()))
+}

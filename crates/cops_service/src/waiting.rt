@@ -1,0 +1,118 @@
+//! Streams whose head could not be carried, until they are tried again.
+use crate::dues::rest_until;
+use crate::notes::{Noted, Notes, Sizes, Stream};
+use std::alloc::{AllocError, Global};
+use std::sync::Wait;
+use std::time::Duration;
+
+/// The first pause before a stream is tried again, in milliseconds. Each is twice as long as the one before.
+const SHORTEST: u64 = 5;
+
+/// The longest pause.
+const LONGEST: u64 = 1000;
+
+#[derive(Clone, Copy)]
+struct Pause {
+    is_kept: bool,
+    // How long it is.
+    length: u64,
+    // When it is over.
+    over: u64,
+}
+
+/// Streams that wait, each with a pause. No call takes memory.
+#[derive(Drop)]
+pub(crate) struct Waiting {
+    sizes: Sizes,
+    pauses: Vec<Pause>,
+    kept: Vec<Stream>,
+    // No pause is over earlier.
+    next: u64,
+}
+
+impl Waiting {
+    /// No stream waits.
+    pub(crate) fn new(alloc: Global, notes: &Notes, streams: usize) -> Result<Self, AllocError> {
+        let none = Pause {
+            is_kept: false,
+            length: 0,
+            over: 0,
+        };
+        Ok(Waiting {
+            sizes: notes.sizes,
+            pauses: Vec::from_elem(alloc, none, streams)?,
+            kept: Vec::with_capacity(alloc, streams)?,
+            next: u64::MAX,
+        })
+    }
+
+    /// Keeps a stream that was tried in vain, for a pause twice as long as the one before.
+    pub(crate) fn keep(&mut self, stream: &Stream, now: u64) {
+        let Some(pause) = self.pauses.get_mut(stream.number(self.sizes) as usize) else {
+            return;
+        };
+        pause.length = longer(pause.length);
+        pause.over = now.saturating_add(pause.length);
+        self.next = self.next.min(pause.over);
+        if !pause.is_kept && self.kept.len() < self.kept.capacity() {
+            pause.is_kept = true;
+            self.kept.push_reserved(*stream);
+        }
+    }
+
+    /// Forgets a stream that went on, or has nothing left.
+    pub(crate) fn forget(&mut self, stream: &Stream) {
+        let number = stream.number(self.sizes);
+        let Some(pause) = self.pauses.get_mut(number as usize) else {
+            return;
+        };
+        pause.length = 0;
+        if !pause.is_kept {
+            return;
+        }
+        pause.is_kept = false;
+        let sizes = self.sizes;
+        self.kept.retain(|other| other.number(sizes) != number);
+    }
+
+    /// For how long no pause is over, if a stream waits.
+    pub(crate) fn rest(&self, now: u64) -> Option<Duration> {
+        rest_until(self.next, now)
+    }
+
+    /// Notes the streams whose pause is over.
+    pub(crate) fn note_ready<R: Wait>(&mut self, rt: &R, notes: &Notes, now: u64) {
+        if now < self.next {
+            return;
+        }
+        let mut next = u64::MAX;
+        for stream in self.kept.as_slice() {
+            match self.pauses.get(stream.number(self.sizes) as usize) {
+                Some(pause) if pause.over > now => next = next.min(pause.over),
+                _ => notes.sent.add(rt, *stream),
+            }
+        }
+        self.next = next;
+    }
+
+    /// Notes the streams of this tenant.
+    pub(crate) fn note_tenant<R: Wait>(&self, rt: &R, notes: &Notes, slot: u64) {
+        for stream in self.kept.as_slice() {
+            if stream.from.slot == slot {
+                notes.sent.add(rt, *stream);
+            }
+        }
+    }
+
+    /// Notes all of them.
+    pub(crate) fn note_all<R: Wait>(&self, rt: &R, notes: &Notes) {
+        for stream in self.kept.as_slice() {
+            notes.sent.add(rt, *stream);
+        }
+    }
+}
+
+// The pause that follows one of this length.
+fn longer(length: u64) -> u64 {
+    length.saturating_mul(2).clamp(SHORTEST, LONGEST)
+}
