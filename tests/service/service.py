@@ -19,8 +19,8 @@ from cops_client.frames import Decoder, Hello, Message, Ready, encode
 PROGRAM: list[str] = []
 
 #: Longest waits, in seconds: for one reply, and for the service to begin or end.
-REPLY_TIME = 10.0
-SERVICE_TIME = 20.0
+REPLY_TIME = 30.0
+SERVICE_TIME = 60.0
 
 #: How long tests that look for what happens seldom go on, in seconds.
 SECONDS = 3.0

@@ -21,7 +21,7 @@ HELLO = frames([Hello(ACME.token, 0)])
 READY = frames([Ready()])
 FIRST = Handle(1)
 #: What a busy machine may add, in seconds.
-SLACK = 1.5
+SLACK = 4.0
 
 
 def read_whole(stream: socket.socket) -> bytes:
@@ -127,10 +127,10 @@ class Idle(unittest.TestCase):
             check_replays(self, service.end(), [ACME, BETA])
 
     def test_a_client_that_asks_in_time_goes_on(self):
-        with Operated(head([ACME, BETA]), 1, "--idle", "1") as service:
+        with Operated(head([ACME, BETA]), 1, "--idle", "3") as service:
             with service.greeted(ACME) as connection, connection.context() as context:
                 for number in range(4):
-                    time.sleep(0.6)
+                    time.sleep(1)
                     context.put("x", str(number))
             check_replays(self, service.end(), [ACME, BETA])
 
@@ -218,14 +218,17 @@ class Ending(unittest.TestCase):
     def test_nobody_is_accepted_after_the_end(self):
         with Operated(head([ACME, BETA]), 2, "--idle", "1") as service, service.greeted(ACME):
             service.write(b"end\n")
-            time.sleep(0.3)
-            try:
-                with socket.create_connection((service.host, service.port), 1) as late:
-                    late.sendall(HELLO)
-                    self.assertEqual(late.recv(5), b"")
-            except (ConnectionError, TimeoutError):
-                pass
+            # Whoever comes before the line is read is still answered.
+            wait_until(lambda: not self.is_answered(service), "nobody is answered any more")
             service.ended()
+
+    def is_answered(self, service: Operated) -> bool:
+        try:
+            with socket.create_connection((service.host, service.port), 1) as late:
+                late.sendall(HELLO)
+                return late.recv(5) != b""
+        except (ConnectionError, TimeoutError):
+            return False
 
     def test_other_lines_change_nothing(self):
         lines = [b"stop", b"END", b" end", b"end ", b"end end", b"begin", b"tenant x", b"\xff\xfe", b"e" * 1_000_000]

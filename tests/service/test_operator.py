@@ -33,8 +33,8 @@ class Lines(unittest.TestCase):
             self.assertEqual(service.said(), f"cops: listening on 127.0.0.1:{service.port}\n")
             for _ in range(3):
                 self.assertEqual(len(messages(talk(service.stream(), [conversation]))), 4)
-            # It ends once the service has ended it, so it was accepted before `end` is read.
-            self.assertEqual(talk(service.stream(), []), b"")
+            # One that says nothing. It has been accepted by the time that it is ended.
+            talk(service.stream(), [])
             service.end()
             first, last = service.said().splitlines()
             connections, requests, refused = service.served()

@@ -25,7 +25,7 @@ VERSION_QUOTA, BYTE_QUOTA, OUTBOX_FULL = 12, 13, 14
 VALUE = b"v" * 9
 #: Milliseconds, and what a busy machine may add, in seconds.
 TRANS_TIME = 50
-SLACK = 0.2
+SLACK = 0.5
 OUTBOX = 4
 #: How long all tenants write before they rest, in seconds.
 BURST = 0.4
