@@ -10,7 +10,7 @@ import time
 import unittest
 
 HERE = pathlib.Path(__file__).resolve().parent
-sys.path[:0] = [str(HERE), str(HERE.parents[1] / "clients" / "python")]
+sys.path[:0] = [str(HERE), str(HERE.parents[2] / "clients" / "python")]
 
 import audits  # noqa: E402
 import service  # noqa: E402

@@ -11,7 +11,7 @@ import unittest
 
 import service
 
-CLIENT = pathlib.Path(service.__file__).resolve().parents[2] / "clients" / "python"
+CLIENT = pathlib.Path(service.__file__).resolve().parents[3] / "clients" / "python"
 PORT = "17000"
 
 

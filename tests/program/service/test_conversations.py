@@ -14,7 +14,7 @@ from service import Service, read_some, read_to_end
 
 HERE = pathlib.Path(__file__).resolve().parent
 FOLDER = HERE / "conversations"
-PAGE = HERE.parents[1] / "docs" / "FRAMES.md"
+PAGE = HERE.parents[2] / "docs" / "FRAMES.md"
 
 
 class Conversations(unittest.TestCase):

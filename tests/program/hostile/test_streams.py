@@ -1,4 +1,4 @@
-"""Streams over TCP, beside those of tests/service: all tags, all lengths, and lies about what comes.
+"""Streams over TCP, beside those of tests/program/service: all tags, all lengths, and lies about what comes.
 
 A prefix of the model's replies comes, then the refusal and the end: never a reply to a request that wasn't sent whole.
 """

@@ -11,8 +11,8 @@ import time
 import unittest
 
 HERE = pathlib.Path(__file__).resolve().parent
-ROOT = HERE.parents[1]
-sys.path[:0] = [str(it) for it in (HERE, ROOT / "tests" / "service", ROOT / "tests" / "differential", ROOT / "clients" / "python")]
+ROOT = HERE.parents[2]
+sys.path[:0] = [str(it) for it in (HERE, ROOT / "tests" / "program" / "service", ROOT / "tests" / "program" / "differential", ROOT / "clients" / "python")]
 
 import pair  # noqa: E402
 import programs  # noqa: E402

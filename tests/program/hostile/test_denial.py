@@ -1,4 +1,4 @@
-"""Clients and tenants that hold back what they can, beside those of tests/service.
+"""Clients and tenants that hold back what they can, beside those of tests/program/service.
 
 Nobody else's replies change, nothing is kept after a client has gone, and other workers go on.
 """
