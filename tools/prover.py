@@ -223,12 +223,30 @@ def refusal(outcome, crate, is_verdict):
 # --- edits ---
 
 
+# A wrong body: its crate, its name, and the pairs of a word and a text that make it, of which the first names a file.
+Edit = namedtuple("Edit", "crate name pairs")
+
+
 def edits_in(folder):
-    return sorted(f"{folder}/{it}" for it in os.listdir(folder) if it.endswith(".edit")) if os.path.isdir(folder) else []
+    """The edits of a folder, by name. NAME.edit has one; SOURCE.edits, at any depth, has those of src/SOURCE.rt."""
+    crate = os.path.basename(os.path.dirname(f"{folder}/").replace("/must-fail", ""))
+    paths = sorted(f"{at}/{it}" for at, _, its in os.walk(folder) for it in its)
+    edits = [Edit(crate, os.path.basename(it)[: -len(".edit")], pairs_of(read(it))) for it in paths if it.endswith(".edit")]
+    for path in (it for it in paths if it.endswith(".edits")):
+        source = f"src/{os.path.relpath(path, folder)[: -len('.edits')]}.rt"
+        for block in re.split(r"\n(?:[ \t]*\n)+", read(path).strip("\n")):
+            name, _, rest = block.partition("\n")
+            edits.append(Edit(crate, name, (("file", source), *pairs_of(rest))))
+    return sorted(edits)
+
+
+def pairs_of(text):
+    pairs = (line.partition(":") for line in text.splitlines())
+    return tuple((word, rest.removeprefix(" ")) for word, _, rest in pairs)
 
 
 def name_of(edit):
-    return f"{os.path.basename(os.path.dirname(edit.replace('/must-fail', '')))}/{os.path.basename(edit)[: -len('.edit')]}"
+    return f"{edit.crate}/{edit.name}"
 
 
 def edited(edit, folder):
@@ -237,11 +255,7 @@ def edited(edit, folder):
     Each 'old:' stands once in what the pairs before it made, or it is the first one behind an 'after:', which stands once.
     """
     path, after, old, texts = "", "", None, {}
-    with open(edit, encoding="utf-8") as file:
-        lines = file.read().splitlines()
-    for line in lines:
-        word, _, rest = line.partition(":")
-        rest = rest[1:] if rest.startswith(" ") else rest
+    for word, rest in edit.pairs:
         if word == "file":
             path = rest.strip()
         elif word == "after":
@@ -250,8 +264,7 @@ def edited(edit, folder):
             old = rest
         elif word == "new":
             if path not in texts:
-                with open(f"{folder}/{path}", encoding="utf-8") as file:
-                    texts[path] = file.read()
+                texts[path] = read(f"{folder}/{path}")
             texts[path] = exchanged(texts[path], path, after, old or "", rest)
             after, old = "", None
     if not texts:
