@@ -1,5 +1,5 @@
 -- All that was done is a list of acts.
-use Rattle.std.proofs.Common.{◌≡◌, ℕ, zero, suc, ◌+◌, ◌*◌, ◌≤◌, ◌<◌, Bool, true, false, cond, ◌==◌, List, [], ◌∷◌, ◌++◌, map, length, refl, sym, ◌∙◌, ap, subst, arith}
+use Rattle.std.proofs.Common.{◌≡◌, ℕ, zero, suc, ◌+◌, ◌*◌, ◌≤◌, ◌<◌, true, false, cond, ◌==◌, List, [], ◌∷◌, ◌++◌, map, length, refl, sym, ◌∙◌, ap, subst, arith}
 use Rattle.std.specs.Prelude.{Option, None, filter, replicate}
 use Rattle.std.specs.List.{flat_map}
 use Rattle.std.proofs.lemmas.Bool.Decides.{Decides-eqb}
@@ -7,19 +7,18 @@ use Rattle.std.proofs.lemmas.List.{map-append}
 use Rattle.cops_types.specs.TenantConfig.{TenantConfig}
 use Rattle.cops_model.specs.declared.replies.Reply.{Reply}
 use Rattle.cops_model.specs.SoloNode.{SoloNode, new_node}
-use Rattle.cops_model.specs.Cluster.{ActEffect, Actor, SoloCluster, cluster_step, new_cluster}
-use Rattle.cops_model.specs.Events.{cluster_after, cluster_of, replies_from, solo_replies}
-use Rattle.cops_model.specs.Laws.{IsCausal}
-use Rattle.cops_causal.proofs.Runs.{goes_alone}
+use Rattle.cops_model.specs.Cluster.{Actor, SoloCluster, new_cluster}
+use Rattle.cops_model.specs.Goes.{Goes}
+use Rattle.cops_causal.proofs.Runs.{goes_spared}
 use Rattle.cops_causal.proofs.TurnCausality.{all_are_causal}
 use Rattle.cops_history.specs.Turns.{Turn, IsLegalAtEach, IsRun, all_new, left_of, node_numbered, nodes_after_turn, nodes_left, turns_at}
-use Rattle.cops_history.specs.Commands.{Command, Does, act_of, turn_made_by}
-use Rattle.cops_history.specs.History.{Logged, Told, Done, Behaves, IsHistory, AreActs, acts_of, done_by, logged_by, turns, turns_made, with_actors}
+use Rattle.cops_history.specs.Commands.{Command, Opens, Creates, Deletes, Puts, Gets, Begins, StepsLate, Steps, StepsUnread, Carries, Collects, Does, act_of, turn_made_by}
+use Rattle.cops_history.specs.History.{Logged, Told, Done, Behaves, IsHistory, AreActs, AreActsOfDefinition, HaveAmpleMemory, acts_of, done_by, logged_by, turns, turns_made, with_actors}
 use Rattle.cops_types.specs.Key.{key_eq}
 use Rattle.cops_types.proofs.KeyTests.{key_eq-true, key_eq-refl}
 use Rattle.cops_history.proofs.Actors.{Locals, Stands, with_local, with_local-all}
 use Rattle.cops_history.proofs.Merging.{Merged, merge}
-use Rattle.cops_history.proofs.Moving.{Led, command_leads}
+use Rattle.cops_history.proofs.Moving.{Moved, command_leads}
 use Rattle.cops_history.proofs.Running.{left_at_each, run_of_legal}
 
 -- ---- a run in two parts
@@ -61,14 +60,15 @@ by_owner owner name (d ∷ order) = elim (key_eq d.actor name) as (λ b. key_eq 
 
 -- ---- all that was done
 
--- what is told, and the nodes
+-- the acts are a run with these replies, which leaves these nodes
 record Acted (config : TenantConfig) (order : List Done) (nodes : List SoloNode) (c : SoloCluster) : Type 0 where
-  pub told : map (λ d. d.told.reply) order ≡ replies_from config (acts_of order) c
-  pub left : (cluster_after config (acts_of order) c).nodes ≡ nodes_left config (turns_made order) nodes
+  pub after : SoloCluster
+  pub goes : Goes config (acts_of order) (map (λ d. d.told.reply) order) c after
+  pub left : after.nodes ≡ nodes_left config (turns_made order) nodes
 
 acted : (config : TenantConfig) (order : List Done) (count : ℕ) (locals : Locals) (nodes : List SoloNode) (c : SoloCluster) → count + length order ≤ config.quota.actors → Stands count locals nodes c →
     ((actor : List ℕ) → Behaves config (locals actor) (done_by actor order)) → IsRun config (turns_made order) nodes → Acted config order nodes c
-acted config [] count locals nodes c room stands behave run = record { told = refl; left = stands.nodes_are }
+acted config [] count locals nodes c room stands behave run = record { after = c; goes = refl; left = stands.nodes_are }
 acted config (d ∷ order) count locals nodes c room stands behave run =
     let own : Behaves config (locals d.actor) (d.told ∷ done_by d.actor order) =
     let same : key_eq d.actor d.actor ≡ true = key_eq-refl d.actor in
@@ -77,22 +77,38 @@ acted config (d ∷ order) count locals nodes c room stands behave run =
     let new : Option Actor = own.0 in
     let parts : IsRun config (turn_made_by d.told.command) nodes × IsRun config (turns_made order) (nodes_left config (turn_made_by d.told.command) nodes) =
     run_parts config (turn_made_by d.told.command) (turns_made order) nodes run in
-    let led = command_leads config count locals nodes c stands d.actor d.told.command d.told.reply own.0 (omega (arith, room)) own.1 parts.0 in
+    let moved : Moved (suc count) (with_local d.actor own.0 locals) (nodes_left config (turn_made_by d.told.command) nodes) config (act_of d.actor d.told.command) c d.told.reply = command_leads config count locals nodes c stands d.actor d.told.command d.told.reply own.0 (omega (arith, room)) own.1 parts.0 in
     let later : (actor : List ℕ) → Behaves config (with_local d.actor own.0 locals actor) (done_by actor order) =
     with_local-all (λ o actor. Behaves config o (done_by actor order)) d.actor own.0 locals own.2
     (λ other apart. let at : done_by other (d ∷ order) ≡ done_by other order = rw apart refl in subst (Behaves config (locals other)) at (behave other)) in
-    let rest : Acted config order (nodes_left config (turn_made_by d.told.command) nodes) (cluster_step config (act_of d.actor d.told.command) c).after =
-    acted config order (suc count) (with_local d.actor own.0 locals) (nodes_left config (turn_made_by d.told.command) nodes) (cluster_step config (act_of d.actor d.told.command) c).after (omega (arith, room)) led.1 later parts.1 in
+    let rest : Acted config order (nodes_left config (turn_made_by d.told.command) nodes) moved.after =
+    acted config order (suc count) (with_local d.actor own.0 locals) (nodes_left config (turn_made_by d.told.command) nodes) moved.after (omega (arith, room)) moved.stands later parts.1 in
     record {
-      told = (λ i. sym led.0 i ∷ rest.told i);
+      after = rest.after;
+      goes = (moved.after, moved.turns, rest.goes);
       left = rest.left ∙ sym (left_parts config (turn_made_by d.told.command) (turns_made order) nodes);
     }
 
 -- ---- with room for all
 
 -- with room for more actors an actor does the same
+does_with_room : (count : ℕ) (config : TenantConfig) (old : Option Actor) (command : Command) (reply : Reply) (new : Option Actor) → Does config old command reply new → Does (with_actors count config) old command reply new
+does_with_room count config old (Opens dc) reply new does = does
+does_with_room count config old Creates reply new does = does
+does_with_room count config old (Deletes number) reply new does = does
+does_with_room count config old (Puts number key value) reply new does = does
+does_with_room count config old (Gets number keys) reply new does = does
+does_with_room count config old (Begins stream) reply new does = does
+does_with_room count config old (StepsLate given) reply new does = does
+does_with_room count config old (Steps given t) reply new does = does
+does_with_room count config old (StepsUnread given t) reply new (s, running, old_is, runs, is, at, (keys, fetches, ends), reply_is, new_is) =
+    (s, running, old_is, runs, is, at, (keys, fetches, record { same_attempt = ends.same_attempt; is_read = ends.is_read }), reply_is, new_is)
+does_with_room count config old (Carries given t) reply new does = does
+does_with_room count config old (Collects t) reply new does = does
+
 behaves_with_room : (count : ℕ) (config : TenantConfig) (old : Option Actor) (did : List Told) → Behaves config old did → Behaves (with_actors count config) old did
-behaves_with_room count config old did behaves = behaves
+behaves_with_room count config old [] behaves = tt
+behaves_with_room count config old (t ∷ did) behaves = (behaves.0, does_with_room count config old t.command t.reply behaves.0 behaves.1, behaves_with_room count config behaves.0 did behaves.2)
 
 length_all : (n : ℕ) (solo : SoloNode) → length (replicate n solo) ≡ n
 length_all zero solo = refl
@@ -117,12 +133,19 @@ are_acts config log seats owner did some history =
       each = merged.each;
       logged = merged.logged;
       room = length merged.order;
+      run = record {
+        left = all.after;
+        goes = all.goes;
+        causal = all_are_causal roomy some (acts_of merged.order) (map (λ (d : Done). d.told.reply) merged.order) all.after all.goes;
+      };
       nodes = all.left ∙ ap (λ ts. nodes_left config ts (all_new config)) (sym made);
-      told = all.told;
-      causal =
-          subst (λ told. IsCausal roomy (acts_of merged.order) told (cluster_of roomy (acts_of merged.order))) (sym all.told)
-          (all_are_causal roomy some (acts_of merged.order) (solo_replies roomy (acts_of merged.order)) (cluster_of roomy (acts_of merged.order)) (goes_alone roomy (acts_of merged.order) (new_cluster roomy)));
     }
+
+pub of_definition : (config : TenantConfig) (log : List Logged) (owner : List ℕ → ℕ) (did : ℕ → List Done) → (acts : AreActs config log owner did) → HaveAmpleMemory acts.order → AreActsOfDefinition config log acts.order acts.room
+of_definition config log owner did acts spared =
+    let roomy : TenantConfig = with_actors acts.room config in
+    let same = goes_spared roomy (acts_of acts.order) (map (λ (d : Done). d.told.reply) acts.order) (new_cluster roomy) acts.run.left acts.run.goes spared in
+    record { told = same.0; nodes = ap (λ (c : SoloCluster). c.nodes) (sym same.1) ∙ acts.nodes }
 
 -- the nodes of a legal log, one by one
 pub left_by_turns : (config : TenantConfig) (log : List Logged) (number : ℕ) → IsLegalAtEach config (all_new config) (turns log) →

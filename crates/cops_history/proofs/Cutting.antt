@@ -1,5 +1,5 @@
 -- A prefix of what was done, for a prefix of a log.
-use Rattle.std.proofs.Common.{◌≡◌, ◌⊎◌, ℕ, ◌≤◌, ◌<◌, Bool, true, false, cond, List, [], ◌∷◌, ◌++◌, map, inl, inr, refl, sym, ◌∙◌, ap, subst}
+use Rattle.std.proofs.Common.{◌≡◌, ◌⊎◌, ℕ, ◌<◌, true, false, cond, List, [], ◌∷◌, ◌++◌, map, inl, inr, refl, sym, ◌∙◌, ap, subst}
 use Rattle.std.specs.Prelude.{Option, None, filter}
 use Rattle.std.specs.List.{AllByRecursion}
 use Rattle.cops_types.specs.Key.{key_eq}
@@ -7,7 +7,7 @@ use Rattle.cops_types.specs.TenantConfig.{TenantConfig}
 use Rattle.cops_model.specs.Cluster.{Actor}
 use Rattle.cops_history.specs.Turns.{Turn}
 use Rattle.cops_history.specs.Commands.{turn_made_by}
-use Rattle.cops_history.specs.History.{Logged, Told, Done, Behaves, IsHistory, IsHistoryOfPrefixes, AreActs, HasPrefixesOfActs, done_by, turns_by, turns_made}
+use Rattle.cops_history.specs.History.{Logged, Told, Done, Behaves, IsHistory, IsHistoryOfPrefixes, HasPrefixesOfActs, done_by, turns_by, turns_made}
 use Rattle.cops_history.proofs.Acts.{are_acts}
 use Rattle.cops_history.proofs.Merging.{turn_cases}
 

@@ -1,17 +1,17 @@
 -- The small history is one.
-use Rattle.std.proofs.Common.{◌≡◌, ℕ, zero, suc, ◌+◌, ◌≤◌, Bool, true, false, ◌==◌, List, [], ◌∷◌, refl, sym, ◌∙◌, ap, subst, arith}
+use Rattle.std.proofs.Common.{◌≡◌, ℕ, zero, suc, ◌≤◌, true, false, ◌==◌, [], ◌∷◌, inl, refl, sym, subst, arith}
 use Rattle.std.specs.List.{AllByRecursion, flat_map}
-use Rattle.std.specs.Prelude.{Option, None, Some}
+use Rattle.std.specs.Prelude.{None, Some}
 use Rattle.std.proofs.lemmas.Bool.Decides.{Decides-eqb}
 use Rattle.cops_model.specs.Carrier.{Carrier, carrier_after, new_carrier}
-use Rattle.cops_model.specs.Cluster.{Actor, OfCarrier, OfSession}
+use Rattle.cops_model.specs.Cluster.{OfCarrier, OfSession}
 use Rattle.cops_model.specs.Log.{LogStep, Replied}
 use Rattle.cops_model.specs.Request.{Action, Write, Fetch}
 use Rattle.cops_model.specs.Session.{Running, Session, context_created, new_session, progress, request_begun, request_of, session_after}
 use Rattle.cops_history.specs.Turns.{Turn, IsLegal, IsLegalAtEach, all_new, node_numbered, turns_at}
-use Rattle.cops_history.specs.Commands.{carrier_left, turn_made_by}
+use Rattle.cops_history.specs.Commands.{turn_made_by}
 use Rattle.cops_history.specs.History.{Behaves, IsServed, turns, turns_by}
-use Rattle.cops_history.specs.Example.{ack_turn, carries, collects, commit_turn, config, did, entry, first, get_turn, here, key, log, pull_turn, put_turn, reads, writes}
+use Rattle.cops_history.specs.Example.{carries, collects, commit_turn, config, did, get_turn, here, key, log, pull_turn, put_turn, reads, writes}
 
 -- a session that begins this in its first context, and its one step
 abbrev begun : ℕ → Action → Session
@@ -103,8 +103,8 @@ all_made (suc (suc (suc seat))) =
     rw (zeroth, one, two) refl
 
 all_legal : IsLegalAtEach config (all_new config) (turns log)
-all_legal zero = (refl, refl, (refl, refl, (refl, refl, (refl, refl, tt))))
-all_legal (suc zero) = (refl, refl, (refl, refl, tt))
+all_legal zero = (refl, inl refl, (refl, inl refl, (refl, inl refl, (refl, inl refl, tt))))
+all_legal (suc zero) = (refl, inl refl, (refl, inl refl, tt))
 all_legal (suc (suc number)) =
     let zeroth : (0 == suc (suc number)) ≡ false = apart 0 (suc (suc number)) (λ e. omega (arith, e)) in
     let one : (1 == suc (suc number)) ≡ false = apart 1 (suc (suc number)) (λ e. omega (arith, e)) in

@@ -1,11 +1,11 @@
 -- Lists of what seats did, and a log of their turns, merged into one list.
-use Rattle.std.proofs.Common.{◌≡◌, ℕ, zero, suc, ◌+◌, ◌≤◌, ◌<◌, Bool, true, false, cond, ◌==◌, List, [], ◌∷◌, ◌++◌, map, ◌⊎◌, inl, inr, refl, sym, ◌∙◌, ap, subst, arith}
+use Rattle.std.proofs.Common.{◌≡◌, ℕ, zero, suc, ◌≤◌, true, false, cond, ◌==◌, List, [], ◌∷◌, ◌++◌, map, ◌⊎◌, inl, inr, refl, sym, ◌∙◌, ap, subst, arith}
 use Rattle.std.specs.Prelude.{filter}
 use Rattle.std.specs.List.{AllByRecursion, flat_map}
 use Rattle.std.proofs.lemmas.Bool.Decides.{Decides-eqb}
 use Rattle.cops_history.specs.Turns.{Turn}
-use Rattle.cops_history.specs.Commands.{Command, Opens, Creates, Deletes, Puts, Gets, Begins, StepsLate, Steps, Carries, Collects, turn_made_by}
-use Rattle.cops_history.specs.History.{Logged, Told, Done, turns_by, turns_made, logged_by}
+use Rattle.cops_history.specs.Commands.{Command, Opens, Creates, Deletes, Puts, Gets, Begins, StepsLate, Steps, StepsUnread, Carries, Collects, turn_made_by}
+use Rattle.cops_history.specs.History.{Logged, Done, turns_by, turns_made, logged_by}
 
 -- a command makes one turn, or none
 pub turn_cases : (command : Command) → (turn_made_by command ≡ []) ⊎ ((t : Turn) × (turn_made_by command ≡ t ∷ []))
@@ -17,6 +17,7 @@ turn_cases (Gets number keys) = inl refl
 turn_cases (Begins stream) = inl refl
 turn_cases (StepsLate given) = inl refl
 turn_cases (Steps given t) = inr (t, refl)
+turn_cases (StepsUnread given t) = inr (t, refl)
 turn_cases (Carries given t) = inr (t, refl)
 turn_cases (Collects t) = inr (t, refl)
 

@@ -1,6 +1,5 @@
 -- Turns that are legal at each node are a run of all nodes.
-use Rattle.std.proofs.Common.{◌≡◌, ◌≢◌, ℕ, ◌*◌, ◌+◌, ◌<◌, Bool, true, false, cond, ◌==◌, ◌&&◌, List, [], ◌∷◌, ◌++◌, length, get_or, set, nat_lt, refl, sym, ◌∙◌, ap, subst, arith}
-use Rattle.std.specs.Prelude.{replicate}
+use Rattle.std.proofs.Common.{◌≡◌, ◌≢◌, ℕ, ◌*◌, ◌<◌, true, false, ◌==◌, List, [], ◌∷◌, length, nat_lt, refl, sym, ◌∙◌, ap, subst, arith}
 use Rattle.std.proofs.lemmas.Bool.Decides.{Decides-eqb}
 use Rattle.std.proofs.lemmas.Bool.{ltb-true}
 use Rattle.std.proofs.lemmas.List.{get_or-set_same, get_or-set_other}
@@ -10,8 +9,7 @@ use Rattle.cops_types.specs.TenantConfig.{TenantConfig}
 use Rattle.cops_types.proofs.Elements.{and_left, and_right}
 use Rattle.cops_model.specs.Place.{node_number}
 use Rattle.cops_model.specs.SoloNode.{SoloNode, new_node}
-use Rattle.cops_model.specs.Cluster.{has_node}
-use Rattle.cops_history.specs.Turns.{Turn, IsLegal, IsLegalAtEach, IsRun, effect_at, left_of, node_numbered, nodes_after_turn, nodes_left, turns_at}
+use Rattle.cops_history.specs.Turns.{Turn, IsLegal, IsLegalAtEach, IsRun, left_by_turn, left_of, node_numbered, nodes_after_turn, nodes_left, turns_at}
 
 below : (a b : ℕ) → nat_lt a b ≡ true → a < b
 below a b e = ltb-true a b e
@@ -40,7 +38,7 @@ run_of_legal config (t ∷ turns) nodes long legal = (here.0, here.1, run_of_leg
     legal_after m = elim (node_number config.shards t.node == m) as (λ b. (node_number config.shards t.node == m) ≡ b → IsLegal config (node_numbered config m (nodes_after_turn config t nodes)) (turns_at config m turns)) [
       | true ↦ λ same.
           let at : node_number config.shards t.node ≡ m = (Decides-eqb (node_number config.shards t.node) m).0 same in
-          let read : node_numbered config (node_number config.shards t.node) (nodes_after_turn config t nodes) ≡ (effect_at config t (node_numbered config (node_number config.shards t.node) nodes)).after =
+          let read : node_numbered config (node_number config.shards t.node) (nodes_after_turn config t nodes) ≡ left_by_turn config t (node_numbered config (node_number config.shards t.node) nodes) =
           get_or-set_same nodes (node_number config.shards t.node) _ (new_node config.data_centres) within in
           subst (λ n. IsLegal config (node_numbered config n (nodes_after_turn config t nodes)) (turns_at config n turns)) at
           (subst (λ solo. IsLegal config solo (turns_at config (node_number config.shards t.node) turns)) (sym read) here.2)
@@ -58,11 +56,11 @@ node_after_turn config t turns nodes m within = elim (node_number config.shards 
     left_of config (node_numbered config m (nodes_after_turn config t nodes)) (turns_at config m turns) ≡ left_of config (node_numbered config m nodes) (turns_at config m (t ∷ turns))) [
       | true ↦ λ same.
           let at : node_number config.shards t.node ≡ m = (Decides-eqb (node_number config.shards t.node) m).0 same in
-          let read : node_numbered config (node_number config.shards t.node) (nodes_after_turn config t nodes) ≡ (effect_at config t (node_numbered config (node_number config.shards t.node) nodes)).after =
+          let read : node_numbered config (node_number config.shards t.node) (nodes_after_turn config t nodes) ≡ left_by_turn config t (node_numbered config (node_number config.shards t.node) nodes) =
           get_or-set_same nodes (node_number config.shards t.node) _ (new_node config.data_centres) within in
-          let here : node_numbered config m (nodes_after_turn config t nodes) ≡ (effect_at config t (node_numbered config m nodes)).after =
-          subst (λ n. node_numbered config n (nodes_after_turn config t nodes) ≡ (effect_at config t (node_numbered config n nodes)).after) at read in
-          let whole : left_of config (node_numbered config m (nodes_after_turn config t nodes)) (turns_at config m turns) ≡ left_of config (effect_at config t (node_numbered config m nodes)).after (turns_at config m turns) =
+          let here : node_numbered config m (nodes_after_turn config t nodes) ≡ left_by_turn config t (node_numbered config m nodes) =
+          subst (λ n. node_numbered config n (nodes_after_turn config t nodes) ≡ left_by_turn config t (node_numbered config n nodes)) at read in
+          let whole : left_of config (node_numbered config m (nodes_after_turn config t nodes)) (turns_at config m turns) ≡ left_of config (left_by_turn config t (node_numbered config m nodes)) (turns_at config m turns) =
           ap (λ solo. left_of config solo (turns_at config m turns)) here in
           rw same whole
       | false ↦ λ apart.

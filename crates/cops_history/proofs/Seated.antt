@@ -1,15 +1,14 @@
 -- Seats whose actors come one after another.
-use Rattle.std.proofs.Common.{◌≡◌, ℕ, zero, suc, ◌+◌, ◌≤◌, ◌<◌, Bool, true, false, cond, List, [], ◌∷◌, ◌++◌, map, refl, sym, ◌∙◌, ap, subst, arith, append-nil}
-use Rattle.std.specs.Prelude.{Option, None, filter}
+use Rattle.std.proofs.Common.{◌≡◌, ℕ, suc, ◌<◌, true, false, List, [], ◌∷◌, ◌++◌, map, refl, sym, ◌∙◌, ap, subst, arith, append-nil}
+use Rattle.std.specs.Prelude.{None}
 use Rattle.std.specs.List.{AllByRecursion, flat_map}
 use Rattle.std.proofs.lemmas.Grind.{flat_map-append}
 use Rattle.cops_types.specs.Key.{key_eq}
 use Rattle.cops_types.proofs.Elements.{Every-append}
 use Rattle.cops_types.proofs.KeyTests.{key_eq-true, key_eq-refl}
 use Rattle.cops_types.specs.TenantConfig.{TenantConfig}
-use Rattle.cops_history.specs.Turns.{Turn}
 use Rattle.cops_history.specs.Commands.{turn_made_by}
-use Rattle.cops_history.specs.History.{Logged, Told, Done, Behaves, IsHistory, IsServed, AreActs, all_done, done_by, numbered, seat_in, turns_by, turns_made}
+use Rattle.cops_history.specs.History.{Logged, Told, Done, Behaves, IsServed, AreActs, all_done, done_by, numbered, seat_in, turns_made}
 use Rattle.cops_history.proofs.Acts.{are_acts}
 
 abbrev tagged : List ℕ → List Told → List Done

@@ -1,12 +1,13 @@
 -- The commands of one actor and what the definition says of each: a session with its requests, a carrier of a stream, or a collection.
-use Rattle.std.specs.Prelude.{◌≡◌, ◌⊎◌, ℕ, Bool, true, false, max, nat_lt, List, [], ◌∷◌, ◌++◌, length, Option, Some, None}
+use Rattle.std.specs.Prelude.{◌≡◌, ℕ, true, false, max, nat_lt, List, [], ◌∷◌, length, Option, Some, None}
 use Rattle.std.specs.List.{list_all}
 use Rattle.cops_types.specs.Key.{is_key}
 use Rattle.cops_types.specs.TenantConfig.{TenantConfig}
 use Rattle.cops_types.specs.Value.{is_value}
+use Rattle.cops_types.specs.declared.faults.Fault.TheVariants.{OutOfMemory}
 use Rattle.cops_model.specs.declared.calls.NodeCall.TheVariants as node_call
-use Rattle.cops_model.specs.declared.calls.NodeId.{NodeId}
 use Rattle.cops_model.specs.Log.{LogStep, Late, Replied, Call, Restart}
+use Rattle.cops_model.specs.Lacks.{IsLastRead, request_dropped}
 use Rattle.cops_model.specs.Request.{next}
 use Rattle.cops_model.specs.Session.{Running, Session, moment_at, new_session, progress, request_of, session_after}
 use Rattle.cops_model.specs.Carrier.{Carrier, Stream, carrier_after, carrier_next, delivery_progress, new_carrier}
@@ -15,11 +16,12 @@ use Rattle.cops_model.specs.declared.acts.Act.TheVariants.{Open, Create, Delete,
 use Rattle.cops_model.specs.declared.deliveries.Progress.{Progress as CarrierProgress}
 use Rattle.cops_model.specs.declared.deliveries.Progress.TheVariants as carrier_progress
 use Rattle.cops_model.specs.declared.replies.Reply.{Reply}
-use Rattle.cops_model.specs.declared.replies.Reply.TheVariants.{Opened, Started, Working}
+use Rattle.cops_model.specs.declared.replies.Reply.TheVariants.{Opened, Started, Working, Refused}
 use Rattle.cops_model.specs.Cluster.{Actor, OfCarrier, OfSession, SessionAct, create_act, delete_act, get_act, has_stream, put_act, reply_of_collect, reply_of_delivery, reply_of_progress}
 use Rattle.cops_history.specs.Turns.{Turn}
 
--- An act without the name of its actor. `Steps`, `Carries` and `Collects` make one turn at a node, the others none. A number before a turn is the timestamp that was passed.
+-- An act without the name of its actor. `Steps`, `StepsUnread`, `Carries` and `Collects` make one turn at a node, the others none. A number before a turn is the timestamp that was passed.
+-- In `StepsUnread` the node replied, and then memory ran out for the values that a round had read.
 pub data Command : Type 0 where
   Opens : ℕ → Command
   Creates : Command
@@ -29,12 +31,14 @@ pub data Command : Type 0 where
   Begins : Stream → Command
   StepsLate : ℕ → Command
   Steps : ℕ → Turn → Command
+  StepsUnread : ℕ → Turn → Command
   Carries : ℕ → Turn → Command
   Collects : Turn → Command
 
 -- the turn that a command makes
 abbrev pub turn_made_by : Command → List Turn
 turn_made_by (Steps given t) = t ∷ []
+turn_made_by (StepsUnread given t) = t ∷ []
 turn_made_by (Carries given t) = t ∷ []
 turn_made_by (Collects t) = t ∷ []
 turn_made_by command = []
@@ -49,6 +53,7 @@ act_of name (Gets number keys) = Get name number keys
 act_of name (Begins stream) = Carry name stream.origin.dc stream.origin.shard stream.to_dc
 act_of name (StepsLate given) = Step name given
 act_of name (Steps given t) = Step name given
+act_of name (StepsUnread given t) = Step name given
 act_of name (Carries given t) = Step name given
 act_of name (Collects t) = Collect t.node.dc t.node.shard t.moment
 
@@ -91,6 +96,12 @@ Does config old (Steps given t) reply new =
     × (next config (request_of s running) running.log (moment_at given s) ≡ Call (record { node = t.node; call = t.call }))
     × (t.moment ≡ moment_at given s)
     × IsStepped config s running (record { moment = moment_at given s; outcome = Replied t.reply }) reply new
+Does config old (StepsUnread given t) reply new =
+    (s : Session) × (running : Running) × (old ≡ Some (OfSession s)) × (s.running ≡ Some running)
+    × (next config (request_of s running) running.log (moment_at given s) ≡ Call (record { node = t.node; call = t.call }))
+    × (t.moment ≡ moment_at given s)
+    × IsLastRead config s running (record { moment = moment_at given s; outcome = Replied t.reply })
+    × (reply ≡ Refused OutOfMemory) × (new ≡ Some (OfSession (request_dropped (moment_at given s) s)))
 Does config old (Carries given t) reply new =
     (k : Carrier) × (old ≡ Some (OfCarrier k))
     × (carrier_next config.shards k.stream k.log ≡ Call (record { node = t.node; call = t.call }))

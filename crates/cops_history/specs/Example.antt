@@ -1,10 +1,6 @@
 -- A small history: one seat puts a value, a second one carries it to another data centre, and a third one reads it there and collects at its origin.
 use Rattle.std.specs.Prelude.{ℕ, true, List, [], ◌∷◌, zero, suc, Some}
 use Rattle.cops_types.specs.TenantConfig.{TenantConfig}
-use Rattle.cops_model.specs.Log.{LogStep, Replied}
-use Rattle.cops_model.specs.Place.{place_of}
-use Rattle.cops_model.specs.SoloNode.{SoloNode, new_node}
-use Rattle.cops_model.specs.Step.{node_step}
 use Rattle.cops_model.specs.declared.calls.NodeCall.{NodeCall}
 use Rattle.cops_model.specs.declared.calls.NodeCall.TheVariants.{Get, Put, Pull, Commit, Ack, Collect}
 use Rattle.cops_model.specs.declared.calls.NodeId.{NodeId}

@@ -1,13 +1,13 @@
 -- A log of turns with the commands of its actors, and the list of acts that it is.
-use Rattle.std.specs.Prelude.{◌≡◌, ℕ, suc, ◌==◌, ◌≤◌, List, [], ◌∷◌, ◌++◌, map, filter, length, Option, None}
+use Rattle.std.specs.Prelude.{◌≡◌, ℕ, suc, ◌==◌, ◌≤◌, List, [], ◌∷◌, ◌++◌, map, filter, Option, None}
 use Rattle.std.specs.List.{AllByRecursion, flat_map}
 use Rattle.cops_types.specs.Key.{key_eq}
 use Rattle.cops_types.specs.TenantConfig.{TenantConfig}
 use Rattle.cops_model.specs.declared.acts.Act.{Act}
 use Rattle.cops_model.specs.declared.replies.Reply.{Reply}
 use Rattle.cops_model.specs.Cluster.{Actor}
-use Rattle.cops_model.specs.Events.{cluster_of, solo_replies}
-use Rattle.cops_model.specs.Laws.{IsCausal}
+use Rattle.cops_model.specs.Events.{IsSpared, cluster_of, solo_replies}
+use Rattle.cops_model.specs.MainTheorem.{IsCausalRun}
 use Rattle.cops_history.specs.Turns.{Turn, IsLegalAtEach, all_new, nodes_left}
 use Rattle.cops_history.specs.Commands.{Command, Does, act_of, turn_made_by}
 
@@ -70,15 +70,24 @@ abbrev pub with_actors : ℕ → TenantConfig → TenantConfig
 with_actors count config = record config { quota = record config.quota { actors = count } }
 
 -- There is one order of all commands that keeps the order of each seat and that of the log. As a list of acts of a cluster that the tenant has to
--- itself, it gives each actor the reply that the actor got, leaves the nodes that the log leaves, and keeps the causal laws.
+-- itself, with the replies that the actors got, it is a run in which memory may be refused. It leaves the nodes that the log leaves, and keeps the
+-- causal laws.
 pub record AreActs (config : TenantConfig) (log : List Logged) (owner : List ℕ → ℕ) (did : ℕ → List Done) : Type 0 where
   pub order : List Done
   pub each : (seat : ℕ) → filter (λ d. owner d.actor == seat) order ≡ did seat
   pub logged : flat_map (logged_by owner) order ≡ log
   pub room : ℕ
-  pub nodes : (cluster_of (with_actors room config) (acts_of order)).nodes ≡ nodes_left config (turns log) (all_new config)
+  pub run : IsCausalRun (with_actors room config) (acts_of order) (map (λ d. d.told.reply) order)
+  pub nodes : run.left.nodes ≡ nodes_left config (turns log) (all_new config)
+
+-- no actor's reply says that memory was refused
+abbrev pub HaveAmpleMemory : List Done → Type 0
+HaveAmpleMemory order = IsSpared (map (λ d. d.told.reply) order)
+
+-- the replies are those of the definition, and so are the nodes
+pub record AreActsOfDefinition (config : TenantConfig) (log : List Logged) (order : List Done) (room : ℕ) : Type 0 where
   pub told : map (λ d. d.told.reply) order ≡ solo_replies (with_actors room config) (acts_of order)
-  pub causal : IsCausal (with_actors room config) (acts_of order) (map (λ d. d.told.reply) order) (cluster_of (with_actors room config) (acts_of order))
+  pub nodes : (cluster_of (with_actors room config) (acts_of order)).nodes ≡ nodes_left config (turns log) (all_new config)
 
 -- ---- seats whose actors follow one another
 
@@ -103,8 +112,7 @@ pub record IsServed (config : TenantConfig) (log : List Logged) (seats : ℕ) (d
 
 -- ---- prefixes
 
--- A prefix of a log, and for each seat a list of commands that made its turns there and may have made more. This covers a seat whose next reply
--- no definition gives, as one that memory was refused.
+-- A prefix of a log, and for each seat a list of commands that made its turns there and may have made more.
 pub record IsHistoryOfPrefixes (config : TenantConfig) (log : List Logged) (seats : ℕ) (owner : List ℕ → ℕ) (did : ℕ → List Done) : Type 0 where
   pub legal : IsLegalAtEach config (all_new config) (turns log)
   pub behave : (name : List ℕ) → Behaves config None (done_by name (did (owner name)))

@@ -2,3 +2,4 @@ pub mod Turns
 pub mod Commands
 pub mod History
 pub mod Example
+pub mod Exchanged

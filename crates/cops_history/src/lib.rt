@@ -4,6 +4,6 @@
 mod laws;
 
 pub use laws::{
-    example_is_served, logs_are_acts, nodes_are_left_by_their_turns, prefixes_are_acts,
-    served_are_acts,
+    acts_with_memory_are_of_the_definition, example_is_served, legal_histories_may_have_no_log,
+    logs_are_acts, nodes_are_left_by_their_turns, prefixes_are_acts, served_are_acts,
 };
