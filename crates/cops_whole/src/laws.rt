@@ -1,0 +1,73 @@
+ghost use Rattle.std.specs.Prelude.{◌≡◌, ◌≢◌, ℕ, ◌<◌, ◌*◌, ◌++◌, ◌∷◌, [], Bool, true, List, Some, None, slice_get};
+ghost use Rattle.std.specs.List.{flat_map};
+ghost use Rattle.cops_types.specs.declared.configs.Config.{Config};
+ghost use Rattle.cops_types.specs.declared.configs.Tenant.{Tenant};
+ghost use Rattle.cops_types.specs.TenantConfig.{tenant_config};
+ghost use Rattle.cops_model.specs.declared.calls.NodeReply.{NodeReply};
+ghost use Rattle.cops_node.specs.Clusters.{new_shared};
+ghost use Rattle.cops_node.specs.Parts.{Shared};
+ghost use Rattle.cops_wire.specs.Requests.{KeepsShape};
+ghost use Rattle.cops_history.specs.Turns.{IsLegalAtEach, all_new, node_numbered};
+ghost use Rattle.cops_history.specs.History.{Done, Told, AreActs, all_done, seat_in, turns};
+ghost use Rattle.cops_whole.specs.Seats.{AddsTurns, AllRecorded, IsServedCluster, MakesAll, SlotActor, own_commands, turns_by_actor};
+ghost use Rattle.cops_whole.specs.SmallCluster.{small_actors, small_config, small_log};
+ghost use Rattle.cops_whole.specs.Whole.{CallEntry, WholeTurn, AreServedForTenant, IsWholeLog, LeadsOn, Represents, entries_at, own_log, own_turns, place_there, seat_turns, tenant_turn, whole_turn};
+
+use cops_node::Nodes;
+
+/// Theorem: a tenant's own part of one log is legal at each node of a cluster that the tenant has to itself.
+/// Turns of other tenants and no-op turns don't matter.
+pub fn whole_logs_are_legal()
+    ensures { (config : Config) (tenant : Tenant) (slot : ℕ) (log : List WholeTurn) → 0 < config.shards → slice_get config.tenants slot ≡ Some tenant → IsWholeLog config log →
+        IsLegalAtEach (tenant_config config tenant) (all_new (tenant_config config tenant)) (turns (own_log config slot log)) }
+{}
+
+/// Theorem: the commands of a tenant's seats are a list of acts of a cluster that the tenant has to itself, with
+/// the same replies, and it keeps the causal laws, whatever other tenants do.
+pub fn tenants_are_served_causally()
+    ensures { (config : Config) (tenant : Tenant) (slot : ℕ) (log : List WholeTurn) (seats : ℕ) (did : ℕ → List (List Told)) → 0 < config.shards → slice_get config.tenants slot ≡ Some tenant →
+        IsWholeLog config log → AreServedForTenant config tenant slot log seats did → AreActs (tenant_config config tenant) (own_log config slot log) seat_in (all_done did) }
+{}
+
+/// Theorem: a node that the log leaves represents, for the tenant, the node that these acts leave.
+pub fn nodes_are_left_by_acts()
+    ensures { (config : Config) (tenant : Tenant) (slot : ℕ) (log : List WholeTurn) (owner : List ℕ → ℕ) (did : ℕ → List Done) (number : ℕ) (left : Shared) → 0 < config.shards → slice_get config.tenants slot ≡ Some tenant →
+        IsWholeLog config log → (acts : AreActs (tenant_config config tenant) (own_log config slot log) owner did) → number < config.data_centres * config.shards →
+        LeadsOn (new_shared config number) (entries_at number log) left →
+        Represents slot (place_there config tenant number) (node_numbered (tenant_config config tenant) number acts.run.left.nodes) left }
+{}
+
+/// Theorem: if a seat's own turns grow by one call, then its turns for the tenant of the call do. A no-op turn and
+/// a call of another tenant leave them.
+pub fn seats_record_their_turns()
+    ensures call { (config : Config) (slot seat node : ℕ) (e : CallEntry) (before after : List WholeTurn) → e.slot ≡ slot → seat_turns seat after ≡ seat_turns seat before ++ whole_turn seat node (Some e) ∷ [] →
+        own_turns config slot seat after ≡ own_turns config slot seat before ++ tenant_turn config node e ∷ [] }
+    ensures none { (config : Config) (slot seat node : ℕ) (before after : List WholeTurn) → seat_turns seat after ≡ seat_turns seat before ++ whole_turn seat node None ∷ [] →
+        own_turns config slot seat after ≡ own_turns config slot seat before }
+    ensures other { (config : Config) (slot seat node : ℕ) (e : CallEntry) (before after : List WholeTurn) → e.slot ≢ slot → seat_turns seat after ≡ seat_turns seat before ++ whole_turn seat node (Some e) ∷ [] →
+        own_turns config slot seat after ≡ own_turns config slot seat before }
+{}
+
+/// Theorem: a prefix of a whole log is one.
+pub fn prefixes_are_whole()
+    ensures { (config : Config) (prefix later : List WholeTurn) → IsWholeLog config (prefix ++ later) → IsWholeLog config prefix }
+{}
+
+/// Theorem: in a cluster that seats serve for all tenants, with one log, each tenant's replies are those of acts in
+/// a cluster of its own, and they keep the causal laws. `nodes_are_left_by_acts` says so of the nodes.
+pub fn clusters_are_served_causally()
+    ensures { (config : Config) (slot : ℕ) (tenant : Tenant) (log : List WholeTurn) (seats : ℕ) (actors : ℕ → List SlotActor) → 0 < config.shards → slice_get config.tenants slot ≡ Some tenant → IsServedCluster config log seats actors →
+        AreActs (tenant_config config tenant) (own_log config slot log) seat_in (all_done (λ seat. own_commands slot (actors seat))) }
+{}
+
+/// Theorem: a small cluster meets the premises: a put for one tenant, and a collection for another.
+pub fn small_cluster_is_served()
+    ensures { IsServedCluster small_config small_log 2 small_actors }
+{}
+
+/// Theorem: if each call at a seat's nodes adds its turn, then the calls of the seat's actors add theirs.
+pub fn seats_make_their_turns<N: Nodes>()
+    ensures { (lost : NodeReply → Bool) (config : Config) (seat : ℕ) (holds : N → Bool) (seen : N → List WholeTurn) (actors : List SlotActor) (nodes new_nodes : N) →
+        AddsTurns lost (KeepsShape N.shape N.Answers) config seat (λ n. holds n ≡ true) seen → holds nodes ≡ true → AllRecorded lost actors →
+        MakesAll (KeepsShape N.shape N.Answers) nodes actors new_nodes → seen new_nodes ≡ seen nodes ++ flat_map (turns_by_actor config seat) actors }
+{}

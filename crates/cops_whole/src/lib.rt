@@ -1,0 +1,10 @@
+//! One log of the calls at all nodes of a cluster is, for each tenant, a list of acts.
+#![tactic(auto)]
+
+mod laws;
+
+pub use laws::{
+    clusters_are_served_causally, nodes_are_left_by_acts, prefixes_are_whole,
+    seats_make_their_turns, seats_record_their_turns, small_cluster_is_served,
+    tenants_are_served_causally, whole_logs_are_legal,
+};
