@@ -29,11 +29,11 @@ use Rattle.cops_session.proofs.RefusedRequests.{request_refused}
 -- ---- what is given
 
 module _ {M : Type 0} (Gives : M → ℕ → M → Type 0) where
-  given_after : (a b c : M) (xs ys : List Given) → AreGiven Gives a xs b → AreGiven Gives b ys c → AreGiven Gives a (xs ++ ys) c
+  pub given_after : (a b c : M) (xs ys : List Given) → AreGiven Gives a xs b → AreGiven Gives b ys c → AreGiven Gives a (xs ++ ys) c
   given_after a b c [] ys p q = subst (λ m. AreGiven Gives m ys c) p q
   given_after a b c (x ∷ xs) ys p q = (p.0, p.1, given_after p.0 b c xs ys p.2 q)
 
-all_after : (P : Given → Type 0) (xs ys : List Given) → AllByRecursion P xs → AllByRecursion P ys → AllByRecursion P (xs ++ ys)
+pub all_after : (P : Given → Type 0) (xs ys : List Given) → AllByRecursion P xs → AllByRecursion P ys → AllByRecursion P (xs ++ ys)
 all_after P [] ys p q = q
 all_after P (x ∷ xs) ys p q = (p.0, all_after P xs ys p.1 q)
 

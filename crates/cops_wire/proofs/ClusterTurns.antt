@@ -1,21 +1,25 @@
 -- Connections at the nodes of a cluster.
 use Rattle.std.proofs.Common.{◌≡◌, ℕ, true, false, ◌<◌, Bool, eqb, List, [], ◌∷◌, ◌++◌, inl, inr, refl, sym, ap, subst, ◌∙◌}
+use Rattle.std.specs.Prelude.{length, nat_lt}
 use Rattle.std.proofs.lemmas.Bool.{eqb-true, eqb-false}
 use Rattle.cops_types.specs.declared.configs.Config.{Config}
-use Rattle.cops_types.specs.declared.faults.Fault.TheVariants.{OutOfMemory}
+use Rattle.cops_types.specs.declared.faults.Fault.TheVariants.{AuditFull, OutOfMemory}
 use Rattle.cops_types.specs.TenantConfig.{TenantConfig, tenant_config}
 use Rattle.cops_model.specs.declared.calls.NodeCall.{NodeCall}
 use Rattle.cops_model.specs.declared.calls.NodeId.{NodeId}
 use Rattle.cops_model.specs.declared.calls.NodeReply.{NodeReply}
-use Rattle.cops_node.specs.Clusters.{Cluster, IsTurnOf, nodes_of}
+use Rattle.cops_model.specs.declared.calls.NodeReply.TheVariants as node_reply
+use Rattle.cops_node.specs.Clusters.{Cluster, IsTurnOf, nodes_of, solo_at}
 use Rattle.cops_model.specs.SoloNode.{SoloNode}
 use Rattle.cops_model.specs.Session.{Session, new_session}
 use Rattle.cops_wire.specs.declared.messages.Message.{Message}
 use Rattle.cops_wire.specs.Alone.{AreUninterrupted, CallsAmid, CallsCluster, CallsOf, IsConnectionToldAlone, IsServedAt, IsTenantAt, IsToldUninterrupted, OfAny, OfOthers, OwnCall, SlotCall, after_call, after_calls, call_alone, is_memory_refusal}
-use Rattle.cops_wire.specs.Conversation.{IsConversationAt, IsReceivedAlone, IsReceivedUninterrupted}
+use Rattle.cops_wire.specs.Conversation.{IsConversation, IsConversationAt, IsReceivedAlone, IsReceivedUninterrupted}
+use Rattle.cops_wire.specs.GoesAlone.{AreServedAt, GoesAlone, GoesUninterrupted, HasConversedAt, IsReceivedAsAlone, IsReceivedAsUninterrupted}
 use Rattle.cops_wire.specs.Requests.{Backend, backend}
 use Rattle.cops_wire.proofs.AloneLemmas.{IsOwnTurn, told_alone}
-use Rattle.cops_wire.proofs.Conversations.{received_is}
+use Rattle.cops_wire.proofs.Conversations.{none_lost, received_is, received_so}
+use Rattle.cops_wire.proofs.GoesAloneLemmas.{IsOwnCall, goes_alone, has_room_in}
 
 module _ (config : TenantConfig) (slot : ℕ) where
   abbrev nodes_at : Cluster → List SoloNode
@@ -104,6 +108,50 @@ module _ (config : TenantConfig) (slot : ℕ) where
       let before = between_any called.0 old called.1 there called.2 in
       call_behind Any id moment call reply old called.1 new before.1.0 tt before.1.1 before.0 called.3
 
+-- ---- calls, memory refused or not
+
+module _ (config : TenantConfig) (slot : ℕ) where
+  -- memory is refused only to a call that the audit has room for
+  room_for : (id : NodeId) (moment : ℕ) (call : NodeCall) (reply : NodeReply) (old new : Cluster) → IsTenantAt config slot old → CallsCluster old id slot moment call reply new → reply ≡ node_reply.Refused OutOfMemory →
+      has_room_in config id (nodes_of config slot old)
+  room_for id moment call reply old new there called lack = by (nat_lt (length (solo_at config id slot old).trail) config.quota.audit) refl
+    where
+      by : (b : Bool) → nat_lt (length (solo_at config id slot old).trail) config.quota.audit ≡ b → b ≡ true
+      by true is = refl
+      by false is = let clash : node_reply.Refused OutOfMemory ≡ node_reply.Refused AuditFull = sym lack ∙ called.0.full config there.shards there.tenant is in absurd cc
+
+  -- a call, behind others that leave what these calls of the tenant leave
+  own_behind : (Between : List OwnCall → Type 0) (id : NodeId) (moment : ℕ) (call : NodeCall) (reply : NodeReply) (old mid new : Cluster) (between : List OwnCall) → Between between
+      → nodes_of config slot mid ≡ after_calls config between (nodes_of config slot old) → IsTenantAt config slot mid → CallsCluster mid id slot moment call reply new
+      → IsOwnCall config (nodes_of config slot) (IsTenantAt config slot) Between id moment call reply old new
+  own_behind Between id moment call reply old mid new between kind left there called = record {
+    between = between;
+    kind = kind;
+    turn = elim called.0.turn [
+      | inl lack ↦ inl (lack.0, subst (has_room_in config id) left (room_for id moment call reply mid new there called lack.0), ap (nodes_of config slot) lack.1 ∙ left)
+      | inr turn ↦
+          let is = turn config there.shards there.tenant in
+          inr (is.reply_is ∙ ap (λ nodes. (call_alone config id moment call nodes).reply) left, is.after ∙ ap (after_call config id moment call) left)
+    ];
+    there = stays config slot mid new (record { slot = slot; node = id; moment = moment; call = call; reply = reply }) there called;
+  }
+
+  own_alone : (id : NodeId) (moment : ℕ) (call : NodeCall) (reply : NodeReply) (old new : Cluster) → (0 < config.shards → id.shard < config.shards) → IsTenantAt config slot old → CallsCluster old id slot moment call reply new
+      → IsOwnCall config (nodes_of config slot) (IsTenantAt config slot) (λ between. between ≡ []) id moment call reply old new
+  own_alone id moment call reply old new has there called = own_behind (λ between. between ≡ []) id moment call reply old old new [] refl refl there called
+
+  own_others : (id : NodeId) (moment : ℕ) (call : NodeCall) (reply : NodeReply) (old new : Cluster) → (0 < config.shards → id.shard < config.shards) → IsTenantAt config slot old → CallsAmid OfOthers old id slot moment call reply new
+      → IsOwnCall config (nodes_of config slot) (IsTenantAt config slot) (λ between. between ≡ []) id moment call reply old new
+  own_others id moment call reply old new has there called =
+      let before = between_others config slot called.0 old called.1 there called.2 in
+      own_behind (λ between. between ≡ []) id moment call reply old called.1 new [] refl before.1 before.0 called.3
+
+  own_any : (id : NodeId) (moment : ℕ) (call : NodeCall) (reply : NodeReply) (old new : Cluster) → (0 < config.shards → id.shard < config.shards) → IsTenantAt config slot old → CallsAmid OfAny old id slot moment call reply new
+      → IsOwnCall config (nodes_of config slot) (IsTenantAt config slot) (λ between. Unit {0}) id moment call reply old new
+  own_any id moment call reply old new has there called =
+      let before = between_any config slot called.0 old called.1 there called.2 in
+      own_behind (λ between. Unit {0}) id moment call reply old called.1 new before.1.0 tt before.1.1 before.0 called.3
+
 -- ---- laws of connections
 
 module _ {M : Type 0} (Gives : M → ℕ → M → Type 0) (config : TenantConfig) (slot : ℕ) (old : Backend Session Cluster M) (requests replies : List Message) (new : Backend Session Cluster M) where
@@ -118,6 +166,15 @@ module _ {M : Type 0} (Gives : M → ℕ → M → Type 0) (config : TenantConfi
   pub served_alone_amid : IsServedAt (CallsAmid OfAny) Gives config slot old requests replies new → IsConnectionToldAlone Gives config (nodes_of config slot) old requests replies new
   served_alone_amid h =
       (told_alone (CallsAmid OfAny) Gives config slot (nodes_of config slot) (IsTenantAt config slot) (λ between. Unit {0}) tt is_memory_refusal refl (turn_any config slot) requests replies old new h.there h.served h.spared).0
+
+  pub connection_goes : AreServedAt CallsCluster Gives config slot old requests replies new → GoesUninterrupted Gives config (nodes_of config slot) old requests replies new
+  connection_goes h = goes_alone CallsCluster Gives config slot (nodes_of config slot) (IsTenantAt config slot) (λ between. between ≡ []) refl (own_alone config slot) requests replies old new h.there h.served
+
+  pub connection_goes_others : AreServedAt (CallsAmid OfOthers) Gives config slot old requests replies new → GoesUninterrupted Gives config (nodes_of config slot) old requests replies new
+  connection_goes_others h = goes_alone (CallsAmid OfOthers) Gives config slot (nodes_of config slot) (IsTenantAt config slot) (λ between. between ≡ []) refl (own_others config slot) requests replies old new h.there h.served
+
+  pub connection_goes_amid : AreServedAt (CallsAmid OfAny) Gives config slot old requests replies new → GoesAlone Gives config (nodes_of config slot) old requests replies new
+  connection_goes_amid h = (goes_alone (CallsAmid OfAny) Gives config slot (nodes_of config slot) (IsTenantAt config slot) (λ between. Unit {0}) tt (own_any config slot) requests replies old new h.there h.served).0
 
 -- ---- laws of conversations
 
@@ -144,3 +201,29 @@ module _ {M : Type 0} (Gives : M → ℕ → M → Type 0) (config : Config) (se
   conversation_alone_amid h =
       (received_is (CallsAmid OfAny) Gives is_memory_refusal nodes_of config sent received nodes new_nodes moments new_moments h.conversation
       (served_alone_amid Gives _ _ _ _ _ _ (served_at (CallsAmid OfAny) h))).0
+
+  module _ (Calls : Cluster → NodeId → ℕ → ℕ → NodeCall → NodeReply → Cluster → Type 0) (h : HasConversedAt Calls Gives config sent received nodes new_nodes moments new_moments) where
+    -- the connection behind the greeting
+    abbrev served_so : AreServedAt Calls Gives (tenant_config config h.conversed.tenant) h.conversed.slot (backend (new_session h.conversed.dc 1) nodes moments)
+        h.conversed.serves.requests h.conversed.serves.replies (backend h.conversed.after new_nodes new_moments)
+    served_so = record { there = h.there; served = h.conversed.serves.served }
+
+    abbrev any_conversation : IsConversation Calls Gives (λ fault. false) config sent received nodes new_nodes moments new_moments
+    any_conversation = record { new_remaining = h.new_remaining; ended = h.ended; conversed = h.conversed; spared = none_lost h.conversed.serves.replies }
+
+  pub conversation_goes : HasConversedAt CallsCluster Gives config sent received nodes new_nodes moments new_moments → IsReceivedAsUninterrupted Gives nodes_of config sent received nodes new_nodes moments new_moments
+  conversation_goes h =
+      let told = connection_goes Gives _ _ _ _ _ _ (served_so CallsCluster h) in
+      let all = received_so CallsCluster Gives (λ fault. false) nodes_of config sent received nodes new_nodes moments new_moments (any_conversation CallsCluster h) told.0 in
+      (all.0, subst AreUninterrupted (sym all.1) told.1)
+
+  pub conversation_goes_others : HasConversedAt (CallsAmid OfOthers) Gives config sent received nodes new_nodes moments new_moments → IsReceivedAsUninterrupted Gives nodes_of config sent received nodes new_nodes moments new_moments
+  conversation_goes_others h =
+      let told = connection_goes_others Gives _ _ _ _ _ _ (served_so (CallsAmid OfOthers) h) in
+      let all = received_so (CallsAmid OfOthers) Gives (λ fault. false) nodes_of config sent received nodes new_nodes moments new_moments (any_conversation (CallsAmid OfOthers) h) told.0 in
+      (all.0, subst AreUninterrupted (sym all.1) told.1)
+
+  pub conversation_goes_amid : HasConversedAt (CallsAmid OfAny) Gives config sent received nodes new_nodes moments new_moments → IsReceivedAsAlone Gives nodes_of config sent received nodes new_nodes moments new_moments
+  conversation_goes_amid h =
+      (received_so (CallsAmid OfAny) Gives (λ fault. false) nodes_of config sent received nodes new_nodes moments new_moments (any_conversation (CallsAmid OfAny) h)
+      (connection_goes_amid Gives _ _ _ _ _ _ (served_so (CallsAmid OfAny) h))).0

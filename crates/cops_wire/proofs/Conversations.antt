@@ -16,14 +16,15 @@ use Rattle.cops_model.specs.declared.calls.NodeReply.{NodeReply}
 use Rattle.cops_model.specs.SoloNode.{SoloNode}
 use Rattle.cops_model.specs.Session.{new_session}
 use Rattle.cops_wire.specs.declared.messages.Message.{Message}
-use Rattle.cops_wire.specs.declared.messages.Message.TheVariants.{Ready}
+use Rattle.cops_wire.specs.declared.messages.Message.TheVariants.{Ready, Refused}
 use Rattle.cops_wire.specs.declared.serving.Ended.{Ended}
 use Rattle.cops_wire.specs.declared.serving.Ended.TheVariants.{Clean, Torn}
-use Rattle.cops_wire.specs.Alone.{IsConnectionToldAlone, left_alone, replies_alone}
+use Rattle.cops_wire.specs.Alone.{IsConnectionToldAlone, TellNone, left_alone, replies_alone, tells}
 use Rattle.cops_wire.specs.Conversation.{IsConversation, IsReceivedAlone, are_requests, behind_first, conversation_end, ended_at, requests_in, unless_other}
+use Rattle.cops_wire.specs.GoesAlone.{GoesAlone, IsReceivedAsAlone, TurnsAlone}
 use Rattle.cops_wire.specs.Greeting.{greeted}
 use Rattle.cops_wire.specs.Requests.{HasFewRestarts, backend}
-use Rattle.cops_wire.specs.Serving.{AreFront, AreRequests, EndsSo, is_request, last_reply}
+use Rattle.cops_wire.specs.Serving.{AreFront, AreRequests, EndsSo, Serves, is_request, last_reply}
 use Rattle.cops_wire.specs.Spelling.{spelling}
 use Rattle.cops_wire.specs.Streams.{SplitStream, split_after, split_of}
 use Rattle.cops_wire.proofs.StreamLaws.{split_of-append}
@@ -184,3 +185,43 @@ module _ {N M : Type 0} (Calls : N → NodeId → ℕ → ℕ → NodeCall → N
         },
         refl,
       )
+
+  -- the same where replies may say that memory was refused
+  pub received_so : (h : IsConversation Calls Gives lost config sent received nodes new_nodes moments new_moments)
+      (told : GoesAlone Gives (tenant_config config h.conversed.tenant) (nodes_at (tenant_config config h.conversed.tenant) h.conversed.slot) (backend (new_session h.conversed.dc 1) nodes moments)
+      h.conversed.serves.requests h.conversed.serves.replies (backend h.conversed.after new_nodes new_moments))
+      → (as_alone : IsReceivedAsAlone Gives nodes_at config sent received nodes new_nodes moments new_moments) × (as_alone.alone.given ≡ told.given)
+  received_so h told =
+      let c = h.conversed in
+      let own = tenant_config config c.tenant in
+      let all = sent_whole h in (
+        record {
+          slot = c.slot;
+          dc = c.dc;
+          tenant = c.tenant;
+          tenant_is = c.tenant_is;
+          greeted_is = c.greets.answer_is ∙ ap (λ (l : List Message). greeted config.tenants config.data_centres (slice_get l 0)) c.first ∙ ap (greeted config.tenants config.data_centres) (sym all.first);
+          replies = c.serves.replies;
+          after = c.after;
+          alone = record {
+            given = told.given;
+            are = told.are;
+            goes =
+                subst (λ requests. Serves (TurnsAlone own) (backend (new_session c.dc 1) (nodes_at own c.slot nodes) told.given) requests c.serves.replies (backend c.after (nodes_at own c.slot new_nodes) []))
+                all.whole.requests_are told.goes;
+          };
+          received_is =
+              Appends-trans (Some []) c.greeted_contents (Some received) (spelling Ready) (flat_map spelling (c.serves.replies ++ last_reply h.ended)) c.greets.written c.serves.written
+              ∙ ap (λ (e : Ended). spelling Ready ++ flat_map spelling (c.serves.replies ++ last_reply e)) all.whole.end_is;
+        },
+        refl,
+      )
+
+-- no reply is one of no refusals
+pub none_lost : (replies : List Message) → TellNone (λ fault. false) replies
+none_lost [] = tt
+none_lost (reply ∷ replies) = (one reply, none_lost replies)
+  where
+    one : (reply : Message) → tells (λ fault. false) reply ≡ false
+    one (Refused fault) = refl
+    one others = refl

@@ -1,4 +1,4 @@
-use Rattle.cops_wire.proofs.FoundLimits.{found_fit}
+use Rattle.cops_wire.proofs.FoundLimits.{found_fit, typed_fit}
 use Rattle.cops_wire.proofs.LimitedAnswers.{limited}
 use Rattle.cops_wire.proofs.laws.limited_answers_fit.Goals as goal
 
@@ -7,3 +7,6 @@ returns-clause-limited c = limited
 
 pub returns-clause-found : goal.returns-clause-found
 returns-clause-found c = found_fit
+
+pub returns-clause-taken : goal.returns-clause-taken
+returns-clause-taken c = typed_fit
