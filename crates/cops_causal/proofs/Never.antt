@@ -1,9 +1,9 @@
--- After every list of acts, no reply and no audit has said what is never said.
+-- After every list of acts, no reply and no audit has said what is never said; the definition's replies are never out of memory.
 use Rattle.std.proofs.Common.{◌≡◌, ℕ, ◌+◌, ◌<◌, Bool, true, false, not, ◌&&◌, ◌==◌, List, [], ◌∷◌, ◌++◌, length, refl, sym, subst, ◌⊎◌, inl, inr}
 use Rattle.std.specs.Prelude.{Option, Some, None, max, nat_lt, nat_le, is_some}
-use Rattle.std.specs.List.{list_all}
+use Rattle.std.specs.List.{list_all, list_any}
 use Rattle.cops_types.specs.declared.faults.Fault.{Fault}
-use Rattle.cops_types.specs.declared.faults.Fault.TheVariants.{Syntax, NameTaken, Busy, NoContext, TooManyContexts, IdsSpent, DependenciesFull, TooManyKeys, RepeatedKey, BadKey, ValueTooLong, NoSuchPlace, ActorsFull}
+use Rattle.cops_types.specs.declared.faults.Fault.TheVariants.{OutOfMemory, Syntax, Torn, NameTaken, Busy, NoContext, TooManyContexts, IdsSpent, DependenciesFull, TooManyKeys, RepeatedKey, BadKey, ValueTooLong, NoSuchPlace, ActorsFull}
 use Rattle.cops_types.specs.Context.{can_put}
 use Rattle.cops_types.specs.Key.{is_key}
 use Rattle.cops_types.specs.Search.{first_refusal}
@@ -29,9 +29,12 @@ use Rattle.cops_model.specs.declared.replies.Reply.{Reply}
 use Rattle.cops_model.specs.declared.replies.Reply.TheVariants as reply
 use Rattle.cops_model.specs.Causal.{Traced}
 use Rattle.cops_model.specs.Cluster.{ActEffect, OfCarrier, SoloCluster, actor_step, actor_steps, call_node, carrier_stepped, cluster_step, collect_at, find_actor, find_session, has_node, most_steps, new_cluster, on_found, on_session, reply_of_collect, reply_of_progress, unless_refused}
+use Rattle.cops_model.specs.Events.{is_out_of_memory, replies_from, solo_replies}
 use Rattle.cops_model.specs.Laws.{is_expected}
-use Rattle.cops_causal.proofs.Moves.{IsKept, Both, kept_both, actor_step_keeps, history_after}
-use Rattle.cops_causal.proofs.NodeAnswers.{node_fault_expected, reply_asked}
+use Rattle.cops_causal.proofs.AfterActs.{cluster_step_keeps}
+use Rattle.cops_causal.proofs.EndedOperations.{operation_ended}
+use Rattle.cops_causal.proofs.Moves.{IsKept, Both, kept_both, actor_step_keeps, history_after, with_operation}
+use Rattle.cops_causal.proofs.NodeAnswers.{is_usual, node_fault_usual, reply_asked}
 use Rattle.cops_node.proofs.NodeTurns.{IsRefusal}
 use Rattle.cops_causal.proofs.NodeEffects.{node_of}
 use Rattle.cops_causal.proofs.Served.{IsServed, FineTurn, called, collect_ready, session_turn, session_late_turn, fine_carrier, carrier_fine, served_kept, served_at_first}
@@ -42,22 +45,31 @@ use Rattle.cops_causal.proofs.RequestSteps.{never_ended}
 use Rattle.cops_causal.proofs.ActorSteps.{as_session, by_step, by_steps}
 
 abbrev pub IsFine : Reply → Type 0
-IsFine r = is_expected r ≡ true
+IsFine r = is_usual r ≡ true
+
+pub fine_expected : (r : Reply) → IsFine r → is_expected r ≡ true
+fine_expected (reply.OutOfOrder mark) fine = cc
+fine_expected (reply.Refused Torn) fine = cc
+fine_expected r fine = refl
+
+fine_spared : (r : Reply) → IsFine r → is_out_of_memory r ≡ false
+fine_spared (reply.Refused OutOfMemory) fine = cc
+fine_spared r fine = refl
 
 -- ---- refusals
 
--- none of these checks refuses with a fault that is unexpected
+-- none of these checks refuses with an unusual fault
 abbrev are_fine : List (Bool × Fault) → Bool
-are_fine checks = list_all (λ (check : Bool × Fault). is_expected (reply.Refused check.1)) checks
+are_fine checks = list_all (λ (check : Bool × Fault). is_usual (reply.Refused check.1)) checks
 
 first_fine : (checks : List (Bool × Fault)) → are_fine checks ≡ true → (fault : Fault) → first_refusal checks ≡ Some fault → IsFine (reply.Refused fault)
 first_fine [] fine fault e = cc
-first_fine ((true, f) ∷ checks) fine fault e = let same : f ≡ fault = cc in subst (λ g. IsFine (reply.Refused g)) same (left (is_expected (reply.Refused f)) (are_fine checks) fine)
+first_fine ((true, f) ∷ checks) fine fault e = let same : f ≡ fault = cc in subst (λ g. IsFine (reply.Refused g)) same (left (is_usual (reply.Refused f)) (are_fine checks) fine)
   where
     left : (a b : Bool) → (a && b) ≡ true → a ≡ true
     left true b e = refl
     left false b e = cc
-first_fine ((false, f) ∷ checks) fine fault e = first_fine checks (right (is_expected (reply.Refused f)) (are_fine checks) fine) fault e
+first_fine ((false, f) ∷ checks) fine fault e = first_fine checks (right (is_usual (reply.Refused f)) (are_fine checks) fine) fault e
   where
     right : (a b : Bool) → (a && b) ≡ true → b ≡ true
     right true b e = e
@@ -79,7 +91,7 @@ found_fine name c act fine = by_found (find_session name c)
 
 -- a collection is refused by the node, or counts
 collect_fine : (r : NodeReply) → IsRefusal r ⊎ (is_asked node_call.Collect r ≡ true) → IsFine (reply_of_collect r)
-collect_fine r (inl is) = subst (λ r. IsFine (reply_of_collect r)) (sym is.1) (node_fault_expected is.0 is.2)
+collect_fine r (inl is) = subst (λ r. IsFine (reply_of_collect r)) (sym is.1) (node_fault_usual is.0 is.2)
 collect_fine (node_reply.Removed count) (inr is) = refl
 collect_fine r (inr is) = cc
 
@@ -166,3 +178,15 @@ module _ (config : TenantConfig) (some : 0 < config.shards) where
 
   pub whole_at_first : Whole config (new_cluster config) []
   whole_at_first = (sound_at_first config some, served_at_first config)
+
+module _ (config : TenantConfig) (some : 0 < config.shards) where
+  spared_from : (acts : List Act) (c : SoloCluster) (ts : List Traced) → Whole config c ts → list_any is_out_of_memory (replies_from config acts c) ≡ false
+  spared_from [] c ts inv = refl
+  spared_from (act ∷ acts) c ts inv =
+      let turn = cluster_step config act c in
+      rw (fine_spared turn.reply (act_fine config some act c ts inv))
+      (spared_from acts turn.after (with_operation ts (operation_ended c act turn.reply)) (cluster_step_keeps (whole_kept config some) act c ts inv))
+
+  -- the definition's replies are never out of memory
+  pub solo_spared : (acts : List Act) → list_any is_out_of_memory (solo_replies config acts) ≡ false
+  solo_spared acts = spared_from acts (new_cluster config) [] (whole_at_first config some)

@@ -2,7 +2,7 @@
 use Rattle.std.proofs.Common.{◌≡◌, ℕ, ◌+◌, Bool, true, false, cond, List, [], ◌∷◌, ◌++◌, length, ◌⊎◌, inl, inr, refl, sym, ◌∙◌, ap, subst}
 use Rattle.std.specs.Prelude.{Option, Some, None, max, nat_lt, slice_index, slice_set}
 use Rattle.cops_types.specs.declared.faults.Fault.{Fault}
-use Rattle.cops_types.specs.declared.faults.Fault.TheVariants.{AuditFull, Torn}
+use Rattle.cops_types.specs.declared.faults.Fault.TheVariants.{AuditFull, OutOfMemory, Torn}
 use Rattle.cops_types.specs.declared.pairs.Pair.{Pair}
 use Rattle.cops_types.specs.declared.records.EntryParts.{EntryParts as Entry}
 use Rattle.cops_types.specs.declared.records.Record.{Record}
@@ -19,8 +19,9 @@ use Rattle.cops_model.specs.declared.calls.Wanted.TheVariants.{Latest, Exactly}
 use Rattle.cops_model.specs.Log.{is_asked, fault_in}
 use Rattle.cops_model.specs.SoloNode.{SoloNode, queue, front}
 use Rattle.cops_model.specs.Step.{CallEffect, acknowledge, audited, commit_refusal, effect, entry_of_put, node_put_refusal, node_step, put_with_version, reply_exact, reply_latest, reply_pull, store_unless, unchanged, version_of_put, was_committed}
+use Rattle.cops_model.specs.declared.replies.Reply.{Reply}
 use Rattle.cops_model.specs.declared.replies.Reply.TheVariants as reply
-use Rattle.cops_model.specs.Laws.{is_expected_of_node, is_expected}
+use Rattle.cops_model.specs.Laws.{is_expected_of_node}
 use Rattle.cops_node.proofs.NodeTurns.{Change, IsRefused, Answers, Joined, Taken, IsReply, Stores, Takes, IsRefusal, is_node_fault}
 use Rattle.cops_causal.proofs.TracedCalls.{exact-is}
 
@@ -141,10 +142,18 @@ module _ (place : Place) (solo : SoloNode) (reply : NodeReply) where
 
 -- ---- faults
 
--- a node's fault is none that is unexpected
-pub node_fault_expected : (fault : Fault) → is_node_fault fault ≡ true → is_expected (reply.Refused fault) ≡ true
-node_fault_expected Torn is = cc
-node_fault_expected fault is = refl
+-- an expected reply that is not out of memory: no definition gives another
+abbrev pub is_usual : Reply → Bool
+is_usual (reply.OutOfOrder mark) = false
+is_usual (reply.Refused Torn) = false
+is_usual (reply.Refused OutOfMemory) = false
+is_usual r = true
+
+-- a node's fault is a usual one
+pub node_fault_usual : (fault : Fault) → is_node_fault fault ≡ true → is_usual (reply.Refused fault) ≡ true
+node_fault_usual Torn is = cc
+node_fault_usual OutOfMemory is = cc
+node_fault_usual fault is = refl
 
 never_asked : (call : NodeCall) (fault : Fault) → is_asked call (Refused fault) ≡ true → ⊥
 never_asked (Get key Latest) fault e = cc
@@ -155,13 +164,13 @@ pub asked_faultless : (call : NodeCall) (reply : NodeReply) → is_asked call re
 asked_faultless call (Refused fault) e = absurd (never_asked call fault e)
 asked_faultless call reply e = rw e refl
 
--- no fault, or one that is expected
+-- no fault, or a usual one
 abbrev pub IsFineFault : Option Fault → Type 0
 IsFineFault None = Unit {0}
-IsFineFault (Some fault) = is_expected (reply.Refused fault) ≡ true
+IsFineFault (Some fault) = is_usual (reply.Refused fault) ≡ true
 
 pub fault_fine : (call : NodeCall) (reply : NodeReply) → IsRefusal reply ⊎ (is_asked call reply ≡ true) → IsFineFault (fault_in call reply)
-fault_fine call reply (inl is) = subst (λ r. IsFineFault (fault_in call r)) (sym is.1) (node_fault_expected is.0 is.2)
+fault_fine call reply (inl is) = subst (λ r. IsFineFault (fault_in call r)) (sym is.1) (node_fault_usual is.0 is.2)
 fault_fine call reply (inr is) = subst IsFineFault (sym (asked_faultless call reply is)) tt
 
 -- ---- the audit

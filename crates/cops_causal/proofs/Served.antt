@@ -29,7 +29,7 @@ use Rattle.cops_repl.proofs.CarrierCalls.{carrier_replies, carrier-next}
 use Rattle.cops_repl.proofs.CarrierStages.{carrier-stepped}
 use Rattle.cops_types.proofs.Elements.{Every-append}
 use Rattle.cops_causal.proofs.Moves.{Leads, Both}
-use Rattle.cops_causal.proofs.NodeAnswers.{TrailAfter, turn_trail, reply_expected, reply_asked, fault_fine, node_fault_expected}
+use Rattle.cops_causal.proofs.NodeAnswers.{TrailAfter, turn_trail, reply_expected, reply_asked, fault_fine, node_fault_usual}
 use Rattle.cops_node.proofs.NodeTurns.{Change, IsRefused, Answers, Joined, Taken}
 use Rattle.cops_causal.proofs.NodeEffects.{node_of, Called, call_changes}
 use Rattle.cops_causal.proofs.Past.{new_nodes}
@@ -137,7 +137,7 @@ module _ (config : TenantConfig) (some : 0 < config.shards) (c : SoloCluster) (t
         let refused = put-refused config s.dc (obs_of context s) key value moment is.0 in
         let with_it = subst (λ r. answer config (record { dc = s.dc; obs = obs_of context s; action = Write key value }) (record { moment = moment; outcome = Replied r } ∷ []) ≡ Some a) is.1 e in
         let ends : answer_is.Refused is.0 ≡ a = (let both : Some (answer_is.Refused is.0) ≡ Some a = sym refused ∙ with_it in cc) in
-        subst IsFineAnswer ends (node_fault_expected is.0 is.2)
+        subst IsFineAnswer ends (node_fault_usual is.0 is.2)
     put_answers context key value moment solo after reply (Joined f more acked is) a e =
         let stored = put-stored config s.dc (obs_of context s) key value moment is.0 in
         let with_it = subst (λ r. answer config (record { dc = s.dc; obs = obs_of context s; action = Write key value }) (record { moment = moment; outcome = Replied r } ∷ []) ≡ Some a) is.1 e in

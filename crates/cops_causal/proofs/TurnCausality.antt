@@ -8,7 +8,7 @@ use Rattle.cops_model.specs.declared.acts.Act.{Act}
 use Rattle.cops_model.specs.declared.calls.AuditEntry.{AuditEntry}
 use Rattle.cops_model.specs.declared.replies.Reply.{Reply}
 use Rattle.cops_model.specs.Causal.{Traced, answers_consistently}
-use Rattle.cops_model.specs.Cluster.{OfSession, SoloCluster, call_node, find_actor, new_cluster}
+use Rattle.cops_model.specs.Cluster.{OfSession, SoloCluster, call_node, cluster_step, find_actor, new_cluster}
 use Rattle.cops_model.specs.Goes.{Goes, Turns}
 use Rattle.cops_model.specs.Lacks.{request_dropped, without_request}
 use Rattle.cops_model.specs.Laws.{AllAreCausal, IsCausal, is_expected, is_expected_of_node, node_in}
@@ -24,7 +24,7 @@ use Rattle.cops_causal.proofs.Convergence.{IsOrderly, convergent_at, orderly_at}
 use Rattle.cops_causal.proofs.EndingSteps.{bounded_at_first, bounded_kept, ends_at}
 use Rattle.cops_causal.proofs.LeastPasts.{least_pasts_of}
 use Rattle.cops_causal.proofs.Moves.{Both, kept_both, with_operation}
-use Rattle.cops_causal.proofs.Never.{IsFine, Whole, act_fine, whole_at_first, whole_kept}
+use Rattle.cops_causal.proofs.Never.{Whole, act_fine, fine_expected, whole_at_first, whole_kept}
 use Rattle.cops_causal.proofs.NodeEffects.{node_of}
 use Rattle.cops_causal.proofs.Past.{exact_deps_at}
 use Rattle.cops_causal.proofs.RequestSteps.{none_runs}
@@ -36,9 +36,9 @@ use Rattle.cops_causal.proofs.EndedOperations.{operation_ended}
 module _ (config : TenantConfig) (some : 0 < config.shards) where
   -- ---- replies
 
-  turn_fine : (act : Act) (c d : SoloCluster) (reply : Reply) (ts : List Traced) → Whole config c ts → Turns config act c reply d → IsFine reply
-  turn_fine act c d reply ts inv (inl (same, left)) = subst IsFine (sym same) (act_fine config some act c ts inv)
-  turn_fine act c d reply ts inv (inr (same, lacks)) = subst IsFine (sym same) refl
+  turn_fine : (act : Act) (c d : SoloCluster) (reply : Reply) (ts : List Traced) → Whole config c ts → Turns config act c reply d → is_expected reply ≡ true
+  turn_fine act c d reply ts inv (inl (same, left)) = subst (λ r. is_expected r ≡ true) (sym same) (fine_expected (cluster_step config act c).reply (act_fine config some act c ts inv))
+  turn_fine act c d reply ts inv (inr (same, lacks)) = subst (λ r. is_expected r ≡ true) (sym same) refl
 
   told_fine : (acts : List Act) (told : List Reply) (c d : SoloCluster) (ts : List Traced) → Whole config c ts → Goes config acts told c d → list_all is_expected told ≡ true
   told_fine [] [] c d ts inv goes = refl

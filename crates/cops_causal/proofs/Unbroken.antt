@@ -23,10 +23,10 @@ use Rattle.cops_model.specs.declared.deliveries.Progress.TheVariants as carrier_
 use Rattle.cops_model.specs.Carrier.{Stream, call_or_end, carrier_next, end_by, fault_or_end, finished_delivery, first_end, is_foreign, pull, stream_calls, unless_end}
 use Rattle.cops_model.specs.Carrier as carrier
 use Rattle.cops_model.specs.Cluster.{reply_of_answer, reply_of_progress, reply_of_delivery}
-use Rattle.cops_model.specs.Laws.{is_expected_of_node, is_expected}
+use Rattle.cops_model.specs.Laws.{is_expected_of_node}
 use Rattle.cops_repl.proofs.CarrierCalls.{carrier_replies}
 use Rattle.cops_repl.proofs.CarrierStages.{no_end_first}
-use Rattle.cops_causal.proofs.NodeAnswers.{IsFineFault, node_fault_expected, asked_faultless}
+use Rattle.cops_causal.proofs.NodeAnswers.{IsFineFault, asked_faultless, is_usual, node_fault_usual}
 use Rattle.cops_node.proofs.NodeTurns.{IsRefusal}
 use Rattle.cops_session.proofs.RequestReplies.{replies_in, get_request, call_of}
 use Rattle.cops_types.proofs.Zipped.{Zipped}
@@ -52,7 +52,7 @@ first_fault_fine config dc (q ∷ asked) (r ∷ rs) z =
     or_fine (fault_in (Get q.key q.wanted) r) (first_fault (map (call_of config dc) asked) rs) z.0 (first_fault_fine config dc asked rs z.1)
 
 abbrev pub IsFineAnswer : Answer → Type 0
-IsFineAnswer a = is_expected (reply_of_answer a) ≡ true
+IsFineAnswer a = is_usual (reply_of_answer a) ≡ true
 
 module _ (config : TenantConfig) (dc : ℕ) (obs : List Observation) (keys : List (List ℕ)) where
   chosen_fine : (rs : List NodeReply) (spent : Bool) (fault : Option Fault) (found : Option Directed) (a : Answer) → IsFineFault fault →
@@ -76,7 +76,7 @@ module _ (config : TenantConfig) (dc : ℕ) (obs : List Observation) (keys : Lis
       chosen_fine rs (nat_lt config.restarts attempt.restarts) (first_fault (map (call_of config dc) (gets keys rs)) rs) (slice_get (map (call_of config dc) (gets keys rs)) (length rs)) a
       (first_fault_fine config dc (gets keys rs) rs are) e
 
-pub shown_fine : (o : Option Answer) (restarted : Bool) (times : ℕ) → ((a : Answer) → o ≡ Some a → IsFineAnswer a) → is_expected (reply_of_progress (shown o restarted times)) ≡ true
+pub shown_fine : (o : Option Answer) (restarted : Bool) (times : ℕ) → ((a : Answer) → o ≡ Some a → IsFineAnswer a) → is_usual (reply_of_progress (shown o restarted times)) ≡ true
 shown_fine (Some a) restarted times fine = fine a refl
 shown_fine None true times fine = refl
 shown_fine None false times fine = refl
@@ -84,7 +84,7 @@ shown_fine None false times fine = refl
 -- ---- carriers
 
 abbrev pub IsFineDelivery : Delivery → Type 0
-IsFineDelivery d = is_expected (reply_of_delivery d) ≡ true
+IsFineDelivery d = is_usual (reply_of_delivery d) ≡ true
 
 abbrev pub IsFineEnd : Option Delivery → Type 0
 IsFineEnd None = Unit {0}
@@ -112,7 +112,7 @@ module _ (shards : ℕ) (stream : Stream) where
   end_fine call reply expected own = tt
 
   pub step_fine : (call : NodeCall) (reply : NodeReply) → IsRefusal reply ⊎ (is_asked call reply ≡ true) → is_expected_of_node reply ≡ true → IsOwn call reply → IsFineEnd (end_of_reply call reply)
-  step_fine call reply (inl is) expected own = subst (λ r. IsFineEnd (end_of_reply call r)) (sym is.1) (node_fault_expected is.0 is.2)
+  step_fine call reply (inl is) expected own = subst (λ r. IsFineEnd (end_of_reply call r)) (sym is.1) (node_fault_usual is.0 is.2)
   step_fine call reply (inr is) expected own = subst (λ fault. IsFineEnd (fault_or_end shards stream call reply fault)) (sym (asked_faultless call reply is)) (end_fine call reply expected own)
 
   or_end_fine : (a b : Option Delivery) → IsFineEnd a → IsFineEnd b → IsFineEnd (option_or a b)

@@ -21,6 +21,11 @@ pub fn ample_memory_is_a_run()
     ensures causal { (config : TenantConfig) (acts : List Act) → 0 < config.shards → IsCausal config acts (solo_replies config acts) (cluster_of config acts) }
 {}
 
+/// In the definition memory is always ample: no reply of it is out of memory.
+pub fn a_cluster_alone_has_ample_memory()
+    ensures { (config : TenantConfig) (acts : List Act) → 0 < config.shards → IsSpared (solo_replies config acts) }
+{}
+
 /// A run without an out-of-memory reply has the replies of a cluster of one's own, and leaves that
 /// cluster. Any run has those replies up to its first out-of-memory reply.
 pub fn runs_tell_what_a_cluster_alone_tells()
