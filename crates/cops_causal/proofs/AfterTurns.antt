@@ -103,14 +103,14 @@ module _ (config : TenantConfig) (contexts : Contexts) (act : Act) where
     goes = λ c knows goes. step_knows config contexts name moment c knows;
   })
 
-  turn_knows : (c d : SoloCluster) (reply : Reply) → Knows contexts c → Turns config act c reply d → Knows (contexts_after act reply contexts) d
+  pub turn_knows : (c d : SoloCluster) (reply : Reply) → Knows contexts c → Turns config act c reply d → Knows (contexts_after act reply contexts) d
   turn_knows c d reply knows (inl (same, left)) =
       subst (Knows (contexts_after act reply contexts)) (sym left) (subst (λ r. Knows (contexts_after act r contexts) (cluster_step config act c).after) (sym same) (knows_after config contexts act c knows))
   turn_knows c d reply knows (inr (same, lacks)) =
       subst (λ r. Knows (contexts_after act r contexts) d) (sym same) (subst (λ k. Knows k d) (sym (lack_contexts act contexts)) (lack_knows c d knows lacks))
 
   -- the operation that is read off a turn is the one that it ended
-  turn_told : (c d : SoloCluster) (reply : Reply) → Knows contexts c → Turns config act c reply d → operation_told contexts act reply ≡ operation_ended c act reply
+  pub turn_told : (c d : SoloCluster) (reply : Reply) → Knows contexts c → Turns config act c reply d → operation_told contexts act reply ≡ operation_ended c act reply
   turn_told c d reply knows (inl (same, left)) = subst (λ r. operation_told contexts act r ≡ operation_ended c act r) (sym same) (told_is contexts c act (cluster_step config act c).reply knows (act_runs config act c))
   turn_told c d reply knows (inr (same, lacks)) =
       subst (λ r. operation_told contexts act r ≡ operation_ended c act r) (sym same) (told_is contexts c act (Refused OutOfMemory) knows (λ name steps. no_end c name (Refused OutOfMemory) refl))

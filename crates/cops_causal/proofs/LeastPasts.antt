@@ -18,19 +18,19 @@ use Rattle.cops_causal.proofs.Histories.{given, past_after-Among, Among-past_aft
 
 -- ---- the history, place by place
 
-abbrev IsTracedBy : List Traced → Traced → Type 0
+abbrev pub IsTracedBy : List Traced → Traced → Type 0
 IsTracedBy before t = t.past ≡ past_after before t.operation
 
-traced_by : (earlier : List Traced) (ops : List Operation) → EachAfter IsTracedBy [] earlier → EachAfter IsTracedBy [] (traced_from earlier ops)
+pub traced_by : (earlier : List Traced) (ops : List Operation) → EachAfter IsTracedBy [] earlier → EachAfter IsTracedBy [] (traced_from earlier ops)
 traced_by earlier [] each = each
 traced_by earlier (o ∷ ops) each =
     let t : Traced = record { operation = o; past = past_after earlier o } in
     traced_by (earlier ++ t ∷ []) ops (each_after-push IsTracedBy [] earlier t each refl)
 
-abbrev op_of : Traced → Operation
+abbrev pub op_of : Traced → Operation
 op_of t = t.operation
 
-operations-traced : (earlier : List Traced) (ops : List Operation) → map op_of (traced_from earlier ops) ≡ map op_of earlier ++ ops
+pub operations-traced : (earlier : List Traced) (ops : List Operation) → map op_of (traced_from earlier ops) ≡ map op_of earlier ++ ops
 operations-traced earlier [] = sym (append-nil (map op_of earlier))
 operations-traced earlier (o ∷ ops) =
     let t : Traced = record { operation = o; past = past_after earlier o } in
@@ -57,17 +57,17 @@ module _ (ts : List Traced) (past_is : EachAfter IsTracedBy [] ts) (next : EachA
     past-before : t.past ≡ past_after place.before t.operation
     past-before = each_after-at IsTracedBy [] place.before place.after t (subst (EachAfter IsTracedBy []) place.whole past_is)
 
-    next-before : IsNext place.before t
+    pub next-before : IsNext place.before t
     next-before = each_after-at IsNext [] place.before place.after t (subst (EachAfter IsNext []) place.whole next)
 
     -- an earlier operation is before it
-    before-has : (i : ℕ) (u : Traced) → at_place i u → i < j → Among u place.before
+    pub before-has : (i : ℕ) (u : Traced) → at_place i u → i < j → Among u place.before
     before-has i u at_i less =
         slice_get-Among place.before i u
         (get-left place.before (t ∷ place.after) i u (subst (λ us. slice_get us i ≡ Some u) place.whole at_i) (let c = place.counted in omega arith))
 
     -- and what is before it is earlier
-    before-at : (u : Traced) → Among u place.before → (i : ℕ) × at_place i u × (i < j)
+    pub before-at : (u : Traced) → Among u place.before → (i : ℕ) × at_place i u × (i < j)
     before-at u among =
         let found = among-place place.before u among in
         let less = slice_get-within place.before found.0 u found.1 in

@@ -52,3 +52,9 @@ pub mod StreamCalls
 pub mod Runs
 pub mod AfterTurns
 pub mod TurnCausality
+pub mod ReadEntries
+pub mod ToldRequests
+pub mod ToldPuts
+pub mod Transcripts
+pub mod SeenContexts
+pub mod ShownLists

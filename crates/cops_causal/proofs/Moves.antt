@@ -133,7 +133,7 @@ and_both true false e = cc
 and_both false b e = cc
 
 -- an actor may be new
-may_join : (exists taken full : Bool) (f g h : Fault) → first_refusal ((not exists, f) ∷ (taken, g) ∷ (full, h) ∷ []) ≡ None → (exists ≡ true) × (taken ≡ false)
+pub may_join : (exists taken full : Bool) (f g h : Fault) → first_refusal ((not exists, f) ∷ (taken, g) ∷ (full, h) ∷ []) ≡ None → (exists ≡ true) × (taken ≡ false)
 may_join true false full f g h e = (refl, refl)
 may_join true true full f g h e = cc
 may_join false taken full f g h e = cc

@@ -107,11 +107,11 @@ module _ (config : TenantConfig) (contexts : Contexts) (name : List ℕ) where
 abbrev pub KnowsAfter : Contexts → Act → ActEffect → Type 0
 KnowsAfter contexts act turn = Knows (contexts_after act turn.reply contexts) turn.after
 
-by_refusal : (refusal : Option Fault) (c : SoloCluster) (turn : ActEffect) (G : ActEffect → Type 0) → ((fault : Fault) → G (unless_refused (Some fault) c turn)) → G turn → G (unless_refused refusal c turn)
+pub by_refusal : (refusal : Option Fault) (c : SoloCluster) (turn : ActEffect) (G : ActEffect → Type 0) → ((fault : Fault) → G (unless_refused (Some fault) c turn)) → G turn → G (unless_refused refusal c turn)
 by_refusal (Some fault) c turn G refused passed = refused fault
 by_refusal None c turn G refused passed = passed
 
-by_session : (found : Option Session) (c : SoloCluster) (act : Session → ActEffect) (G : ActEffect → Type 0) → G (on_found None c act) → ((s : Session) → found ≡ Some s → G (act s)) → G (on_found found c act)
+pub by_session : (found : Option Session) (c : SoloCluster) (act : Session → ActEffect) (G : ActEffect → Type 0) → G (on_found None c act) → ((s : Session) → found ≡ Some s → G (act s)) → G (on_found found c act)
 by_session (Some s) c act G none some = some s refl
 by_session None c act G none some = none
 

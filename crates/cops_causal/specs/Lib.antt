@@ -1,3 +1,5 @@
+pub mod Transcript
+pub mod ClientLaws
 pub use Rattle.cops_model.specs.Causal
 pub use Rattle.cops_model.specs.Events
 pub use Rattle.cops_model.specs.Laws

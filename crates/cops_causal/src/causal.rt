@@ -9,6 +9,9 @@ ghost use Rattle.cops_model.specs.Cluster.{SoloCluster, new_cluster};
 ghost use Rattle.cops_model.specs.Events.{IsFrontOf, IsSpared, before_lack, cluster_of, solo_replies};
 ghost use Rattle.cops_model.specs.Goes.{Goes};
 ghost use Rattle.cops_model.specs.Laws.{AllAreCausal, IsCausal};
+ghost use Rattle.cops_model.specs.Told.{operations_told};
+ghost use Rattle.cops_causal.specs.ClientLaws.{KeepsClientLaws, ShowsTrueLists};
+ghost use Rattle.cops_causal.specs.Transcript.{operations_in, transcript};
 
 /// Every run of a tenant alone keeps the causal laws, however often memory runs out in it.
 pub fn every_run_is_causal()
@@ -40,4 +43,13 @@ pub fn runs_tell_what_a_cluster_alone_tells()
 pub fn stutters_leave_a_run()
     ensures { (config : TenantConfig) (acts later : List Act) (told more : List Reply) (act : Act) (left : SoloCluster) → length told ≡ length acts → stepped_actor act ≡ None →
         Goes config (acts ++ act ∷ later) (told ++ Refused OutOfMemory ∷ more) (new_cluster config) left → Goes config (acts ++ later) (told ++ more) (new_cluster config) left }
+{}
+
+/// What a tenant was told keeps the laws that it can check itself: each value that it read is the
+/// value of an earlier put, versions are distinct and above their pasts, answers are consistent.
+pub fn every_transcript_is_causal()
+    ensures of_a_run { (config : TenantConfig) (acts : List Act) (told : List Reply) (left : SoloCluster) → 0 < config.shards → Goes config acts told (new_cluster config) left →
+        KeepsClientLaws (transcript acts told) }
+    ensures shown { (config : TenantConfig) (acts : List Act) (told : List Reply) (left : SoloCluster) → 0 < config.shards → Goes config acts told (new_cluster config) left → ShowsTrueLists acts told }
+    ensures operations { (acts : List Act) (told : List Reply) → operations_in (transcript acts told) ≡ operations_told acts told }
 {}

@@ -10,6 +10,8 @@ ghost use Rattle.cops_model.specs.Events.{IsSpared, config_at, new_clusters, own
 ghost use Rattle.cops_model.specs.Goes.{Goes};
 ghost use Rattle.cops_model.specs.ListLimits.{HasFewInAudit};
 ghost use Rattle.cops_model.specs.MainTheorem.{MainTheorem};
+ghost use Rattle.cops_causal.specs.ClientLaws.{KeepsClientLaws, ShowsTrueLists};
+ghost use Rattle.cops_causal.specs.Transcript.{transcript};
 
 /// Theorem: in every interleaving of all tenants' events each tenant gets the replies of a cluster
 /// of its own; so its replies depend on its own events alone.
@@ -39,4 +41,10 @@ pub fn tenants_with_memory_are_alone()
 pub fn audited_lists_are_within_the_limit()
     ensures { (config : TenantConfig) (acts : List Act) (told : List Reply) (left : SoloCluster) → 0 < config.shards →
         Goes config acts told (new_cluster config) left → AllByRecursion (HasFewInAudit config) left.nodes }
+{}
+
+/// From the main theorem: what each tenant was told keeps the laws that it can check itself.
+pub fn tenants_transcripts_are_causal()
+    ensures { (config : Config) (events : List Event) (told : List Reply) (slot : ℕ) → MainTheorem config events told → slot < length config.tenants → 0 < (config_at config slot).shards →
+        KeepsClientLaws (transcript (own slot events) (replies slot events told)) × ShowsTrueLists (own slot events) (replies slot events told) }
 {}
