@@ -58,3 +58,4 @@ pub mod ToldPuts
 pub mod Transcripts
 pub mod SeenContexts
 pub mod ShownLists
+pub mod CallCounts

@@ -1,3 +1,4 @@
+pub mod CallBounds
 pub mod Transcript
 pub mod ClientLaws
 pub use Rattle.cops_model.specs.Causal
