@@ -45,7 +45,7 @@ pub fn stutters_leave_a_run()
         Goes config (acts ++ act ∷ later) (told ++ Refused OutOfMemory ∷ more) (new_cluster config) left → Goes config (acts ++ later) (told ++ more) (new_cluster config) left }
 {}
 
-/// What a tenant was told keeps the laws that it can check itself: each value that it read is the
+/// A tenant's acts and replies keep the laws that it can check itself: each value that it read is the
 /// value of an earlier put, versions are distinct and above their pasts, answers are consistent.
 pub fn every_transcript_is_causal()
     ensures of_a_run { (config : TenantConfig) (acts : List Act) (told : List Reply) (left : SoloCluster) → 0 < config.shards → Goes config acts told (new_cluster config) left →

@@ -43,7 +43,7 @@ pub fn audited_lists_are_within_the_limit()
         Goes config acts told (new_cluster config) left → AllByRecursion (HasFewInAudit config) left.nodes }
 {}
 
-/// From the main theorem: what each tenant was told keeps the laws that it can check itself.
+/// From the main theorem: the acts and replies of each tenant keep the laws that it can check itself.
 pub fn tenants_transcripts_are_causal()
     ensures { (config : Config) (events : List Event) (told : List Reply) (slot : ℕ) → MainTheorem config events told → slot < length config.tenants → 0 < (config_at config slot).shards →
         KeepsClientLaws (transcript (own slot events) (replies slot events told)) × ShowsTrueLists (own slot events) (replies slot events told) }
