@@ -5,3 +5,4 @@ pub mod Prefixes
 pub mod Seated
 pub mod SmallCluster
 pub mod Making
+pub mod Threads

@@ -3,17 +3,26 @@ ghost use Rattle.std.specs.List.{flat_map};
 ghost use Rattle.cops_types.specs.declared.configs.Config.{Config};
 ghost use Rattle.cops_types.specs.declared.configs.Tenant.{Tenant};
 ghost use Rattle.cops_types.specs.TenantConfig.{tenant_config};
+ghost use Rattle.cops_model.specs.Carrier.{Stream};
+ghost use Rattle.cops_model.specs.Cluster.{has_stream};
+ghost use Rattle.cops_model.specs.declared.calls.NodeCall.TheVariants.{Collect};
+ghost use Rattle.cops_model.specs.declared.calls.NodeId.{NodeId};
 ghost use Rattle.cops_model.specs.declared.calls.NodeReply.{NodeReply};
 ghost use Rattle.cops_node.specs.Clusters.{new_shared};
 ghost use Rattle.cops_node.specs.Parts.{Shared};
 ghost use Rattle.cops_wire.specs.Requests.{KeepsShape};
 ghost use Rattle.cops_history.specs.Turns.{IsLegalAtEach, all_new, node_numbered};
 ghost use Rattle.cops_history.specs.History.{Done, Told, AreActs, all_done, seat_in, turns};
+ghost use Rattle.cops_model.specs.declared.deliveries.Delivery.{Delivery};
+ghost use Rattle.cops_service.specs.Carried.{Delivers};
+ghost use Rattle.cops_service.specs.Conversing.{ConverseAll};
+ghost use Rattle.cops_whole.specs.Threads.{AreCallsOfActors};
 ghost use Rattle.cops_whole.specs.Seats.{AddsTurns, AllRecorded, IsServedCluster, MakesAll, SlotActor, own_commands, turns_by_actor};
 ghost use Rattle.cops_whole.specs.SmallCluster.{small_actors, small_config, small_log};
 ghost use Rattle.cops_whole.specs.Whole.{CallEntry, WholeTurn, AreServedForTenant, IsWholeLog, LeadsOn, Represents, entries_at, own_log, own_turns, place_there, seat_turns, tenant_turn, whole_turn};
 
 use cops_node::Nodes;
+use cops_wire::Moments;
 
 /// Theorem: a tenant's own part of one log is legal at each node of a cluster that the tenant has to itself.
 /// Turns of other tenants and no-op turns don't matter.
@@ -70,4 +79,17 @@ pub fn seats_make_their_turns<N: Nodes>()
     ensures { (lost : NodeReply → Bool) (config : Config) (seat : ℕ) (holds : N → Bool) (seen : N → List WholeTurn) (actors : List SlotActor) (nodes new_nodes : N) →
         AddsTurns lost (KeepsShape N.shape N.Answers) config seat (λ n. holds n ≡ true) seen → holds nodes ≡ true → AllRecorded lost actors →
         MakesAll (KeepsShape N.shape N.Answers) nodes actors new_nodes → seen new_nodes ≡ seen nodes ++ flat_map (turns_by_actor config seat) actors }
+{}
+
+/// Theorem: what the contracts of a service's threads ensure makes all their calls those of actors that behave:
+/// the connections of a worker, a delivery of a carrier, a collection, and one after another.
+pub fn threads_make_calls_of_actors<N: Nodes, M: Moments>()
+    ensures workers { (config : Config) (count : ℕ) (nodes new_nodes : N) (moments new_moments : M) →
+        ConverseAll (KeepsShape N.shape N.Answers) M.Gives config count nodes new_nodes moments new_moments → AreCallsOfActors (KeepsShape N.shape N.Answers) config nodes new_nodes }
+    ensures carriers { (config : Config) (tenant : Tenant) (slot : ℕ) (stream : Stream) (ending : Delivery) (nodes new_nodes : N) → slice_get config.tenants slot ≡ Some tenant →
+        has_stream (tenant_config config tenant) stream.origin.dc stream.origin.shard stream.to_dc ≡ true →
+        Delivers N.Answers config.shards slot stream nodes new_nodes ending → AreCallsOfActors N.Answers config nodes new_nodes }
+    ensures collectors { (config : Config) (tenant : Tenant) (slot moment : ℕ) (id : NodeId) (reply : NodeReply) (nodes new_nodes : N) → slice_get config.tenants slot ≡ Some tenant →
+        N.Answers nodes id slot moment Collect reply new_nodes → AreCallsOfActors N.Answers config nodes new_nodes }
+    ensures later { (config : Config) (nodes between new_nodes : N) → AreCallsOfActors N.Answers config nodes between → AreCallsOfActors N.Answers config between new_nodes → AreCallsOfActors N.Answers config nodes new_nodes }
 {}

@@ -6,5 +6,5 @@ mod laws;
 pub use laws::{
     clusters_are_served_causally, nodes_are_left_by_acts, prefixes_are_whole,
     seats_make_their_turns, seats_record_their_turns, small_cluster_is_served,
-    tenants_are_served_causally, whole_logs_are_legal,
+    tenants_are_served_causally, threads_make_calls_of_actors, whole_logs_are_legal,
 };
