@@ -59,3 +59,5 @@ pub mod Transcripts
 pub mod SeenContexts
 pub mod ShownLists
 pub mod CallCounts
+pub mod FreshViews
+pub mod ViewLaws

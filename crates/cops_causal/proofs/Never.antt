@@ -1,5 +1,5 @@
 -- After every list of acts, no reply and no audit has said what is never said; the definition's replies are never out of memory.
-use Rattle.std.proofs.Common.{◌≡◌, ℕ, ◌+◌, ◌<◌, Bool, true, false, not, ◌&&◌, ◌==◌, List, [], ◌∷◌, ◌++◌, length, refl, sym, subst, ◌⊎◌, inl, inr}
+use Rattle.std.proofs.Common.{◌≡◌, ℕ, ◌<◌, Bool, true, false, not, ◌&&◌, ◌==◌, List, [], ◌∷◌, ◌++◌, length, refl, sym, subst, ◌⊎◌, inl, inr}
 use Rattle.std.specs.Prelude.{Option, Some, None, max, nat_lt, nat_le, is_some}
 use Rattle.std.specs.List.{list_all, list_any}
 use Rattle.cops_types.specs.declared.faults.Fault.{Fault}

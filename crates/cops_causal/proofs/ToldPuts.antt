@@ -1,4 +1,4 @@
--- A put that was told is an entry with the value that was asked for, and a get returned the keys that it was asked for.
+-- Each put of a transcript is an entry with the value that was asked for, and a get returned the keys that it was asked for.
 use Rattle.std.proofs.Common.{◌≡◌, ℕ, ◌<◌, Bool, true, false, List, [], ◌∷◌, ◌++◌, map, inl, inr, refl, sym, ◌∙◌, ap, subst, arith}
 use Rattle.std.proofs.lemmas.Bool.Decides.{nat_tests}
 use Rattle.std.specs.Prelude.{Option, Some, None, drop, find, length, max, nat_lt, unwrap_or}
@@ -284,6 +284,6 @@ module _ (config : TenantConfig) (some : 0 < config.shards) where
       (λ e is. ends-grown between.nodes d.nodes (λ n x among. stays n x acts told between d later (now, among) goes) e.asked e.operation.effect (turn_ends config some requests act c between reply (begun, (us, sound)) turns e is))
       (ended_as_asked acts told (requests_after act reply requests) between d later (turn_begun config requests act c between reply begun turns) now goes)
 
-  -- each operation that was told ended as it was asked for
+  -- each operation of the transcript ended as it was asked for
   pub transcript_ends : (acts : List Act) (told : List Reply) (d : SoloCluster) → Goes config acts told (new_cluster config) d → AreEndedAs config d.nodes (transcript acts told)
   transcript_ends acts told d goes = ended_as_asked acts told (λ name. None) (new_cluster config) d [] tt (sound_at_first config some) goes

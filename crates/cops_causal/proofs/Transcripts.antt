@@ -1,4 +1,4 @@
--- What a tenant was told in a run keeps the laws that a client can check.
+-- A tenant's transcript of a run keeps the laws that a client can check.
 use Rattle.std.proofs.Common.{◌≡◌, ℕ, ◌<◌, true, List, [], map, inl, inr, refl, sym, ◌∙◌, ap, subst, arith}
 use Rattle.std.specs.Prelude.{Option, Some, None, slice_get}
 use Rattle.std.specs.List.{AllByRecursion, list_all}
@@ -87,7 +87,7 @@ module _ (config : TenantConfig) (d : SoloCluster) (streamed : IsStreamed config
   told_at : (place : ℕ) (o : Operation) → slice_get (operations_in es) place ≡ Some o → IsToldAt place o
   told_at place o at_o = let found = get-map (λ (e : Ended). e.operation) es place o at_o in record { e = found.0; at_e = found.1; operation_is = found.2 }
 
-  -- a put that was told is an entry
+  -- a put of the transcript is an entry
   record IsPutAs (e : Ended) (p : Pair) : Type 0 where
     pub value : List ℕ
     pub wrote : e.operation.effect ≡ Wrote p

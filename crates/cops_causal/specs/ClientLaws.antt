@@ -1,4 +1,4 @@
--- The causal laws as a client can check them: of the operations that it was told, and of nothing else.
+-- The causal laws as a client can check them: of the operations in its transcript, and of nothing else.
 use Rattle.std.specs.Prelude.{◌≡◌, ℕ, ◌<◌, ◌==◌, ◌&&◌, List, [], ◌∷◌, ◌++◌, map, slice_get, IsTrue, Bool, Option, Some, None, if◌then◌else◌}
 use Rattle.std.specs.List.{AllByRecursion, cons_option, flat_map, list_all}
 use Rattle.cops_types.specs.declared.contexts.ReadParts.{ReadParts as Read}
@@ -91,14 +91,14 @@ ShowsContext history (Show session number) (Lists deps near) =
     (deps ≡ greatest_per_key (past_in_context history session number)) × (near ≡ near_of (seen_in_context history session number))
 ShowsContext history act reply = Unit {0}
 
--- so does each reply, after the operations that were told before it
+-- so does each reply, after the operations before it
 abbrev pub AreShown : List Ended → Requests → List Act → List Reply → Type 0
 AreShown es requests [] told = Unit {0}
 AreShown es requests (act ∷ acts) [] = Unit {0}
 AreShown es requests (act ∷ acts) (reply ∷ told) =
     ShowsContext (history_in es) act reply × AreShown (es ++ cons_option (ended_told requests act reply) []) (requests_after act reply requests) acts told
 
--- whatever was told shows them so
+-- so it is of a whole transcript
 abbrev pub ShowsTrueLists : List Act → List Reply → Type 0
 ShowsTrueLists acts told = AreShown [] (λ name. None) acts told
 

@@ -1,6 +1,7 @@
 pub mod CallBounds
 pub mod Transcript
 pub mod ClientLaws
+pub mod Views
 pub use Rattle.cops_model.specs.Causal
 pub use Rattle.cops_model.specs.Events
 pub use Rattle.cops_model.specs.Laws

@@ -12,6 +12,7 @@ ghost use Rattle.cops_model.specs.Laws.{AllAreCausal, IsCausal};
 ghost use Rattle.cops_model.specs.Told.{operations_told};
 ghost use Rattle.cops_causal.specs.ClientLaws.{KeepsClientLaws, ShowsTrueLists};
 ghost use Rattle.cops_causal.specs.Transcript.{operations_in, transcript};
+ghost use Rattle.cops_causal.specs.Views.{ShowsPasts};
 
 /// Every run of a tenant alone keeps the causal laws, however often memory runs out in it.
 pub fn every_run_is_causal()
@@ -45,11 +46,13 @@ pub fn stutters_leave_a_run()
         Goes config (acts ++ act ∷ later) (told ++ Refused OutOfMemory ∷ more) (new_cluster config) left → Goes config (acts ++ later) (told ++ more) (new_cluster config) left }
 {}
 
-/// A tenant's acts and replies keep the laws that it can check itself: each value that it read is the
-/// value of an earlier put, versions are distinct and above their pasts, answers are consistent.
+/// A tenant's acts and replies keep the laws that it can check itself: each value that it read is
+/// the value of an earlier put, versions are distinct and above their pasts, answers are consistent,
+/// shown lists are exact, and what a data centre has shown can be read there with its past.
 pub fn every_transcript_is_causal()
     ensures of_a_run { (config : TenantConfig) (acts : List Act) (told : List Reply) (left : SoloCluster) → 0 < config.shards → Goes config acts told (new_cluster config) left →
         KeepsClientLaws (transcript acts told) }
     ensures shown { (config : TenantConfig) (acts : List Act) (told : List Reply) (left : SoloCluster) → 0 < config.shards → Goes config acts told (new_cluster config) left → ShowsTrueLists acts told }
+    ensures pasts { (config : TenantConfig) (acts : List Act) (told : List Reply) (left : SoloCluster) → 0 < config.shards → Goes config acts told (new_cluster config) left → ShowsPasts acts told }
     ensures operations { (acts : List Act) (told : List Reply) → operations_in (transcript acts told) ≡ operations_told acts told }
 {}

@@ -12,6 +12,7 @@ ghost use Rattle.cops_model.specs.ListLimits.{HasFewInAudit};
 ghost use Rattle.cops_model.specs.MainTheorem.{MainTheorem};
 ghost use Rattle.cops_causal.specs.ClientLaws.{KeepsClientLaws, ShowsTrueLists};
 ghost use Rattle.cops_causal.specs.Transcript.{transcript};
+ghost use Rattle.cops_causal.specs.Views.{ShowsPasts};
 
 /// Theorem: in every interleaving of all tenants' events each tenant gets the replies of a cluster
 /// of its own; so its replies depend on its own events alone.
@@ -43,8 +44,8 @@ pub fn audited_lists_are_within_the_limit()
         Goes config acts told (new_cluster config) left → AllByRecursion (HasFewInAudit config) left.nodes }
 {}
 
-/// From the main theorem: the acts and replies of each tenant keep the laws that it can check itself.
+/// From the main theorem: each tenant's acts and replies keep the laws that it can check itself.
 pub fn tenants_transcripts_are_causal()
     ensures { (config : Config) (events : List Event) (told : List Reply) (slot : ℕ) → MainTheorem config events told → slot < length config.tenants → 0 < (config_at config slot).shards →
-        KeepsClientLaws (transcript (own slot events) (replies slot events told)) × ShowsTrueLists (own slot events) (replies slot events told) }
+        KeepsClientLaws (transcript (own slot events) (replies slot events told)) × ShowsTrueLists (own slot events) (replies slot events told) × ShowsPasts (own slot events) (replies slot events told) }
 {}
