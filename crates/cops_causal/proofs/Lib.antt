@@ -59,5 +59,7 @@ pub mod Transcripts
 pub mod SeenContexts
 pub mod ShownLists
 pub mod CallCounts
+pub mod LawChecks
+pub mod LawExamples
 pub mod FreshViews
 pub mod ViewLaws
