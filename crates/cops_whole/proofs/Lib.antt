@@ -6,3 +6,4 @@ pub mod Seated
 pub mod SmallCluster
 pub mod Making
 pub mod Threads
+pub mod NoOps

@@ -7,7 +7,7 @@ use Rattle.cops_node.specs.Parts.{Shared}
 use Rattle.cops_history.proofs.Cutting.{all_prefix}
 use Rattle.cops_whole.specs.Whole.{CallEntry, WholeTurn, IsWholeLog, LeadsOn, entries_at}
 
-log_parts : (number : ℕ) (prefix later : List WholeTurn) → entries_at number (prefix ++ later) ≡ entries_at number prefix ++ entries_at number later
+pub log_parts : (number : ℕ) (prefix later : List WholeTurn) → entries_at number (prefix ++ later) ≡ entries_at number prefix ++ entries_at number later
 log_parts number [] later = refl
 log_parts number (w ∷ prefix) later = elim (w.node == number) as (λ b. cond b (w.entry ∷ entries_at number (prefix ++ later)) (entries_at number (prefix ++ later))
     ≡ cond b (w.entry ∷ entries_at number prefix) (entries_at number prefix) ++ entries_at number later) [

@@ -2,3 +2,4 @@ pub mod Whole
 pub mod Seats
 pub mod SmallCluster
 pub mod Threads
+pub mod NoOps

@@ -17,6 +17,7 @@ ghost use Rattle.cops_model.specs.declared.deliveries.Delivery.{Delivery};
 ghost use Rattle.cops_service.specs.Carried.{Delivers};
 ghost use Rattle.cops_service.specs.Conversing.{ConverseAll};
 ghost use Rattle.cops_whole.specs.Threads.{AreCallsOfActors};
+ghost use Rattle.cops_whole.specs.NoOps.{IsLogOfGates};
 ghost use Rattle.cops_whole.specs.Seats.{AddsTurns, AllRecorded, IsServedCluster, MakesAll, SlotActor, own_commands, turns_by_actor};
 ghost use Rattle.cops_whole.specs.SmallCluster.{small_actors, small_config, small_log};
 ghost use Rattle.cops_whole.specs.Whole.{CallEntry, WholeTurn, AreServedForTenant, IsWholeLog, LeadsOn, Represents, entries_at, own_log, own_turns, place_there, seat_turns, tenant_turn, whole_turn};
@@ -92,4 +93,10 @@ pub fn threads_make_calls_of_actors<N: Nodes, M: Moments>()
     ensures collectors { (config : Config) (tenant : Tenant) (slot moment : ℕ) (id : NodeId) (reply : NodeReply) (nodes new_nodes : N) → slice_get config.tenants slot ≡ Some tenant →
         N.Answers nodes id slot moment Collect reply new_nodes → AreCallsOfActors N.Answers config nodes new_nodes }
     ensures later { (config : Config) (nodes between new_nodes : N) → AreCallsOfActors N.Answers config nodes between → AreCallsOfActors N.Answers config between new_nodes → AreCallsOfActors N.Answers config nodes new_nodes }
+{}
+
+/// Theorem: a log is whole if gates keep a no-op turn for each call that was refused memory, and the node might
+/// lack memory there.
+pub fn logs_of_gates_are_whole()
+    ensures { (config : Config) (log : List WholeTurn) → IsLogOfGates config log → IsWholeLog config log }
 {}

@@ -4,7 +4,7 @@
 mod laws;
 
 pub use laws::{
-    clusters_are_served_causally, nodes_are_left_by_acts, prefixes_are_whole,
-    seats_make_their_turns, seats_record_their_turns, small_cluster_is_served,
+    clusters_are_served_causally, logs_of_gates_are_whole, nodes_are_left_by_acts,
+    prefixes_are_whole, seats_make_their_turns, seats_record_their_turns, small_cluster_is_served,
     tenants_are_served_causally, threads_make_calls_of_actors, whole_logs_are_legal,
 };
