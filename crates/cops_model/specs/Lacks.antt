@@ -1,7 +1,6 @@
 -- What an act leaves of its tenant's cluster if memory ran out.
 use Rattle.std.specs.Prelude.{◌≡◌, ◌⊎◌, ℕ, ◌+◌, Bool, true, false, nat_lt, zero, suc, List, length, Option, Some, None, IsTrue, slice_index_or}
 use Rattle.cops_types.specs.declared.contexts.ReadParts.{ReadParts as Read}
-use Rattle.cops_types.specs.Key.{is_key}
 use Rattle.cops_types.specs.TenantConfig.{TenantConfig}
 use Rattle.cops_model.specs.declared.calls.NodeId.{NodeId}
 use Rattle.cops_model.specs.Log.{Call, Directed, LogStep, Replied, replies_of}
@@ -12,7 +11,7 @@ use Rattle.cops_model.specs.Request.{Fetch, Request, attempt_of, next, values_or
 use Rattle.cops_model.specs.Session.{Running, Session, has_restarted, moment_at, progress, request_of}
 use Rattle.cops_model.specs.Carrier.{Carrier, carrier_next}
 use Rattle.cops_model.specs.declared.acts.Act.{Act}
-use Rattle.cops_model.specs.declared.acts.Act.TheVariants.{Open, Create, Delete, Put, Get, Show, Carry, Step, Done, Collect}
+use Rattle.cops_model.specs.declared.acts.Act.TheVariants.{Delete, Step, Done}
 use Rattle.cops_model.specs.declared.replies.Reply.{Reply}
 use Rattle.cops_model.specs.declared.replies.Reply.TheVariants.{Refused}
 use Rattle.cops_model.specs.Cluster.{Actor, OfCarrier, OfSession, SoloCluster, actor_step, call_node, cluster_step, find_actor, goes_on, most_steps, with_actor, without_actor}
@@ -85,16 +84,9 @@ is_refusal reply = false
 abbrev pub Stays : TenantConfig → Act → SoloCluster → SoloCluster → Type 0
 Stays config act before after = (is_refusal (cluster_step config act before).reply ≡ false) × (after ≡ before)
 
--- An act changes nothing, unless it takes steps, of which the last stopped. A deletion needs no memory. A put copies its value, and a get its
--- keys, before their session is asked.
+-- An act changes nothing, unless it takes steps, of which the last stopped. A deletion needs no memory.
 abbrev pub Lacks : TenantConfig → Act → SoloCluster → SoloCluster → Type 0
-Lacks config (Open name dc) before after = Stays config (Open name dc) before after
-Lacks config (Create name) before after = Stays config (Create name) before after
 Lacks config (Delete name number) before after = ⊥
-Lacks config (Put name number key value) before after = (is_key key ≡ true) × (after ≡ before)
-Lacks config (Get name number keys) before after = (nat_lt 0 (length keys) ≡ true) × (after ≡ before)
-Lacks config (Show name number) before after = Stays config (Show name number) before after
-Lacks config (Carry name dc shard to_dc) before after = Stays config (Carry name dc shard to_dc) before after
 Lacks config (Step name moment) before after = StepStops config name moment before after
 Lacks config (Done name moment) before after = StepsStop (most_steps config) config name moment before after
-Lacks config (Collect dc shard moment) before after = Stays config (Collect dc shard moment) before after
+Lacks config act before after = Stays config act before after

@@ -1,6 +1,8 @@
 ghost use Rattle.std.specs.Prelude.{◌≡◌, ◌⊎◌, ◌<◌, ◌+◌, ◌-◌, ◌^◌, ℕ, List, Option, [], false, length, max, Some, None, IfOk, IsTrue, OnOk, OnErr, MatchResult, slice_get};
 ghost use Rattle.std.specs.Option.{option_map};
+ghost use Rattle.cops_types.specs.Refusal.{refused_if};
 ghost use Rattle.cops_types.specs.TenantConfig.{TenantConfig, tenant_config};
+ghost use Rattle.cops_model.specs.Session.{is_spent};
 ghost use Rattle.cops_model.specs.declared.calls.NodeCall.{NodeCall};
 ghost use Rattle.cops_model.specs.declared.calls.NodeId.{NodeId};
 ghost use Rattle.cops_model.specs.declared.calls.NodeReply.{NodeReply};
@@ -17,13 +19,14 @@ use crate::contexts::{prepare_put, see_put, see_reads};
 use crate::kinds::{Contexts, Running};
 use crate::ongoing::{Ongoing, PendingPut, Reading, Round, Work};
 use crate::reading::{Came, ReadStep, read_next, read_step};
-use crate::repeats::has_repeats;
+use crate::repeats::{are_repeated, are_too_many, has_repeats};
 use crate::rounds::{AfterFirst, FirstRound};
 use crate::settings::Setting;
 use crate::writing::write_step;
 use crate::{Answer, Progress};
 use cops_context::Context;
 use cops_handles::{Handle, Table};
+use cops_model::ByteSlices;
 use cops_node::{NodeReply, Nodes};
 use cops_types::{Config, Fault, Key, Reads, Tenant, Value};
 use std::alloc::{AllocError, Global};
@@ -51,10 +54,21 @@ impl Model for Session {
     ghost invariant = { λ s. IsKept s.setting s.contexts s.running };
 }
 
+/// Returns why there is no number for another request, if this is the next.
+fn number_refusal(next: u64) -> Option<Fault>
+    ensures { result ≡ refused_if (is_spent next) Fault.IdsSpent }
+{
+    if next == u64::MAX {
+        Some(Fault::IdsSpent)
+    } else {
+        None
+    }
+}
+
 impl Session {
     ghost use Rattle.cops_session.specs.Kept.{HasRoomInContext, IsOpen, IsPlaced, IsReadyFor, KeptSession, is_running};
     ghost use Rattle.cops_model.specs.Request.{Write, Fetch, next, values_or_full};
-    ghost use Rattle.cops_model.specs.Session.{OpenContext, Running as SoloRunning, Session as SoloSession, context_created, context_deleted, context_extended, context_refusal, create_refusal, get_refusal, moment_at, new_session, obs_of, request_begun, request_of, seen_in, session_put_refusal, is_spent};
+    ghost use Rattle.cops_model.specs.Session.{OpenContext, Running as SoloRunning, Session as SoloSession, context_created, context_deleted, context_extended, context_refusal, create_refusal, get_refusal, moment_at, new_session, obs_of, request_begun, request_of, seen_in, session_put_refusal};
     ghost use Rattle.cops_session.specs.SessionStands.{SessionStandsFor, ContextsStandFor, obs_in};
     ghost use Rattle.cops_session.specs.Reading.{GetReadsFirst, ReadsFirst, ReadsOn};
     ghost use Rattle.cops_session.specs.Asking.{IsWantedIn};
@@ -192,6 +206,42 @@ impl Session {
             return Err(Fault::Busy);
         }
         self.contexts.get(handle)
+    }
+
+    /// Returns why a put of this key is refused, if it is. Allocates nothing.
+    pub fn put_refusal(&self, handle: Handle<Contexts>, key: &Key) -> Option<Fault>
+        ensures { (config : TenantConfig) (session : SoloSession) → SessionStandsFor config self.now session → result ≡ session_put_refusal config handle key.now session }
+    {
+        match self.context(handle) {
+            Ok(seen) => {
+                if seen.can_put(key, self.setting.deps) {
+                    number_refusal(self.next_request)
+                } else {
+                    Some(Fault::DependenciesFull)
+                }
+            }
+            Err(fault) => Some(fault),
+        }
+    }
+
+    /// Returns why a get transaction over keys of these bytes is refused, if it is. Allocates
+    /// nothing.
+    pub fn get_refusal(&self, handle: Handle<Contexts>, keys: &ByteSlices) -> Option<Fault>
+        ensures { (config : TenantConfig) (session : SoloSession) → SessionStandsFor config self.now session → result ≡ get_refusal config handle keys.now session }
+    {
+        if keys.is_empty() {
+            return Some(Fault::Syntax);
+        }
+        if let Err(fault) = self.context(handle) {
+            return Some(fault);
+        }
+        if are_too_many(keys) {
+            return Some(Fault::TooManyKeys);
+        }
+        if are_repeated(keys) {
+            return Some(Fault::RepeatedKey);
+        }
+        number_refusal(self.next_request)
     }
 
     /// Returns the handle of the running request.

@@ -37,7 +37,9 @@ use Rattle.cops_world.specs.declared.actors.Actor.TheVariants as kept
 use Rattle.cops_world.specs.ActorsStand.{ActorSteps, CarrierSteps, SessionSteps, NodesTurn, IsAfter, StepsCluster, reply_of_carrying, Stepped}
 use Rattle.cops_script.specs.Acting.{told_act}
 use Rattle.cops_world.proofs.ClusterSteps.{told_of_carried, told_of_shown}
-use Rattle.cops_world.proofs.SparedCalls.{carrier_spared, lacks, node_spared}
+use Rattle.cops_session.proofs.SparedNodes.{lacks, node_spared}
+use Rattle.cops_session.proofs.StoppedRequests.{ended_is, last_read, late_stops, unmoved, unraised}
+use Rattle.cops_world.proofs.SparedCalls.{carrier_spared}
 
 -- ---- what shows that memory was refused
 
@@ -58,21 +60,6 @@ carrying_of_lack (carrying.Done ending) lack = refl
 
 -- ---- a request that ended without memory
 
-unextended : (number : ℕ) (contexts : List OpenContext) → context_extended number [] contexts ≡ contexts
-unextended number [] = refl
-unextended number (c ∷ contexts) = λ i. one (c.number == number) i ∷ unextended number contexts i
-  where
-    one : (t : Bool) → cond t (record { number = c.number; obs = c.obs ++ [] }) c ≡ c
-    one true = λ i. record { number = c.number; obs = append-nil c.obs i }
-    one false = refl
-
-replied_is : (answered : NodeReply) → Replied answered ≡ Replied (node_reply.Refused OutOfMemory) → answered ≡ node_reply.Refused OutOfMemory
-replied_is answered is = cc
-
-either_same : (t : Bool) (n : ℕ) → cond t n n ≡ n
-either_same true n = refl
-either_same false n = refl
-
 module _ (config : TenantConfig) (name : List ℕ) (before : SoloCluster) (nodes : List SoloNode) (moment : ℕ) where
   abbrev AtNodes : ℕ → NodeId → NodeCall → NodeReply → Type 0
   AtNodes = NodesTurn config before.nodes nodes
@@ -86,9 +73,6 @@ module _ (config : TenantConfig) (name : List ℕ) (before : SoloCluster) (nodes
     abbrev step : NodeReply → LogStep
     step replied = record { moment = at; outcome = Replied replied }
 
-    abbrev Wants : LogStep → Action → Type 0
-    Wants = WantsMemory config (request_of s running) running.log
-
     -- the cluster that is left at these nodes
     abbrev left : SoloCluster
     left = without_request name moment s (record before { nodes = nodes })
@@ -96,9 +80,6 @@ module _ (config : TenantConfig) (name : List ℕ) (before : SoloCluster) (nodes
     abbrev Stopped : Type 0
     Stopped = (after : SoloCluster) × SessionStops config name moment s before after
         × StepsCluster config name before nodes (record { reply = told_act answered; after = after }) (record { answered = answered; is_over = false }) (kept.OfSession kept_after)
-
-    ended_is : (step : LogStep) → moment_after running step ≡ at → session_after s running step (session_progress.Done (answer.Refused OutOfMemory)) ≡ record s { moment = at; running = None }
-    ended_is step is = λ i. record s { moment = is i; contexts = unextended running.context s.contexts i; running = None }
 
     abbrev turn : Directed → record { reply : NodeReply; after : SoloCluster }
     turn d = call_node config d.node at d.call before
@@ -116,31 +97,10 @@ module _ (config : TenantConfig) (name : List ℕ) (before : SoloCluster) (nodes
         actors_are = (
           OfSession (record s { moment = at; running = None }),
           refl,
-          subst (SessionStandsFor config kept_after) (ap (session_after s running (step replied)) ends ∙ ended_is (step replied) same_moment) stepped.stands,
+          subst (SessionStandsFor config kept_after) (ap (session_after s running (step replied)) ends ∙ ended_is config s running at (step replied) same_moment) stepped.stands,
         );
       },
     )
-
-    -- a refused call leaves the moment
-    unmoved : (replied : NodeReply) → replied ≡ node_reply.Refused OutOfMemory → moment_after running (step replied) ≡ at
-    unmoved replied is = ap (λ r. moment_after running (step r)) is ∙ either_same (has_restarted running.action running.log (step (node_reply.Refused OutOfMemory))) at
-
-    -- a last read leaves it too
-    unraised : (keys : List (List ℕ)) (replied : NodeReply) → running.action ≡ Fetch keys → EndsRound config (request_of s running) keys running.log (step replied) → moment_after running (step replied) ≡ at
-    unraised keys replied is ends =
-        ap (λ a. cond (has_restarted a running.log (step replied)) (raised at (Replied replied)) at) is ∙ ap (λ b. cond b (raised at (Replied replied)) at) ends.same_attempt
-
-    -- the node replied, so that it is a last read
-    last_read : (action : Action) (replied : NodeReply) → running.action ≡ action → lacks replied ≡ false → Wants (step replied) action →
-        (keys : List (List ℕ)) × (running.action ≡ Fetch keys) × EndsRound config (request_of s running) keys running.log (step replied)
-    last_read (Write key value) replied is spared wanted = absurd (true≢false (sym (ap lacks (replied_is replied wanted)) ∙ spared))
-    last_read (Fetch keys) replied is spared (inl wanted) = absurd (true≢false (sym (ap lacks (replied_is replied wanted)) ∙ spared))
-    last_read (Fetch keys) replied is spared (inr ends) = (keys, is, ends)
-
-    late_stops : (action : Action) → Wants (record { moment = at; outcome = Late }) action → ⊥
-    late_stops (Write key value) wanted = let never : Late ≡ Replied (node_reply.Refused OutOfMemory) = wanted in cc
-    late_stops (Fetch keys) (inl wanted) = let never : Late ≡ Replied (node_reply.Refused OutOfMemory) = wanted in cc
-    late_stops (Fetch keys) (inr ends) = true≢false ends.same_attempt
 
     request_stops : (shown : Progress) → told_act answered ≡ reply_of_progress shown → (n : Next Answer) → next config (request_of s running) running.log at ≡ n →
         DoesNext (AtNodes at) (nodes ≡ before.nodes) config s running at shown kept_after n → Stopped
@@ -150,13 +110,13 @@ module _ (config : TenantConfig) (name : List ℕ) (before : SoloCluster) (nodes
         ends = shown_of_lack shown (ap is_out_of_memory (sym is) ∙ lack)
 
         by_turn : AtNodes at d.node d.call replied → Stopped
-        by_turn (inl (refused, room, stays)) = stops d shown replied calls ends stepped (unmoved replied refused) (inl (room, ap (λ (ns : List SoloNode). without_request name moment s (record before { nodes = ns })) stays))
+        by_turn (inl (refused, room, stays)) = stops d shown replied calls ends stepped (unmoved config s running at replied refused) (inl (room, ap (λ (ns : List SoloNode). without_request name moment s (record before { nodes = ns })) stays))
         by_turn (inr (turned, changed)) =
             let spared : lacks replied ≡ false = ap lacks turned ∙ node_spared (place_of config d.node) at d.call (slice_index_or before.nodes (node_number config.shards d.node) (new_node config.data_centres)) in
-            let read = last_read running.action replied refl spared (stepped.wants ends) in
-            stops d shown replied calls ends stepped (unraised read.0 replied read.1 read.2)
+            let read = last_read config s running at running.action replied refl spared (stepped.wants ends) in
+            stops d shown replied calls ends stepped (unraised config s running at read.0 replied read.1 read.2)
             (inr (subst (λ r. IsLastRead config s running (step r)) turned read, ap (λ (ns : List SoloNode). without_request name moment s (record before { nodes = ns })) changed))
-    request_stops shown is Restart calls (stays, stepped) = absurd (late_stops running.action (stepped.wants (shown_of_lack shown (ap is_out_of_memory (sym is) ∙ lack))))
+    request_stops shown is Restart calls (stays, stepped) = absurd (late_stops config s running at running.action (stepped.wants (shown_of_lack shown (ap is_out_of_memory (sym is) ∙ lack))))
     request_stops shown is (Ended a) calls none = absurd none
 
   running_stops : (s : Session) (kept_after : KeptSession) (answered : Result Reply AllocError) → is_out_of_memory (told_act answered) ≡ true → (running : Option Running) → s.running ≡ running →

@@ -38,3 +38,8 @@ session_does config s (Show number) = session_turn s (show_act number s)
 abbrev pub actor_does : TenantConfig → Deed → Actor → ActorTurn
 actor_does config deed (OfSession s) = session_does config s deed
 actor_does config deed (OfCarrier c) = actor_turn (Refused UnknownName) (OfCarrier c)
+
+-- why it refuses a request, if it does: only a session takes any
+abbrev pub actor_refusal_by : (Session → Option Fault) → Actor → Option Fault
+actor_refusal_by refusal (OfSession s) = refusal s
+actor_refusal_by refusal (OfCarrier c) = Some UnknownName

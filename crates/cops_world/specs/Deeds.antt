@@ -1,8 +1,11 @@
 -- What a deed does to the cluster of a tenant.
-use Rattle.std.specs.Prelude.{◌≡◌, ℕ, Bool, true, false, List}
+use Rattle.std.specs.Prelude.{◌≡◌, ℕ, Bool, true, false, List, Option, Some, None}
+use Rattle.cops_types.specs.declared.faults.Fault.{Fault}
 use Rattle.cops_types.specs.TenantConfig.{TenantConfig}
 use Rattle.cops_model.specs.Session.{Session}
-use Rattle.cops_model.specs.Cluster.{ActEffect, SoloCluster, create_act, delete_act, get_act, on_session, put_act, session_acts, session_shows, show_act}
+use Rattle.cops_model.specs.declared.acts.Act.{Act}
+use Rattle.cops_model.specs.declared.replies.Reply.TheVariants.{Refused}
+use Rattle.cops_model.specs.Cluster.{ActEffect, SoloCluster, cluster_step, create_act, delete_act, get_act, on_session, put_act, reply_with, session_acts, session_shows, show_act}
 use Rattle.cops_model.specs.Lacks.{is_refusal}
 use Rattle.cops_world.specs.declared.actors.Deed.{Deed}
 use Rattle.cops_world.specs.declared.actors.Deed.TheVariants.{Create, Delete, Put, Get, Show}
@@ -26,3 +29,8 @@ deed_step config name deed cluster = on_session name cluster (session_deed confi
 -- memory was refused to a deed that needs some and that the definition doesn't refuse, and nothing changed
 abbrev pub DeedLacks : List ℕ → Deed → TenantConfig → SoloCluster → SoloCluster → Type 0
 DeedLacks name deed config before after = (needs_memory deed ≡ true) × (is_refusal (deed_step config name deed before).reply ≡ false) × (after ≡ before)
+
+-- the definition refuses the act with this fault, or with none
+abbrev pub IsRefusalOf : TenantConfig → Act → SoloCluster → Option Fault → Type 0
+IsRefusalOf config act cluster (Some fault) = cluster_step config act cluster ≡ reply_with (Refused fault) cluster
+IsRefusalOf config act cluster None = is_refusal (cluster_step config act cluster).reply ≡ false

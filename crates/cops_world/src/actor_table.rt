@@ -1,4 +1,5 @@
 //! The actors of all tenants: a table for each slot, by name.
+ghost use Rattle.std.specs.Option.{option_copied};
 ghost use Rattle.std.specs.Prelude.{◌≡◌, ◌<◌, ◌+◌, ◌⊎◌, ℕ, [], length, replicate, if◌then◌else◌, true, false, IsTrue, IfOk, IfSome, OnErr, OnOk, is_some, position, Ok, Some, None};
 ghost use Rattle.std.specs.List.{list_any};
 ghost use Rattle.std.specs.Map.{keys_of, lookup};
@@ -91,6 +92,13 @@ impl ActorTable {
         self.actors.keys().any(|other| name == other)
     }
 
+    /// Returns the actor of this name.
+    fn actor(&self, name: &Name) -> Option<&Actor>
+        ensures { option_copied result ≡ lookup (key_eq name.now) self.now }
+    {
+        self.actors.get(name)
+    }
+
     /// Returns the place of an actor. Hashes nothing if the cached index is right.
     fn place_of(&self, guess: usize, name: &Name) -> Option<usize>
         ensures index { result ≡ position (key_eq name.now) (keys_of self.now) }
@@ -168,6 +176,14 @@ pub(crate) fn place_of(actors: &Vec<ActorTable>, guess: usize, id: &ActorId) -> 
         Some(table) => table.place_of(guess, &id.name),
         None => None,
     }
+}
+
+/// Returns an actor from the table of its slot.
+pub(crate) fn actor_of<'a>(actors: &'a Vec<ActorTable>, id: &ActorId) -> Option<&'a Actor>
+    ensures { option_copied result ≡ actor_at actors.now.items id.now }
+{
+    let table = actors.get(id.slot as usize)?;
+    table.actor(&id.name)
 }
 
 /// Adds an actor behind the others, and caches its place.

@@ -2,7 +2,7 @@
 ghost use Rattle.std.specs.Prelude.{◌≡◌, ◌<◌, ◌⊎◌, ℕ, true, false, IfOk, IsTrue, Ok, OnErr};
 ghost use Rattle.cops_types.specs.TenantConfig.{TenantConfig};
 ghost use Rattle.cops_node.specs.declared.Shape.{Shape};
-ghost use Rattle.cops_model.specs.Session.{Session as SoloSession};
+ghost use Rattle.cops_model.specs.Session.{Session as SoloSession, get_refusal, session_put_refusal};
 ghost use Rattle.cops_session.specs.SessionStands.{SessionStandsFor};
 ghost use Rattle.cops_model.specs.declared.calls.NodeCall.{NodeCall};
 ghost use Rattle.cops_model.specs.declared.calls.NodeId.{NodeId};
@@ -15,12 +15,12 @@ ghost use Rattle.cops_model.specs.Lacks.{is_refusal};
 ghost use Rattle.cops_script.specs.Acting.{told_act};
 ghost use Rattle.cops_world.specs.ActorsStand.{ActorStandsFor, ActorSteps, CarrierSteps, SessionSteps, RunsAt, HasDone, actor_ended, stepped_to};
 ghost use Rattle.cops_world.specs.Deeds.{needs_memory};
-ghost use Rattle.cops_world.specs.ActorTurns.{actor_does, session_does};
+ghost use Rattle.cops_world.specs.ActorTurns.{actor_does, actor_refusal_by, session_does};
 ghost use Rattle.cops_world.specs.declared.actors.Actor.TheVariants.{OfCarrier as KeptCarrier, OfSession as KeptSession};
 ghost use Rattle.cops_world.specs.declared.actors.Deed.TheVariants as deeds;
 
-use crate::Reply;
 use crate::own_sessions::OwnSession;
+use crate::{ByteSlices, Reply};
 use cops_context::Context;
 use cops_handles::Handle;
 use cops_node::Nodes;
@@ -290,6 +290,27 @@ impl Actor {
         match self {
             Actor::OfSession(own) => act_in(alloc, &mut own.session, deed),
             Actor::OfCarrier(_) => Ok(Reply::Refused(Fault::UnknownName)),
+        }
+    }
+
+    /// Returns why it refuses a put of this key, if it does. Allocates nothing.
+    pub(crate) fn put_refusal(&self, number: u64, key: &Key) -> Option<Fault>
+        ensures { (config : TenantConfig) (solo : Solo) → ActorStandsFor config self.now solo → result ≡ actor_refusal_by (session_put_refusal config number key.now) solo }
+    {
+        match self {
+            Actor::OfSession(own) => own.session.put_refusal(Handle::of_number(number), key),
+            Actor::OfCarrier(_) => Some(Fault::UnknownName),
+        }
+    }
+
+    /// Returns why it refuses a get transaction over keys of these bytes, if it does. Allocates
+    /// nothing.
+    pub(crate) fn get_refusal(&self, number: u64, keys: &ByteSlices) -> Option<Fault>
+        ensures { (config : TenantConfig) (solo : Solo) → ActorStandsFor config self.now solo → result ≡ actor_refusal_by (get_refusal config number keys.now) solo }
+    {
+        match self {
+            Actor::OfSession(own) => own.session.get_refusal(Handle::of_number(number), keys),
+            Actor::OfCarrier(_) => Some(Fault::UnknownName),
         }
     }
 

@@ -1,5 +1,5 @@
 //! All tenants of a cluster in one process.
-ghost use Rattle.std.specs.Prelude.{◌≡◌, ◌≢◌, ◌<◌, ◌⊎◌, ℕ, true, false, is_some, position, Err, IfErr, IfOk, IfSome, IfNone, IsOk, IsTrue, IsFalse, None, Ok, OnErr, OnOk, Some, length, map, nat_le};
+ghost use Rattle.std.specs.Prelude.{◌≡◌, ◌≢◌, ◌<◌, ◌⊎◌, ℕ, true, false, is_some, position, Err, IfErr, IfOk, IfSome, IfNone, IsOk, IsTrue, IsFalse, None, Ok, OnErr, OnOk, Some, length, map, nat_le, nat_lt};
 ghost use Rattle.cops_types.specs.TenantConfig.{TenantConfig, tenant_config};
 ghost use Rattle.cops_node.specs.Clusters.{IsCluster, shape_of};
 ghost use Rattle.cops_node.specs.Parts.{AuditFits, site_in};
@@ -20,13 +20,15 @@ ghost use Rattle.cops_script.specs.Acting.{HasActed, IsNew, IsSparedReply, Tells
 ghost use Rattle.cops_script.specs.GoodHeads.{is_good};
 ghost use Rattle.cops_world.specs.ActorTables.{names_at};
 ghost use Rattle.cops_world.specs.ActorsStand.{ActorStandsFor, RunsAt};
-ghost use Rattle.cops_world.specs.Deeds.{DeedLacks, deed_step};
+ghost use Rattle.cops_world.specs.Deeds.{DeedLacks, IsRefusalOf, deed_step};
 ghost use Rattle.cops_model.specs.Lacks.{Lacks, StepStops, StepsStop};
 ghost use Rattle.cops_world.specs.Trails.{audited_at};
 ghost use Rattle.cops_world.specs.Worlds.{Admits, AnyReply, AreSitesIn, ClusterStandsAt, Closes, HasOpenCluster, IsLeft, KeptWorld, Leaves, Moves, StaysOpen, open_setup, join_step, world_of};
 ghost use Rattle.cops_script.specs.Sizes.{HasSizes};
 
-use crate::actor_table::{ActorTable, empty_tables, has_ended, place_of, put_new, take_out};
+use crate::actor_table::{
+    ActorTable, actor_of, empty_tables, has_ended, place_of, put_new, take_out,
+};
 use crate::actors::{Actor, ActorId, Deed, Keys};
 use crate::guesses::Guesses;
 use crate::own_sessions::OwnSession;
@@ -42,6 +44,9 @@ use std::mem;
 
 /// The most tenants that may be open at once. No slot has this number.
 const MOST_OPEN: u64 = 64;
+
+/// The most bytes of a value.
+const LONGEST_VALUE: usize = 4096;
 
 /// The nodes of a cluster, and the sessions and carriers of all its tenants, which may come and go.
 #[derive(Drop)]
@@ -84,6 +89,19 @@ fn keys_of(alloc: Global, slices: &ByteSlices) -> Result<Result<Keys, Fault>, Al
         keys.push(key)?;
     }
     Ok(Ok(Keys::of(keys)))
+}
+
+/// Returns whether each of the slices is a key.
+fn are_keys(slices: &ByteSlices) -> bool
+    ensures { result ≡ list_all is_key slices.now }
+{
+    let mut left = slices.again();
+    while let Some(slice) = left.next_slice() {
+        if Key::new(slice).is_err() {
+            return false;
+        }
+    }
+    true
 }
 
 /// The answer to an act that is refused with this fault, which may be that memory ran out.
@@ -404,6 +422,35 @@ impl World {
         }
     }
 
+    /// Returns the actor of a name.
+    fn actor(&self, slot: u64, name: &Name) -> Option<&Actor>
+        ensures { option_copied result ≡ (world_of self.now).actors (record { slot = slot; name = name.now }) }
+    {
+        actor_of(&self.actors, &ActorId { slot, name: *name })
+    }
+
+    /// Returns why a put is refused, if it is. Allocates nothing.
+    #[inline(never)]
+    fn put_refusal(
+        &self,
+        slot: u64,
+        name: &Name,
+        number: u64,
+        key: &Key,
+        value: &ByteSlice,
+    ) -> Option<Fault>
+        requires { IsTrue (is_key key.now) }
+        ensures { (cluster : SoloCluster) → ClusterStandsAt (world_of self.now) slot cluster → IsRefusalOf (config_in self.now.setup slot) (acts.Put name.now number key.now value.now) cluster result }
+    {
+        if value.as_slice().len() > LONGEST_VALUE {
+            return Some(Fault::ValueTooLong);
+        }
+        match self.actor(slot, name) {
+            Some(actor) => actor.put_refusal(number, key),
+            None => Some(Fault::UnknownName),
+        }
+    }
+
     /// Begins a put of a session, if the key and the value are valid.
     fn put(
         &mut self,
@@ -422,7 +469,25 @@ impl World {
         };
         match Value::new(self.alloc, value.as_slice()) {
             Ok(value) => self.ask(slot, name, Deed::Put(number, key, value)),
-            Err(fault) => refused_with(fault),
+            Err(fault) => match self.put_refusal(slot, name, number, &key, value) {
+                Some(refusal) => Ok(Reply::Refused(refusal)),
+                None => refused_with(fault),
+            },
+        }
+    }
+
+    /// Returns why a get transaction is refused, if it is. Allocates nothing.
+    #[inline(never)]
+    fn get_refusal(&self, slot: u64, name: &Name, number: u64, keys: &ByteSlices) -> Option<Fault>
+        requires { nat_lt (length keys.now) 1 ≡ false }
+        ensures { (cluster : SoloCluster) → ClusterStandsAt (world_of self.now) slot cluster → IsRefusalOf (config_in self.now.setup slot) (acts.Get name.now number keys.now) cluster result }
+    {
+        if !are_keys(keys) {
+            return Some(Fault::BadKey);
+        }
+        match self.actor(slot, name) {
+            Some(actor) => actor.get_refusal(number, keys),
+            None => Some(Fault::UnknownName),
         }
     }
 
@@ -443,7 +508,10 @@ impl World {
         match keys_of(self.alloc, keys) {
             Ok(Ok(keys)) => self.ask(slot, name, Deed::Get(number, keys)),
             Ok(Err(fault)) => Ok(Reply::Refused(fault)),
-            Err(error) => Err(error),
+            Err(error) => match self.get_refusal(slot, name, number, keys) {
+                Some(fault) => Ok(Reply::Refused(fault)),
+                None => Err(error),
+            },
         }
     }
 
