@@ -9,6 +9,8 @@ use Rattle.cops_types.specs.declared.configs.Config.{Config}
 use Rattle.cops_types.specs.declared.configs.Tenant.{Tenant}
 use Rattle.cops_types.specs.Head.{BadAt, Whole}
 use Rattle.cops_types.specs.TenantConfig.{TenantConfig, tenant_config}
+use Rattle.cops_types.specs.OldHead.{last_old_clock}
+use Rattle.cops_types.specs.PairForms.{is_version}
 use Rattle.cops_types.specs.Version.{Timestamp}
 use Rattle.cops_types.specs.Words.{first_word, number_of, parts_at, space}
 use Rattle.cops_types.proofs.WordLemmas.{both}
@@ -19,12 +21,14 @@ use Rattle.cops_replay.specs.declared.layouts.Layout.{Layout}
 use Rattle.cops_replay.specs.declared.layouts.Layout.TheVariants.{Today, Early}
 use Rattle.cops_replay.specs.declared.refusals.ReplayRefusal.{ReplayRefusal}
 use Rattle.cops_replay.specs.declared.refusals.ReplayRefusal.TheVariants.{BadConfig, ClockTooGreat, UnknownTenant}
-use Rattle.cops_replay.specs.OldRecords.{early_version_of, is_early, is_old_record, last_early_clock, old_record_in}
+use Rattle.cops_replay.specs.OldRecords.{early_version_of, is_early, is_old_record, last_early_clock, old_nodes, old_record_in}
 use Rattle.cops_replay.specs.OwnLines.{alone_lines}
 use Rattle.cops_replay.specs.Replaying.{fresh_nodes, nodes_after}
 use Rattle.cops_replay.specs.ReplayText.{FindsBy, IsEarlyLine, IsRefusedBy, IsReplayBy, has_great_clock, head_by, is_great_in, longest_record, starts_great_in, told_of}
+use Rattle.cops_replay.specs.VersionLayouts.{layout_1, version_under}
+use Rattle.cops_replay.proofs.EarlySteps.{by_its_rules, by_rules_of_today}
 use Rattle.cops_replay.specs.RecordLines.{call_of_verb, read_ack, read_call, read_check, read_commit, read_entry, read_found, read_get, read_line, read_mark, read_pulled, read_put, read_reply, read_stored, read_told, record_by, record_in, reply_of_verb, sign_of, whole}
-use Rattle.cops_replay.specs.RecordWords.{Read, Versions, all_pairs_of, deps_of, key_in, kept_if, name_of, near_of, node_of, next_as, pair_of, pair_of_parts, pairs_of, then_read, value_in, version_in, wanted_of}
+use Rattle.cops_replay.specs.RecordWords.{Read, Versions, all_pairs_of, deps_of, key_in, kept_if, name_of, near_of, node_of, next_as, numbers_of, pair_of, pair_of_parts, pairs_of, then_read, value_in, version_in, wanted_of}
 
 -- the first reads nothing, or what the second does
 abbrev Below : {A : Type 0} → Option A → Option A → Type 0
@@ -189,6 +193,38 @@ early_versions word = by_found (version_in word)
     by_found None = same None
     by_found (Some version) = by_kept version (is_early version)
 
+-- layout 1 has each of these versions
+early_under : (word : List ℕ) → Below (early_version_of word) (version_under layout_1 word)
+early_under word = by_numbers (numbers_of (parts_at 46 word))
+  where
+    in_layout_1 : (version : Timestamp) → is_early version ≡ true → nat_le version.clock last_old_clock && nat_lt version.node old_nodes ≡ true
+    in_layout_1 version e =
+        let b = both (nat_le version.clock last_early_clock) (nat_lt version.node old_nodes) e in
+        let low : version.clock ≤ last_early_clock = grind (arith, nat_tests, b) in
+        let fits : nat_le version.clock last_old_clock ≡ true = grind (arith, nat_tests, low) in
+        rw fits (rw b.1 refl)
+
+    by_early : (version : Timestamp) (t : Bool) → is_early version ≡ t → Below (kept_if t version) (kept_if (nat_le version.clock last_old_clock && nat_lt version.node old_nodes) version)
+    by_early version true e = inr (ap (λ b. kept_if b version) (sym (in_layout_1 version e)))
+    by_early version false e = inl refl
+
+    by_todays : (version : Timestamp) (t : Bool) → Below (option_and_then (λ (v : Timestamp). kept_if (is_early v) v) (kept_if t version)) (kept_if (nat_le version.clock last_old_clock && nat_lt version.node old_nodes) version)
+    by_todays version true = by_early version (is_early version) refl
+    by_todays version false = inl refl
+
+    by_numbers : (found : Option (ℕ × ℕ)) →
+        Below (option_and_then (λ (v : Timestamp). kept_if (is_early v) v) (option_and_then (λ both. let version : Timestamp = record { clock = both.0; node = both.1 } in kept_if (is_version version) version) found))
+        (option_and_then (λ both. let version : Timestamp = record { clock = both.0; node = both.1 } in kept_if (nat_le version.clock last_old_clock && nat_lt version.node old_nodes) version) found)
+    by_numbers None = inl refl
+    by_numbers (Some numbers) = let version : Timestamp = record { clock = numbers.0; node = numbers.1 } in by_todays version (is_version version)
+
+pub record_of_layout_1 : (line : List ℕ) (read : List ℕ × Record) → old_record_in line ≡ Some read → record_by (version_under layout_1) line ≡ Some read
+record_of_layout_1 line read e = by_case (records early_version_of (version_under layout_1) early_under line)
+  where
+    by_case : Below (old_record_in line) (record_by (version_under layout_1) line) → record_by (version_under layout_1) line ≡ Some read
+    by_case (inl n) = absurd (let clash : None ≡ Some read = sym n ∙ e in cc)
+    by_case (inr s) = sym s ∙ e
+
 -- a record of layout 1 that today's layout has too is the same there
 pub early_record : (line : List ℕ) (read : List ℕ × Record) → old_record_in line ≡ Some read → record_in line ≡ Some read
 early_record line read e = by_case (records early_version_of version_in early_versions line)
@@ -213,8 +249,9 @@ told_alike line (told, is) = by_size (nat_le (length line) longest_record) is
 
 -- ---- replays
 
+-- by the same rules
 finds_by : (one other : Layout) (config : TenantConfig) (passed : ℕ) (nodes : List SoloNode) (lines : List (List ℕ)) (found : Replayed) → AllByRecursion (λ line. told_of one line ≡ told_of other line) lines →
-    FindsBy one config passed nodes lines found → FindsBy other config passed nodes lines found
+    FindsBy one Today config passed nodes lines found → FindsBy other Today config passed nodes lines found
 finds_by one other config passed nodes [] found all finds = finds
 finds_by one other config passed nodes (line ∷ lines) found all (inl (told, is, agrees, more)) = inl (told, sym all.0 ∙ is, agrees, finds_by one other config (passed + 1) (nodes_after config told nodes) lines found all.1 more)
 finds_by one other config passed nodes (line ∷ lines) found all (inr (differs, is)) = inr ((λ told some. differs told (all.0 ∙ some)), is)
@@ -276,6 +313,7 @@ module _ (name : List ℕ) (lines moved : List (List ℕ)) (config : Config) (re
   pub replayed_today : (text : List ℕ) → IsReplayBy Early name lines text → IsReplayBy Today name moved text
   replayed_today text p =
       let whole = same_whole p.config config p.records records (sym p.head ∙ old) in
+      let starts = starts_early p.config.tenants p.slot p.tenant (subst (λ (c : Config). IsTrue (list_all (λ (t : Tenant). nat_le t.first_clock last_early_clock) c.tenants)) (sym whole.0) clocks) p.tenant_is in
       record {
         config = p.config;
         records = p.records;
@@ -287,7 +325,8 @@ module _ (name : List ℕ) (lines moved : List (List ℕ)) (config : Config) (re
         fits = none_great_today (alone_lines name p.records);
         found = p.found;
         finds = finds_by Early Today (tenant_config p.config p.tenant) 0 (fresh_nodes (tenant_config p.config p.tenant)) (alone_lines name p.records) p.found
-            (all_alike (alone_lines name p.records) (own_early name p.records (subst (AllByRecursion IsEarlyLine) (sym whole.1) early))) p.finds;
+            (all_alike (alone_lines name p.records) (own_early name p.records (subst (AllByRecursion IsEarlyLine) (sym whole.1) early)))
+            (by_rules_of_today p.config p.tenant (alone_lines name p.records) p.found starts p.finds);
         text_is = p.text_is;
       }
 
@@ -306,7 +345,8 @@ module _ (name : List ℕ) (lines moved : List (List ℕ)) (config : Config) (re
         tenant_is = p.tenant_is;
         fits = ap (λ b. b || list_any (is_great_in Early) (alone_lines name p.records)) starts ∙ none_great_early (alone_lines name p.records) own;
         found = p.found;
-        finds = finds_by Today Early (tenant_config p.config p.tenant) 0 (fresh_nodes (tenant_config p.config p.tenant)) (alone_lines name p.records) p.found (all_back (alone_lines name p.records) own) p.finds;
+        finds = by_its_rules Early p.config p.tenant (alone_lines name p.records) p.found starts
+            (finds_by Today Early (tenant_config p.config p.tenant) 0 (fresh_nodes (tenant_config p.config p.tenant)) (alone_lines name p.records) p.found (all_back (alone_lines name p.records) own) p.finds);
         text_is = p.text_is;
       }
 

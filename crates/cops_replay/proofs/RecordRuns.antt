@@ -77,7 +77,7 @@ same_told n = grind arith
 pub record Tells (layout : Layout) (config : TenantConfig) (old : Standing) (lines : List (List ℕ)) (new : Standing) : Type 0 where
   pub over : (place : ℕ) → old.found ≡ Some place → found_of new ≡ FirstDifference place
   pub goes : (count : ℕ) → old.layout ≡ layout → old.passed ≡ told_number count → old.found ≡ None → IsAlone config old.nodes →
-      (found : Replayed) × FindsBy layout config count (nodes_of config 0 old.nodes) lines found × TellsAs (found_of new) found
+      (found : Replayed) × FindsBy layout Today config count (nodes_of config 0 old.nodes) lines found × TellsAs (found_of new) found
 
 tells_none : (layout : Layout) (config : TenantConfig) (old : Standing) → Tells layout config old [] old
 tells_none layout config old = record {
@@ -99,11 +99,11 @@ tells_line layout config line lines old mid new h p = record {
     same_record at = ap (λ (l : Layout). told_of l (cut_line longest_record line)) at ∙ told_cut layout line
 
     by_case : (count : ℕ) → old.layout ≡ layout → old.passed ≡ told_number count → Passes config (cut_line longest_record line) old mid ⊎ Differs config (cut_line longest_record line) old mid →
-        (found : Replayed) × FindsBy layout config count (nodes_of config 0 old.nodes) (line ∷ lines) found × TellsAs (found_of new) found
+        (found : Replayed) × FindsBy layout Today config count (nodes_of config 0 old.nodes) (line ∷ lines) found × TellsAs (found_of new) found
     by_case count at passed (inl q) =
         let next : mid.passed ≡ told_number (count + 1) = q.passed_is ∙ ap counted passed ∙ capped_more count in
         let rest = p.goes (count + 1) (h.layout ∙ at) next q.found_is q.alone in
-        (rest.0, inl (q.told, sym (same_record at) ∙ q.told_is, q.agrees, subst (λ ns. FindsBy layout config (count + 1) ns lines rest.0) q.after rest.1), rest.2)
+        (rest.0, inl (q.told, sym (same_record at) ∙ q.told_is, q.agrees, subst (λ ns. FindsBy layout Today config (count + 1) ns lines rest.0) q.after rest.1), rest.2)
     by_case count at passed (inr q) =
         let end = p.over (counted old.passed) q.found_is in (
           FirstDifference (count + 1),

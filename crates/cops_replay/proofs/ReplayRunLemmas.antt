@@ -34,11 +34,12 @@ use Rattle.cops_replay.specs.declared.replay_machine.ReplayStage.{ReplayStage}
 use Rattle.cops_replay.specs.declared.replay_machine.ReplayStage.TheVariants.{OldHead, Head, Running}
 use Rattle.cops_replay.specs.AuditText.{layout_line}
 use Rattle.cops_replay.specs.OwnLines.{alone_lines}
-use Rattle.cops_replay.specs.Replaying.{fresh_nodes, nodes_after}
+use Rattle.cops_replay.specs.Replaying.{fresh_nodes}
 use Rattle.cops_replay.specs.Replayings.{Standing, found_of}
 use Rattle.cops_replay.specs.ReplayRules.{HeadRefusesBy, IsBadAfter, IsHeadBy, OldHeadAnswers, OldHeadRefuses, SaysAtEnd, StartsFor, front_by, replay_answers_in, replay_end_answers, replay_end_refuses, replay_end_refuses_in, replay_refuses, replay_refuses_in, replay_rules, tells_today}
 use Rattle.cops_replay.specs.ReplayText.{FindsBy, IsRefusedBy, IsReplayBy, IsReplayOf, RefusesReplayOf, ReplaysFront, head_by, is_great_in, layout_of, longest_record, replayed_text, starts_great_in}
 use Rattle.cops_replay.proofs.AuditHeads.{HeadRun, InHead, IsCounted, PastHead, TellsNot, bad_end, bad_first, counted-small, cut_in_head, heads, read_once, read_whole, reading_by, start, take_all, tells, tells_not}
+use Rattle.cops_replay.proofs.EarlySteps.{by_its_rules}
 use Rattle.cops_replay.proofs.RecordRuns.{TellsAs, any_great, great_cut, running, same_own}
 
 by_test : {C : Type 0} (b : Bool) → (b ≡ true → C) → (b ≡ false → C) → C
@@ -127,7 +128,7 @@ module _ (name : List ℕ) where
     silent : text ≡ []
     small : list_any (is_great_in layout) (alone_lines name rest) ≡ false
     found : Replayed
-    finds : FindsBy layout (tenant_config config tenant) 0 (fresh_nodes (tenant_config config tenant)) (alone_lines name rest) found
+    finds : FindsBy layout layout (tenant_config config tenant) 0 (fresh_nodes (tenant_config config tenant)) (alone_lines name rest) found
     told : TellsAs (found_of new) found
     short : length name ≤ 16
 
@@ -153,38 +154,10 @@ module _ (name : List ℕ) where
         silent = ran.silent;
         small = ran.small;
         found = told.0;
-        finds = subst (λ ns. FindsBy layout mine 0 ns (alone_lines name rest) told.0) fresh.nodes_are told.1;
+        finds = by_its_rules layout config tenant (alone_lines name rest) told.0 starts (subst (λ ns. FindsBy layout Today mine 0 ns (alone_lines name rest) told.0) fresh.nodes_are told.1);
         told = told.2;
         short = short;
       }
-
-  -- ---- one answer
-
-  one_found : (layout : Layout) (config : TenantConfig) (passed : ℕ) (nodes : List SoloNode) (lines : List (List ℕ)) (one other : Replayed) → FindsBy layout config passed nodes lines one → FindsBy layout config passed nodes lines other → one ≡ other
-  one_found layout config passed nodes [] one other p q = p ∙ sym q
-  one_found layout config passed nodes (line ∷ lines) one other (inl (told, is, agrees, p)) (inl (told', is', agrees', q)) =
-      let some : Some told ≡ Some told' = sym is ∙ is' in
-      let same : told ≡ told' = cc in
-      one_found layout config (passed + 1) (nodes_after config told' nodes) lines one other (subst (λ (t : Record). FindsBy layout config (passed + 1) (nodes_after config t nodes) lines one) same p) q
-  one_found layout config passed nodes (line ∷ lines) one other (inl (told, is, agrees, p)) (inr (differs, e)) = absurd (differs told is agrees)
-  one_found layout config passed nodes (line ∷ lines) one other (inr (differs, e)) (inl (told, is, agrees, q)) = absurd (differs told is agrees)
-  one_found layout config passed nodes (line ∷ lines) one other (inr p) (inr q) = p.1 ∙ sym q.1
-
-  same_whole : (one other : Config) (lines rest : List (List ℕ)) → Whole one lines ≡ Whole other rest → (one ≡ other) × (lines ≡ rest)
-  same_whole one other lines rest e = (let same : one ≡ other = cc in same, let same : lines ≡ rest = cc in same)
-
-  one_text : (layout : Layout) (lines : List (List ℕ)) (text other : List ℕ) → IsReplayBy layout name lines text → IsReplayBy layout name lines other → text ≡ other
-  one_text layout lines text other p q =
-      let whole = same_whole p.config q.config p.records q.records (sym p.head ∙ q.head) in
-      let slots : Some p.slot ≡ Some q.slot = sym p.there ∙ ap (λ (c : Config). slot_of_name c.tenants name) whole.0 ∙ q.there in
-      let slot : p.slot ≡ q.slot = cc in
-      let tenants : Some p.tenant ≡ Some q.tenant = sym p.tenant_is ∙ (λ i. slice_get (whole.0 i).tenants (slot i)) ∙ q.tenant_is in
-      let tenant : p.tenant ≡ q.tenant = cc in
-      let mine : tenant_config p.config p.tenant ≡ tenant_config q.config q.tenant = λ i. tenant_config (whole.0 i) (tenant i) in
-      let finds : FindsBy layout (tenant_config q.config q.tenant) 0 (fresh_nodes (tenant_config q.config q.tenant)) (alone_lines name q.records) p.found =
-      subst (λ ls. FindsBy layout (tenant_config q.config q.tenant) 0 (fresh_nodes (tenant_config q.config q.tenant)) (alone_lines name ls) p.found) whole.1
-      (subst (λ (c : TenantConfig). FindsBy layout c 0 (fresh_nodes c) (alone_lines name p.records) p.found) mine p.finds) in
-      p.text_is ∙ ap replayed_text (one_found layout (tenant_config q.config q.tenant) 0 (fresh_nodes (tenant_config q.config q.tenant)) (alone_lines name q.records) p.found q.found finds q.finds) ∙ sym q.text_is
 
   -- ---- of the bytes of a file
 

@@ -54,7 +54,7 @@ says_same lines rest config nodes slot tenant head all e same =
       tenant_is = e;
       fits = none_great_today (alone_lines tenant.name (lines_of text));
       found = Same (length records);
-      finds = subst (λ its. FindsBy Today his 0 (fresh_nodes his) its (Same (length records))) (sym own)
+      finds = subst (λ its. FindsBy Today Today his 0 (fresh_nodes his) its (Same (length records))) (sym own)
           (found_in his tenant.name 0 (fresh_nodes his) records (Same (length records)) (name_at config.tenants slot tenant known.named e) (all slot tenant e) same);
       text_is = refl;
     })

@@ -29,7 +29,8 @@ use Rattle.cops_replay.specs.OldRecords.{is_old_record, last_early_clock, old_re
 use Rattle.cops_replay.specs.OwnLines.{alone_lines}
 use Rattle.cops_replay.specs.RecordLines.{record_by}
 use Rattle.cops_replay.specs.RecordText.{is_record, record_line}
-use Rattle.cops_replay.specs.Replaying.{Agrees, fresh_nodes, nodes_after}
+use Rattle.cops_replay.specs.Replaying.{fresh_nodes}
+use Rattle.cops_replay.specs.VersionLayouts.{AgreesIn, nodes_after_in}
 
 -- no line of a record is longer, in bytes
 abbrev pub longest_record : ℕ
@@ -78,17 +79,17 @@ pub record HasLine (tenant : List ℕ) (told : Record) : Type 0 where
   pub formed : IsTrue (is_record told)
   pub short : IsTrue (nat_le (length (record_line tenant told)) longest_record)
 
--- the result of a replay with these nodes after this many lines: the first place whose line is no record or one that does not agree, or the
--- number of lines
-abbrev pub FindsBy : Layout → TenantConfig → ℕ → List SoloNode → List (List ℕ) → Replayed → Type 0
-FindsBy layout config passed nodes [] found = found ≡ Same passed
-FindsBy layout config passed nodes (line ∷ lines) found =
-    ((told : Record) × (told_of layout line ≡ Some told) × Agrees config told nodes × FindsBy layout config (passed + 1) (nodes_after config told nodes) lines found)
-    ⊎ (((told : Record) → told_of layout line ≡ Some told → Agrees config told nodes → ⊥) × (found ≡ FirstDifference (passed + 1)))
+-- the result of a replay with these nodes after this many lines, which are read in the first layout and computed by the rules of the second: the
+-- first place whose line is no record or one that does not agree, or the number of lines
+abbrev pub FindsBy : Layout → Layout → TenantConfig → ℕ → List SoloNode → List (List ℕ) → Replayed → Type 0
+FindsBy layout rules config passed nodes [] found = found ≡ Same passed
+FindsBy layout rules config passed nodes (line ∷ lines) found =
+    ((told : Record) × (told_of layout line ≡ Some told) × AgreesIn rules config told nodes × FindsBy layout rules config (passed + 1) (nodes_after_in rules config told nodes) lines found)
+    ⊎ (((told : Record) → told_of layout line ≡ Some told → AgreesIn rules config told nodes → ⊥) × (found ≡ FirstDifference (passed + 1)))
 
 -- in today's layout
 abbrev pub FindsIn : TenantConfig → ℕ → List SoloNode → List (List ℕ) → Replayed → Type 0
-FindsIn config passed nodes lines found = FindsBy Today config passed nodes lines found
+FindsIn config passed nodes lines found = FindsBy Today Today config passed nodes lines found
 
 -- a number past the last of 64 bits is written as that one
 abbrev pub told_number : ℕ → ℕ
@@ -113,7 +114,7 @@ head_by Early lines = old_head_of lines
 head_by Old lines = old_head_of lines
 
 -- the lines are an audit in this layout whose head has a tenant of this name, none of whose clocks is too great, and the text is the result of a
--- replay of its lines
+-- replay of its lines by the layout's own rules
 pub record IsReplayBy (layout : Layout) (name : List ℕ) (lines : List (List ℕ)) (text : List ℕ) : Type 0 where
   pub config : Config
   pub records : List (List ℕ)
@@ -124,7 +125,7 @@ pub record IsReplayBy (layout : Layout) (name : List ℕ) (lines : List (List �
   pub tenant_is : slice_get config.tenants slot ≡ Some tenant
   pub fits : IsFalse (is_too_great_in layout tenant (alone_lines name records))
   pub found : Replayed
-  pub finds : FindsBy layout (tenant_config config tenant) 0 (fresh_nodes (tenant_config config tenant)) (alone_lines name records) found
+  pub finds : FindsBy layout layout (tenant_config config tenant) 0 (fresh_nodes (tenant_config config tenant)) (alone_lines name records) found
   pub text_is : text ≡ replayed_text found
 
 -- the lines are an audit in this layout whose head has a tenant of this name, one of whose clocks is too great

@@ -1,0 +1,249 @@
+-- While no clock is too great for layout 2, the rules of layout 1 compute what today's rules do.
+use Rattle.std.proofs.Common.{◌≡◌, ℕ, zero, suc, ◌+◌, ◌*◌, ◌≤◌, Bool, true, false, ◌||◌, cond, List, [], ◌∷◌, ◌++◌, inl, inr, length, map, get_or, set, refl, sym, subst, ap, ◌∙◌, arith}
+use Rattle.std.specs.Prelude.{Option, Some, None, IsFalse, if◌then◌else◌, max, nat_lt, replicate, slice_index, slice_set}
+use Rattle.std.specs.List.{AllByRecursion, fold}
+use Rattle.std.proofs.lemmas.Bool.Decides.{nat_tests}
+use Rattle.cops_types.specs.declared.faults.Fault.{Fault}
+use Rattle.cops_types.specs.declared.faults.Fault.TheVariants.{AuditFull}
+use Rattle.cops_types.specs.declared.configs.Config.{Config}
+use Rattle.cops_types.specs.declared.configs.Tenant.{Tenant}
+use Rattle.cops_types.specs.declared.pairs.Pair.{Pair}
+use Rattle.cops_types.specs.declared.records.EntryParts.{EntryParts as Entry}
+use Rattle.cops_types.specs.OldHead.{last_old_clock}
+use Rattle.cops_types.specs.Pairs.{greatest_clock}
+use Rattle.cops_types.specs.Records.{Tracked, clock, ever, is_outdated, mark}
+use Rattle.cops_types.specs.TenantConfig.{TenantConfig, tenant_config}
+use Rattle.cops_types.specs.Version.{Timestamp, last_clock, next_version, version_eq}
+use Rattle.cops_model.specs.declared.calls.NodeCall.{NodeCall}
+use Rattle.cops_model.specs.declared.calls.NodeCall.TheVariants.{Get, Put, DepCheck, Pull, Commit, Ack, Collect}
+use Rattle.cops_model.specs.declared.calls.NodeReply.{NodeReply}
+use Rattle.cops_model.specs.declared.calls.NodeReply.TheVariants.{Acked, Already, Committed, NotFront, OutOfOrder, Refused, Stored}
+use Rattle.cops_model.specs.Place.{Place, node_number, own_number, place_of}
+use Rattle.cops_model.specs.SoloNode.{SoloNode, front, new_node, queue}
+use Rattle.cops_model.specs.Step.{CallEffect, acknowledge, audited, commit_refusal, effect, entry_of_put, node_put_refusal, node_step, put_with_version, store_unless, unchanged, version_of_put, was_committed}
+use Rattle.cops_replay.specs.declared.Record.{Record}
+use Rattle.cops_replay.specs.declared.Replayed.{Replayed}
+use Rattle.cops_replay.specs.declared.layouts.Layout.{Layout}
+use Rattle.cops_replay.specs.declared.layouts.Layout.TheVariants.{Today, Early, Old}
+use Rattle.cops_replay.specs.OldRecords.{last_early_clock}
+use Rattle.cops_replay.specs.Replaying.{AgreesWith, fresh_nodes, nodes_after, turn_of}
+use Rattle.cops_replay.specs.ReplayText.{FindsBy, starts_great_in}
+use Rattle.cops_replay.specs.VersionLayouts.{effect_under, layout_1, layout_2, next_under, node_step_under, turn_in}
+use Rattle.cops_replay.proofs.EarlyCalls.{EarlyCall, EarlyClock, EarlyPair, EarlyReply, EarlyTold, early_told}
+
+-- ---- the next version
+
+pub next_alike : (clock deps_clock node : ℕ) → EarlyClock clock → EarlyClock deps_clock → next_under layout_1 clock deps_clock node ≡ next_version clock deps_clock node
+next_alike clock deps_clock node a b =
+    let low : max clock deps_clock ≤ last_early_clock = omega (arith, a, b) in
+    let old : nat_lt (max clock deps_clock) last_old_clock ≡ true = grind (arith, nat_tests, low) in
+    let new : nat_lt (max clock deps_clock) last_clock ≡ true = grind (arith, nat_tests, low) in
+    ap (λ t. if t then Some (record { clock = max clock deps_clock + 1; node = node }) else None) (old ∙ sym new)
+
+-- ---- one node
+
+abbrev EarlyTracked : Tracked → Type 0
+EarlyTracked t = EarlyClock t.record_of.entry.version.clock
+
+-- each stored clock has a next one in layout 2
+abbrev EarlyNode : SoloNode → Type 0
+EarlyNode solo = AllByRecursion EarlyTracked solo.recs
+
+clock_early : (first : ℕ) (recs : List Tracked) → EarlyClock first → AllByRecursion EarlyTracked recs → EarlyClock (clock first recs)
+clock_early first [] low all = low
+clock_early first (t ∷ recs) low all =
+    let here : t.record_of.entry.version.clock ≤ last_early_clock = all.0 in
+    clock_early (max first t.record_of.entry.version.clock) recs (omega (arith, low, here)) all.1
+
+abbrev greatest_from : ℕ → List Pair → ℕ
+greatest_from least pairs = fold max least (map (λ (p : Pair). p.version.clock) pairs)
+
+deps_from : (least : ℕ) (pairs : List Pair) → EarlyClock least → AllByRecursion EarlyPair pairs → EarlyClock (greatest_from least pairs)
+deps_from least [] low all = low
+deps_from least (pair ∷ pairs) low all =
+    let here : pair.version.clock ≤ last_early_clock = all.0 in
+    deps_from (max least pair.version.clock) pairs (omega (arith, low, here)) all.1
+
+deps_early : (pairs : List Pair) → AllByRecursion EarlyPair pairs → EarlyClock (greatest_clock pairs)
+deps_early pairs all = deps_from 0 pairs (omega arith) all
+
+effect_alike : (place : Place) (call : NodeCall) (solo : SoloNode) → EarlyCall call → EarlyClock place.first_clock → EarlyNode solo → effect_under layout_1 place call solo ≡ effect place call solo
+effect_alike place (Get key wanted) solo c first all = refl
+effect_alike place (Put key value deps near) solo c first all =
+    ap (put_with_version place solo key value deps near)
+    (next_alike (clock place.first_clock solo.recs) (greatest_clock deps) (own_number place) (clock_early place.first_clock solo.recs first all) (deps_early deps c))
+effect_alike place (DepCheck key version) solo c first all = refl
+effect_alike place (Pull dc) solo c first all = refl
+effect_alike place (Commit entry) solo c first all = refl
+effect_alike place (Ack dc version) solo c first all = refl
+effect_alike place Collect solo c first all = refl
+
+abbrev raised : ℕ → SoloNode → SoloNode
+raised moment solo = record solo { moment = max solo.moment moment }
+
+step_alike : (place : Place) (moment : ℕ) (call : NodeCall) (solo : SoloNode) → EarlyCall call → EarlyClock place.first_clock → EarlyNode solo → node_step_under layout_1 place moment call solo ≡ node_step place moment call solo
+step_alike place moment call solo c first all =
+    ap (λ done. if nat_lt (length solo.trail) place.quota.audit then audited moment call done else unchanged (Refused AuditFull) solo) (effect_alike place call (raised moment solo) c first all)
+
+-- ---- layout 2 is today's
+
+next_today : (clock deps_clock node : ℕ) → next_under layout_2 clock deps_clock node ≡ next_version clock deps_clock node
+next_today clock deps_clock node = refl
+
+effect_today : (place : Place) (call : NodeCall) (solo : SoloNode) → effect_under layout_2 place call solo ≡ effect place call solo
+effect_today place (Get key wanted) solo = refl
+effect_today place (Put key value deps near) solo = refl
+effect_today place (DepCheck key version) solo = refl
+effect_today place (Pull dc) solo = refl
+effect_today place (Commit entry) solo = refl
+effect_today place (Ack dc version) solo = refl
+effect_today place Collect solo = refl
+
+pub step_today : (place : Place) (moment : ℕ) (call : NodeCall) (solo : SoloNode) → node_step_under layout_2 place moment call solo ≡ node_step place moment call solo
+step_today place moment call solo =
+    ap (λ done. if nat_lt (length solo.trail) place.quota.audit then audited moment call done else unchanged (Refused AuditFull) solo) (effect_today place call (raised moment solo))
+
+-- ---- clocks that a node stores
+
+one_more : {A : Type 0} (P : A → Type 0) (xs : List A) (x : A) → AllByRecursion P xs → P x → AllByRecursion P (xs ++ x ∷ [])
+one_more P [] x all p = (p, tt)
+one_more P (y ∷ xs) x all p = (all.0, one_more P xs x all.1 p)
+
+stores_early : (fault : Option Fault) (reply : NodeReply) (entry : Entry) (solo : SoloNode) → EarlyNode solo → (EarlyReply reply → EarlyClock entry.version.clock) → EarlyReply (store_unless fault reply entry solo).reply →
+    EarlyNode (store_unless fault reply entry solo).after
+stores_early (Some fault) reply entry solo all h r = all
+stores_early None reply entry solo all h r = one_more EarlyTracked solo.recs _ all (h r)
+
+put_early : (place : Place) (solo : SoloNode) (key value : List ℕ) (deps near : List Pair) (version : Option Timestamp) → EarlyNode solo → EarlyReply (put_with_version place solo key value deps near version).reply →
+    EarlyNode (put_with_version place solo key value deps near version).after
+put_early place solo key value deps near None all r = all
+put_early place solo key value deps near (Some version) all r =
+    stores_early (node_put_refusal place solo key value) (Stored version) (entry_of_put place solo version key value deps near) solo all (λ early. early) r
+
+commit_early : (place : Place) (solo : SoloNode) (entry : Entry) (was in_order : Bool) → EarlyNode solo → EarlyClock entry.version.clock →
+    EarlyReply (cond was (unchanged Already solo) (cond in_order (store_unless (commit_refusal place solo entry) Committed entry solo) (unchanged (OutOfOrder (mark entry.version.node solo.recs)) solo))).reply →
+    EarlyNode (cond was (unchanged Already solo) (cond in_order (store_unless (commit_refusal place solo entry) Committed entry solo) (unchanged (OutOfOrder (mark entry.version.node solo.recs)) solo))).after
+commit_early place solo entry true in_order all early r = all
+commit_early place solo entry false true all early r = stores_early (commit_refusal place solo entry) Committed entry solo all (λ any. early) r
+commit_early place solo entry false false all early r = all
+
+ack_early : (dc : ℕ) (version : Timestamp) (solo : SoloNode) (found : Option Entry) → EarlyNode solo → EarlyNode (acknowledge dc version solo found).after
+ack_early dc version solo None all = all
+ack_early dc version solo (Some entry) all = by_version (version_eq entry.version version)
+  where
+    by_version : (t : Bool) → EarlyNode (cond t (record { reply = Acked; after = record solo { acked = slice_set solo.acked dc (slice_index solo.acked dc + 1) } }) (unchanged NotFront solo)).after
+    by_version true = all
+    by_version false = all
+
+collect_early : (trans_time now : ℕ) (among recs : List Tracked) → AllByRecursion EarlyTracked recs →
+    AllByRecursion EarlyTracked (map (λ (t : Tracked). record t { removed = t.removed || is_outdated trans_time now (ever among) t.record_of }) recs)
+collect_early trans_time now among [] all = tt
+collect_early trans_time now among (t ∷ recs) all = (all.0, collect_early trans_time now among recs all.1)
+
+effect_early : (place : Place) (call : NodeCall) (solo : SoloNode) → EarlyCall call → EarlyNode solo → EarlyReply (effect place call solo).reply → EarlyNode (effect place call solo).after
+effect_early place (Get key wanted) solo c all r = all
+effect_early place (Put key value deps near) solo c all r = put_early place solo key value deps near (version_of_put place solo deps) all r
+effect_early place (DepCheck key version) solo c all r = all
+effect_early place (Pull dc) solo c all r = all
+effect_early place (Commit entry) solo c all r = commit_early place solo entry (was_committed entry.version solo) (version_eq entry.prev (mark entry.version.node solo.recs)) all c r
+effect_early place (Ack dc version) solo c all r = ack_early dc version solo (front (queue place dc solo)) all
+effect_early place Collect solo c all r = collect_early place.trans_time solo.moment solo.recs solo.recs all
+
+step_early : (place : Place) (moment : ℕ) (call : NodeCall) (solo : SoloNode) → EarlyCall call → EarlyNode solo → EarlyReply (node_step place moment call solo).reply → EarlyNode (node_step place moment call solo).after
+step_early place moment call solo c all = by_room (nat_lt (length solo.trail) place.quota.audit)
+  where
+    by_room : (t : Bool) → EarlyReply (cond t (audited moment call (effect place call (raised moment solo))) (unchanged (Refused AuditFull) solo)).reply →
+        EarlyNode (cond t (audited moment call (effect place call (raised moment solo))) (unchanged (Refused AuditFull) solo)).after
+    by_room true r = effect_early place call (raised moment solo) c all r
+    by_room false r = all
+
+-- ---- all nodes
+
+abbrev EarlyNodes : List SoloNode → Type 0
+EarlyNodes nodes = AllByRecursion EarlyNode nodes
+
+node_at : (nodes : List SoloNode) (n : ℕ) (d : SoloNode) → EarlyNodes nodes → EarlyNode d → EarlyNode (get_or nodes n d)
+node_at [] n d all early = early
+node_at (node ∷ nodes) zero d all early = all.0
+node_at (node ∷ nodes) (suc n) d all early = node_at nodes n d all.1 early
+
+node_set : (nodes : List SoloNode) (n : ℕ) (node : SoloNode) → EarlyNodes nodes → EarlyNode node → EarlyNodes (set nodes n node)
+node_set [] n node all early = tt
+node_set (other ∷ nodes) zero node all early = (early, all.1)
+node_set (other ∷ nodes) (suc n) node all early = (all.0, node_set nodes n node all.1 early)
+
+nodes_new : (n data_centres : ℕ) → EarlyNodes (replicate n (new_node data_centres))
+nodes_new zero data_centres = tt
+nodes_new (suc n) data_centres = (tt, nodes_new n data_centres)
+
+-- ---- a replay
+
+module _ (config : TenantConfig) (first : EarlyClock config.first_clock) where
+  turn_alike : (told : Record) (nodes : List SoloNode) → EarlyTold told → EarlyNodes nodes → turn_in Early config told nodes ≡ turn_of config told nodes
+  turn_alike told nodes early all =
+      step_alike (place_of config told.node) told.moment told.call (get_or nodes (node_number config.shards told.node) (new_node config.data_centres)) early.0 first
+      (node_at nodes (node_number config.shards told.node) (new_node config.data_centres) all tt)
+
+  after_early : (told : Record) (nodes : List SoloNode) → EarlyTold told → EarlyNodes nodes → told.reply ≡ (turn_of config told nodes).reply → EarlyNodes (nodes_after config told nodes)
+  after_early told nodes early all same =
+      node_set nodes (node_number config.shards told.node) _ all
+      (step_early (place_of config told.node) told.moment told.call (get_or nodes (node_number config.shards told.node) (new_node config.data_centres)) early.0
+      (node_at nodes (node_number config.shards told.node) (new_node config.data_centres) all tt) (subst EarlyReply same early.1))
+
+  -- the rest of the lines after this turn
+  abbrev Rest : Layout → Record → ℕ → List SoloNode → List (List ℕ) → Replayed → CallEffect → Type 0
+  Rest rules told passed nodes lines found turn = FindsBy Early rules config passed (set nodes (node_number config.shards told.node) turn.after) lines found
+
+  by_old_rules : (passed : ℕ) (nodes : List SoloNode) (lines : List (List ℕ)) (found : Replayed) → EarlyNodes nodes → FindsBy Early Today config passed nodes lines found → FindsBy Early Early config passed nodes lines found
+  by_old_rules passed nodes [] found all finds = finds
+  by_old_rules passed nodes (line ∷ lines) found all (inl (told, is, agrees, more)) =
+      let early = early_told line told is in
+      let same = sym (turn_alike told nodes early all) in
+      inl (
+        told,
+        is,
+        subst (AgreesWith config told) same agrees,
+        subst (Rest Early told (passed + 1) nodes lines found) same (by_old_rules (passed + 1) (nodes_after config told nodes) lines found (after_early told nodes early all agrees.same_reply) more),
+      )
+  by_old_rules passed nodes (line ∷ lines) found all (inr (differs, is)) =
+      inr ((λ told some agrees. differs told some (subst (AgreesWith config told) (turn_alike told nodes (early_told line told some) all) agrees)), is)
+
+  by_todays_rules : (passed : ℕ) (nodes : List SoloNode) (lines : List (List ℕ)) (found : Replayed) → EarlyNodes nodes → FindsBy Early Early config passed nodes lines found → FindsBy Early Today config passed nodes lines found
+  by_todays_rules passed nodes [] found all finds = finds
+  by_todays_rules passed nodes (line ∷ lines) found all (inl (told, is, agrees, more)) =
+      let early = early_told line told is in
+      let same = turn_alike told nodes early all in
+      let agreeing : AgreesWith config told (turn_of config told nodes) = subst (AgreesWith config told) same agrees in
+      inl (
+        told,
+        is,
+        agreeing,
+        by_todays_rules (passed + 1) (nodes_after config told nodes) lines found (after_early told nodes early all agreeing.same_reply) (subst (Rest Early told (passed + 1) nodes lines found) same more),
+      )
+  by_todays_rules passed nodes (line ∷ lines) found all (inr (differs, is)) =
+      inr ((λ told some agrees. differs told some (subst (AgreesWith config told) (sym (turn_alike told nodes (early_told line told some) all)) agrees)), is)
+
+-- ---- a tenant's lines, from new nodes
+
+-- no file is replayed in the layout in which only clocks that are too great are looked for
+same_rules : (config : TenantConfig) (passed : ℕ) (nodes : List SoloNode) (lines : List (List ℕ)) (found : Replayed) → FindsBy Old Today config passed nodes lines found → FindsBy Old Old config passed nodes lines found
+same_rules config passed nodes [] found finds = finds
+same_rules config passed nodes (line ∷ lines) found (inl (told, is, agrees, more)) = inl (told, is, agrees, same_rules config (passed + 1) (nodes_after config told nodes) lines found more)
+same_rules config passed nodes (line ∷ lines) found (inr differs) = inr differs
+
+first_early : (tenant : Tenant) → IsFalse (starts_great_in Early tenant) → EarlyClock tenant.first_clock
+first_early tenant h = let low : tenant.first_clock ≤ last_early_clock = grind (arith, nat_tests, h) in low
+
+-- what today's rules find, the rules of the file's layout find
+pub by_its_rules : (layout : Layout) (config : Config) (tenant : Tenant) (lines : List (List ℕ)) (found : Replayed) → IsFalse (starts_great_in layout tenant) →
+    FindsBy layout Today (tenant_config config tenant) 0 (fresh_nodes (tenant_config config tenant)) lines found → FindsBy layout layout (tenant_config config tenant) 0 (fresh_nodes (tenant_config config tenant)) lines found
+by_its_rules Today config tenant lines found starts finds = finds
+by_its_rules Early config tenant lines found starts finds =
+    by_old_rules (tenant_config config tenant) (first_early tenant starts) 0 (fresh_nodes (tenant_config config tenant)) lines found (nodes_new (config.data_centres * config.shards) config.data_centres) finds
+by_its_rules Old config tenant lines found starts finds = same_rules (tenant_config config tenant) 0 (fresh_nodes (tenant_config config tenant)) lines found finds
+
+-- and what the rules of layout 1 find, today's rules find
+pub by_rules_of_today : (config : Config) (tenant : Tenant) (lines : List (List ℕ)) (found : Replayed) → IsFalse (starts_great_in Early tenant) →
+    FindsBy Early Early (tenant_config config tenant) 0 (fresh_nodes (tenant_config config tenant)) lines found → FindsBy Early Today (tenant_config config tenant) 0 (fresh_nodes (tenant_config config tenant)) lines found
+by_rules_of_today config tenant lines found starts finds =
+    by_todays_rules (tenant_config config tenant) (first_early tenant starts) 0 (fresh_nodes (tenant_config config tenant)) lines found (nodes_new (config.data_centres * config.shards) config.data_centres) finds
