@@ -68,13 +68,9 @@ front_today (Within config) line next e fine = by_begin (bytes_eq line begin_lin
     by_tenant None was e = absurd (let clash : ⊥ = cc in clash)
     by_tenant (Some tenant) was e = by_place (may_join config tenant) tenant refl was e
 
-    by_count : (t : Bool) → cond t (Some (Begun config)) None ≡ Some next → Some (Begun config) ≡ Some next
-    by_count true e = e
-    by_count false e = absurd (let clash : ⊥ = cc in clash)
-
-    by_begin : (t : Bool) → cond t (cond (nat_lt 0 (length config.tenants)) (Some (Begun config)) None) (option_and_then (head_with config) (old_tenant_in line)) ≡ Some next →
+    by_begin : (t : Bool) → cond t (Some (Begun config)) (option_and_then (head_with config) (old_tenant_in line)) ≡ Some next →
         cond t (Some (Begun config)) (option_and_then (head_with config) (tenant_in line)) ≡ Some next
-    by_begin true e = by_count (nat_lt 0 (length config.tenants)) e
+    by_begin true e = e
     by_begin false e = by_tenant (old_tenant_in line) refl e
 front_today (Begun config) line next e fine = absurd (let clash : ⊥ = cc in clash)
 

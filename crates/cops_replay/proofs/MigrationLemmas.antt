@@ -100,12 +100,8 @@ begun_clocks (Within old) line config e fine = by_begin (bytes_eq line begin_lin
     by_tenant None e = absurd (let clash : ⊥ = cc in clash)
     by_tenant (Some tenant) e = by_place (may_join old tenant) tenant e
 
-    by_count : (t : Bool) → cond t (Some (Begun old)) None ≡ Some (Begun config) → IsTrue (has_clocks_to last_early_clock (Some (Begun config)))
-    by_count true e = let same : old ≡ config = cc in subst (λ (c : Config). IsTrue (has_clocks_to last_early_clock (Some (Begun c)))) same fine
-    by_count false e = absurd (let clash : ⊥ = cc in clash)
-
-    by_begin : (t : Bool) → cond t (cond (nat_lt 0 (length old.tenants)) (Some (Begun old)) None) (option_and_then (head_with old) (old_tenant_in line)) ≡ Some (Begun config) → IsTrue (has_clocks_to last_early_clock (Some (Begun config)))
-    by_begin true e = by_count (nat_lt 0 (length old.tenants)) e
+    by_begin : (t : Bool) → cond t (Some (Begun old)) (option_and_then (head_with old) (old_tenant_in line)) ≡ Some (Begun config) → IsTrue (has_clocks_to last_early_clock (Some (Begun config)))
+    by_begin true e = let same : old ≡ config = cc in subst (λ (c : Config). IsTrue (has_clocks_to last_early_clock (Some (Begun c)))) same fine
     by_begin false e = by_tenant (old_tenant_in line) e
 begun_clocks (Begun old) line config e fine = absurd (let clash : ⊥ = cc in clash)
 

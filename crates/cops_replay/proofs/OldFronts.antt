@@ -45,13 +45,9 @@ joined-is config line next (Some tenant) was e = by_place (may_join config tenan
     by_place true may e = record { tenant = tenant; said = tenant_in_to-is last_old_clock line tenant was; may = may; after = sym (same_value (Within (with_tenant config tenant)) next e) }
 
 within-is : (config : Config) (line : List ℕ) (next : Front) (t : Bool) → bytes_eq line begin_line ≡ t →
-    cond t (cond (nat_lt 0 (length config.tenants)) (Some (Begun config)) None) (option_and_then (head_with config) (old_tenant_in line)) ≡ Some next → OldJoins config line next ⊎ Ends config line next
+    cond t (Some (Begun config)) (option_and_then (head_with config) (old_tenant_in line)) ≡ Some next → OldJoins config line next ⊎ Ends config line next
 within-is config line next false begins e = inl (joined-is config line next (old_tenant_in line) refl e)
-within-is config line next true begins e = inr (by_count (nat_lt 0 (length config.tenants)) e)
-  where
-    by_count : (t : Bool) → cond t (Some (Begun config)) None ≡ Some next → Ends config line next
-    by_count false e = absurd cc
-    by_count true e = record { said = bytes_from_test line begin_line begins; after = sym (same_value (Begun config) next e) }
+within-is config line next true begins e = inr (record { said = bytes_from_test line begin_line begins; after = sym (same_value (Begun config) next e) })
 
 start-is : (line : List ℕ) (next : Front) (found : Option Config) → cluster_in line ≡ found → option_map Within (option_and_then with_few_shards found) ≡ Some next → OldFollows AtStart line next
 start-is line next None was e = absurd cc

@@ -64,12 +64,8 @@ clocks_before (Within config) line next e fine = by_begin (bytes_eq line begin_l
     by_tenant None e = absurd (let clash : ⊥ = cc in clash)
     by_tenant (Some tenant) e = by_place (may_join config tenant) tenant e
 
-    by_count : (t : Bool) → cond t (Some (Begun config)) None ≡ Some next → IsTrue (has_clocks_to last_early_clock (Some (Within config)))
-    by_count true e = let same : Begun config ≡ next = cc in subst (λ (f : Front). IsTrue (has_clocks_to last_early_clock (Some f))) (sym same) fine
-    by_count false e = absurd (let clash : ⊥ = cc in clash)
-
-    by_begin : (t : Bool) → cond t (cond (nat_lt 0 (length config.tenants)) (Some (Begun config)) None) (option_and_then (head_with config) (old_tenant_in line)) ≡ Some next → IsTrue (has_clocks_to last_early_clock (Some (Within config)))
-    by_begin true e = by_count (nat_lt 0 (length config.tenants)) e
+    by_begin : (t : Bool) → cond t (Some (Begun config)) (option_and_then (head_with config) (old_tenant_in line)) ≡ Some next → IsTrue (has_clocks_to last_early_clock (Some (Within config)))
+    by_begin true e = let same : Begun config ≡ next = cc in subst (λ (f : Front). IsTrue (has_clocks_to last_early_clock (Some f))) (sym same) fine
     by_begin false e = by_tenant (old_tenant_in line) e
 clocks_before (Begun config) line next e fine = absurd (let clash : ⊥ = cc in clash)
 

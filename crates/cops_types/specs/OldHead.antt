@@ -1,5 +1,5 @@
--- The head of an audit file of layout 1: at most 16 shards, clocks of 56 bits, and at least one tenant. Otherwise it is a head of today.
-use Rattle.std.specs.Prelude.{ℕ, Bool, true, ◌+◌, ◌-◌, ◌^◌, nat_lt, nat_le, if◌then◌else◌, List, [], ◌∷◌, length, Option, Some, None}
+-- The head of an audit file of layout 1: at most 16 shards, and clocks of 56 bits. Otherwise it is a head of today.
+use Rattle.std.specs.Prelude.{ℕ, Bool, true, ◌+◌, ◌-◌, ◌^◌, nat_le, if◌then◌else◌, List, [], ◌∷◌, Option, Some, None}
 use Rattle.std.specs.List.{list_all}
 use Rattle.std.specs.Option.{option_map, option_and_then}
 use Rattle.std.specs.Str.{bytes_eq}
@@ -26,7 +26,7 @@ old_tenant_in line = tenant_in_to last_old_clock line
 abbrev pub old_next_within : Config → List ℕ → Option Front
 old_next_within config line =
     if bytes_eq line begin_line
-    then (if nat_lt 0 (length config.tenants) then Some (Begun config) else None)
+    then Some (Begun config)
     else option_and_then (head_with config) (old_tenant_in line)
 
 -- how far the head has come with one more line, if the line may follow here

@@ -3,9 +3,8 @@ ghost use Rattle.std.specs.Prelude.{◌≡◌, Some, OnErr, OnOk, IfOk, nat_le};
 ghost use Rattle.std.specs.List.{list_all};
 ghost use Rattle.cops_types.specs.Head.{AtStart};
 ghost use Rattle.cops_types.specs.HeadProgress.{front_of};
-ghost use Rattle.cops_types.specs.HeadLines.{begin_line};
 ghost use Rattle.cops_types.specs.HeadReader.{said_at, still_open};
-ghost use Rattle.cops_types.specs.OldHead.{has_clocks_to, old_cluster_in, old_front_after, old_front_with, old_next_within};
+ghost use Rattle.cops_types.specs.OldHead.{has_clocks_to, old_cluster_in, old_front_after, old_front_with};
 
 use crate::configs::{Config, Tenant};
 use crate::head_lines::{join, read_cluster};
@@ -67,17 +66,6 @@ fn start(alloc: Global, line: &[u8]) -> (Progress, HeadLine)
     }
 }
 
-/// Returns the meaning of the line `begin` after this configuration: the head needs at least one
-/// tenant.
-fn begin(config: Config) -> HeadLine
-    ensures { result ≡ said_at (old_next_within config begin_line) }
-{
-    if config.tenants.len() == 0 {
-        return HeadLine::BadLine;
-    }
-    HeadLine::Begin(config)
-}
-
 impl OldConfigReader {
     /// Returns a reader at the start of a head.
     pub(crate) fn new() -> Self
@@ -105,7 +93,7 @@ impl OldConfigReader {
         let (progress, said) = match mem::replace(&mut self.progress, Progress::Over) {
             Progress::Start => start(alloc, line),
             Progress::Within(config) if line == b"begin".as_slice() => {
-                (Progress::Over, begin(config))
+                (Progress::Over, HeadLine::Begin(config))
             }
             _ => (Progress::Over, HeadLine::BadLine),
         };
