@@ -8,7 +8,7 @@ use Rattle.cops_types.specs.TenantConfig.{TenantConfig, tenant_config}
 use Rattle.cops_model.specs.SoloNode.{SoloNode}
 use Rattle.cops_replay.specs.declared.Record.{Record}
 use Rattle.cops_replay.specs.declared.Replayed.TheVariants.{Same}
-use Rattle.cops_replay.specs.Audits.{records_of}
+use Rattle.cops_replay.specs.Audits.{ReplaysSame, records_of}
 use Rattle.cops_replay.specs.OpenAudits.{left_config, left_nodes}
 use Rattle.cops_replay.specs.RecordText.{is_record}
 use Rattle.cops_replay.specs.ReplayText.{HasLine, IsReplayOf, replayed_text}
@@ -23,7 +23,12 @@ abbrev pub AreFormed : Config → (TenantConfig → ℕ → List SoloNode) → T
 AreFormed config nodes =
     (slot : ℕ) (tenant : Tenant) → slice_get config.tenants slot ≡ Some tenant → AllByRecursion (λ (told : Record). IsTrue (is_record told)) (his_records config nodes slot tenant)
 
--- and no record's line is too long
+-- a replay of each tenant's records finds them all the same
+abbrev pub AllReplaySame : Config → (TenantConfig → ℕ → List SoloNode) → Type 0
+AllReplaySame config nodes =
+    (slot : ℕ) (tenant : Tenant) → slice_get config.tenants slot ≡ Some tenant → ReplaysSame (tenant_config config tenant) (nodes (tenant_config config tenant) slot)
+
+-- each record has a form, and its line is not too long
 abbrev pub HaveLines : Config → (TenantConfig → ℕ → List SoloNode) → Type 0
 HaveLines config nodes =
     (slot : ℕ) (tenant : Tenant) → slice_get config.tenants slot ≡ Some tenant → AllByRecursion (HasLine tenant.name) (his_records config nodes slot tenant)

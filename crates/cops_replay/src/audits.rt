@@ -1,14 +1,15 @@
 //! Audits as text.
-ghost use Rattle.std.specs.Prelude.{◌≡◌, ◌<◌, ◌++◌, ◌⊎◌, map, flat_map, length, IfOk, OnOk, IfErr, IsErrOf, IsTrue, Some};
+ghost use Rattle.std.specs.Prelude.{◌≡◌, ◌<◌, ◌++◌, ◌⊎◌, ℕ, List, map, flat_map, length, IfOk, OnOk, IfErr, IsErrOf, IsTrue, Some};
 ghost use Rattle.std.specs.List.{AllByRecursion, range_with_len};
 ghost use Rattle.std.specs.Io.KnownBytes.{Appends};
 ghost use Rattle.cops_types.specs.declared.faults.Fault.TheVariants.{OutOfMemory, WriteFault};
 ghost use Rattle.cops_types.specs.Counts.{HasRisen};
+ghost use Rattle.cops_types.specs.Head.{Whole, head_of};
 ghost use Rattle.cops_types.specs.HeadLines.{are_sizes};
 ghost use Rattle.cops_types.specs.Sink.{AppendsFront, sink_failures, sink_writer};
 ghost use Rattle.cops_types.specs.TenantConfig.{tenant_config};
 ghost use Rattle.cops_node.specs.Clusters.{HasTenant, IsCluster, shape_of};
-ghost use Rattle.cops_node.specs.Parts.{place_at, solo_of};
+ghost use Rattle.cops_node.specs.Parts.{AuditFits, place_at, solo_of};
 ghost use Rattle.cops_model.specs.Place.{place_of};
 ghost use Rattle.cops_replay.specs.declared.Record.{Record};
 ghost use Rattle.cops_replay.specs.Audits.{record_of, records_of};
@@ -16,7 +17,7 @@ ghost use Rattle.cops_replay.specs.AuditText.{AreNodesOf, audit_of, config_text,
 ghost use Rattle.cops_replay.specs.OpenAudits.{AreNodesAt, audit_at, nodes_at, with_tenants};
 ghost use Rattle.cops_replay.specs.Pages.{PutsText, page};
 ghost use Rattle.cops_replay.specs.RecordText.{has_form, is_record, record_line};
-ghost use Rattle.cops_replay.specs.WrittenAudits.{AreFormed};
+ghost use Rattle.cops_replay.specs.WrittenAudits.{AllReplaySame, AreFormed, HaveLines, SaysSame};
 
 use crate::heads::{push_begin, push_cluster, push_layout, push_tenant};
 use crate::pages::{drain, drain_full};
@@ -236,6 +237,15 @@ pub(crate) fn write_audit_at<W: Write>(
     drain(&mut out, sink)
 }
 
+/// Theorem: each call in the audit of each node could come to it.
+fn audits_fit(nodes: &[Node])
+    ensures { AllByRecursion AuditFits nodes.now }
+{
+    for node in nodes {
+        node.audit_fits();
+    }
+}
+
 /// Returns this many slots, from the first on.
 fn first_slots(alloc: Global, count: usize) -> Result<Vec<u64>, AllocError>
     ensures { IfOk result (λ slots. slots.items ≡ range_with_len 0 count) }
@@ -269,11 +279,18 @@ pub fn write_audit<W: Write>(
     // Each record that is written has the form of a line.
     ensures formed { OnOk result (AreFormed config.now (his_nodes config.now nodes.now)) }
 
+    // A replay of each tenant's records finds them all the same. A replay of the text says so, if
+    // the configuration is that of a head, and no record's line is too long.
+    ensures replays { AllReplaySame config.now (his_nodes config.now nodes.now) }
+    ensures says_same { (lines rest : List (List ℕ)) → head_of lines ≡ Whole config.now rest → HaveLines config.now (his_nodes config.now nodes.now) →
+        SaysSame config.now (his_nodes config.now nodes.now) (audit_of config.now nodes.now) }
+
     // Memory ran out, or the writer failed in this call.
     ensures fault { IfErr result (λ fault. (fault ≡ OutOfMemory) ⊎ (fault ≡ WriteFault)) }
     ensures same { OnOk result (sink_failures sink.new ≡ sink_failures sink.old) }
     ensures write_fault { IsErrOf result Fault.WriteFault → HasRisen (sink_failures sink.old) (sink_failures sink.new) }
 {
+    audits_fit(nodes);
     let tenants = config.tenants.as_slice();
     let slots = first_slots(alloc, tenants.len())?;
     write_audit_at(alloc, sink, config, tenants, slots.as_slice(), nodes)

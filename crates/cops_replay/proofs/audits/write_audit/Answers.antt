@@ -1,11 +1,40 @@
-use Rattle.std.proofs.Common.{subst, ◌∙◌}
+use Rattle.std.proofs.Common.{◌≡◌, ℕ, List, refl, subst, ◌∙◌}
+use Rattle.std.specs.Prelude.{Some, slice_get}
+use Rattle.std.specs.List.{AllByRecursion}
+use Rattle.cops_types.specs.Head.{Whole, head_of}
+use Rattle.cops_types.specs.TenantConfig.{tenant_config}
+use Rattle.cops_types.specs.declared.configs.Config.{Config}
+use Rattle.cops_node.specs.Clusters.{shape_of}
+use Rattle.cops_node.specs.Parts.{AuditFits, Shared}
+use Rattle.cops_replay.specs.WrittenAudits.{AllReplaySame, HaveLines, SaysSame}
+use Rattle.cops_replay.proofs.NodeAudits.{cluster_replays_same}
+use Rattle.cops_replay.proofs.WrittenAudits.{says_same}
 use Rattle.std.specs.Io.KnownBytes.{Appends}
 use Rattle.std.proofs.lemmas.Result.{on_ok_weaker}
 use Rattle.cops_types.specs.Sink.{AppendsFront, sink_writer}
-use Rattle.cops_replay.specs.AuditText.{audit_of}
+use Rattle.cops_replay.specs.AuditText.{AreNodesOf, audit_of, his_nodes}
 use Rattle.cops_replay.proofs.OpenLists.{AreFirst, formed_of_first, nodes_of_first, text_of_first}
 use Rattle.cops_replay.proofs.PageLemmas.{front_of_none}
 use Rattle.cops_replay.proofs.audits.write_audit.Goals as goal
+
+replays : (config : Config) (nodes : List Shared) → AreNodesOf config nodes → AllByRecursion AuditFits nodes → AllReplaySame config (his_nodes config nodes)
+replays config nodes are fitting = λ slot tenant e. cluster_replays_same (shape_of config) nodes are.by_number fitting (tenant_config config tenant) slot (record { data_centres = refl; shards = refl })
+
+text_says : (config : Config) (nodes : List Shared) → AllReplaySame config (his_nodes config nodes) → (lines rest : List (List ℕ)) → head_of lines ≡ Whole config rest → HaveLines config (his_nodes config nodes) →
+    SaysSame config (his_nodes config nodes) (audit_of config nodes)
+text_says config nodes same lines rest head all = λ slot tenant e. says_same lines rest config (his_nodes config nodes) slot tenant head all e (same slot tenant e)
+
+pub returns-in_err-slots-clause-replays : goal.returns-in_err-slots-clause-replays
+returns-in_err-slots-clause-replays g c = replays c.args.config.now c.args.nodes.now c.requires.nodes c.audits_fit.ensures
+
+pub returns-in_err-slots-clause-says_same : goal.returns-in_err-slots-clause-says_same
+returns-in_err-slots-clause-says_same g c = text_says c.args.config.now c.args.nodes.now (replays c.args.config.now c.args.nodes.now c.requires.nodes c.audits_fit.ensures)
+
+pub returns-clause-replays : goal.returns-clause-replays
+returns-clause-replays g c = replays c.args.config.now c.args.nodes.now c.requires.nodes c.audits_fit.ensures
+
+pub returns-clause-says_same : goal.returns-clause-says_same
+returns-clause-says_same g c = text_says c.args.config.now c.args.nodes.now (replays c.args.config.now c.args.nodes.now c.requires.nodes c.audits_fit.ensures)
 
 pub returns-in_err-slots-clause-front : goal.returns-in_err-slots-clause-front
 returns-in_err-slots-clause-front g c = front_of_none (g.W.Write.contents (sink_writer c.args.sink.now)) (audit_of c.args.config.now c.args.nodes.now)

@@ -1,0 +1,7 @@
+use Rattle.std.proofs.Common.{take}
+use Rattle.std.specs.List.{AllByRecursion}
+use Rattle.cops_node.specs.Parts.{AuditFits}
+use Rattle.cops_replay.proofs.audits.audits_fit.Given as goal
+
+abbrev pub invariant-loop-node : goal.invariant-loop-node
+invariant-loop-node l = AllByRecursion AuditFits (take l.node-index l.nodes)
