@@ -1,5 +1,5 @@
 -- Each step at the gate keeps its rule.
-use Rattle.std.proofs.Common.{◌≡◌, ◌≢◌, ℕ, zero, suc, ◌+◌, ◌^◌, ◌<◌, ◌≤◌, ◌⊎◌, inl, inr, ⊎_elim, eqb, Bool, true, false, List, [], ◌∷◌, ◌++◌, length, get_or, set, append-nil, sym, refl, ap, ◌∙◌, subst, arith, length-set, length-append, Option, Some, IfSome}
+use Rattle.std.proofs.Common.{◌≡◌, ◌≢◌, ℕ, zero, suc, ◌+◌, ◌*◌, ◌^◌, ◌<◌, ◌≤◌, ◌⊎◌, inl, inr, ⊎_elim, eqb, true, false, List, [], ◌∷◌, ◌++◌, length, get_or, set, append-nil, sym, refl, ap, ◌∙◌, subst, arith, length-set, length-append, Option, Some, IfSome, replicate}
 use mathlib.Core.Logic.{dite}
 use mathlib.Core.Option.{some, none, some-injective, some-ne-none}
 use mathlib.Core.Option as option
@@ -8,48 +8,92 @@ use lib.ListN.{get_elem?}
 use lib.Seq.{set-get_or}
 use prog.Atomic.{either}
 use Rattle.atomic_table.specs.Table.{State, Act, keeps, takes, gives, step, stepped, Valid, carried_after, Allows, Splits, Joins, opening, Final, Seen, rest, put_back}
-use Rattle.atomic_table.proofs.Lists.{at_set, exchanged, set_else, set_again, at_longer}
+use Rattle.atomic_table.proofs.Lists.{at_set, exchanged, set_else, set_again, at_longer, at_map}
 use Rattle.cops_gate.specs.declared.history.Entry.{Entry}
 use Rattle.cops_gate.specs.declared.history.Turn.{Turn}
-use Rattle.cops_gate.specs.declared.board.Beginning.{Beginning}
+use Rattle.cops_gate.specs.declared.board.Opening.{Opening}
 use Rattle.cops_gate.specs.declared.board.Stage.{Stage}
 use Rattle.cops_gate.specs.declared.board.Stage.TheVariants.{Idle, Waits, Holds}
 use Rattle.cops_gate.specs.declared.board.View.{View}
-use Rattle.cops_gate.specs.History.{turn, turns_of, StartsWith, Leads, IsLegal}
-use Rattle.cops_gate.specs.Rule.{Apart, HasTicket, HoldsItsTicket, IsOut, Kept, Knows, Rests, newcomer}
-use Rattle.cops_gate.specs.Plays.{Sat, at_stage, spent_view, published_view, fresh_view, numbered_view, told_view, ended_view, HasRoom, learned, glanced, drawn, published, looked}
-use Rattle.cops_gate.specs.Seats.{ClosesWith, Known, Origin}
-use Rattle.cops_gate.proofs.Histories.{starts_on, turns_other, none_before}
+use Rattle.cops_gate.specs.History.{turn, turns_of, turns_at, StartsWith, Leads, IsLegal, IsWhole}
+use Rattle.cops_gate.specs.Rule.{ticket_at, serving_at, Apart, HasTicket, HoldsItsTicket, IsOut, Kept, Knows, Met, Rests, Stands, newcomer}
+use Rattle.cops_gate.specs.Plays.{Sat, at_stage, spent_view, published_view, fresh_view, numbered_view, told_view, ended_view, DrawnAt, HasRoom, PublishedAt, learned, glanced, drawn, published, looked, Gets}
+use Rattle.cops_gate.specs.Seats.{AreAtRest, ClosesWith, Known, Origin}
+use Rattle.cops_gate.proofs.Histories.{starts_on, turns_other, turns_mine, node_other, node_mine, node_parts, none_before, placed_on}
 
 -- lists read by `get_elem?`
 module _ {A : Type 0} where
-  at_below : (l : List A) (i : ℕ) (a : A) → get_elem? l i ≡ some a → i < length l
+  pub at_below : (l : List A) (i : ℕ) (a : A) → get_elem? l i ≡ some a → i < length l
   at_below [] i a e = absurd (some-ne-none a (sym e))
   at_below (x ∷ xs) zero a e = omega arith
   at_below (x ∷ xs) (suc i) a e = let h = at_below xs i a e in omega arith
 
-  set_at : (l : List A) (i : ℕ) (a b : A) → get_elem? l i ≡ some a → get_elem? (set l i b) i ≡ some b
+  pub set_at : (l : List A) (i : ℕ) (a b : A) → get_elem? l i ≡ some a → get_elem? (set l i b) i ≡ some b
   set_at [] i a b e = absurd (some-ne-none a (sym e))
   set_at (x ∷ xs) zero a b e = refl
   set_at (x ∷ xs) (suc i) a b e = set_at xs i a b e
 
   -- an element of a list that is one longer
-  at_end : (l : List A) (a b : A) (j : ℕ) → get_elem? (l ++ a ∷ []) j ≡ some b → (get_elem? l j ≡ some b) ⊎ ((j ≡ length l) × (a ≡ b))
+  pub at_end : (l : List A) (a b : A) (j : ℕ) → get_elem? (l ++ a ∷ []) j ≡ some b → (get_elem? l j ≡ some b) ⊎ ((j ≡ length l) × (a ≡ b))
   at_end [] a b zero e = inr (refl, some-injective a b e)
   at_end [] a b (suc j) e = absurd (some-ne-none b (sym e))
   at_end (x ∷ xs) a b zero e = inl e
   at_end (x ∷ xs) a b (suc j) e = ⊎_elim inl (λ (t : (j ≡ length xs) × (a ≡ b)). let n = t.0 in inr (omega arith, t.1)) (at_end xs a b j e)
 
-  -- a fact of each element, if one is replaced
+  -- a fact of each element, where one is replaced
   each_set : (F : ℕ → A → Type 0) (l : List A) (i : ℕ) (b : A) → F i b → ((j : ℕ) (a : A) → j ≢ i → get_elem? l j ≡ some a → F j a) → (j : ℕ) (a : A) → get_elem? (set l i b) j ≡ some a → F j a
   each_set F l i b here else j a e = ⊎_elim (λ (t : (j ≡ i) × (b ≡ a)). subst (λ (x : ℕ × A). F x.0 x.1) (λ k. (sym t.0 k, t.1 k)) here)
       (λ (t : (j ≢ i) × (get_elem? l j ≡ some a)). else j a t.0 t.1) (at_set l i j b a e)
 
+-- the element at a place in a list
+pub there_at : {A : Type 0} (l : List A) (i : ℕ) → i < length l → (a : A) × (get_elem? l i ≡ some a)
+there_at [] i h = absurd (omega arith)
+there_at (x ∷ xs) zero h = (x, refl)
+there_at (x ∷ xs) (suc i) h = there_at xs i (omega arith)
+
 -- the slot that was taken last
-module _ {A : Type 0} where
-  -- the one slot that is out can be exchanged
-  pub slot_out : (xs : List (ℕ × A)) (a : A) → ◌≡◌ {A = List (ℕ × A)} xs ((0, a) ∷ []) → (b : A) × ◌≡◌ {A = List (ℕ × A)} xs ((0, b) ∷ rest xs)
-  slot_out xs a e = let P : List (ℕ × A) → Type 0 = λ l. ◌≡◌ {A = List (ℕ × A)} xs ((0, a) ∷ l) in (a, subst P (ap rest (sym e)) e)
+pub slot_out : {A : Type 0} (xs : List (ℕ × A)) (n : ℕ) (a : A) → ◌≡◌ {A = List (ℕ × A)} xs ((n, a) ∷ []) → (b : A) × ◌≡◌ {A = List (ℕ × A)} xs ((n, b) ∷ rest xs)
+slot_out {A} xs n a e = let P : List (ℕ × A) → Type 0 = λ l. ◌≡◌ {A = List (ℕ × A)} xs ((n, a) ∷ l) in (a, subst P (ap rest (sym e)) e)
+
+-- words
+word_else : (ws : List ℕ) (i j x : ℕ) → j ≢ i → get_or (set ws i x) j 0 ≡ get_or ws j 0
+word_else [] i j x n = refl
+word_else (w ∷ ws) zero zero x n = absurd (n refl)
+word_else (w ∷ ws) zero (suc j) x n = refl
+word_else (w ∷ ws) (suc i) zero x n = refl
+word_else (w ∷ ws) (suc i) (suc j) x n = word_else ws i j x (λ e. n (ap suc e))
+
+word_here : (ws : List ℕ) (i x : ℕ) → i < length ws → get_or (set ws i x) i 0 ≡ x
+word_here [] i x h = absurd (omega arith)
+word_here (w ∷ ws) zero x h = refl
+word_here (w ∷ ws) (suc i) x h = word_here ws i x (omega arith)
+
+-- where the words of a node lie
+apart_words : (m n : ℕ) → 16 * m ≡ 16 * n → m ≡ n
+apart_words m n e = omega arith
+
+odd_words : (m n : ℕ) → 16 * m + 1 ≡ 16 * n → ⊥
+odd_words m n e = omega arith
+
+-- a new ticket at the node n
+ticket_else : (ws : List ℕ) (n m x : ℕ) → m ≢ n → ticket_at (set ws (16 * n) x) m ≡ ticket_at ws m
+ticket_else ws n m x other = word_else ws (16 * n) (16 * m) x (λ e. other (apart_words m n e))
+
+ticket_here : (ws : List ℕ) (n x : ℕ) → 16 * n < length ws → ticket_at (set ws (16 * n) x) n ≡ x
+ticket_here ws n x inside = word_here ws (16 * n) x inside
+
+ticket_serving : (ws : List ℕ) (n m x : ℕ) → serving_at (set ws (16 * n) x) m ≡ serving_at ws m
+ticket_serving ws n m x = word_else ws (16 * n) (16 * m + 1) x (odd_words m n)
+
+-- the next turn at the node n
+serving_ticket : (ws : List ℕ) (n m x : ℕ) → ticket_at (set ws (16 * n + 1) x) m ≡ ticket_at ws m
+serving_ticket ws n m x = word_else ws (16 * n + 1) (16 * m) x (λ e. odd_words n m (sym e))
+
+serving_else : (ws : List ℕ) (n m x : ℕ) → m ≢ n → serving_at (set ws (16 * n + 1) x) m ≡ serving_at ws m
+serving_else ws n m x other = word_else ws (16 * n + 1) (16 * m + 1) x (λ e. other (apart_words m n (omega arith)))
+
+serving_here : (ws : List ℕ) (n x : ℕ) → 16 * n + 1 < length ws → serving_at (set ws (16 * n + 1) x) n ≡ x
+serving_here ws n x inside = word_here ws (16 * n + 1) x inside
 
 true_not_false : true ≡ false → ⊥
 true_not_false e = cc
@@ -57,136 +101,142 @@ true_not_false e = cc
 -- stages
 ticket_of : Stage → ℕ
 ticket_of Idle = 0
-ticket_of (Waits t) = t
-ticket_of (Holds t) = t
+ticket_of (Waits n t) = t
+ticket_of (Holds n t) = t
+
+node_of : Stage → ℕ
+node_of Idle = 0
+node_of (Waits n t) = n
+node_of (Holds n t) = n
 
 IsWaiting : Stage → Type 0
-IsWaiting (Waits t) = Unit {0}
+IsWaiting (Waits n t) = Unit {0}
 IsWaiting _ = ⊥
 
 IsHolding : Stage → Type 0
-IsHolding (Holds t) = Unit {0}
+IsHolding (Holds n t) = Unit {0}
 IsHolding _ = ⊥
 
-waits_not_holds : (t u : ℕ) → Waits t ≡ Holds u → ⊥
+waits_not_holds : (n t m u : ℕ) → Waits n t ≡ Holds m u → ⊥
 unfolding IsWaiting
-waits_not_holds t u e = subst IsWaiting e tt
+waits_not_holds n t m u e = subst IsWaiting e tt
 
-idle_not_holds : (u : ℕ) → Idle ≡ Holds u → ⊥
+idle_not_holds : (m u : ℕ) → Idle ≡ Holds m u → ⊥
 unfolding IsHolding
-idle_not_holds u e = subst IsHolding (sym e) tt
+idle_not_holds m u e = subst IsHolding (sym e) tt
 
-waits_same : (t u : ℕ) → Waits t ≡ Waits u → t ≡ u
-unfolding ticket_of
-waits_same t u e = ap ticket_of e
+waits_same : (n t m u : ℕ) → Waits n t ≡ Waits m u → (n ≡ m) × (t ≡ u)
+unfolding ticket_of node_of
+waits_same n t m u e = (ap node_of e, ap ticket_of e)
 
-holds_same : (t u : ℕ) → Holds t ≡ Holds u → t ≡ u
-unfolding ticket_of
-holds_same t u e = ap ticket_of e
+holds_same : (n t m u : ℕ) → Holds n t ≡ Holds m u → (n ≡ m) × (t ≡ u)
+unfolding ticket_of node_of
+holds_same n t m u e = (ap node_of e, ap ticket_of e)
 
 module _ {C R : Type 0} where
-  queues_grow : (ticket ticket' serving : ℕ) (log seen : List (Turn C R)) (st : Stage) → ticket ≤ ticket' → HoldsItsTicket ticket serving log seen st → HoldsItsTicket ticket' serving log seen st
-  queues_grow ticket ticket' serving log seen Idle l q = tt
-  queues_grow ticket ticket' serving log seen (Waits t) l q = let a = q.0 in let b = q.1 in (q.0, omega arith)
-  queues_grow ticket ticket' serving log seen (Holds t) l q = let b = q.1 in (q.0, omega arith, q.2)
+  -- a ticket was drawn
+  queues_grow : (ws ws' : List ℕ) (log seen : List (Turn C R)) (st : Stage) → ((m : ℕ) → serving_at ws' m ≡ serving_at ws m) → ((m : ℕ) → ticket_at ws m ≤ ticket_at ws' m) → HoldsItsTicket ws log seen st → HoldsItsTicket ws' log seen st
+  queues_grow ws ws' log seen Idle same more q = tt
+  queues_grow ws ws' log seen (Waits n t) same more q = let a : serving_at ws n ≤ t = q.0 in let b : t < ticket_at ws n = q.1 in let c : serving_at ws' n ≡ serving_at ws n = same n in let d : ticket_at ws n ≤ ticket_at ws' n = more n in (omega arith, omega arith)
+  queues_grow ws ws' log seen (Holds n t) same more q = let b : t < ticket_at ws n = q.1 in let d : ticket_at ws n ≤ ticket_at ws' n = more n in (same n ∙ q.0, omega arith, q.2)
 
-  has_below : (ticket serving t : ℕ) (log seen : List (Turn C R)) (st : Stage) → HoldsItsTicket ticket serving log seen st → HasTicket t st → t < ticket
-  has_below ticket serving t log seen Idle q h = absurd h
-  has_below ticket serving t log seen (Waits u) q h = let b = q.1 in omega arith
-  has_below ticket serving t log seen (Holds u) q h = let b = q.1 in omega arith
+  has_below : (ws : List ℕ) (n t : ℕ) (log seen : List (Turn C R)) (st : Stage) → HoldsItsTicket ws log seen st → HasTicket n t st → t < ticket_at ws n
+  has_below ws n t log seen Idle q h = absurd h
+  has_below ws n t log seen (Waits m u) q h = subst (λ (x : ℕ × ℕ). x.1 < ticket_at ws x.0) (λ i. (h.0 i, h.1 i)) q.1
+  has_below ws n t log seen (Holds m u) q h = subst (λ (x : ℕ × ℕ). x.1 < ticket_at ws x.0) (λ i. (h.0 i, h.1 i)) q.1
 
-module _ {M C R P : Type 0} (turns : M → ℕ → ℕ → C → R → M → Type 0) (place : M → P) (from : Beginning M) where
-  abbrev first : M
-  first = from.state
+  -- The turn of the ticket that the node n serves was made, by another seat
+  queues_on : (ws ws' : List ℕ) (log log' seen : List (Turn C R)) (st : Stage) (n : ℕ) → ((m : ℕ) → ticket_at ws' m ≡ ticket_at ws m) → ((m : ℕ) → m ≢ n → serving_at ws' m ≡ serving_at ws m) → ((m : ℕ) → m ≢ n → turns_at m log' ≡ turns_at m log)
+      → serving_at ws' n ≡ serving_at ws n + 1 → (HasTicket n (serving_at ws n) st → ⊥) → HoldsItsTicket ws log seen st → HoldsItsTicket ws' log' seen st
+  queues_on ws ws' log log' seen Idle n tk sv lg next other q = tt
+  queues_on ws ws' log log' seen (Waits m t) n tk sv lg next other q = dite (ℕ_discrete m n)
+      (λ here. let a : serving_at ws n ≤ t = subst (λ x. serving_at ws x ≤ t) here q.0 in
+      let c : serving_at ws' m ≡ serving_at ws n + 1 = subst (λ x. serving_at ws' x ≡ serving_at ws n + 1) (sym here) next in
+      dite (ℕ_discrete t (serving_at ws n)) (λ e. absurd (other (here, e))) (λ ne. (omega arith, subst (λ x. t < x) (sym (tk m)) q.1)))
+      (λ there. (subst (λ x. x ≤ t) (sym (sv m there)) q.0, subst (λ x. t < x) (sym (tk m)) q.1))
+  queues_on ws ws' log log' seen (Holds m t) n tk sv lg next other q = dite (ℕ_discrete m n)
+      (λ here. absurd (other (here, sym q.0 ∙ ap (serving_at ws) here)))
+      (λ there. (sv m there ∙ q.0, subst (λ x. t < x) (sym (tk m)) q.1, lg m there ∙ q.2))
 
+module _ {M C R P : Type 0} (turns : M → ℕ → ℕ → C → R → M → Type 0) (place : M → P) (from : Opening M) where
   abbrev V : Type 0
   V = View M C R
 
-  abbrev H : Type 0
-  H = Option M
-
   abbrev St : Type 0
-  St = State H V
+  St = State M V
 
   abbrev Rule : St → Type 0
   Rule = Kept turns place from
 
-  apart_set : (vs : List V) (id : ℕ) (v w : V) → get_elem? vs id ≡ some v → ((t : ℕ) → HasTicket t w.stage → HasTicket t v.stage) → Apart vs → Apart (set vs id w)
-  apart_set vs id v w at less apart i j a b t ai bj ha hb =
-      let was : (k : ℕ) (c : V) → get_elem? (set vs id w) k ≡ some c → HasTicket t c.stage → (d : V) × (get_elem? vs k ≡ some d) × HasTicket t d.stage
-      = each_set (λ k c. HasTicket t c.stage → (d : V) × (get_elem? vs k ≡ some d) × HasTicket t d.stage) vs id w (λ h. (v, at, less t h)) (λ k c _ at' h. (c, at', h)) in
-      let p = was i a ai ha in let q = was j b bj hb in apart i j p.0 q.0 t p.1 q.1 p.2 q.2
+  apart_set : (vs : List V) (id : ℕ) (v w : V) → get_elem? vs id ≡ some v → ((n t : ℕ) → HasTicket n t w.stage → HasTicket n t v.stage) → Apart vs → Apart (set vs id w)
+  apart_set vs id v w at less apart i j a b n t ai bj ha hb =
+      let was : (k : ℕ) (c : V) → get_elem? (set vs id w) k ≡ some c → HasTicket n t c.stage → (d : V) × (get_elem? vs k ≡ some d) × HasTicket n t d.stage
+      = each_set (λ k c. HasTicket n t c.stage → (d : V) × (get_elem? vs k ≡ some d) × HasTicket n t d.stage) vs id w (λ h. (v, at, less n t h)) (λ k c _ at' h. (c, at', h)) in
+      let p = was i a ai ha in let q = was j b bj hb in apart i j p.0 q.0 n t p.1 q.1 p.2 q.2
 
-  apart_new : (vs : List V) (id : ℕ) (w : V) (ticket : ℕ) → ((j : ℕ) (v : V) (t : ℕ) → get_elem? vs j ≡ some v → HasTicket t v.stage → t < ticket) → ((t : ℕ) → HasTicket t w.stage → t ≡ ticket)
+  apart_new : (vs : List V) (id n ticket : ℕ) (w : V) → ((j : ℕ) (v : V) (t : ℕ) → get_elem? vs j ≡ some v → HasTicket n t v.stage → t < ticket) → ((m t : ℕ) → HasTicket m t w.stage → (m ≡ n) × (t ≡ ticket))
       → Apart vs → Apart (set vs id w)
-  apart_new vs id w ticket below mine apart i j a b t ai bj ha hb =
-      let was : (k : ℕ) (c : V) → get_elem? (set vs id w) k ≡ some c → HasTicket t c.stage → ((k ≡ id) × (t ≡ ticket)) ⊎ ((t < ticket) × (get_elem? vs k ≡ some c) × HasTicket t c.stage)
-      = each_set (λ k c. HasTicket t c.stage → ((k ≡ id) × (t ≡ ticket)) ⊎ ((t < ticket) × (get_elem? vs k ≡ some c) × HasTicket t c.stage)) vs id w
-      (λ h. inl (refl, mine t h)) (λ k c _ at' h. inr (below k c t at' h, at', h)) in
+  apart_new vs id n ticket w below mine apart i j a b m t ai bj ha hb =
+      let was : (k : ℕ) (c : V) → get_elem? (set vs id w) k ≡ some c → HasTicket m t c.stage → ((k ≡ id) × (m ≡ n) × (t ≡ ticket)) ⊎ ((m ≡ n → t < ticket) × (get_elem? vs k ≡ some c) × HasTicket m t c.stage)
+      = each_set (λ k c. HasTicket m t c.stage → ((k ≡ id) × (m ≡ n) × (t ≡ ticket)) ⊎ ((m ≡ n → t < ticket) × (get_elem? vs k ≡ some c) × HasTicket m t c.stage)) vs id w
+      (λ h. let x = mine m t h in inl (refl, x.0, x.1)) (λ k c _ at' h. inr ((λ e. below k c t at' (subst (λ x. HasTicket x t c.stage) e h)), at', h)) in
       ⊎_elim
-      (λ p. ⊎_elim (λ q. p.0 ∙ sym q.0) (λ q. let x = p.1 in let y = q.0 in absurd (omega arith)) (was j b bj hb))
-      (λ p. ⊎_elim (λ q. let x = q.1 in let y = p.0 in absurd (omega arith)) (λ q. apart i j a b t p.1 q.1 p.2 q.2) (was j b bj hb))
+      (λ p. ⊎_elim (λ q. p.0 ∙ sym q.0) (λ q. let x = p.2 in let y = q.0 p.1 in absurd (omega arith)) (was j b bj hb))
+      (λ p. ⊎_elim (λ q. let x = q.2 in let y = p.0 q.1 in absurd (omega arith)) (λ q. apart i j a b m t p.1 q.1 p.2 q.2) (was j b bj hb))
       (was i a ai ha)
 
-  out_stays : (vs : List V) (id serving : ℕ) (v w : V) → get_elem? vs id ≡ some v → (v.stage ≡ Holds serving → w.stage ≡ Holds serving) → IsOut serving vs → IsOut serving (set vs id w)
-  out_stays vs id serving v w at still out = dite (ℕ_discrete out.0 id)
+  out_stays : (vs : List V) (id n serving : ℕ) (v w : V) → get_elem? vs id ≡ some v → (v.stage ≡ Holds n serving → w.stage ≡ Holds n serving) → IsOut n serving vs → IsOut n serving (set vs id w)
+  out_stays vs id n serving v w at still out = dite (ℕ_discrete out.0 id)
       (λ here. (id, w, set_at vs id v w at, still (ap (λ (x : V). x.stage) (some-injective v out.1 (sym at ∙ subst (λ k. get_elem? vs k ≡ some out.1) here out.2)) ∙ out.3)))
       (λ other. (out.0, out.1, set_else vs id out.0 w other ∙ out.2, out.3))
 
-  -- a step that changes no word
-  unmoved : (s : St) (r : Rule s) (i id : ℕ) (cs : List (ℕ × H)) (v w : V) → get_elem? s.views id ≡ some v → Knows from r.ticket r.serving r.log id w → w.stage ≡ v.stage
-      → Rule (stepped s i (get_or s.words i 0) id cs w keeps)
-  unmoved s r i id cs v w at mine same = record {
-    ticket = r.ticket;
-    serving = r.serving;
-    log = r.log;
-    words = set-get_or s.words i 0 ∙ r.words;
-    most = r.most;
-    served = r.served;
-    each_seat = each_set (Knows from r.ticket r.serving r.log) s.views id w mine (λ j u _. r.each_seat j u);
-    unmade = λ j l. r.unmade j (subst (λ k. k ≤ j) (length-set s.views id w) l);
-    apart = apart_set s.views id v w at (λ t h. subst (HasTicket t) same h) r.apart;
-    legal = r.legal;
-    count = r.count;
-    slot = ⊎_elim inl (λ o. inr (o.0, out_stays s.views id r.serving v w at (λ e. same ∙ e) o.1)) r.slot;
+  -- a node at which the step did nothing
+  stands_else : (s s' : St) (log log' : List (Turn C R)) (m : ℕ) (first : M) → ticket_at s'.words m ≡ ticket_at s.words m → serving_at s'.words m ≡ serving_at s.words m → turns_at m log' ≡ turns_at m log → get_elem? s'.homes m ≡ get_elem? s.homes m
+      → (IsOut m (serving_at s.words m) s.views → IsOut m (serving_at s.words m) s'.views) → Stands turns place from.ticket s log m first → Stands turns place from.ticket s' log' m first
+  stands_else s s' log log' m first tk sv lg hm still k = record {
+    most = subst (λ x. x ≤ 2 ^ 62) (sym tk) k.most;
+    served = subst (λ (x : ℕ × ℕ). x.0 ≤ x.1) (λ i. (sym sv i, sym tk i)) k.served;
+    legal = subst (IsLegal turns first) (sym lg) k.legal;
+    count = sv ∙ (k.count ∙ ap (λ (l : List (Turn C R)). from.ticket + length l) (sym lg));
+    slot = ⊎_elim
+        (λ (home : (h : M) × (get_elem? s.homes m ≡ some (some h)) × Rests turns place first (turns_at m log) h). inl (home.0, hm ∙ home.1, subst (λ l. Rests turns place first l home.0) (sym lg) home.2))
+        (λ (out : (get_elem? s.homes m ≡ some none) × IsOut m (serving_at s.words m) s.views). inr (hm ∙ out.0, subst (λ x. IsOut m x s'.views) (sym sv) (still out.1)))
+        k.slot;
   }
 
   -- a seat knows something else
-  reseat : (s : St) (r : Rule s) (id : ℕ) (v w : V) → get_elem? s.views id ≡ some v → Knows from r.ticket r.serving r.log id w → w.stage ≡ v.stage → Rule record { words = s.words; homes = s.homes; views = set s.views id w }
+  reseat : (s : St) (r : Rule s) (id : ℕ) (v w : V) → get_elem? s.views id ≡ some v → Knows from s.words r.log id w → w.stage ≡ v.stage → Rule record { words = s.words; homes = s.homes; views = set s.views id w }
   reseat s r id v w at mine same = record {
-    ticket = r.ticket;
-    serving = r.serving;
     log = r.log;
-    words = r.words;
-    most = r.most;
-    served = r.served;
-    each_seat = each_set (Knows from r.ticket r.serving r.log) s.views id w mine (λ j u _. r.each_seat j u);
+    placed = r.placed;
+    wide = r.wide;
+    each_seat = each_set (Knows from s.words r.log) s.views id w mine (λ j u _. r.each_seat j u);
     unmade = λ j l. r.unmade j (subst (λ k. k ≤ j) (length-set s.views id w) l);
-    apart = apart_set s.views id v w at (λ t h. subst (HasTicket t) same h) r.apart;
-    legal = r.legal;
-    count = r.count;
-    slot = ⊎_elim inl (λ o. inr (o.0, out_stays s.views id r.serving v w at (λ e. same ∙ e) o.1)) r.slot;
+    apart = apart_set s.views id v w at (λ n t h. subst (HasTicket n t) same h) r.apart;
+    each_node = λ m first there. stands_else s record { words = s.words; homes = s.homes; views = set s.views id w } r.log r.log m first refl refl refl refl
+        (λ o. out_stays s.views id m (serving_at s.words m) v w at (λ e. same ∙ e) o) (r.each_node m first there);
   }
 
+  -- a step that changes no word
+  unmoved : (s : St) (r : Rule s) (i id : ℕ) (cs : List (ℕ × M)) (v w : V) → get_elem? s.views id ≡ some v → Knows from s.words r.log id w → w.stage ≡ v.stage
+      → Rule (stepped s i (get_or s.words i 0) id cs w keeps)
+  unmoved s r i id cs v w at mine same = subst (λ (ws : List ℕ). Rule record { words = ws; homes = s.homes; views = set s.views id w }) (sym (set-get_or s.words i 0)) (reseat s r id v w at mine same)
+
   -- a seat comes that has made no turn
-  arrived : (s : St) (r : Rule s) (w : V) → w.stage ≡ Idle → ((j : ℕ) → turns_of j r.log ≡ [] → Knows from r.ticket r.serving r.log j w) → Rule record { words = s.words; homes = s.homes; views = s.views ++ w ∷ [] }
+  arrived : (s : St) (r : Rule s) (w : V) → w.stage ≡ Idle → ((j : ℕ) → turns_of j r.log ≡ [] → Knows from s.words r.log j w) → Rule record { words = s.words; homes = s.homes; views = s.views ++ w ∷ [] }
   arrived s r w idle new = record {
-    ticket = r.ticket;
-    serving = r.serving;
     log = r.log;
-    words = r.words;
-    most = r.most;
-    served = r.served;
+    placed = r.placed;
+    wide = r.wide;
     each_seat = λ j u e. ⊎_elim (λ old. r.each_seat j u old)
-        (λ (t : (j ≡ length s.views) × (w ≡ u)). subst (Knows from r.ticket r.serving r.log j) t.1 (let end = t.0 in new j (r.unmade j (omega arith)))) (at_end s.views w u j e);
+        (λ (t : (j ≡ length s.views) × (w ≡ u)). subst (Knows from s.words r.log j) t.1 (let end = t.0 in new j (r.unmade j (omega arith)))) (at_end s.views w u j e);
     unmade = λ j l. let more = length-append s.views (w ∷ []) in r.unmade j (omega arith);
-    apart = λ i j a b t ai bj ha hb.
-        let old : (k : ℕ) (c : V) → get_elem? (s.views ++ w ∷ []) k ≡ some c → HasTicket t c.stage → get_elem? s.views k ≡ some c
-        = λ k c e h. ⊎_elim (λ o. o) (λ (y : (k ≡ length s.views) × (w ≡ c)). absurd (subst (HasTicket t) (ap (λ (z : V). z.stage) (sym y.1) ∙ idle) h)) (at_end s.views w c k e) in
-        r.apart i j a b t (old i a ai ha) (old j b bj hb) ha hb;
-    legal = r.legal;
-    count = r.count;
-    slot = ⊎_elim inl (λ o. let out = o.1 in inr (o.0, (out.0, out.1, at_longer s.views (w ∷ []) out.0 out.1 out.2, out.3))) r.slot;
+    apart = λ i j a b n t ai bj ha hb.
+        let old : (k : ℕ) (c : V) → get_elem? (s.views ++ w ∷ []) k ≡ some c → HasTicket n t c.stage → get_elem? s.views k ≡ some c
+        = λ k c e h. ⊎_elim (λ o. o) (λ (y : (k ≡ length s.views) × (w ≡ c)). absurd (subst (HasTicket n t) (ap (λ (z : V). z.stage) (sym y.1) ∙ idle) h)) (at_end s.views w c k e) in
+        r.apart i j a b n t (old i a ai ha) (old j b bj hb) ha hb;
+    each_node = λ m first there. stands_else s record { words = s.words; homes = s.homes; views = s.views ++ w ∷ [] } r.log r.log m first refl refl refl refl
+        (λ out. (out.0, out.1, at_longer s.views (w ∷ []) out.0 out.1 out.2, out.3)) (r.each_node m first there);
   }
 
   pub splits : (id : ℕ) (v : V) → Splits Rule id v v (fresh_view v)
@@ -203,7 +253,7 @@ module _ {M C R P : Type 0} (turns : M → ℕ → ℕ → C → R → M → Typ
       let heard : Rule record { words = s.words; homes = s.homes; views = set s.views id (told_view v w) }
       = reseat s r id v (told_view v w) at record { same = k.same; seen = k.seen; told = o.seen; owns = k.owns; queues = k.queues; spent = k.spent } refl in
       reseat record { words = s.words; homes = s.homes; views = set s.views id (told_view v w) } heard other w ended_view there
-      record { same = tt; seen = (r.log, refl); told = (r.log, refl); owns = ((λ e. absurd (true_not_false (sym e))), (λ _. o.owns.1 new)); queues = tt; spent = λ e. absurd (true_not_false (sym e)) }
+      record { same = tt; seen = (r.log, refl); told = (r.log, refl); owns = ((λ e. absurd (true_not_false (sym e))), (λ _. o.owns.1 new)); queues = tt; spent = λ n met. absurd met }
       (sym idle)
 
   pub learns : (slots id : ℕ) (me : Sat M C R) → me.0.numbered ≡ false → Allows Rule slots id me 0 (λ x. x) (learned (step slots 0 0 0 none) me)
@@ -221,15 +271,25 @@ module _ {M C R P : Type 0} (turns : M → ℕ → ℕ → C → R → M → Typ
       )
 
   -- what a seat knows of the beginning
-  known_opening : (v : V) (o : Beginning M) → IfSome v.opening (λ b. b ≡ from) → v.opening ≡ Some o → o ≡ from
-  known_opening v o same known = subst (λ (y : Option (Beginning M)). IfSome y (λ b. b ≡ from)) known same
+  known_opening : (v : V) (o : Opening M) → IfSome v.opening (λ b. b ≡ from) → v.opening ≡ Some o → o ≡ from
+  known_opening v o same known = subst (λ (y : Option (Opening M)). IfSome y (λ b. b ≡ from)) known same
 
-  -- what was seen has no more turns than there are tickets
+  -- what was seen has no more turns at a node than there are tickets
   has_room : (s : St) (r : Rule s) (v : V) (seen : List (Turn C R)) → IfSome v.opening (λ b. b ≡ from) → StartsWith r.log seen → HasRoom v.opening seen
-  has_room s r v seen same begins o known =
-      let long : length r.log ≡ length (seen ++ begins.0) = ap length begins.1 in let more = length-append seen begins.0 in
-      let count = r.count in let served = r.served in let most = r.most in
-      subst (λ (b : Beginning M). b.ticket + length seen ≤ 2 ^ 62) (sym (known_opening v o same known)) (omega arith)
+  has_room s r v seen same begins o known n first there =
+      let is : o ≡ from = known_opening v o same known in
+      let k = r.each_node n first (ap (λ (b : Opening M). get_elem? b.states n) (sym is) ∙ there) in
+      let long : length (turns_at n r.log) ≡ length (turns_at n seen ++ turns_at n begins.0) = ap (λ l. length (turns_at n l)) begins.1 ∙ ap length (node_parts n seen begins.0) in
+      let more = length-append (turns_at n seen) (turns_at n begins.0) in
+      let count : serving_at s.words n ≡ from.ticket + length (turns_at n r.log) = k.count in let served : serving_at s.words n ≤ ticket_at s.words n = k.served in let most : ticket_at s.words n ≤ 2 ^ 62 = k.most in
+      subst (λ (b : Opening M). b.ticket + length (turns_at n seen) ≤ 2 ^ 62) (sym is) (omega arith)
+
+  -- the history is legal at each node
+  is_whole : (s : St) (r : Rule s) → IsWhole turns from.states r.log
+  is_whole s r = (r.placed, λ n first there. (r.each_node n first there).legal)
+
+  known_whole : (v : V) (o : Opening M) (log : List (Turn C R)) → IfSome v.opening (λ b. b ≡ from) → v.opening ≡ Some o → IsWhole turns from.states log → IsWhole turns o.states log
+  known_whole v o log same known whole = subst (λ (b : Opening M). IsWhole turns b.states log) (sym (known_opening v o same known)) whole
 
   seeing : List (Turn C R) → V → V
   seeing log v = record { opening = v.opening; number = v.number; numbered = v.numbered; seen = log; told = v.told; stage = v.stage; spent = v.spent }
@@ -243,89 +303,116 @@ module _ {M C R P : Type 0} (turns : M → ℕ → ℕ → C → R → M → Typ
         keeps,
         tt,
         unmoved s r 0 id me.1 v (seeing r.log v) at
-            record { same = k.same; seen = ([], sym (append-nil r.log)); told = k.told; owns = ((λ e. ((k.owns.0 e).0, refl)), k.owns.1); queues = subst (HoldsItsTicket r.ticket r.serving r.log r.log) (sym idle) tt; spent = k.spent } refl,
+            record { same = k.same; seen = ([], sym (append-nil r.log)); told = k.told; owns = ((λ e. ((k.owns.0 e).0, refl)), k.owns.1); queues = subst (HoldsItsTicket s.words r.log r.log) (sym idle) tt; spent = k.spent } refl,
         (
           refl,
           (refl, refl, numbered, refl, k.seen, k.told, subst (λ n. turns_of n r.log ≡ turns_of n v.seen) (sym (k.owns.0 numbered).0) (k.owns.0 numbered).1),
           idle,
-          (λ o known. subst (λ (b : Beginning M). IsLegal turns b.state r.log) (sym (known_opening v o k.same known)) r.legal),
+          (λ o known. known_whole v o r.log k.same known (is_whole s r)),
           has_room s r v r.log k.same ([], sym (append-nil r.log)),
         ),
       )
 
-  -- the ticket is drawn
-  drew : (s : St) (r : Rule s) (id t n : ℕ) (cs : List (ℕ × H)) (v : V) → get_elem? s.views id ≡ some v → v.stage ≡ Idle → t ≡ r.ticket → r.ticket < 2 ^ 62 → n ≡ r.ticket + 1
-      → Rule (stepped s 0 n id cs (at_stage (Waits t) v) keeps)
-  drew s r id t n cs v at idle is left next =
-      let w : V = at_stage (Waits t) v in let served = r.served in
-      let later : (j : ℕ) (u : V) → Knows from r.ticket r.serving r.log j u → u.spent ≡ true → n ≡ 2 ^ 62 = λ j u k e. let x = k.spent e in absurd (omega arith) in
+  -- a fact of each node, from that of the node n and of the others
+  nodes_at : (F : ℕ → M → Type 0) (n : ℕ) → ((first : M) → get_elem? from.states n ≡ some first → F n first) → ((m : ℕ) (first : M) → m ≢ n → get_elem? from.states m ≡ some first → F m first) → (m : ℕ) (first : M) → get_elem? from.states m ≡ some first → F m first
+  nodes_at F n here else m first there = dite (ℕ_discrete m n)
+      (λ e. subst (λ k. F k first) (sym e) (here first (subst (λ k. get_elem? from.states k ≡ some first) e there)))
+      (λ ne. else m first ne there)
+
+  -- the words of a node are in the table
+  inside : (s : St) (r : Rule s) (n : ℕ) (first : M) → get_elem? from.states n ≡ some first → 16 * n + 1 < length s.words
+  inside s r n first known = let a : n < length from.states = at_below from.states n first known in let b : length s.words ≡ 16 * length from.states = r.wide in omega arith
+
+  -- the ticket t of the node n is drawn
+  drew : (s : St) (r : Rule s) (id n t x : ℕ) (first : M) (cs : List (ℕ × M)) (v : V) → get_elem? from.states n ≡ some first → get_elem? s.views id ≡ some v → v.stage ≡ Idle → t ≡ ticket_at s.words n → t < 2 ^ 62 → x ≡ t + 1
+      → Rule (stepped s (16 * n) x id cs (at_stage (Waits n t) v) keeps)
+  drew s r id n t x first cs v known at idle is left next =
+      let w : V = at_stage (Waits n t) v in
+      let ws : List ℕ = set s.words (16 * n) x in
+      let within : 16 * n < length s.words = let a : 16 * n + 1 < length s.words = inside s r n first known in omega arith in
+      let mine : ticket_at ws n ≡ x = ticket_here s.words n x within in
+      let sv : (m : ℕ) → serving_at ws m ≡ serving_at s.words m = λ m. ticket_serving s.words n m x in
+      let tk : (m : ℕ) → m ≢ n → ticket_at ws m ≡ ticket_at s.words m = λ m other. ticket_else s.words n m x other in
+      let more : (m : ℕ) → ticket_at s.words m ≤ ticket_at ws m
+      = λ m. dite (ℕ_discrete m n) (λ e. subst (λ k. ticket_at s.words k ≤ ticket_at ws k) (sym e) (omega arith)) (λ ne. let same : ticket_at ws m ≡ ticket_at s.words m = tk m ne in omega arith) in
+      let later : (u : V) → ((m : ℕ) → Met m u.spent → ticket_at s.words m ≡ 2 ^ 62) → (m : ℕ) → Met m u.spent → ticket_at ws m ≡ 2 ^ 62
+      = λ u k m met. dite (ℕ_discrete m n) (λ e. let y : ticket_at s.words n ≡ 2 ^ 62 = subst (λ j. ticket_at s.words j ≡ 2 ^ 62) e (k m met) in absurd (omega arith)) (λ ne. tk m ne ∙ k m met) in
+      let not_out : (m j : ℕ) → v.stage ≡ Holds m j → w.stage ≡ Holds m j = λ m j e. absurd (idle_not_holds m j (sym idle ∙ e)) in
+      let s' : St = record { words = ws; homes = s.homes; views = set s.views id w } in
       let k = r.each_seat id v at in record {
-        ticket = n;
-        serving = r.serving;
         log = r.log;
-        words = ap (λ (ws : List ℕ). set ws 0 n) r.words;
-        most = omega arith;
-        served = omega arith;
-        each_seat = each_set (Knows from n r.serving r.log) s.views id w
-            record { same = k.same; seen = k.seen; told = k.told; owns = k.owns; queues = (omega arith, omega arith); spent = later id v k }
+        placed = r.placed;
+        wide = length-set s.words (16 * n) x ∙ r.wide;
+        each_seat = each_set (Knows from ws r.log) s.views id w
+            (let y : serving_at s.words n ≤ ticket_at s.words n = (r.each_node n first known).served in let z : serving_at ws n ≡ serving_at s.words n = sv n in
+            record { same = k.same; seen = k.seen; told = k.told; owns = k.owns; queues = (omega arith, omega arith); spent = later v k.spent })
             (λ j u _ e. let q = r.each_seat j u e in
-            record { same = q.same; seen = q.seen; told = q.told; owns = q.owns; queues = queues_grow r.ticket n r.serving r.log u.seen u.stage (omega arith) q.queues; spent = later j u q });
-        unmade = λ j l. r.unmade j (subst (λ x. x ≤ j) (length-set s.views id w) l);
-        apart = apart_new s.views id w r.ticket (λ j u x e h. has_below r.ticket r.serving x r.log u.seen u.stage (r.each_seat j u e).queues h) (λ x h. sym h ∙ is) r.apart;
-        legal = r.legal;
-        count = r.count;
-        slot = ⊎_elim inl (λ o. inr (o.0, out_stays s.views id r.serving v w at (λ e. absurd (idle_not_holds r.serving (sym idle ∙ e))) o.1)) r.slot;
+            record { same = q.same; seen = q.seen; told = q.told; owns = q.owns; queues = queues_grow s.words ws r.log u.seen u.stage sv more q.queues; spent = later u q.spent });
+        unmade = λ j l. r.unmade j (subst (λ y. y ≤ j) (length-set s.views id w) l);
+        apart = apart_new s.views id n t w (λ j u y e h. subst (λ z. y < z) (sym is) (has_below s.words n y r.log u.seen u.stage (r.each_seat j u e).queues h)) (λ m y h. (sym h.0, sym h.1)) r.apart;
+        each_node = nodes_at (Stands turns place from.ticket s' r.log) n
+            (λ f there. let q = r.each_node n f there in
+            let y : serving_at s.words n ≤ ticket_at s.words n = q.served in let z : serving_at ws n ≡ serving_at s.words n = sv n in record {
+              most = omega arith;
+              served = omega arith;
+              legal = q.legal;
+              count = sv n ∙ q.count;
+              slot = ⊎_elim inl (λ (o : (get_elem? s.homes n ≡ some none) × IsOut n (serving_at s.words n) s.views). inr (o.0, subst (λ y. IsOut n y (set s.views id w)) (sym (sv n)) (out_stays s.views id n (serving_at s.words n) v w at (not_out n (serving_at s.words n)) o.1))) q.slot;
+            })
+            (λ m f other there. stands_else s s' r.log r.log m f (tk m other) (sv m) refl refl (λ o. out_stays s.views id m (serving_at s.words m) v w at (not_out m (serving_at s.words m)) o) (r.each_node m f there));
       }
 
-  pub draws : (slots id : ℕ) (me : Sat M C R) (old new : ℕ) → me.0.stage ≡ Idle → old < 2 ^ 62 → new ≡ old + 1
-      → Allows Rule slots id me 0 (λ x. either (eqb x old) new x) (drawn (step slots 0 old new none) me)
-  draws slots id me old new idle left next s r wide at small =
-      let x : ℕ = get_or s.words 0 0 in
-      let is : x ≡ r.ticket = ap (λ (ws : List ℕ). get_or ws 0 0) r.words in
-      let k = r.each_seat id me.0 at in let most = r.most in
-      let gone : me.0.spent ≡ true → x ≡ 2 ^ 62 = λ e. is ∙ k.spent e in
+  pub draws : (slots id : ℕ) (me : Sat M C R) (n : ℕ) (first : M) (old new : ℕ) → get_elem? from.states n ≡ some first → me.0.stage ≡ Idle → old < 2 ^ 62 → new ≡ old + 1
+      → Allows Rule slots id me (16 * n) (λ x. either (eqb x old) new x) (drawn (step slots (16 * n) old new none) me)
+  draws slots id me n first old new known idle left next s r wide at small =
+      let x : ℕ = ticket_at s.words n in
+      let k = r.each_seat id me.0 at in let most : x ≤ 2 ^ 62 = (r.each_node n first known).most in
+      let gone : Met n me.0.spent → x ≡ 2 ^ 62 = k.spent n in
       let room : HasRoom me.0.opening me.0.seen = has_room s r me.0 me.0.seen k.same k.seen in
-      exchanged x old new (λ n. (w : V) × (a : Act H) × Valid s.homes me.1 a × Rule (stepped s 0 n id me.1 w a) × drawn (step slots 0 old new none) me x (w, carried_after me.1 a))
+      let st = step slots (16 * n) old new none in
+      let tells : (m' : Sat M C R) → DrawnAt n st me x m' → drawn st me x m' = λ m' told o j f is there same. subst (λ i. DrawnAt i st me x m') (apart_words n j same) told in
+      exchanged x old new (λ y. (w : V) × (a : Act M) × Valid s.homes me.1 a × Rule (stepped s (16 * n) y id me.1 w a) × drawn st me x (w, carried_after me.1 a))
       (λ hit. (
-        at_stage (Waits x) me.0,
+        at_stage (Waits n x) me.0,
         keeps,
         tt,
-        drew s r id x new me.1 me.0 at idle is (omega arith) (omega arith),
-        (refl, omega arith, gone, room, (λ _. refl), (λ ne _. absurd (ne hit)), (λ ne _. absurd (ne hit))),
+        drew s r id n x new first me.1 me.0 known at idle refl (omega arith) (omega arith),
+        tells (at_stage (Waits n x) me.0, me.1) (refl, most, gone, room, (λ _. refl), (λ ne _. absurd (ne hit)), (λ ne _. absurd (ne hit))),
       ))
       (λ miss. dite (ℕ_discrete x (2 ^ 62))
       (λ end. (
-        spent_view me.0,
+        spent_view n me.0,
         keeps,
         tt,
-        unmoved s r 0 id me.1 me.0 (spent_view me.0) at record { same = k.same; seen = k.seen; told = k.told; owns = k.owns; queues = k.queues; spent = λ _. sym is ∙ end } refl,
-        (refl, omega arith, gone, room, (λ hit. absurd (miss hit)), (λ _ ne. absurd (ne end)), (λ _ _. refl)),
+        unmoved s r (16 * n) id me.1 me.0 (spent_view n me.0) at
+            record { same = k.same; seen = k.seen; told = k.told; owns = k.owns; queues = k.queues; spent = λ m met. ⊎_elim (λ e. ap (ticket_at s.words) e ∙ end) (λ old_one. k.spent m old_one) met } refl,
+        tells (spent_view n me.0, me.1) (refl, most, gone, room, (λ hit. absurd (miss hit)), (λ _ ne. absurd (ne end)), (λ _ _. refl)),
       ))
       (λ more. (
         me.0,
         keeps,
         tt,
-        unmoved s r 0 id me.1 me.0 me.0 at k refl,
-        (refl, omega arith, gone, room, (λ hit. absurd (miss hit)), (λ _ _. refl), (λ _ e. absurd (more e))),
+        unmoved s r (16 * n) id me.1 me.0 me.0 at k refl,
+        tells (me.0, me.1) (refl, most, gone, room, (λ hit. absurd (miss hit)), (λ _ _. refl), (λ _ e. absurd (more e))),
       )))
 
-  -- the seat has the slot, and has seen all
-  abbrev holding : List (Turn C R) → ℕ → V → V
-  holding log t v = record { opening = v.opening; number = v.number; numbered = v.numbered; seen = log; told = v.told; stage = Holds t; spent = v.spent }
+  -- the seat has the slot of the node n, and has seen all
+  abbrev holding : List (Turn C R) → ℕ → ℕ → V → V
+  holding log n t v = record { opening = v.opening; number = v.number; numbered = v.numbered; seen = log; told = v.told; stage = Holds n t; spent = v.spent }
 
-  -- the ticket t is served, and the slot goes to its seat
-  taken : (s : St) (r : Rule s) (id t : ℕ) (cs : List (ℕ × H)) (v : V) (h : H) → get_elem? s.views id ≡ some v → v.stage ≡ Waits t → r.serving ≡ t → s.homes ≡ some h ∷ []
-      → Rule (stepped s 1 (get_or s.words 1 0) id cs (holding r.log t v) (takes 0 h))
-  taken s r id t cs v h at waits now home =
-      let w : V = holding r.log t v in let k = r.each_seat id v at in
-      let q : (r.serving ≤ t) × (t < r.ticket) = subst (HoldsItsTicket r.ticket r.serving r.log v.seen) waits k.queues in record {
-        ticket = r.ticket;
-        serving = r.serving;
+  -- the ticket t of the node n is served, and the slot goes to its seat
+  taken : (s : St) (r : Rule s) (id n t : ℕ) (cs : List (ℕ × M)) (v : V) (h : M) → get_elem? s.views id ≡ some v → v.stage ≡ Waits n t → serving_at s.words n ≡ t → get_elem? s.homes n ≡ some (some h)
+      → Rule (stepped s (16 * n + 1) (get_or s.words (16 * n + 1) 0) id cs (holding r.log n t v) (takes n h))
+  taken s r id n t cs v h at waits now home =
+      let w : V = holding r.log n t v in let k = r.each_seat id v at in
+      let q : (serving_at s.words n ≤ t) × (t < ticket_at s.words n) = subst (HoldsItsTicket s.words r.log v.seen) waits k.queues in
+      let hs : List (option.Option M) = set s.homes n none in
+      let s' : St = record { words = s.words; homes = hs; views = set s.views id w } in
+      subst (λ (ws : List ℕ). Rule record { words = ws; homes = hs; views = set s.views id w }) (sym (set-get_or s.words (16 * n + 1) 0)) record {
         log = r.log;
-        words = set-get_or s.words 1 0 ∙ r.words;
-        most = r.most;
-        served = r.served;
-        each_seat = each_set (Knows from r.ticket r.serving r.log) s.views id w
+        placed = r.placed;
+        wide = r.wide;
+        each_seat = each_set (Knows from s.words r.log) s.views id w
             record {
               same = k.same;
               seen = ([], sym (append-nil r.log));
@@ -336,195 +423,264 @@ module _ {M C R P : Type 0} (turns : M → ℕ → ℕ → C → R → M → Typ
             }
             (λ j u _. r.each_seat j u);
         unmade = λ j l. r.unmade j (subst (λ x. x ≤ j) (length-set s.views id w) l);
-        apart = apart_set s.views id v w at (λ x e. subst (HasTicket x) (sym waits) e) r.apart;
-        legal = r.legal;
-        count = r.count;
-        slot = inr (ap (λ (hs : List (option.Option H)). set hs 0 none) home, (id, w, set_at s.views id v w at, ap Holds (sym now)));
+        apart = apart_set s.views id v w at (λ m x e. subst (HasTicket m x) (sym waits) e) r.apart;
+        each_node = nodes_at (Stands turns place from.ticket s' r.log) n
+            (λ f there. let p = r.each_node n f there in record {
+              most = p.most;
+              served = p.served;
+              legal = p.legal;
+              count = p.count;
+              slot = inr (set_at s.homes n (some h) none home, (id, w, set_at s.views id v w at, ap (Holds n) (sym now)));
+            })
+            (λ m f other there. stands_else s s' r.log r.log m f refl refl refl (set_else s.homes n m none other)
+            (λ o. out_stays s.views id m (serving_at s.words m) v w at (λ e. absurd (waits_not_holds n t m (serving_at s.words m) (sym waits ∙ e))) o) (r.each_node m f there));
       }
 
-  pub looks : (slots id : ℕ) (me : Sat M C R) (t : ℕ) → me.0.stage ≡ Waits t → Allows Rule slots id me 1 (λ x. x) (looked turns place (step slots 1 0 0 none) me)
-  looks slots id me t waits s r wide at small =
+  pub looks : (slots id : ℕ) (me : Sat M C R) (n t : ℕ) (first : M) → get_elem? from.states n ≡ some first → me.0.stage ≡ Waits n t → Allows Rule slots id me (16 * n + 1) (λ x. x) (looked turns place (step slots (16 * n + 1) 0 0 none) me)
+  looks slots id me n t first known waits s r wide at small =
       let v : V = me.0 in
-      let x : ℕ = get_or s.words 1 0 in
-      let is : x ≡ r.serving = ap (λ (ws : List ℕ). get_or ws 1 0) r.words in
+      let x : ℕ = serving_at s.words n in
+      let p = r.each_node n first known in
       let k = r.each_seat id v at in
-      let same : (u : ℕ) → v.stage ≡ Waits u → t ≡ u = λ u e. waits_same t u (sym waits ∙ e) in
-      let opened : (o : Beginning M) → v.opening ≡ Some o → o ≡ from = λ o e. subst (λ (y : Option (Beginning M)). IfSome y (λ m. m ≡ from)) e k.same in
+      let st = step slots (16 * n + 1) 0 0 none in
+      let tells : (m' : Sat M C R) → (v.numbered ≡ true → (x ≡ t → Gets turns place first n t me m') × (x ≢ t → m' ≡ me)) → looked turns place st me x m'
+      = λ m' told o j u f is there stage numbered.
+      let same : (n ≡ j) × (t ≡ u) = waits_same n t j u (sym waits ∙ stage) in
+      let one : first ≡ f = some-injective first f (sym known ∙ (ap (λ (b : Opening M). get_elem? b.states n) (sym (known_opening v o k.same is)) ∙ (ap (get_elem? o.states) same.0 ∙ there))) in
+      subst (λ (y : ℕ × ℕ × M). (x ≡ y.1 → Gets turns place y.2 y.0 y.1 me m') × (x ≢ y.1 → m' ≡ me)) (λ i. (same.0 i, same.1 i, one i)) (told numbered) in
       dite (ℕ_discrete x t)
       (λ hit. ⊎_elim
-      (λ (home : (h : H) × (s.homes ≡ some h ∷ []) × Rests turns place first r.log h). let rests = home.2 in (
-        holding r.log t v,
-        takes 0 home.0,
-        ap (λ (hs : List (option.Option H)). get_elem? hs 0) home.1,
-        taken s r id t me.1 v home.0 at waits (sym is ∙ hit) home.1,
-        (λ o u known e numbered. (
+      (λ (home : (h : M) × (get_elem? s.homes n ≡ some (some h)) × Rests turns place first (turns_at n r.log) h). let rests = home.2 in (
+        holding r.log n t v,
+        takes n home.0,
+        home.1,
+        taken s r id n t me.1 v home.0 at waits hit home.1,
+        tells (holding r.log n t v, (n, home.0) ∷ me.1) (λ numbered. (
           (λ _. (
             home.0,
-            rests.0,
             refl,
-            rests.1,
             (
-              (refl, refl, numbered, refl, k.seen, k.told, subst (λ n. turns_of n r.log ≡ turns_of n v.seen) (sym (k.owns.0 numbered).0) (k.owns.0 numbered).1),
-              ap Holds (same u e),
-              subst (λ m. Leads turns m r.log rests.0) (ap (λ (b : Beginning M). b.state) (sym (opened o known))) rests.2,
-              rests.3 ∙ ap (λ (b : Beginning M). place b.state) (sym (opened o known)),
+              (refl, refl, numbered, refl, k.seen, k.told, subst (λ j. turns_of j r.log ≡ turns_of j v.seen) (sym (k.owns.0 numbered).0) (k.owns.0 numbered).1),
+              refl,
+              rests.0,
+              rests.1,
             ),
           )),
-          (λ miss. absurd (miss (hit ∙ same u e))),
+          (λ miss. absurd (miss hit)),
         )),
       ))
-      (λ (out : (s.homes ≡ none ∷ []) × IsOut r.serving s.views).
+      (λ (out : (get_elem? s.homes n ≡ some none) × IsOut n (serving_at s.words n) s.views).
       let o = out.1 in
-      let own : id ≡ o.0 = r.apart id o.0 v o.1 t at o.2 (subst (HasTicket t) (sym waits) refl) (subst (HasTicket t) (sym o.3) (sym is ∙ hit)) in
+      let own : id ≡ o.0 = r.apart id o.0 v o.1 n t at o.2 (subst (HasTicket n t) (sym waits) (refl, refl)) (subst (HasTicket n t) (sym o.3) (refl, hit)) in
       let u : v ≡ o.1 = some-injective v o.1 (sym at ∙ subst (λ i. get_elem? s.views i ≡ some o.1) (sym own) o.2) in
-      absurd (waits_not_holds t r.serving (sym waits ∙ (ap (λ (y : V). y.stage) u ∙ o.3))))
-      r.slot)
-      (λ miss. (v, keeps, tt, unmoved s r 1 id me.1 v v at k refl, (λ o u _ e numbered. ((λ hit. absurd (miss (hit ∙ sym (same u e)))), (λ _. refl)))))
+      absurd (waits_not_holds n t n x (sym waits ∙ (ap (λ (y : V). y.stage) u ∙ o.3))))
+      p.slot)
+      (λ miss. (v, keeps, tt, unmoved s r (16 * n + 1) id me.1 v v at k refl, tells (v, me.1) (λ numbered. ((λ hit. absurd (miss hit)), (λ _. refl)))))
 
-  -- what a seat that waits knows, once the ticket before is served
-  queues_on : (ticket serving n : ℕ) (log log' seen : List (Turn C R)) (st : Stage) → n ≡ serving + 1 → (HasTicket serving st → ⊥) → HoldsItsTicket ticket serving log seen st → HoldsItsTicket ticket n log' seen st
-  queues_on ticket serving n log log' seen Idle next other q = tt
-  queues_on ticket serving n log log' seen (Waits t) next other q = let a = q.0 in let b = q.1 in dite (ℕ_discrete t serving) (λ e. absurd (other e)) (λ ne. (omega arith, b))
-  queues_on ticket serving n log log' seen (Holds t) next other q = absurd (other (sym q.0))
-
-  -- the slot comes back, and the next ticket is served
-  served_next : (s : St) (r : Rule s) (id t n : ℕ) (cs : List (ℕ × H)) (v : V) (h : H) (e : Option (Entry C R)) (m : M) → get_elem? s.views id ≡ some v → v.stage ≡ Holds t → v.numbered ≡ true → n ≡ t + 1 → cs ≡ (0, h) ∷ [] → h ≡ Some m
-      → Leads turns first (v.seen ++ turn v.number e ∷ []) m → place m ≡ place first → Rule (stepped s 1 n id cs (published_view e v) gives)
-  served_next s r id t n cs v h e m at holds numbered next out machine leads same_place =
-      let x : Turn C R = turn v.number e in
-      let w : V = published_view e v in
+  -- The slot of the node n comes back, and its next ticket is served. Others may have gone on at other nodes, so the history is what the seat had seen, what they did, and this turn
+  served_next : (s : St) (r : Rule s) (id n t x : ℕ) (first : M) (cs : List (ℕ × M)) (v : V) (h : M) (e : Option (Entry C R)) (between : List (Turn C R)) → get_elem? from.states n ≡ some first → get_elem? s.views id ≡ some v
+      → v.stage ≡ Holds n t → v.numbered ≡ true → x ≡ t + 1 → cs ≡ (n, h) ∷ [] → r.log ≡ v.seen ++ between
+      → Leads turns first (turns_at n v.seen ++ turn v.number n e ∷ []) h → place h ≡ place first → Rule (stepped s (16 * n + 1) x id cs (published_view n e between v) gives)
+  served_next s r id n t x first cs v h e between known at holds numbered next out all_seen leads same_place =
+      let it : Turn C R = turn v.number n e in
+      let w : V = published_view n e between v in
       let k = r.each_seat id v at in
-      let q : (r.serving ≡ t) × (t < r.ticket) × (r.log ≡ v.seen) = subst (HoldsItsTicket r.ticket r.serving r.log v.seen) holds k.queues in
-      let now : r.serving ≡ t = q.0 in let below : t < r.ticket = q.1 in
-      let log : List (Turn C R) = r.log ++ x ∷ [] in
-      let all : log ≡ w.seen = ap (λ l. l ++ x ∷ []) q.2 in
-      let on : Leads turns first log m = subst (λ l. Leads turns first l m) (sym all) leads in
+      let here = r.each_node n first known in
+      let q : (serving_at s.words n ≡ t) × (t < ticket_at s.words n) × (turns_at n r.log ≡ turns_at n v.seen) = subst (HoldsItsTicket s.words r.log v.seen) holds k.queues in
+      let now : serving_at s.words n ≡ t = q.0 in let below : t < ticket_at s.words n = q.1 in
+      let log : List (Turn C R) = r.log ++ it ∷ [] in
+      let all : log ≡ w.seen = ap (λ l. l ++ it ∷ []) all_seen in
+      let here_log : turns_at n log ≡ turns_at n v.seen ++ it ∷ [] = node_mine r.log v.number n e ∙ ap (λ l. l ++ it ∷ []) q.2 in
+      let on : Leads turns first (turns_at n log) h = subst (λ l. Leads turns first l h) (sym here_log) leads in
       let mine : v.number ≡ id = (k.owns.0 numbered).0 in
-      let others : (j : ℕ) → j ≢ id → turns_of j log ≡ turns_of j r.log = λ j other. turns_other r.log v.number j e (λ y. other (sym y ∙ mine)) in
-      let home : put_back s.homes cs ≡ some h ∷ [] =
-      ap (put_back s.homes) out
-      ∙ ⊎_elim (λ (y : (g : H) × (s.homes ≡ some g ∷ []) × Rests turns place first r.log g). ap (λ (hs : List (option.Option H)). set hs 0 (some h)) y.1)
-      (λ (y : (s.homes ≡ none ∷ []) × IsOut r.serving s.views). ap (λ (hs : List (option.Option H)). set hs 0 (some h)) y.0) r.slot in
-      record {
-        ticket = r.ticket;
-        serving = n;
+      let others : (j : ℕ) → j ≢ id → turns_of j log ≡ turns_of j r.log = λ j other. turns_other r.log v.number n j e (λ y. other (sym y ∙ mine)) in
+      let elsewhere : (m : ℕ) → m ≢ n → turns_at m log ≡ turns_at m r.log = λ m other. node_other r.log v.number n m e other in
+      let ws : List ℕ = set s.words (16 * n + 1) x in
+      let hs : List (option.Option M) = set s.homes n (some h) in
+      let tk : (m : ℕ) → ticket_at ws m ≡ ticket_at s.words m = λ m. serving_ticket s.words n m x in
+      let sv : (m : ℕ) → m ≢ n → serving_at ws m ≡ serving_at s.words m = λ m other. serving_else s.words n m x other in
+      let sn : serving_at ws n ≡ x = serving_here s.words n x (inside s r n first known) in
+      let after : serving_at ws n ≡ serving_at s.words n + 1 = sn ∙ (next ∙ ap (λ y. y + 1) (sym now)) in
+      let home : get_elem? hs n ≡ some (some h) =
+      ⊎_elim (λ (y : (g : M) × (get_elem? s.homes n ≡ some (some g)) × Rests turns place first (turns_at n r.log) g). set_at s.homes n (some y.0) (some h) y.1)
+      (λ (y : (get_elem? s.homes n ≡ some none) × IsOut n (serving_at s.words n) s.views). set_at s.homes n none (some h) y.0) here.slot in
+      let s' : St = record { words = ws; homes = hs; views = set s.views id w } in
+      subst (λ (l : List (option.Option M)). Rule record { words = ws; homes = l; views = set s.views id w }) (sym (ap (put_back s.homes) out)) record {
         log = log;
-        words = ap (λ (ws : List ℕ). set ws 1 n) r.words;
-        most = r.most;
-        served = omega arith;
-        each_seat = each_set (Knows from r.ticket n log) s.views id w
+        placed = placed_on (length from.states) r.log it (at_below from.states n first known) r.placed;
+        wide = length-set s.words (16 * n + 1) x ∙ r.wide;
+        each_seat = each_set (Knows from ws log) s.views id w
             record {
               same = k.same;
               seen = ([], all ∙ sym (append-nil w.seen));
-              told = starts_on r.log v.told x k.told;
-              owns = ((λ _. (mine, ap (turns_of id) all)), (λ e. absurd (true_not_false (sym numbered ∙ e))));
+              told = starts_on r.log v.told it k.told;
+              owns = ((λ _. (mine, ap (turns_of id) all)), (λ f. absurd (true_not_false (sym numbered ∙ f))));
               queues = tt;
-              spent = k.spent;
+              spent = λ m met. tk m ∙ k.spent m met;
             }
-            (λ j u other e. let o = r.each_seat j u e in record {
+            (λ j u other f. let o = r.each_seat j u f in record {
               same = o.same;
-              seen = starts_on r.log u.seen x o.seen;
-              told = starts_on r.log u.told x o.told;
+              seen = starts_on r.log u.seen it o.seen;
+              told = starts_on r.log u.told it o.told;
               owns = ((λ y. ((o.owns.0 y).0, others j other ∙ (o.owns.0 y).1)), (λ y. others j other ∙ o.owns.1 y));
-              queues = queues_on r.ticket r.serving n r.log log u.seen u.stage (omega arith) (λ has. other (r.apart j id u v r.serving e at has (subst (HasTicket r.serving) (sym holds) (sym now)))) o.queues;
-              spent = o.spent;
+              queues = queues_on s.words ws r.log log u.seen u.stage n tk sv elsewhere after (λ has. other (r.apart j id u v n (serving_at s.words n) f at has (subst (HasTicket n (serving_at s.words n)) (sym holds) (refl, sym now)))) o.queues;
+              spent = λ m met. tk m ∙ o.spent m met;
             });
-        unmade = λ j l. let far : length s.views ≤ j = subst (λ y. y ≤ j) (length-set s.views id w) l in let inside = at_below s.views id v at in others j (λ e. omega arith) ∙ r.unmade j far;
-        apart = apart_set s.views id v w at (λ y e. absurd e) r.apart;
-        legal = (m, on);
-        count = let c = r.count in let more = length-append r.log (x ∷ []) in omega arith;
-        slot = inl (h, home, (m, machine, on, same_place));
+        unmade = λ j l. let far : length s.views ≤ j = subst (λ y. y ≤ j) (length-set s.views id w) l in let in_range = at_below s.views id v at in others j (λ y. omega arith) ∙ r.unmade j far;
+        apart = apart_set s.views id v w at (λ m y f. absurd f) r.apart;
+        each_node = nodes_at (Stands turns place from.ticket s' log) n
+            (λ f there. let p = r.each_node n f there in
+            let one : first ≡ f = some-injective first f (sym known ∙ there) in
+            let on' : Leads turns f (turns_at n log) h = subst (λ y. Leads turns y (turns_at n log) h) one on in
+            let most : ticket_at s.words n ≤ 2 ^ 62 = p.most in let same : ticket_at ws n ≡ ticket_at s.words n = tk n in
+            let count : serving_at s.words n ≡ from.ticket + length (turns_at n r.log) = p.count in
+            let longer : length (turns_at n log) ≡ length (turns_at n r.log ++ it ∷ []) = ap length (node_mine r.log v.number n e) in
+            let more = length-append (turns_at n r.log) (it ∷ []) in record {
+              most = omega arith;
+              served = omega arith;
+              legal = (h, on');
+              count = omega arith;
+              slot = inl (h, home, (on', same_place ∙ ap place one));
+            })
+            (λ m f other there. stands_else s s' r.log log m f (tk m) (sv m other) (elsewhere m other) (set_else s.homes n m (some h) other)
+            (λ o. out_stays s.views id m (serving_at s.words m) v w at (λ y. absurd (other (sym (holds_same n t m (serving_at s.words m) (sym holds ∙ y)).0))) o) (r.each_node m f there));
       }
 
-  -- a turn under way has its number below 2^62
-  room : (s : St) (r : Rule s) (id t : ℕ) (v : V) (x : Turn C R) → get_elem? s.views id ≡ some v → v.stage ≡ Holds t → from.ticket + length (v.seen ++ x ∷ []) ≤ 2 ^ 62
-  room s r id t v x at holds =
-      let q : (r.serving ≡ t) × (t < r.ticket) × (r.log ≡ v.seen) = subst (HoldsItsTicket r.ticket r.serving r.log v.seen) holds (r.each_seat id v at).queues in
-      let now : r.serving ≡ t = q.0 in let below : t < r.ticket = q.1 in let most = r.most in let count = r.count in
-      let long : length r.log ≡ length v.seen = ap length q.2 in let more = length-append v.seen (x ∷ []) in omega arith
-
-  pub publishes : (slots id : ℕ) (me : Sat M C R) (t n : ℕ) (h : H) (e : Option (Entry C R)) (m : M) → me.0.stage ≡ Holds t → me.0.numbered ≡ true → n ≡ t + 1 → me.1 ≡ (0, h) ∷ [] → h ≡ Some m
-      → Leads turns first (me.0.seen ++ turn me.0.number e ∷ []) m → place m ≡ place first
-      → Allows Rule slots id me 1 (λ _. n) (λ _. published e (step slots 1 n 0 none) me n)
-  publishes slots id me t n h e m holds numbered next out machine leads same_place s r wide at small = (
-    published_view e me.0,
-    gives,
-    tt,
-    served_next s r id t n me.1 me.0 h e m at holds numbered next out machine leads same_place,
-    (
-      (λ g is. (ap rest out, refl)),
-      (λ o known. subst (λ (b : Beginning M). b.ticket + length (me.0.seen ++ turn me.0.number e ∷ []) ≤ 2 ^ 62)
-          (sym (subst (λ (y : Option (Beginning M)). IfSome y (λ m. m ≡ from)) known (r.each_seat id me.0 at).same)) (room s r id t me.0 (turn me.0.number e) at holds)),
-    ),
+  whole_next : (log : List (Turn C R)) (number n : ℕ) (first h : M) (e : Option (Entry C R)) → get_elem? from.states n ≡ some first → IsWhole turns from.states log → Leads turns first (turns_at n log ++ turn number n e ∷ []) h
+      → IsWhole turns from.states (log ++ turn number n e ∷ [])
+  whole_next log number n first h e known whole leads = (
+    placed_on (length from.states) log (turn number n e) (at_below from.states n first known) whole.0,
+    nodes_at (λ m f. IsLegal turns f (turns_at m (log ++ turn number n e ∷ []))) n
+        (λ f there. (h, subst (λ (x : M × List (Turn C R)). Leads turns x.0 x.1 h) (λ i. (some-injective first f (sym known ∙ there) i, sym (node_mine log number n e) i)) leads))
+        (λ m f other there. subst (IsLegal turns f) (sym (node_other log number n m e other)) (whole.1 m f there)),
   )
+
+  -- the one slot that is out
+  slot_node : List (ℕ × M) → ℕ
+  slot_node [] = 0
+  slot_node (x ∷ xs) = x.0
+
+  pub publishes : (slots id : ℕ) (me : Sat M C R) (n t x : ℕ) (first h : M) (e : Option (Entry C R)) → get_elem? from.states n ≡ some first → me.0.stage ≡ Holds n t → me.0.numbered ≡ true → x ≡ t + 1 → me.1 ≡ (n, h) ∷ []
+      → Leads turns first (turns_at n me.0.seen ++ turn me.0.number n e ∷ []) h → place h ≡ place first
+      → Allows Rule slots id me (16 * n + 1) (λ _. x) (λ _. published turns place e (step slots (16 * n + 1) x 0 none) me x)
+  unfolding slot_node
+  publishes slots id me n t x first h e known holds numbered next out leads same_place s r wide at small =
+      let v : V = me.0 in
+      let k = r.each_seat id v at in
+      let between : List (Turn C R) = k.seen.0 in
+      let all_seen : r.log ≡ v.seen ++ between = k.seen.1 in
+      let q : (serving_at s.words n ≡ t) × (t < ticket_at s.words n) × (turns_at n r.log ≡ turns_at n v.seen) = subst (HoldsItsTicket s.words r.log v.seen) holds k.queues in
+      let w : V = published_view n e between v in
+      let after : Rule (stepped s (16 * n + 1) x id me.1 w gives) = served_next s r id n t x first me.1 v h e between known at holds numbered next out all_seen leads same_place in
+      let mine = (k.owns.0 numbered) in
+      let whole : IsWhole turns from.states w.seen = subst (IsWhole turns from.states) (ap (λ l. l ++ turn v.number n e ∷ []) all_seen)
+      (whole_next r.log v.number n first h e known (is_whole s r) (subst (λ l. Leads turns first (l ++ turn v.number n e ∷ []) h) (sym q.2) leads)) in
+      let begins : StartsWith after.log w.seen = (after.each_seat id w (set_at s.views id v w at)).seen in (
+        w,
+        gives,
+        tt,
+        after,
+        (
+          (λ o j g is slot.
+              let same : n ≡ j = ap slot_node (sym out ∙ slot) in (
+                ap rest out,
+                subst (λ i. PublishedAt turns place o i e v w) same (
+                  between,
+                  refl,
+                  ap (turns_at n) (sym all_seen) ∙ q.2,
+                  turns_mine (v.seen ++ between) v.number n e ∙ ap (λ l. l ++ turn v.number n e ∷ []) (ap (turns_of v.number) (sym all_seen) ∙ subst (λ i. turns_of i r.log ≡ turns_of i v.seen) (sym mine.0) mine.1),
+                  known_whole v o w.seen k.same is whole,
+                ),
+              )),
+          has_room (stepped s (16 * n + 1) x id me.1 w gives) after w w.seen k.same begins,
+        ),
+      )
 
   only_one : (w v : V) (i : ℕ) → get_elem? (w ∷ []) i ≡ some v → (i ≡ 0) × (w ≡ v)
   only_one w v zero e = (refl, some-injective w v e)
   only_one w v (suc i) e = absurd (some-ne-none v (sym e))
 
-  pub opens : (t : ℕ) (h : H) → h ≡ Some first → t ≡ from.ticket → t ≤ 2 ^ 62 → Rule (opening (t ∷ t ∷ []) (h ∷ []) (newcomer from))
-  opens t h machine start most = record {
-    ticket = t;
-    serving = t;
+  pub opens : (ws : List ℕ) → length ws ≡ 16 * length from.states → ((i : ℕ) → i < length ws → get_or ws i 0 ≡ from.ticket) → from.ticket ≤ 2 ^ 62 → Rule (opening ws from.states (newcomer from))
+  opens ws wide each most = record {
     log = [];
-    words = refl;
-    most = most;
-    served = omega arith;
-    each_seat = λ j u e. let p = only_one (newcomer from) u j e in subst (λ (x : ℕ × V). Knows from t t [] x.0 x.1) (λ i. (sym p.0 i, p.1 i))
-        record { same = refl; seen = ([], refl); told = ([], refl); owns = ((λ _. (refl, refl)), (λ _. refl)); queues = tt; spent = λ e. absurd (true_not_false (sym e)) };
+    placed = tt;
+    wide = wide;
+    each_seat = λ j u e. let p = only_one (newcomer from) u j e in subst (λ (x : ℕ × V). Knows from ws [] x.0 x.1) (λ i. (sym p.0 i, p.1 i))
+        record { same = refl; seen = ([], refl); told = ([], refl); owns = ((λ _. (refl, refl)), (λ _. refl)); queues = tt; spent = λ n met. absurd met };
     unmade = λ j l. refl;
-    legal = (first, refl);
-    count = omega arith;
-    apart = λ i j a b x ai bj ha hb. (only_one (newcomer from) a i ai).0 ∙ sym (only_one (newcomer from) b j bj).0;
-    slot = inl (h, refl, (first, machine, refl, refl));
+    apart = λ i j a b n x ai bj ha hb. (only_one (newcomer from) a i ai).0 ∙ sym (only_one (newcomer from) b j bj).0;
+    each_node = λ n first there.
+        let a : n < length from.states = at_below from.states n first there in
+        let tk : ticket_at ws n ≡ from.ticket = each (16 * n) (omega arith) in
+        let sv : serving_at ws n ≡ from.ticket = each (16 * n + 1) (omega arith) in record {
+          most = omega arith;
+          served = omega arith;
+          legal = (first, refl);
+          count = omega arith;
+          slot = inl (first, at_map some from.states n first there, (refl, refl));
+        };
   }
 
-  pub opens_with : (t : ℕ) (none_yet slots : List H) (h : H) (state : M) → none_yet ≡ [] → slots ≡ none_yet ++ h ∷ [] → h ≡ Some state → from ≡ record { state = state; ticket = t } → t ≤ 2 ^ 62 → Rule (opening (t ∷ t ∷ []) slots (newcomer from))
-  opens_with t none_yet slots h state empty is machine same most =
-      subst (λ (hs : List H). Rule (opening (t ∷ t ∷ []) hs (newcomer from))) (sym (is ∙ ap (λ (l : List H). l ++ h ∷ []) empty)) (opens t h (machine ∙ ap (λ (b : Beginning M). Some b.state) (sym same)) (ap (λ (b : Beginning M). b.ticket) (sym same)) most)
+  all_same : (t k : ℕ) (i : ℕ) → i < k → get_or (replicate k t) i 0 ≡ t
+  all_same t zero i h = absurd (omega arith)
+  all_same t (suc k) zero h = refl
+  all_same t (suc k) (suc i) h = all_same t k i (omega arith)
 
-  -- if all tickets were served, the machine is one that a history leaves which begins with all that the seat has seen
-  abbrev Left : M → ℕ → List (Turn C R) → ℕ → Bool → M → Type 0
-  Left state ticket seen number spent m =
-      (log : List (Turn C R)) × StartsWith log seen × Leads turns state log m × (turns_of number log ≡ turns_of number seen) × (spent ≡ true → ticket + length log ≡ 2 ^ 62)
+  as_many : (t k : ℕ) → length (replicate k t) ≡ k
+  as_many t zero = refl
+  as_many t (suc k) = ap suc (as_many t k)
 
-  pub closes : (id : ℕ) (v : V) (ws : List ℕ) (hs : List H) (n : ℕ) (h : H) → v.numbered ≡ true → Final (Seen Rule id v) ws hs → get_elem? ws 0 ≡ some n → get_elem? ws 1 ≡ some n → get_elem? hs 0 ≡ some h
-      → (m : M) × (h ≡ Some m) × (place m ≡ place first) × Left first from.ticket v.seen v.number v.spent m
-  closes id v ws hs n h numbered final ticket serving there =
-      let s : St = final.0 in let r : Rule s = final.1.0 in let k = r.each_seat id v final.1.1 in
-      let words : ws ≡ r.ticket ∷ r.serving ∷ [] = sym final.2 ∙ r.words in
-      let t : r.ticket ≡ n = some-injective r.ticket n (sym (ap (λ (l : List ℕ). get_elem? l 0) words) ∙ ticket) in
-      let u : r.serving ≡ n = some-injective r.serving n (sym (ap (λ (l : List ℕ). get_elem? l 1) words) ∙ serving) in
-      let count = r.count in
-      ⊎_elim
-      (λ (home : (g : H) × (s.homes ≡ some g ∷ []) × Rests turns place first r.log g). let rests = home.2 in
-      let same : home.0 ≡ h = some-injective home.0 h (sym (final.4 0 home.0 (ap (λ (l : List (option.Option H)). get_elem? l 0) home.1)) ∙ there) in (
-        rests.0,
-        sym same ∙ rests.1,
-        rests.3,
-        (
-          r.log,
-          k.seen,
-          rests.2,
-          subst (λ j. turns_of j r.log ≡ turns_of j v.seen) (sym (k.owns.0 numbered).0) (k.owns.0 numbered).1,
-          (λ e. let full = k.spent e in omega arith),
-        ),
-      ))
-      (λ (out : (s.homes ≡ none ∷ []) × IsOut r.serving s.views).
-      let o = out.1 in
-      let q : (r.serving ≡ r.serving) × (r.serving < r.ticket) × (r.log ≡ o.1.seen) = subst (HoldsItsTicket r.ticket r.serving r.log o.1.seen) o.3 (r.each_seat o.0 o.1 o.2).queues in
-      let below : r.serving < r.ticket = q.1 in absurd (omega arith))
-      r.slot
+  pub opens_with : (t count : ℕ) (ws : List ℕ) (slots : List M) → ws ≡ replicate (16 * count) t → count ≡ length slots → from.states ≡ slots → from.ticket ≡ t → t ≤ 2 ^ 62 → Rule (opening ws slots (newcomer from))
+  opens_with t count ws slots is many same start most =
+      let long : length ws ≡ 16 * count = ap length is ∙ as_many t (16 * count) in
+      let here : length slots ≡ length from.states = ap length (sym same) in
+      subst (λ (hs : List M). Rule (opening ws hs (newcomer from))) same
+      (opens ws (omega arith) (λ i h. ap (λ l. get_or l i 0) is ∙ (all_same t (16 * count) i (omega arith) ∙ sym start)) (subst (λ x. x ≤ 2 ^ 62) (sym start) most))
 
-  -- the same of the machine that is taken out, with what the gate and the seat say of themselves
-  pub gives_back : (id : ℕ) (v : V) (ws : List ℕ) (hs : List H) (n k : ℕ) (h : H) (answer : Option M) (gate : Origin M) (seat : Known M C R) → v.numbered ≡ true → Final (Seen Rule id v) ws hs
-      → get_elem? ws 0 ≡ some n → get_elem? ws 1 ≡ some k → n ≡ k → get_elem? hs 0 ≡ some h → answer ≡ h
-      → first ≡ gate.opening → from.ticket ≡ gate.ticket → v.seen ≡ seat.history → v.number ≡ seat.number → v.spent ≡ seat.spent
-      → IfSome answer (λ m. ClosesWith turns gate seat m) × IfSome answer (λ m. place m ≡ place gate.opening)
-  gives_back id v ws hs n k h answer gate seat numbered final ticket serving same there is opened start saw number spent =
-      let r = closes id v ws hs n h numbered final ticket (serving ∙ ap some (sym same)) there in
-      let answered : answer ≡ Some r.0 = is ∙ r.1 in (
-        subst (λ (x : Option M). IfSome x (λ m. ClosesWith turns gate seat m)) (sym answered)
-            (subst (λ (x : M × ℕ × List (Turn C R) × ℕ × Bool). Left x.0 x.1 x.2 x.3 x.4 r.0) (λ i. (opened i, start i, saw i, number i, spent i)) r.3),
-        subst (λ (x : Option M). IfSome x (λ m. place m ≡ place gate.opening)) (sym answered) (r.2 ∙ ap place opened),
+  -- Where all tickets of a node were served, its machine is one that the turns there leave. There is one history for all nodes, which begins with all that the seat has seen
+  abbrev Left : List (Turn C R) → ℕ → List ℕ → List ℕ → List M → Type 0
+  Left seen number spent ws hs =
+      (log : List (Turn C R)) × StartsWith log seen × (turns_of number log ≡ turns_of number seen)
+      × ((n x : ℕ) (first h : M) → get_elem? from.states n ≡ some first → get_or ws (16 * n) 0 ≡ x → get_or ws (16 * n + 1) 0 ≡ x → get_elem? hs n ≡ some h
+      → Leads turns first (turns_at n log) h × (place h ≡ place first) × (Met n spent → from.ticket + length (turns_at n log) ≡ 2 ^ 62))
+
+  pub closes : (id : ℕ) (v : V) (ws : List ℕ) (hs : List M) → v.numbered ≡ true → Final (Seen Rule id v) ws hs → Left v.seen v.number v.spent ws hs
+  closes id v ws hs numbered final =
+      let s : St = final.0 in let r : Rule s = final.1.0 in let k = r.each_seat id v final.1.1 in (
+        r.log,
+        k.seen,
+        subst (λ j. turns_of j r.log ≡ turns_of j v.seen) (sym (k.owns.0 numbered).0) (k.owns.0 numbered).1,
+        (λ n x first h known ticket serving there.
+            let p = r.each_node n first known in
+            let t : ticket_at s.words n ≡ x = ap (λ l. ticket_at l n) final.2 ∙ ticket in
+            let u : serving_at s.words n ≡ x = ap (λ l. serving_at l n) final.2 ∙ serving in
+            let count : serving_at s.words n ≡ from.ticket + length (turns_at n r.log) = p.count in
+            ⊎_elim
+            (λ (home : (g : M) × (get_elem? s.homes n ≡ some (some g)) × Rests turns place first (turns_at n r.log) g).
+            let same : home.0 ≡ h = some-injective home.0 h (sym (final.4 n home.0 home.1) ∙ there) in (
+              subst (Leads turns first (turns_at n r.log)) same home.2.0,
+              ap place (sym same) ∙ home.2.1,
+              (λ met. let full : ticket_at s.words n ≡ 2 ^ 62 = k.spent n met in omega arith),
+            ))
+            (λ (out : (get_elem? s.homes n ≡ some none) × IsOut n (serving_at s.words n) s.views).
+            let o = out.1 in
+            let q : (serving_at s.words n ≡ serving_at s.words n) × (serving_at s.words n < ticket_at s.words n) × (turns_at n r.log ≡ turns_at n o.1.seen) = subst (HoldsItsTicket s.words r.log o.1.seen) o.3 (r.each_seat o.0 o.1 o.2).queues in
+            let below : serving_at s.words n < ticket_at s.words n = q.1 in absurd (omega arith))
+            p.slot),
       )
+
+  word_at : (ws : List ℕ) (i x : ℕ) → get_elem? ws i ≡ some x → get_or ws i 0 ≡ x
+  word_at [] i x e = absurd (some-ne-none x (sym e))
+  word_at (w ∷ ws) zero x e = some-injective w x e
+  word_at (w ∷ ws) (suc i) x e = word_at ws i x e
+
+  -- the same of the machines that are taken out, with what the gate and the seat say of themselves
+  pub gives_back : (id : ℕ) (v : V) (ws : List ℕ) (hs : List M) (given : List (Option M)) (gate : Origin M) (seat : Known M C R) → v.numbered ≡ true → Final (Seen Rule id v) ws hs → AreAtRest ws hs given
+      → from.states ≡ gate.opening → from.ticket ≡ gate.ticket → v.seen ≡ seat.history → v.number ≡ seat.number → v.spent ≡ seat.spent → ClosesWith turns place gate seat given
+  gives_back id v ws hs given gate seat numbered final left opened begun saw number spent =
+      let r = closes id v ws hs numbered final in
+      subst (λ (x : List M × ℕ × List (Turn C R) × ℕ × List ℕ).
+      (log : List (Turn C R)) × StartsWith log x.2 × (turns_of x.3 log ≡ turns_of x.3 x.2)
+      × ((node : ℕ) (first machine : M) → get_elem? x.0 node ≡ some first → get_elem? given node ≡ some (Some machine)
+      → Leads turns first (turns_at node log) machine × (place machine ≡ place first) × (Met node x.4 → x.1 + length (turns_at node log) ≡ 2 ^ 62))) (λ i. (opened i, begun i, saw i, number i, spent i))
+      (r.0, r.1, r.2, (λ node first machine known at. let l = left node machine at in r.3 node l.0 first machine known (word_at ws (16 * node) l.0 l.1) (word_at ws (16 * node + 1) l.0 l.2) l.3))

@@ -1,33 +1,40 @@
 -- What each step on the table tells the seat that takes it.
-use Rattle.std.specs.Prelude.{◌≡◌, ◌≢◌, ℕ, ◌+◌, ◌^◌, ◌≤◌, true, false, [], ◌∷◌, ◌++◌, List, length, Option, Some, None}
+use Rattle.std.specs.Prelude.{◌≡◌, ◌≢◌, ℕ, ◌+◌, ◌*◌, ◌^◌, ◌≤◌, ◌<◌, true, false, [], ◌∷◌, ◌++◌, List, length, Option, Some, None}
+use mathlib.Core.Option.{some}
+use lib.ListN.{get_elem?}
 use Rattle.atomic_table.specs.Table.{Me, Step}
 use Rattle.atomic_table.specs.Seated.{TableId}
 use Rattle.atomic_table.specs.declared.shared.Seat.{Seat}
 use Rattle.cops_gate.specs.declared.history.Entry.{Entry}
 use Rattle.cops_gate.specs.declared.history.Turn.{Turn}
-use Rattle.cops_gate.specs.declared.board.Beginning.{Beginning}
+use Rattle.cops_gate.specs.declared.board.Opening.{Opening}
 use Rattle.cops_gate.specs.declared.board.Stage.{Stage}
 use Rattle.cops_gate.specs.declared.board.Stage.TheVariants.{Idle, Waits, Holds}
 use Rattle.cops_gate.specs.declared.board.View.{View}
-use Rattle.cops_gate.specs.History.{turn, turns_of, StartsWith, Leads, IsLegal}
+use Rattle.cops_gate.specs.History.{turn, turns_of, turns_at, StartsWith, Leads, IsWhole}
+use Rattle.cops_gate.specs.Rule.{Met}
 
 abbrev pub Sat : Type 0 → Type 0 → Type 0 → Type 0
-Sat M C R = Me (Option M) (View M C R)
+Sat M C R = Me M (View M C R)
+
+-- a table for these states: 16 words and one slot for each
+abbrev pub IsTableFor : {M : Type 0} → TableId → List M → Type 0
+IsTableFor table states = (table.words ≡ 16 * length states) × (table.slots ≡ length states) × (0 < length states) × (length states ≤ 2 ^ 32)
+
+-- the node's two words are in the table
+abbrev pub AreWords : TableId → ℕ → Type 0
+AreWords table n = (n < 2 ^ 32) × (16 * n + 1 < table.words)
 
 module _ {M C R : Type 0} where
-  -- the seat is one of the table, which has two words and one slot
-  abbrev pub IsSeatOf : TableId → Seat (Option M) (View M C R) → Type 0
-  IsSeatOf table seat = (seat.table_id ≡ table) × (table.words ≡ 2) × (table.slots ≡ 1)
-
   abbrev pub at_stage : Stage → View M C R → View M C R
   at_stage stage v = record { opening = v.opening; number = v.number; numbered = v.numbered; seen = v.seen; told = v.told; stage = stage; spent = v.spent }
 
-  abbrev pub spent_view : View M C R → View M C R
-  spent_view v = record { opening = v.opening; number = v.number; numbered = v.numbered; seen = v.seen; told = v.told; stage = v.stage; spent = true }
+  abbrev pub spent_view : ℕ → View M C R → View M C R
+  spent_view n v = record { opening = v.opening; number = v.number; numbered = v.numbered; seen = v.seen; told = v.told; stage = v.stage; spent = n ∷ v.spent }
 
-  -- the view of a seat that holds the slot, after its turn
-  abbrev pub published_view : Option (Entry C R) → View M C R → View M C R
-  published_view e v = record { opening = v.opening; number = v.number; numbered = v.numbered; seen = v.seen ++ turn v.number e ∷ []; told = v.told; stage = Idle; spent = v.spent }
+  -- the view of a seat that holds the slot of the node n, after its turn. Others have gone on at other nodes meanwhile
+  abbrev pub published_view : ℕ → Option (Entry C R) → List (Turn C R) → View M C R → View M C R
+  published_view n e between v = record { opening = v.opening; number = v.number; numbered = v.numbered; seen = (v.seen ++ between) ++ turn v.number n e ∷ []; told = v.told; stage = Idle; spent = v.spent }
 
   -- the seat has seen more, and no turn of its own among that
   abbrev pub SeesOn : View M C R → View M C R → Type 0
@@ -46,49 +53,73 @@ module _ {M C R : Type 0} where
   abbrev pub told_view : View M C R → View M C R → View M C R
   told_view v w = record { opening = v.opening; number = v.number; numbered = v.numbered; seen = v.seen; told = w.seen; stage = v.stage; spent = v.spent }
 
-  -- there are no more turns than tickets below 2^62
-  abbrev pub HasRoom : Option (Beginning M) → List (Turn C R) → Type 0
-  HasRoom known seen = (opening : Beginning M) → known ≡ Some opening → opening.ticket + length seen ≤ 2 ^ 62
+  -- there are no more turns at a node than tickets below 2^62
+  abbrev pub HasRoom : Option (Opening M) → List (Turn C R) → Type 0
+  HasRoom known seen = (opening : Opening M) → known ≡ Some opening → (n : ℕ) (first : M) → get_elem? opening.states n ≡ some first → opening.ticket + length (turns_at n seen) ≤ 2 ^ 62
 
   -- a seat that has ended
   abbrev pub ended_view : View M C R
-  ended_view = record { opening = None; number = 0; numbered = false; seen = []; told = []; stage = Idle; spent = false }
+  ended_view = record { opening = None; number = 0; numbered = false; seen = []; told = []; stage = Idle; spent = [] }
 
   -- a new seat learns its number
-  abbrev pub learned : Step (Option M) → Sat M C R → ℕ → Sat M C R → Type 0
+  abbrev pub learned : Step M → Sat M C R → ℕ → Sat M C R → Type 0
   learned st m r m' = (m'.1 ≡ m.1) × ((n : ℕ) × (m'.0 ≡ numbered_view n m.0) × (turns_of n m.0.seen ≡ []))
 
   -- a seat between two turns, which knows about itself what v says
   abbrev pub IsIdle : View M C R → Sat M C R → Type 0
   IsIdle v m = (m.1 ≡ []) × (m.0.stage ≡ Idle) × (m.0.numbered ≡ true) × (m.0.opening ≡ v.opening) × (m.0.number ≡ v.number) × (m.0.spent ≡ v.spent)
 
-  -- the number found is the ticket if it is the expected one
-  abbrev pub drawn : Step (Option M) → Sat M C R → ℕ → Sat M C R → Type 0
-  drawn st m r m' =
-      (m'.1 ≡ m.1) × (r ≤ 2 ^ 62) × (m.0.spent ≡ true → r ≡ 2 ^ 62) × HasRoom m.0.opening m.0.seen
-      × (r ≡ st.first → m'.0 ≡ at_stage (Waits r) m.0)
+  -- the number found is the node's ticket if it is the expected one
+  abbrev pub DrawnAt : ℕ → Step M → Sat M C R → ℕ → Sat M C R → Type 0
+  DrawnAt n st m r m' =
+      (m'.1 ≡ m.1) × (r ≤ 2 ^ 62) × (Met n m.0.spent → r ≡ 2 ^ 62) × HasRoom m.0.opening m.0.seen
+      × (r ≡ st.first → m'.0 ≡ at_stage (Waits n r) m.0)
       × (r ≢ st.first → r ≢ 2 ^ 62 → m'.0 ≡ m.0)
-      × (r ≢ st.first → r ≡ 2 ^ 62 → m'.0 ≡ spent_view m.0)
+      × (r ≢ st.first → r ≡ 2 ^ 62 → m'.0 ≡ spent_view n m.0)
 
-  -- the slot is returned with the seat's turn done
-  abbrev pub published : Option (Entry C R) → Step (Option M) → Sat M C R → ℕ → Sat M C R → Type 0
-  published e st m r m' =
-      ((h : Option M) → m.1 ≡ (0, h) ∷ [] → (m'.1 ≡ []) × (m'.0 ≡ published_view e m.0))
-      × HasRoom m.0.opening m'.0.seen
+  abbrev pub drawn : Step M → Sat M C R → ℕ → Sat M C R → Type 0
+  drawn st m r m' = (opening : Opening M) (n : ℕ) (first : M) → m.0.opening ≡ Some opening → get_elem? opening.states n ≡ some first → st.word ≡ 16 * n → DrawnAt n st m r m'
 
 module _ {M C R P : Type 0} (turns : M → ℕ → ℕ → C → R → M → Type 0) (place : M → P) where
-  -- the seat has seen all turns so far, and has the machine that they leave
-  abbrev pub Serves : M → View M C R → ℕ → View M C R → M → Type 0
-  Serves opening v t w machine = SeesOn v w × (w.stage ≡ Holds t) × Leads turns opening w.seen machine × (place machine ≡ place opening)
+  -- the seat has seen all turns so far, and has the machine that those at its node leave
+  abbrev pub Serves : M → View M C R → ℕ → ℕ → View M C R → M → Type 0
+  Serves first v n t w machine = SeesOn v w × (w.stage ≡ Holds n t) × Leads turns first (turns_at n w.seen) machine × (place machine ≡ place first)
 
   -- the seat gets the slot, with that machine
-  abbrev pub Gets : M → ℕ → Sat M C R → Sat M C R → Type 0
-  Gets opening t m m' = (h : Option M) × (machine : M) × (m'.1 ≡ (0, h) ∷ m.1) × (h ≡ Some machine) × Serves opening m.0 t m'.0 machine
+  abbrev pub Gets : M → ℕ → ℕ → Sat M C R → Sat M C R → Type 0
+  Gets first n t m m' = (machine : M) × (m'.1 ≡ (n, machine) ∷ m.1) × Serves first m.0 n t m'.0 machine
 
   -- a seat between two turns sees all turns so far
-  abbrev pub glanced : Step (Option M) → Sat M C R → ℕ → Sat M C R → Type 0
-  glanced st m r m' = (m'.1 ≡ m.1) × SeesOn m.0 m'.0 × (m'.0.stage ≡ Idle) × ((opening : Beginning M) → m.0.opening ≡ Some opening → IsLegal turns opening.state m'.0.seen) × HasRoom m.0.opening m'.0.seen
+  abbrev pub glanced : Step M → Sat M C R → ℕ → Sat M C R → Type 0
+  glanced st m r m' = (m'.1 ≡ m.1) × SeesOn m.0 m'.0 × (m'.0.stage ≡ Idle) × ((opening : Opening M) → m.0.opening ≡ Some opening → IsWhole turns opening.states m'.0.seen) × HasRoom m.0.opening m'.0.seen
 
   -- if the ticket is served, the seat has the slot
-  abbrev pub looked : Step (Option M) → Sat M C R → ℕ → Sat M C R → Type 0
-  looked st m r m' = (opening : Beginning M) (t : ℕ) → m.0.opening ≡ Some opening → m.0.stage ≡ Waits t → m.0.numbered ≡ true → (r ≡ t → Gets opening.state t m m') × (r ≢ t → m' ≡ m)
+  abbrev pub looked : Step M → Sat M C R → ℕ → Sat M C R → Type 0
+  looked st m r m' = (opening : Opening M) (n t : ℕ) (first : M) → m.0.opening ≡ Some opening → get_elem? opening.states n ≡ some first → m.0.stage ≡ Waits n t → m.0.numbered ≡ true → (r ≡ t → Gets first n t m m') × (r ≢ t → m' ≡ m)
+
+  -- The slot is returned with the seat's turn done. What others did meanwhile is no turn at this node, and no turn of this seat
+  abbrev pub PublishedAt : Opening M → ℕ → Option (Entry C R) → View M C R → View M C R → Type 0
+  PublishedAt opening n e v w =
+      (between : List (Turn C R)) × (w ≡ published_view n e between v)
+      × (turns_at n (v.seen ++ between) ≡ turns_at n v.seen)
+      × (turns_of v.number w.seen ≡ turns_of v.number v.seen ++ turn v.number n e ∷ [])
+      × IsWhole turns opening.states w.seen
+
+  abbrev pub published : Option (Entry C R) → Step M → Sat M C R → ℕ → Sat M C R → Type 0
+  published e st m r m' =
+      ((opening : Opening M) (n : ℕ) (h : M) → m.0.opening ≡ Some opening → m.1 ≡ (n, h) ∷ [] → (m'.1 ≡ []) × PublishedAt opening n e m.0 m'.0)
+      × HasRoom m.0.opening m'.0.seen
+
+  -- the same at a node, whatever state it opened with
+  abbrev pub GetsAt : List M → ℕ → ℕ → Sat M C R → Sat M C R → Type 0
+  GetsAt states n t m m' = (first : M) × (get_elem? states n ≡ some first) × Gets first n t m m'
+
+  -- the seat has the slot of this node, with a machine that the turns there leave once this one is added
+  abbrev pub HasTurned : List M → ℕ → Option (Entry C R) → Sat M C R → Type 0
+  HasTurned states n e m =
+      (first : M) × (machine : M) × (get_elem? states n ≡ some first) × (m.1 ≡ (n, machine) ∷ [])
+      × Leads turns first (turns_at n m.0.seen ++ turn m.0.number n e ∷ []) machine × (place machine ≡ place first)
+
+-- the seat is one of a table for these states, of which the node is one
+abbrev pub IsSeatAt : {S V M : Type 0} → TableId → List M → ℕ → Seat S V → Type 0
+IsSeatAt table states n seat = (seat.table_id ≡ table) × IsTableFor table states × (n < length states)

@@ -1,54 +1,70 @@
--- A gate and its seats, as callers see them.
-use Rattle.std.specs.Prelude.{◌≡◌, ◌≢◌, ◌⊎◌, ℕ, ◌+◌, ◌^◌, Bool, true, false, List, [], length, Option, Some, None, Result, Ok, IfOk, OnErr}
+-- A gate of a cluster and its seats, as callers see them.
+use Rattle.std.specs.Prelude.{◌≡◌, ◌⊎◌, ℕ, ◌+◌, ◌*◌, ◌^◌, List, [], length, Option, Some, None, Result, Ok, IfOk, OnErr}
 use Rattle.std.specs.declared.alloc.AllocError.{AllocError}
+use mathlib.Core.Option.{some}
+use lib.ListN.{get_elem?}
 use Rattle.atomic_table.specs.Seated.{TableId}
-use Rattle.cops_gate.specs.declared.board.Beginning.{Beginning}
+use Rattle.cops_gate.specs.declared.board.Opening.{Opening}
 use Rattle.cops_gate.specs.declared.history.Entry.{Entry}
 use Rattle.cops_gate.specs.declared.history.Turn.{Turn}
-use Rattle.cops_gate.specs.History.{turns_of, entry, StartsWith, Leads, Grows, LeavesLacking}
+use Rattle.cops_gate.specs.History.{turns_of, turns_at, entry, StartsWith, Leads, Grows, LeavesLacking}
+use Rattle.cops_gate.specs.Rule.{Met}
 
--- the identity of a gate, the state that it opened with, and the number of its first ticket
+-- the identity of a gate, the states that its nodes opened with, and the number of their first tickets
 pub record Origin (M : Type 0) : Type 0 where
   pub table : TableId
-  pub opening : M
+  pub opening : List M
   pub ticket : ℕ
 
 -- the same as its seats know it
 pub record GateHome (M : Type 0) : Type 0 where
   pub table : TableId
-  pub opening : Option (Beginning M)
+  pub opening : Option (Opening M)
 
 abbrev pub gate_home : {M : Type 0} → Origin M → GateHome M
-gate_home gate = record { table = gate.table; opening = Some (record { state = gate.opening; ticket = gate.ticket }) }
+gate_home gate = record { table = gate.table; opening = Some (record { states = gate.opening; ticket = gate.ticket }) }
 
--- a seat: its number, the history that it has seen, and whether it has met the ticket word at 2^62
+-- a seat: its number, the history of all nodes that it has seen, and the nodes at which it has met the ticket word at 2^62
 pub record Known (M C R : Type 0) : Type 0 where
   pub gate : GateHome M
   pub number : ℕ
   pub history : List (Turn C R)
-  pub spent : Bool
+  pub spent : List ℕ
 
--- the seat has made one turn more, a no-op turn if there is no entry
-abbrev pub Extends : {M C R : Type 0} → (M → ℕ → ℕ → C → R → M → Type 0) → M → Known M C R → Option (Entry C R) → Known M C R → Type 0
-Extends turns opening old e new = Grows turns opening old.number old.history e new.history
+-- the seat has made one turn more at this node, a no-op turn if there is no entry
+abbrev pub Extends : {M C R : Type 0} → (M → ℕ → ℕ → C → R → M → Type 0) → List M → ℕ → Known M C R → Option (Entry C R) → Known M C R → Type 0
+Extends turns states node old e new = Grows turns states old.number node old.history e new.history
 
--- The outcome of a call, if `spent` is the reply for exhausted tickets. Either that is the reply and the history stays; or the machine made a
--- turn, a no-op turn if memory ran out. A seat that has met 2^62 makes none
-abbrev pub IsToldOrSpent : {M C R : Type 0} → (M → ℕ → ℕ → C → R → M → Type 0) → (M → ℕ → C → Type 0) → M → R → ℕ → ℕ → C → Known M C R → Known M C R → Result R AllocError → Type 0
-IsToldOrSpent turns may_lack opening spent slot moment call old new told =
-    (told ≡ Ok spent) × (new.history ≡ old.history) × (new.spent ≡ true)
-    ⊎ (old.spent ≢ true) × (new.spent ≡ old.spent)
-    × IfOk told (λ reply. Extends turns opening old (Some (entry slot moment call reply)) new)
-    × OnErr told (Extends turns opening old None new × LeavesLacking turns may_lack opening old.number slot call new.history)
+-- The outcome of a call at a node, if `spent` is the reply for exhausted tickets. Either that is the reply and the history stays; or the machine
+-- made a turn, a no-op turn if memory ran out. A seat that has met 2^62 there makes none
+abbrev pub IsToldOrSpent : {M C R : Type 0} → (M → ℕ → ℕ → C → R → M → Type 0) → (M → ℕ → C → Type 0) → List M → R → ℕ → ℕ → ℕ → C → Known M C R → Known M C R → Result R AllocError → Type 0
+IsToldOrSpent turns may_lack states spent node slot moment call old new told =
+    (told ≡ Ok spent) × (new.history ≡ old.history) × Met node new.spent
+    ⊎ (Met node old.spent → ⊥) × (new.spent ≡ old.spent)
+    × IfOk told (λ reply. Extends turns states node old (Some (entry slot moment call reply)) new)
+    × OnErr told (Extends turns states node old None new × LeavesLacking turns may_lack states old.number node slot call new.history)
 
--- A history leaves this machine that has all that the seat has seen as a prefix, and no other turn of the seat. If the seat has met the ticket
--- word at 2^62, each ticket below that had its turn
-abbrev pub ClosesWith : {M C R : Type 0} → (M → ℕ → ℕ → C → R → M → Type 0) → Origin M → Known M C R → M → Type 0
-ClosesWith {M} {C} {R} turns gate seat machine =
-    (log : List (Turn C R)) × StartsWith log seat.history × Leads turns gate.opening log machine
+-- One history has all that the seat has seen as a prefix, and no other turn of it. The turns at each node leave the machine that is returned.
+-- If the seat has met the ticket word at 2^62 there, each ticket below that had its turn
+abbrev pub ClosesWith : {M C R P : Type 0} → (M → ℕ → ℕ → C → R → M → Type 0) → (M → P) → Origin M → Known M C R → List (Option M) → Type 0
+ClosesWith {M} {C} {R} turns place gate seat machines =
+    (log : List (Turn C R)) × StartsWith log seat.history
     × (turns_of seat.number log ≡ turns_of seat.number seat.history)
-    × (seat.spent ≡ true → gate.ticket + length log ≡ 2 ^ 62)
+    × ((node : ℕ) (first : M) (machine : M) → get_elem? gate.opening node ≡ some first → get_elem? machines node ≡ some (Some machine)
+    → Leads turns first (turns_at node log) machine × (place machine ≡ place first) × (Met node seat.spent → gate.ticket + length (turns_at node log) ≡ 2 ^ 62))
 
 -- the seat 0 of a gate
 abbrev pub first_seat : {M C R : Type 0} → Origin M → Known M C R
-first_seat gate = record { gate = gate_home gate; number = 0; history = []; spent = false }
+first_seat gate = record { gate = gate_home gate; number = 0; history = []; spent = [] }
+
+-- the history has all that the seat has seen as a prefix, and of its turns those that it has made
+abbrev pub HasAllOf : {M C R : Type 0} → List (Turn C R) → Known M C R → Type 0
+HasAllOf log seat = StartsWith log seat.history × (turns_of seat.number log ≡ turns_of seat.number seat.history)
+
+-- the words of this node are equal, and the machine is the one in its slot
+abbrev pub IsAtRest : {M : Type 0} → List ℕ → List M → ℕ → M → Type 0
+IsAtRest words machines n m = (x : ℕ) × (get_elem? words (16 * n) ≡ some x) × (get_elem? words (16 * n + 1) ≡ some x) × (get_elem? machines n ≡ some m)
+
+-- each machine that is given is that of a node whose words are equal
+abbrev pub AreAtRest : {M : Type 0} → List ℕ → List M → List (Option M) → Type 0
+AreAtRest {M} words machines given = (n : ℕ) (m : M) → get_elem? given n ≡ some (Some m) → IsAtRest words machines n m

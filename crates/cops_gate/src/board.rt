@@ -1,5 +1,7 @@
-//! The table that the threads share. Word 0 is the next ticket to draw, and word 1 the ticket that
-//! is served. The one slot holds the machine.
+//! The table that the threads share. Each node has a slot with its machine, and 16 words. It uses two of these: the next
+//! ticket to draw, and the ticket that is served. So no two nodes have words in one cache line.
+ghost use Rattle.std.specs.Prelude.{◌≡◌, ◌+◌, ◌*◌, ◌<◌, ◌^◌};
+
 use crate::history::Turn;
 use atomic_table::{Seat, Table, TableRule};
 use cops_types::Machine;
@@ -7,33 +9,52 @@ use std::alloc::Global;
 use std::collections::LinkedList;
 use std::snapshot::Snapshot;
 
-// Indexes of the words.
-pub(crate) const TICKET: usize = 0;
+// Returns the place of a node's next ticket.
+#[inline(always)]
+pub(crate) fn ticket_word(node: usize) -> usize
+    requires { node < 2 ^ 32 }
+    ensures { result ≡ 16 * node }
+{
+    16 * node
+}
 
-pub(crate) const SERVING: usize = 1;
+// Returns the place of the ticket that a node serves.
+#[inline(always)]
+pub(crate) fn serving_word(node: usize) -> usize
+    requires { node < 2 ^ 32 }
+    ensures { result ≡ 16 * node + 1 }
+{
+    16 * node + 1
+}
 
-// The ticket word's last value. No one draws it.
+// The last value of a ticket word. No one draws it.
 pub(crate) const LAST: u64 = 1 << 62;
 
-/// The start of a gate: the machine, and the number of the first ticket.
+/// The start of a gate: the machines, and the number of each node's first ticket.
 pub struct Beginning<M> {
-    pub state: M,
+    pub states: Vec<M>,
+    pub ticket: u64,
+}
+
+/// The same, as a seat knows it. No value of it is made.
+pub struct Opening<M> {
+    pub states: LinkedList<M>,
     pub ticket: u64,
 }
 
 /// A seat's progress with its turn.
 pub enum Stage {
     Idle,
-    /// It has drawn this ticket.
-    Waits(u64),
-    /// This ticket is served, and the seat has the slot.
-    Holds(u64),
+    /// It has drawn this ticket at this node.
+    Waits(u64, u64),
+    /// This ticket is served at this node, and the seat has the node's slot.
+    Holds(u64, u64),
 }
 
 /// A seat's knowledge. No value of it is ever made.
 pub struct View<M, C, R> {
     /// How the gate began. A seat that has ended does not know it.
-    pub opening: Option<Beginning<M>>,
+    pub opening: Option<Opening<M>>,
     pub number: u64,
     /// `true` if the seat knows its number. Until then it has made no turn.
     pub numbered: bool,
@@ -41,22 +62,22 @@ pub struct View<M, C, R> {
     /// The turns that it has learned of.
     pub told: LinkedList<Turn<C, R>>,
     pub stage: Stage,
-    /// `true` if it met the ticket word at its last value.
-    pub spent: bool,
+    /// The nodes at which it met the ticket word at its last value.
+    pub spent: LinkedList<u64>,
 }
 
 pub struct Law;
 
-impl<M: Machine> TableRule<Option<M>, View<M, M::Call, M::Reply>, Snapshot<Beginning<M>>> for Law {
-    ghost use Rattle.cops_gate.specs.Rule.{Kept, newcomer};
+impl<M: Machine> TableRule<M, View<M, M::Call, M::Reply>, Snapshot<Beginning<M>>> for Law {
+    ghost use Rattle.cops_gate.specs.Rule.{Kept, newcomer, start};
 
-    ghost holds = { λ key. Kept M.turns M.place key.value };
+    ghost holds = { λ key. Kept M.turns M.place (start key.value) };
 
-    ghost first = { λ key. newcomer key.value };
+    ghost first = { λ key. newcomer (start key.value) };
 }
 
 pub type Sight<M> = View<M, <M as Machine>::Call, <M as Machine>::Reply>;
 
-pub type Board<M> = Table<Option<M>, Sight<M>, Snapshot<Beginning<M>>, Law, Global>;
+pub type Board<M> = Table<M, Sight<M>, Snapshot<Beginning<M>>, Law, Global>;
 
-pub type BoardSeat<M> = Seat<Option<M>, Sight<M>>;
+pub type BoardSeat<M> = Seat<M, Sight<M>>;

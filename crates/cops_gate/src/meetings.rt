@@ -1,8 +1,9 @@
 //! Splitting of seats, and how one seat learns what another has seen.
 ghost use Rattle.std.specs.Prelude.{◌≡◌, true, false, [], Some};
 ghost use Rattle.cops_gate.specs.declared.board.Stage.TheVariants.{Idle};
-ghost use Rattle.cops_gate.specs.History.{turns_of, IsLegal};
-ghost use Rattle.cops_gate.specs.Plays.{fresh_view, numbered_view, told_view, HasRoom, SeesOn, IsSeatOf};
+ghost use Rattle.cops_gate.specs.History.{turns_of, IsWhole};
+ghost use Rattle.cops_gate.specs.Plays.{fresh_view, numbered_view, told_view, HasRoom, SeesOn, IsTableFor};
+ghost use Rattle.cops_gate.specs.Rule.{start};
 
 use crate::board::{Board, BoardSeat};
 use crate::plays::{Glance, Learn, Share, Tell};
@@ -10,7 +11,7 @@ use cops_types::Machine;
 
 // Returns a seat that has seen the same, and does not know its number.
 pub(crate) fn note<M: Machine>(board: &Board<M>, place: &mut BoardSeat<M>) -> BoardSeat<M>
-    requires { IsSeatOf board.now.shared.table_id place.old }
+    requires { (place.old.table_id ≡ board.now.shared.table_id) × IsTableFor board.now.shared.table_id board.now.shared.key.value.states.items }
     ensures same { (place.new.table_id ≡ place.old.table_id) × (place.new.id ≡ place.old.id) × (place.new.me ≡ place.old.me) }
     ensures new { (result.table_id ≡ place.old.table_id) × (result.me ≡ (fresh_view place.old.me.0, [])) }
 {
@@ -19,7 +20,7 @@ pub(crate) fn note<M: Machine>(board: &Board<M>, place: &mut BoardSeat<M>) -> Bo
 
 // Gives a new seat its number.
 pub(crate) fn learn<M: Machine>(board: &Board<M>, place: &mut BoardSeat<M>)
-    requires board { IsSeatOf board.now.shared.table_id place.old }
+    requires board { (place.old.table_id ≡ board.now.shared.table_id) × IsTableFor board.now.shared.table_id board.now.shared.key.value.states.items }
     requires new { place.old.me.0.numbered ≡ false }
     ensures same { (place.new.table_id ≡ place.old.table_id) × (place.new.id ≡ place.old.id) × (place.new.me.1 ≡ place.old.me.1) }
     ensures numbered { (n : _) × (place.new.me.0 ≡ numbered_view n place.old.me.0) × (turns_of n place.old.me.0.seen ≡ []) }
@@ -29,12 +30,12 @@ pub(crate) fn learn<M: Machine>(board: &Board<M>, place: &mut BoardSeat<M>)
 
 // Adds what a note has seen, and all turns so far.
 pub(crate) fn hear<M: Machine>(board: &Board<M>, place: &mut BoardSeat<M>, told: BoardSeat<M>)
-    requires board { IsSeatOf board.now.shared.table_id place.old }
+    requires board { (place.old.table_id ≡ board.now.shared.table_id) × IsTableFor board.now.shared.table_id board.now.shared.key.value.states.items }
     requires idle { (place.old.me.0.stage ≡ Idle) × (place.old.me.0.numbered ≡ true) }
     requires told { (told.table_id ≡ place.old.table_id) × (told.me.1 ≡ []) × (told.me.0.stage ≡ Idle) × (told.me.0.numbered ≡ false) }
     ensures same { (place.new.table_id ≡ place.old.table_id) × (place.new.id ≡ place.old.id) × (place.new.me.1 ≡ place.old.me.1) × (place.new.me.0.stage ≡ Idle) }
     ensures sees { SeesOn (told_view place.old.me.0 told.me.0) place.new.me.0 }
-    ensures legal { place.old.me.0.opening ≡ Some board.now.shared.key.value → IsLegal M.turns board.now.shared.key.value.state place.new.me.0.seen }
+    ensures legal { place.old.me.0.opening ≡ Some (start board.now.shared.key.value) → IsWhole M.turns board.now.shared.key.value.states.items place.new.me.0.seen }
     ensures room { HasRoom place.old.me.0.opening place.new.me.0.seen }
 {
     board.shared.join_seat::<Tell>(place, told);

@@ -1,5 +1,5 @@
 ghost use Rattle.std.specs.Prelude.{◌≡◌, ◌+◌, ◌^◌, ◌≤◌, ◌⊎◌, ℕ, IfSome};
-ghost use Rattle.cops_gate.specs.Seats.{gate_home};
+ghost use Rattle.cops_gate.specs.Single.{single_home};
 
 use crate::{Gate, GateSeat};
 use cops_types::{Fault, Machine};
@@ -12,12 +12,12 @@ use std::thread::{Threads, join};
 
 // A machine that counts its turns.
 #[derive(Drop)]
-struct Counter {
-    count: u64,
+pub(crate) struct Counter {
+    pub(crate) count: u64,
 }
 
 #[derive(Clone, Copy)]
-enum Ask {
+pub(crate) enum Ask {
     Go,
     // A turn so long that the threads that wait for it sleep.
     Linger,
@@ -122,8 +122,8 @@ fn go<R: Wait>(
     mut seat: GateSeat<Counter>,
     ask: Ask,
 ) -> Option<(Vec<u64>, GateSeat<Counter>)>
-    requires { seat.gate ≡ gate_home gate.now }
-    ensures { IfSome result (λ r. r.1.gate ≡ gate_home gate.now) }
+    requires { seat.gate ≡ single_home gate.now }
+    ensures { IfSome result (λ r. r.1.gate ≡ single_home gate.now) }
 {
     let mut replies = Vec::new(alloc);
     for _ in 0..TURNS {
@@ -144,18 +144,18 @@ fn go_both<R: Threads + Wait + Sync>(
     second: GateSeat<Counter>,
     ask: Ask,
 ) -> (Made, Made)
-    requires { (first.gate ≡ gate_home gate.now) × (second.gate ≡ gate_home gate.now) }
-    ensures { IfSome result.0 (λ r. r.1.gate ≡ gate_home gate.now) × IfSome result.1 (λ r. r.1.gate ≡ gate_home gate.now) }
+    requires { (first.gate ≡ single_home gate.now) × (second.gate ≡ single_home gate.now) }
+    ensures { IfSome result.0 (λ r. r.1.gate ≡ single_home gate.now) × IfSome result.1 (λ r. r.1.gate ≡ single_home gate.now) }
 {
     join(
         rt,
         || -> Made
-            requires { first.gate ≡ gate_home gate.now }
-            ensures { IfSome result (λ r. r.1.gate ≡ gate_home gate.entry.now) }
+            requires { first.gate ≡ single_home gate.now }
+            ensures { IfSome result (λ r. r.1.gate ≡ single_home gate.entry.now) }
         { go(rt, alloc, gate, first, ask) },
         || -> Made
-            requires { second.gate ≡ gate_home gate.now }
-            ensures { IfSome result (λ r. r.1.gate ≡ gate_home gate.entry.now) }
+            requires { second.gate ≡ single_home gate.now }
+            ensures { IfSome result (λ r. r.1.gate ≡ single_home gate.entry.now) }
         { go(rt, alloc, gate, second, ask) },
     )
 }
@@ -195,17 +195,17 @@ fn go_four<R: Threads + Wait + Sync>(
     mut first: GateSeat<Counter>,
     mut third: GateSeat<Counter>,
 ) -> ((Made, Made), (Made, Made))
-    requires { (first.gate ≡ gate_home gate.now) × (third.gate ≡ gate_home gate.now) }
+    requires { (first.gate ≡ single_home gate.now) × (third.gate ≡ single_home gate.now) }
 {
     let second = gate.split(&mut first);
     let fourth = gate.split(&mut third);
     join(
         rt,
         || -> (Made, Made)
-            requires { (first.gate ≡ gate_home gate.now) × (second.gate ≡ gate_home gate.now) }
+            requires { (first.gate ≡ single_home gate.now) × (second.gate ≡ single_home gate.now) }
         { go_both(rt, alloc, gate, first, second, Ask::Linger) },
         || -> (Made, Made)
-            requires { (third.gate ≡ gate_home gate.now) × (fourth.gate ≡ gate_home gate.now) }
+            requires { (third.gate ≡ single_home gate.now) × (fourth.gate ≡ single_home gate.now) }
         { go_both(rt, alloc, gate, third, fourth, Ask::Linger) },
     )
 }

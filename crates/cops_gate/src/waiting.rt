@@ -1,8 +1,9 @@
 //! How a thread waits for the machine: it looks again, and then sleeps until a turn ends. It reads
 //! the words without a seat, so nothing here changes what a seat knows.
-ghost use Rattle.std.specs.Prelude.{◌≡◌, ◌<◌, ◌≤◌, ◌^◌, IfOk};
+ghost use Rattle.std.specs.Prelude.{◌<◌, ◌≤◌, ◌^◌, IfOk};
+ghost use Rattle.cops_gate.specs.Plays.{AreWords};
 
-use crate::board::{Board, LAST, SERVING, TICKET};
+use crate::board::{Board, LAST, serving_word, ticket_word};
 use cops_types::Machine;
 use std::hint;
 use std::sync::Wait;
@@ -43,6 +44,8 @@ pub(crate) struct Sleepers {
     /// The number of threads that look, awake and without a ticket, and that began while others
     /// could sleep. While there are any, no thread that holds back is woken.
     awake: AtomicU64,
+    // Those of two nodes share no cache line.
+    _apart: [u64; 13],
 }
 
 impl Sleepers {
@@ -51,6 +54,7 @@ impl Sleepers {
             in_line: AtomicU64::new(0),
             held_back: AtomicU64::new(0),
             awake: AtomicU64::new(0),
+            _apart: [0; 13],
         }
     }
 
@@ -63,16 +67,19 @@ impl Sleepers {
         &self,
         rt: &R,
         board: &Board<M>,
+        node: usize,
         tries: u32,
         seen: u64,
     )
-        requires { board.now.shared.table_id.words ≡ 2 }
+        requires { AreWords board.now.shared.table_id node }
     {
         if tries < TRIES_IN_LINE {
-            look_in_line(board, tries, seen);
+            look_in_line(board, node, tries, seen);
         } else {
             self.in_line.fetch_add(1, SeqCst);
-            board.shared.park(rt, SERVING, (seen % (1 << 32)) as u32);
+            board
+                .shared
+                .park(rt, serving_word(node), (seen % (1 << 32)) as u32);
             self.in_line.fetch_sub(1, SeqCst);
         }
     }
@@ -80,15 +87,15 @@ impl Sleepers {
     // Looks at most this many times, and is counted as awake meanwhile if others may sleep. If no
     // thread sleeps, the count is not needed, and writing it would take its line from the cache of
     // the thread whose turn ends.
-    fn look<M: Machine>(&self, board: &Board<M>, most: u32) -> Result<u64, u64>
-        requires { board.now.shared.table_id.words ≡ 2 }
+    fn look<M: Machine>(&self, board: &Board<M>, node: usize, most: u32) -> Result<u64, u64>
+        requires { AreWords board.now.shared.table_id node }
         ensures { IfOk result (λ ticket. ticket < 2 ^ 62) }
     {
         if self.held_back.load(SeqCst) == 0 {
-            return look_for_free(board, most);
+            return look_for_free(board, node, most);
         }
         self.awake.fetch_add(1, SeqCst);
-        let found = look_for_free(board, most);
+        let found = look_for_free(board, node, most);
         self.awake.fetch_sub(1, SeqCst);
         found
     }
@@ -96,11 +103,11 @@ impl Sleepers {
     // Sleeps without a ticket, unless a turn has ended since the last look, which saw this ticket
     // served. A turn that ended after that look is seen here, or finds the word at 1. No thread
     // falls asleep once the turn has taken that down.
-    fn sleep<M: Machine, R: Wait>(&self, rt: &R, board: &Board<M>, seen: u64)
-        requires { board.now.shared.table_id.words ≡ 2 }
+    fn sleep<M: Machine, R: Wait>(&self, rt: &R, board: &Board<M>, node: usize, seen: u64)
+        requires { AreWords board.now.shared.table_id node }
     {
         self.others_may_sleep();
-        if board.shared.peek(SERVING) == seen {
+        if board.shared.peek(serving_word(node)) == seen {
             self.held_back.park(rt, 1);
         }
     }
@@ -115,11 +122,11 @@ impl Sleepers {
     /// them may have this ticket, and one of those that hold back. It wakes none of the latter if a
     /// thread is awake that sees this end and wakes others by the end of its own turn. No turn
     /// follows the last ticket, so it then wakes all of them.
-    pub(crate) fn wake<M: Machine>(&self, board: &Board<M>, serving: u64)
-        requires { board.now.shared.table_id.words ≡ 2 }
+    pub(crate) fn wake<M: Machine>(&self, board: &Board<M>, node: usize, serving: u64)
+        requires { AreWords board.now.shared.table_id node }
     {
         if self.in_line.load(SeqCst) > 0 {
-            wake_in_line(board);
+            wake_in_line(board, node);
         }
         if serving >= LAST {
             self.wake_held_back();
@@ -149,57 +156,67 @@ impl Sleepers {
 // Wakes all in line.
 #[cold]
 #[inline(never)]
-fn wake_in_line<M: Machine>(board: &Board<M>)
-    requires { board.now.shared.table_id.words ≡ 2 }
+fn wake_in_line<M: Machine>(board: &Board<M>, node: usize)
+    requires { AreWords board.now.shared.table_id node }
 {
-    board.shared.wake_all(SERVING);
+    board.shared.wake_all(serving_word(node));
 }
 
 /// Holds back while others are at the machine, and returns the likely next ticket.
 ///
 /// A ticket that is drawn while others are out is served by a thread that must be awake just then.
 /// With more threads than processors, each turn would wait for the system to wake the right one.
-pub(crate) fn hold_back<M: Machine, R: Wait>(rt: &R, board: &Board<M>, sleepers: &Sleepers) -> u64
-    requires { board.now.shared.table_id.words ≡ 2 }
+pub(crate) fn hold_back<M: Machine, R: Wait>(
+    rt: &R,
+    board: &Board<M>,
+    node: usize,
+    sleepers: &Sleepers,
+) -> u64
+    requires { AreWords board.now.shared.table_id node }
     ensures { result < 2 ^ 62 }
 {
-    if let Ok(ticket) = free_ticket(board) {
+    if let Ok(ticket) = free_ticket(board, node) {
         return ticket;
     }
-    hold_back_long(rt, board, sleepers)
+    hold_back_long(rt, board, node, sleepers)
 }
 
 // Holds back because others are at the machine.
 #[cold]
 #[inline(never)]
-fn hold_back_long<M: Machine, R: Wait>(rt: &R, board: &Board<M>, sleepers: &Sleepers) -> u64
-    requires { board.now.shared.table_id.words ≡ 2 }
+fn hold_back_long<M: Machine, R: Wait>(
+    rt: &R,
+    board: &Board<M>,
+    node: usize,
+    sleepers: &Sleepers,
+) -> u64
+    requires { AreWords board.now.shared.table_id node }
     ensures { result < 2 ^ 62 }
 {
     for sleeps in 0..SLEEPS {
         let most = if sleeps == 0 { LOOKS } else { LOOKS_AGAIN };
-        match sleepers.look(board, most) {
+        match sleepers.look(board, node, most) {
             Ok(ticket) => {
                 if sleeps > 0 {
                     sleepers.others_may_sleep();
                 }
                 return ticket;
             }
-            Err(seen) => sleepers.sleep(rt, board, seen),
+            Err(seen) => sleepers.sleep(rt, board, node, seen),
         }
     }
     sleepers.others_may_sleep();
-    below_last(board.shared.peek(TICKET))
+    below_last(board.shared.peek(ticket_word(node)))
 }
 
 // Returns the likely next ticket if no other is out or none remains, and otherwise the one that is
 // served.
-fn free_ticket<M: Machine>(board: &Board<M>) -> Result<u64, u64>
-    requires { board.now.shared.table_id.words ≡ 2 }
+fn free_ticket<M: Machine>(board: &Board<M>, node: usize) -> Result<u64, u64>
+    requires { AreWords board.now.shared.table_id node }
     ensures { IfOk result (λ ticket. ticket < 2 ^ 62) }
 {
-    let serving = board.shared.peek(SERVING);
-    let ticket = board.shared.peek(TICKET);
+    let serving = board.shared.peek(serving_word(node));
+    let ticket = board.shared.peek(ticket_word(node));
     if ticket == serving || ticket >= LAST {
         Ok(below_last(ticket))
     } else {
@@ -208,14 +225,14 @@ fn free_ticket<M: Machine>(board: &Board<M>) -> Result<u64, u64>
 }
 
 // Looks until no ticket is out, but only this often, and only until others have made some turns.
-fn look_for_free<M: Machine>(board: &Board<M>, most: u32) -> Result<u64, u64>
-    requires { board.now.shared.table_id.words ≡ 2 }
+fn look_for_free<M: Machine>(board: &Board<M>, node: usize, most: u32) -> Result<u64, u64>
+    requires { AreWords board.now.shared.table_id node }
     ensures { IfOk result (λ ticket. ticket < 2 ^ 62) }
 {
-    let first = board.shared.peek(SERVING);
+    let first = board.shared.peek(serving_word(node));
     let mut seen = first;
     for _ in 0..most {
-        match free_ticket(board) {
+        match free_ticket(board, node) {
             Ok(ticket) => return Ok(ticket),
             Err(serving) => seen = serving,
         }
@@ -238,12 +255,12 @@ fn below_last(ticket: u64) -> u64
 
 // Looks until a turn has ended, but at most `2 ^ tries` times. No other thread can make a turn
 // meanwhile, so it looks often.
-fn look_in_line<M: Machine>(board: &Board<M>, tries: u32, seen: u64)
-    requires words { board.now.shared.table_id.words ≡ 2 }
+fn look_in_line<M: Machine>(board: &Board<M>, node: usize, tries: u32, seen: u64)
+    requires words { AreWords board.now.shared.table_id node }
     requires tries { tries < 32 }
 {
     for _ in 0..(1u32 << tries) {
-        if board.shared.peek(SERVING) != seen {
+        if board.shared.peek(serving_word(node)) != seen {
             return;
         }
         hint::spin_loop();

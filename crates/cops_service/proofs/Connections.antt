@@ -1,7 +1,9 @@
 -- Connections at desks: each call is one of nodes that the tenant has to itself, behind its calls by others.
-use Rattle.std.proofs.Common.{◌≡◌, ℕ, zero, suc, ◌+◌, ◌<◌, ◌∙◌, Bool, true, false, eqb, List, [], ◌∷◌, ◌++◌, inl, inr, length, map, set, get_or, refl, sym, ap, subst, IsTrue, arith}
+use Rattle.std.proofs.Common.{◌≡◌, ℕ, zero, suc, ◌+◌, ◌*◌, ◌/◌, ◌%◌, ◌<◌, ◌∙◌, Bool, true, false, eqb, List, [], ◌∷◌, ◌++◌, inl, inr, length, map, set, get_or, refl, sym, ap, subst, append-nil, append_assoc, IsTrue, arith}
 use Rattle.std.specs.Prelude.{slice_get, Option, Some, None, slice_set, slice_index_or, cond}
 use Rattle.std.specs.List.{AllByRecursion}
+use native.Mathlib.Nat.{mul_comm}
+use Rattle.std.proofs.Math.Nat.{div-add-mod}
 use Rattle.std.proofs.lemmas.Bool.{eqb-false}
 use Rattle.std.proofs.lemmas.Bool.Decides.{nat_tests}
 use Rattle.std.proofs.lemmas.List.{get_or-set_same, length-set, map-append, set-set}
@@ -11,8 +13,12 @@ use Rattle.cops_types.specs.declared.configs.Tenant.{Tenant}
 use Rattle.cops_types.specs.declared.faults.Fault.TheVariants.{GateSpent, OutOfMemory}
 use Rattle.cops_types.specs.HeadLines.{are_sizes}
 use Rattle.cops_types.specs.TenantConfig.{TenantConfig, tenant_config}
-use Rattle.cops_gate.specs.History.{entry, turn}
-use Rattle.cops_gate.specs.Seats.{Extends, Origin}
+use mathlib.Core.Option.{some, some-injective, some-ne-none}
+use lib.ListN.{get_elem?}
+use Rattle.cops_gate.specs.History.{AtNodes, entry, turn, turns_at}
+use Rattle.cops_gate.specs.Seats.{Extends}
+use Rattle.cops_gate.proofs.Histories.{node_mine, node_other}
+use Rattle.cops_gate.proofs.Keeps.{at_below, there_at}
 use Rattle.cops_model.specs.declared.calls.NodeCall.{NodeCall}
 use Rattle.cops_model.specs.declared.calls.NodeId.{NodeId}
 use Rattle.cops_model.specs.declared.calls.NodeReply.{NodeReply}
@@ -20,19 +26,18 @@ use Rattle.cops_model.specs.declared.calls.NodeReply.TheVariants.{Refused}
 use Rattle.cops_model.specs.Place.{Place, node_number, place_of}
 use Rattle.cops_model.specs.Session.{new_session}
 use Rattle.cops_model.specs.SoloNode.{SoloNode, new_node}
-use Rattle.cops_model.specs.Step.{node_step}
+use Rattle.cops_model.specs.Step.{CallEffect, node_step}
 use Rattle.cops_node.specs.Clusters.{id_of, new_nodes}
 use Rattle.cops_node.specs.Lacking.{MayLack}
 use Rattle.cops_node.specs.Parts.{IsMachineTurn, Shared, place_at, solo_of}
 use Rattle.cops_node.specs.Run.{TimedCall, node_after}
 use Rattle.cops_node.proofs.Clusters.{id_is, tenant_new}
-use Rattle.cops_service.specs.Connections.{IsConversationAtDesk, IsDesk, IsServedAtDesk, IsServiceOf, IsTenantIn, is_without_turn, seen_at, seen_by}
+use Rattle.cops_service.specs.Connections.{IsConversationAtDesk, IsDesk, IsServedAtDesk, IsServiceOf, IsTenantIn, is_without_turn, seen_at, seen_by, seen_from}
 use Rattle.cops_service.specs.Desks.{IsDeskCall, NodeSeat}
 use Rattle.cops_service.specs.Gates.{Gates, IsSeatOf, IsToldAtGate, openings}
 use Rattle.cops_service.specs.Slots.{NodeEntry, NodeLog, StandsForSolo, calls_at, joins_at, slot_entries, timed}
-use Rattle.cops_service.proofs.Desks.{new_are_nodes}
-use Rattle.cops_service.proofs.Seats.{homes_stay}
-use Rattle.cops_service.proofs.Told.{reply_as_alone}
+use Rattle.cops_service.proofs.Desks.{new_are_nodes, read_at}
+use Rattle.cops_service.proofs.Told.{last_reply}
 use Rattle.cops_wire.specs.Alone.{IsConnectionToldAlone, OwnCall, after_call, after_calls, call_alone}
 use Rattle.cops_wire.specs.Conversation.{IsReceivedAlone}
 use Rattle.cops_wire.specs.declared.messages.Message.{Message}
@@ -72,156 +77,201 @@ same_number n = by_test (eqb n n) refl
     by_test true e = e
     by_test false e = absurd (eqb-false n n e refl)
 
-last_call : (slot moment number : ℕ) (call : NodeCall) (reply : NodeReply) → calls_at slot (turn number (Some (entry slot moment call reply)) ∷ []) ≡ record { moment = moment; call = call } ∷ []
-last_call slot moment number call reply = ap (λ b. map timed (cond b (entry slot moment call reply ∷ []) [])) (same_number slot)
+last_call : (slot moment number node : ℕ) (call : NodeCall) (reply : NodeReply) → calls_at slot (turn number node (Some (entry slot moment call reply)) ∷ []) ≡ record { moment = moment; call = call } ∷ []
+last_call slot moment number node call reply = ap (λ b. map timed (cond b (entry slot moment call reply ∷ []) [])) (same_number slot)
 
--- ---- the nodes that a seat has seen
+-- ---- a history of all nodes, turn by turn
 
-seen_there : (config : TenantConfig) (slot : ℕ) (gates : List (Origin Shared)) (seat : List NodeSeat) (n : ℕ) (gate : Origin Shared) (s : NodeSeat) (d : SoloNode) → slice_get gates n ≡ Some gate → slice_get seat n ≡ Some s
-    → (n < length (seen_by config slot gates seat)) × (slice_index_or (seen_by config slot gates seat) n d ≡ seen_at config slot gate s)
-seen_there config slot [] seat n gate s d at own = cc
-seen_there config slot (g ∷ gates) [] n gate s d at own = cc
-seen_there config slot (g ∷ gates) (f ∷ seat) zero gate s d at own =
-    let first : g ≡ gate = cc in
-    let second : f ≡ s = cc in
-    (omega arith, λ i. seen_at config slot (first i) (second i))
-seen_there config slot (g ∷ gates) (f ∷ seat) (suc n) gate s d at own =
-    let later = seen_there config slot gates seat n gate s d at own in (omega (arith, later.0), later.1)
+-- the call of a turn at a node, if it is of this slot
+abbrev call_in : ℕ → ℕ → ℕ → Option NodeEntry → List OwnCall
+call_in shards slot node None = []
+call_in shards slot node (Some e) = cond (eqb e.slot slot) (record { node = id_of shards node; moment = e.moment; call = e.call } ∷ []) []
 
-seen_set : (config : TenantConfig) (slot : ℕ) (gates : List (Origin Shared)) (seat : List NodeSeat) (n : ℕ) (gate : Origin Shared) (s : NodeSeat) → slice_get gates n ≡ Some gate
-    → seen_by config slot gates (slice_set seat n s) ≡ slice_set (seen_by config slot gates seat) n (seen_at config slot gate s)
-seen_set config slot [] seat n gate s at = cc
-seen_set config slot (g ∷ gates) [] n gate s at = refl
-seen_set config slot (g ∷ gates) (f ∷ seat) zero gate s at = let first : g ≡ gate = cc in ap (λ o. seen_at config slot o s ∷ seen_by config slot gates seat) first
-seen_set config slot (g ∷ gates) (f ∷ seat) (suc n) gate s at = ap (λ l. seen_at config slot g f ∷ l) (seen_set config slot gates seat n gate s at)
+-- the calls of a slot at all nodes
+abbrev calls_between : ℕ → ℕ → NodeLog → List OwnCall
+calls_between shards slot [] = []
+calls_between shards slot (t ∷ log) = call_in shards slot t.node t.entry ++ calls_between shards slot log
 
--- ---- calls at one node
+after_all : (config : TenantConfig) (first second : List OwnCall) (nodes : List SoloNode) → after_calls config (first ++ second) nodes ≡ after_calls config second (after_calls config first nodes)
+after_all config [] second nodes = refl
+after_all config (c ∷ first) second nodes = after_all config first second (after_call config c.node c.moment c.call nodes)
 
-abbrev calls_to : NodeId → List TimedCall → List OwnCall
-calls_to id calls = map (λ (c : TimedCall). record { node = id; moment = c.moment; call = c.call }) calls
+at_parts : (count : ℕ) (first second : NodeLog) → AtNodes count (first ++ second) → AtNodes count first × AtNodes count second
+at_parts count [] second all = (tt, all)
+at_parts count (t ∷ first) second all = let rest = at_parts count first second all.1 in ((all.0, rest.0), rest.1)
 
-module _ (config : TenantConfig) (id : NodeId) where
-  abbrev number : ℕ
-  number = node_number config.shards id
+set_same : {A : Type 0} (xs : List A) (n : ℕ) (x d : A) → n < length xs → get_or xs n d ≡ x → set xs n x ≡ xs
+set_same [] n x d lt e = absurd (omega arith)
+set_same (y ∷ xs) zero x d lt e = ap (λ z. z ∷ xs) (sym e)
+set_same (y ∷ xs) (suc n) x d lt e = ap (λ l. y ∷ l) (set_same xs n x d (omega (arith, lt)) e)
 
-  -- calls at one node change that one as they do alone
-  calls_there : (calls : List TimedCall) (nodes : List SoloNode) (solo : SoloNode) → number < length nodes → slice_index_or nodes number (new_node config.data_centres) ≡ solo
-      → after_calls config (calls_to id calls) nodes ≡ slice_set nodes number (node_after (place_of config id) calls solo)
-  calls_there [] nodes solo lt is = sym (set_same nodes number solo (new_node config.data_centres) lt is)
-    where
-      set_same : (xs : List SoloNode) (n : ℕ) (x d : SoloNode) → n < length xs → get_or xs n d ≡ x → set xs n x ≡ xs
-      set_same [] n x d lt e = refl
-      set_same (y ∷ xs) zero x d lt e = ap (λ z. z ∷ xs) (sym e)
-      set_same (y ∷ xs) (suc n) x d lt e = ap (λ l. y ∷ l) (set_same xs n x d (omega (arith, lt)) e)
-  calls_there (c ∷ calls) nodes solo lt is =
-      let next : SoloNode = (node_step (place_of config id) c.moment c.call solo).after in
-      let changed : after_call config id c.moment c.call nodes ≡ slice_set nodes number next = ap (λ s. slice_set nodes number (node_step (place_of config id) c.moment c.call s).after) is in
-      ap (after_calls config (calls_to id calls)) changed
-      ∙ calls_there calls (slice_set nodes number next) next (subst (λ k. number < k) (sym (length-set nodes number next)) lt) (get_or-set_same nodes number next (new_node config.data_centres) lt)
-      ∙ set-set nodes number next (node_after (place_of config id) calls next)
+module _ (config : TenantConfig) (slot : ℕ) where
+  abbrev seen : ℕ → List Shared → NodeLog → List SoloNode
+  seen = seen_from config slot
 
-  -- one more call behind them
-  call_behind : (moment : ℕ) (call : NodeCall) (nodes : List SoloNode) (between : SoloNode) → number < length nodes
-      → (call_alone config id moment call (slice_set nodes number between) ≡ node_step (place_of config id) moment call between)
-      × (after_call config id moment call (slice_set nodes number between) ≡ slice_set nodes number (node_step (place_of config id) moment call between).after)
-  call_behind moment call nodes between lt =
-      let same = get_or-set_same nodes number between (new_node config.data_centres) lt in (
-        ap (node_step (place_of config id) moment call) same,
-        ap (λ s. slice_set (slice_set nodes number between) number (node_step (place_of config id) moment call s).after) same
-            ∙ set-set nodes number between (node_step (place_of config id) moment call between).after,
-      )
+  -- a turn at an earlier node
+  seen_before : (k : ℕ) (nodes : List Shared) (log : NodeLog) (s n : ℕ) (e : Option NodeEntry) → n < k → seen k nodes (log ++ turn s n e ∷ []) ≡ seen k nodes log
+  seen_before k [] log s n e lt = refl
+  seen_before k (o ∷ nodes) log s n e lt = λ i. seen_at config slot o (node_other log s n k e (λ same. omega arith) i) ∷ seen_before (suc k) nodes log s n e (omega (arith, lt)) i
+
+  -- a turn at one of these nodes
+  seen_turn : (k : ℕ) (nodes : List Shared) (log : NodeLog) (s n i : ℕ) (e : Option NodeEntry) (first : Shared) → n ≡ k + i → get_elem? nodes i ≡ some first
+      → seen k nodes (log ++ turn s n e ∷ []) ≡ set (seen k nodes log) i (seen_at config slot first (turns_at n log ++ turn s n e ∷ []))
+  seen_turn k [] log s n i e first is at = absurd (some-ne-none first (sym at))
+  seen_turn k (o ∷ nodes) log s n zero e first is at =
+      let here : n ≡ k = omega arith in
+      let node : o ≡ first = some-injective o first at in
+      let turns : turns_at k (log ++ turn s n e ∷ []) ≡ turns_at n log ++ turn s n e ∷ [] = ap (λ m. turns_at m (log ++ turn s n e ∷ [])) (sym here) ∙ node_mine log s n e in
+      λ j. seen_at config slot (node j) (turns j) ∷ seen_before (suc k) nodes log s n e (omega arith) j
+  seen_turn k (o ∷ nodes) log s n (suc i) e first is at =
+      λ j. seen_at config slot o (node_other log s n k e (λ same. omega arith) j) ∷ seen_turn (suc k) nodes log s n i e first (omega arith) at j
+
+  seen_there : (k : ℕ) (nodes : List Shared) (log : NodeLog) (n i : ℕ) (first : Shared) (d : SoloNode) → n ≡ k + i → get_elem? nodes i ≡ some first
+      → (i < length (seen k nodes log)) × (get_or (seen k nodes log) i d ≡ seen_at config slot first (turns_at n log))
+  seen_there k [] log n i first d is at = absurd (some-ne-none first (sym at))
+  seen_there k (o ∷ nodes) log n zero first d is at =
+      let here : k ≡ n = omega arith in
+      let node : o ≡ first = some-injective o first at in
+      (omega arith, λ j. seen_at config slot (node j) (turns_at (here j) log))
+  seen_there k (o ∷ nodes) log n (suc i) first d is at = let later = seen_there (suc k) nodes log n i first d (omega arith) at in (omega (arith, later.0), later.1)
+
+-- ---- calls at the nodes of a cluster
+
+from_zero : (n : ℕ) → n ≡ 0 + n
+from_zero n = omega arith
+
+number_back : (shards n : ℕ) → 0 < shards → node_number shards (id_of shards n) ≡ n
+number_back shards n many = ap (λ x. x + n % shards) (mul_comm (n / shards) shards) ∙ div-add-mod n shards
+
+-- the nodes opened in their places, and at each the slot is this tenant's
+record ArePlaced (config : TenantConfig) (slot : ℕ) (nodes : List Shared) : Type 0 where
+  pub some_shards : 0 < config.shards
+  pub place : (n : ℕ) (first : Shared) → get_elem? nodes n ≡ some first → first.home.id ≡ id_of config.shards n
+  pub tenant : (n : ℕ) (first : Shared) → get_elem? nodes n ≡ some first → place_at slot first ≡ Some (place_of config first.home.id)
+
+module _ (config : TenantConfig) (slot : ℕ) (nodes : List Shared) (placed : ArePlaced config slot nodes) where
+  abbrev left : NodeLog → List SoloNode
+  left log = seen_from config slot 0 nodes log
+
+  abbrev at : ℕ → NodeId
+  at n = id_of config.shards n
+
+  -- a call at a node that a history leaves is one at the tenant's own
+  call_there : (log : NodeLog) (n moment : ℕ) (call : NodeCall) (first : Shared) → get_elem? nodes n ≡ some first
+      → call_alone config (at n) moment call (left log) ≡ node_step (place_of config first.home.id) moment call (seen_at config slot first (turns_at n log))
+  call_there log n moment call first known =
+      let found = seen_there config slot 0 nodes log n n first (new_node config.data_centres) (from_zero n) known in
+      let read : get_or (left log) (node_number config.shards (at n)) (new_node config.data_centres) ≡ seen_at config slot first (turns_at n log) =
+      ap (λ k. get_or (left log) k (new_node config.data_centres)) (number_back config.shards n placed.some_shards) ∙ found.1 in
+      λ i. node_step (place_of config (sym (placed.place n first known) i)) moment call (read i)
+
+  -- a call at a node
+  module _ (log : NodeLog) (s n : ℕ) (e : NodeEntry) (first : Shared) (known : get_elem? nodes n ≡ some first) where
+    abbrev here : NodeLog
+    here = turns_at n log
+
+    abbrev own_place : Place
+    own_place = place_of config first.home.id
+
+    abbrev before : SoloNode
+    before = seen_at config slot first here
+
+    -- what is left there
+    then_left : seen_at config slot first (here ++ turn s n (Some e) ∷ []) ≡ node_after own_place (map timed (cond (eqb e.slot slot) (e ∷ []) [])) before
+    then_left = left_in slot own_place here (turn s n (Some e) ∷ []) (solo_of slot own_place first)
+
+    by_slot : (b : Bool) → eqb e.slot slot ≡ b → left (log ++ turn s n (Some e) ∷ []) ≡ after_calls config (call_in config.shards slot n (Some e)) (left log)
+    by_slot true is =
+        let next : SoloNode = (node_step own_place e.moment e.call before).after in
+        seen_turn config slot 0 nodes log s n n (Some e) first (from_zero n) known
+        ∙ ap (set (left log) n) (then_left ∙ ap (λ b. node_after own_place (map timed (cond b (e ∷ []) [])) before) is)
+        ∙ ap (λ k. set (left log) k next) (sym (number_back config.shards n placed.some_shards))
+        ∙ ap (λ (x : CallEffect). slice_set (left log) (node_number config.shards (at n)) x.after) (sym (call_there log n e.moment e.call first known))
+        ∙ ap (λ b. after_calls config (cond b (record { node = at n; moment = e.moment; call = e.call } ∷ []) []) (left log)) (sym is)
+    by_slot false is =
+        let found = seen_there config slot 0 nodes log n n first (new_node config.data_centres) (from_zero n) known in
+        seen_turn config slot 0 nodes log s n n (Some e) first (from_zero n) known
+        ∙ ap (set (left log) n) (then_left ∙ ap (λ b. node_after own_place (map timed (cond b (e ∷ []) [])) before) is)
+        ∙ set_same (left log) n before (new_node config.data_centres) found.0 found.1
+        ∙ ap (λ b. after_calls config (cond b (record { node = at n; moment = e.moment; call = e.call } ∷ []) []) (left log)) (sym is)
+
+  -- a turn at a node
+  one_turn : (log : NodeLog) (s n : ℕ) (e : Option NodeEntry) (first : Shared) → get_elem? nodes n ≡ some first → left (log ++ turn s n e ∷ []) ≡ after_calls config (call_in config.shards slot n e) (left log)
+  one_turn log s n None first known =
+      let found = seen_there config slot 0 nodes log n n first (new_node config.data_centres) (from_zero n) known in
+      let stays : seen_at config slot first (turns_at n log ++ turn s n None ∷ []) ≡ seen_at config slot first (turns_at n log) =
+      left_in slot (place_of config first.home.id) (turns_at n log) (turn s n None ∷ []) (solo_of slot (place_of config first.home.id) first) in
+      seen_turn config slot 0 nodes log s n n None first (from_zero n) known ∙ ap (set (left log) n) stays ∙ set_same (left log) n (seen_at config slot first (turns_at n log)) (new_node config.data_centres) found.0 found.1
+  one_turn log s n (Some e) first known = by_slot log s n e first known (eqb e.slot slot) refl
+
+  -- turns at any nodes
+  turns_on : (log more : NodeLog) → AtNodes (length nodes) more → left (log ++ more) ≡ after_calls config (calls_between config.shards slot more) (left log)
+  turns_on log [] within = ap left (append-nil log)
+  turns_on log (t ∷ more) within =
+      let first = there_at nodes t.node within.0 in
+      ap left (sym (append_assoc log (t ∷ []) more)) ∙ turns_on (log ++ t ∷ []) more within.1
+      ∙ ap (after_calls config (calls_between config.shards slot more)) (one_turn log t.seat t.node t.entry first.0 first.1)
+      ∙ sym (after_all config (call_in config.shards slot t.node t.entry) (calls_between config.shards slot more) (left log))
 
 -- ---- a call at a desk
 
-opening_of : (gates : List (Origin Shared)) (n : ℕ) (gate : Origin Shared) → slice_get gates n ≡ Some gate → slice_get (map (λ (o : Origin Shared). o.opening) gates) n ≡ Some gate.opening
-opening_of [] n gate at = cc
-opening_of (g ∷ gates) zero gate at = let same : g ≡ gate = cc in ap (λ (o : Origin Shared). Some o.opening) same
-opening_of (g ∷ gates) (suc n) gate at = opening_of gates n gate at
-
-placed : (config : TenantConfig) (slot : ℕ) (nodes : List Shared) (n : ℕ) (node : Shared) → AllByRecursion (λ node. place_at slot node ≡ Some (place_of config node.home.id)) nodes → slice_get nodes n ≡ Some node
+placed_at : (config : TenantConfig) (slot : ℕ) (nodes : List Shared) (n : ℕ) (node : Shared) → AllByRecursion (λ node. place_at slot node ≡ Some (place_of config node.home.id)) nodes → get_elem? nodes n ≡ some node
     → place_at slot node ≡ Some (place_of config node.home.id)
-placed config slot [] n node all at = cc
-placed config slot (x ∷ nodes) zero node all at = let same : x ≡ node = cc in subst (λ (y : Shared). place_at slot y ≡ Some (place_of config y.home.id)) same all.0
-placed config slot (x ∷ nodes) (suc n) node all at = placed config slot nodes n node all.1 at
+placed_at config slot [] n node all at = absurd (some-ne-none node (sym at))
+placed_at config slot (x ∷ nodes) zero node all at = subst (λ (y : Shared). place_at slot y ≡ Some (place_of config y.home.id)) (some-injective x node at) all.0
+placed_at config slot (x ∷ nodes) (suc n) node all at = placed_at config slot nodes n node all.1 at
 
-module _ (config : TenantConfig) (slot : ℕ) (cluster : Gates Shared) (old new : List NodeSeat) (there : IsTenantIn config slot cluster old)
+module _ (config : TenantConfig) (slot : ℕ) (cluster : Gates Shared) (old new : NodeSeat) (there : IsTenantIn config slot cluster old)
     (id : NodeId) (moment : ℕ) (call : NodeCall) (reply : NodeReply) (shard : id.shard < config.shards) (called : IsDeskCall cluster old id slot moment call reply new) where
-  abbrev at_number : ℕ
-  at_number = node_number cluster.shards id
+  abbrev number : ℕ
+  number = node_number config.shards id
 
-  abbrev gate : Origin Shared
-  gate = called.0
-
-  abbrev before : NodeSeat
-  before = called.1
-
-  abbrev after : NodeSeat
-  after = called.2
-
-  abbrev told : IsToldAtGate IsMachineTurn MayLack (Refused OutOfMemory) (Refused GateSpent) slot moment call reply gate before after
-  told = called.6
-
-  number_is : at_number ≡ node_number config.shards id
-  number_is = ap (λ k. node_number k id) (sym there.shards)
-
-  at_opening : slice_get (openings cluster) at_number ≡ Some gate.opening
-  at_opening = opening_of cluster.gates at_number gate called.3
-
-  -- the gate is that of the node
-  home_is : gate.opening.home.id ≡ id
-  home_is =
-      let each = there.nodes.nodes.each at_number gate.opening (slice_get_within (openings cluster) at_number gate.opening at_opening) (sym (get_or_from_slice_get (openings cluster) at_number gate.opening gate.opening at_opening)) in
-      each.0 ∙ ap (λ k. id_of k at_number) (sym there.nodes.shards ∙ sym there.shards) ∙ ap (id_of config.shards) number_is ∙ id_is config.shards id shard
-
-  abbrev place : Place
-  place = place_of config gate.opening.home.id
-
-  place_is : place ≡ place_of config id
-  place_is = ap (place_of config) home_is
-
-  abbrev solo : SoloNode
-  solo = solo_of slot place gate.opening
-
-  stands : StandsForSolo slot place solo gate.opening
-  stands = record { place_is = placed config slot (openings cluster) at_number gate.opening there.tenant at_opening; solo_is = refl }
+  are_placed : ArePlaced config slot (openings cluster)
+  are_placed = record {
+    some_shards = there.some;
+    place = λ n first known.
+        (there.nodes.nodes.each n first (at_below (openings cluster) n first known) (read_at (openings cluster) n first known)).0 ∙ ap (λ k. id_of k n) (sym there.nodes.shards ∙ sym there.shards);
+    tenant = λ n first known. placed_at config slot (openings cluster) n first there.tenant known;
+  }
 
   abbrev nodes : List SoloNode
-  nodes = seen_by config slot cluster.gates old
+  nodes = seen_by config slot cluster old
 
   abbrev At : Type 0
   At = (between : List OwnCall) × (reply ≡ (call_alone config id moment call (after_calls config between nodes)).reply)
-      × (seen_by config slot cluster.gates new ≡ after_call config id moment call (after_calls config between nodes))
+      × (seen_by config slot cluster new ≡ after_call config id moment call (after_calls config between nodes))
 
   -- the tenant's calls between come first, and then this one
-  made : Extends IsMachineTurn gate.opening before (Some (entry slot moment call reply)) after → At
+  made : Extends IsMachineTurn (openings cluster) (node_number cluster.shards id) old (Some (entry slot moment call reply)) new → At
   made grows =
-      let r = reply_as_alone slot moment before.number place solo gate.opening before.history after.history call reply stands grows in
-      let rest : NodeLog = r.1.0 in
-      let calls : List TimedCall = calls_at slot rest in
-      let start : SoloNode = seen_at config slot gate before in
-      let middle : SoloNode = node_after (place_of config id) calls start in
-      let earlier_is : node_after place (calls_at slot r.0) solo ≡ middle =
-      ap (λ log. node_after place (calls_at slot log) solo) r.1.1 ∙ left_in slot place before.history rest solo ∙ ap (λ p. node_after p calls start) place_is in
-      let found = seen_there config slot cluster.gates old (node_number config.shards id) gate before (new_node config.data_centres)
-      (subst (λ k. slice_get cluster.gates k ≡ Some gate) number_is called.3) (subst (λ k. slice_get old k ≡ Some before) number_is called.4) in
-      let behind = call_behind config id moment call nodes middle found.0 in
-      let all : after_calls config (calls_to id calls) nodes ≡ slice_set nodes (node_number config.shards id) middle = calls_there config id calls nodes start found.0 found.1 in
-      let step_is : node_step place moment call (node_after place (calls_at slot r.0) solo) ≡ node_step (place_of config id) moment call middle = λ i. node_step (place_is i) moment call (earlier_is i) in
-      let last : NodeLog = turn before.number (Some (entry slot moment call reply)) ∷ [] in
-      let left : seen_at config slot gate after ≡ (node_step (place_of config id) moment call middle).after =
-      ap (λ log. node_after place (calls_at slot log) solo) r.2 ∙ left_in slot place r.0 last solo
-      ∙ ap (λ cs. node_after place cs (node_after place (calls_at slot r.0) solo)) (last_call slot moment before.number call reply) ∙ ap (λ e. e.after) step_is in (
-        calls_to id calls,
-        r.3 ∙ ap (λ e. e.reply) (step_is ∙ sym behind.0) ∙ ap (λ l. (call_alone config id moment call l).reply) (sym all),
-        ap (seen_by config slot cluster.gates) called.5 ∙ seen_set config slot cluster.gates old at_number gate after called.3
-            ∙ ap (λ k. slice_set nodes k (seen_at config slot gate after)) number_is
-            ∙ ap (slice_set nodes (node_number config.shards id)) left ∙ sym behind.1 ∙ ap (after_call config id moment call) (sym all),
+      let n : ℕ = node_number cluster.shards id in
+      let number_is : n ≡ number = ap (λ k. node_number k id) (sym there.shards) in
+      let id_at : id_of config.shards n ≡ id = ap (id_of config.shards) number_is ∙ id_is config.shards id shard in
+      let last : NodeLog = turn old.number n (Some (entry slot moment call reply)) ∷ [] in
+      let earlier : NodeLog = old.history ++ grows.1.0 in
+      let parts = at_parts (length (openings cluster)) earlier last (subst (AtNodes (length (openings cluster))) grows.1.1 grows.0.0) in
+      let first = there_at (openings cluster) n parts.1.0 in
+      let between : List OwnCall = calls_between config.shards slot grows.1.0 in
+      let all : seen_from config slot 0 (openings cluster) earlier ≡ after_calls config between nodes =
+      turns_on config slot (openings cluster) are_placed old.history grows.1.0 (at_parts (length (openings cluster)) old.history grows.1.0 parts.0).1 in
+      let place : Place = place_of config first.0.home.id in
+      let there_all : turns_at n new.history ≡ turns_at n earlier ++ last = ap (turns_at n) grows.1.1 ∙ node_mine earlier old.number n (Some (entry slot moment call reply)) in
+      let told = last_reply slot moment old.number n place (solo_of slot place first.0) first.0 (turns_at n earlier) (turns_at n new.history) call reply
+      (record { place_is = are_placed.tenant n first.0 first.1; solo_is = refl }) (grows.0.1 n first.0 first.1) there_all in
+      let alone : call_alone config id moment call (after_calls config between nodes) ≡ node_step place moment call (seen_at config slot first.0 (turns_at n earlier)) =
+      (λ i. call_alone config (sym id_at i) moment call (sym all i)) ∙ call_there config slot (openings cluster) are_placed earlier n moment call first.0 first.1 in
+      let made_call : call_in config.shards slot n (Some (entry slot moment call reply)) ≡ record { node = id; moment = moment; call = call } ∷ [] =
+      ap (λ b. cond b (record { node = id_of config.shards n; moment = moment; call = call } ∷ []) []) (same_number slot) ∙ ap (λ (k : NodeId). record { node = k; moment = moment; call = call } ∷ []) id_at in (
+        between,
+        told ∙ ap (λ (x : CallEffect). x.reply) (sym alone),
+        ap (seen_from config slot 0 (openings cluster)) grows.1.1 ∙ one_turn config slot (openings cluster) are_placed earlier old.number n (Some (entry slot moment call reply)) first.0 first.1
+            ∙ (λ i. after_calls config (made_call i) (all i)),
       )
 
   pub still_there : IsTenantIn config slot cluster new
   still_there = record {
     nodes = there.nodes;
-    own = subst (IsSeatOf cluster) (sym called.5) (homes_stay cluster.gates old at_number before after there.own (sym (get_or_from_slice_get old at_number before before called.4)) told.same.0);
+    own = called.same.0 ∙ there.own;
     tenant = there.tenant;
     shards = there.shards;
     some = there.some;
@@ -229,9 +279,9 @@ module _ (config : TenantConfig) (slot : ℕ) (cluster : Gates Shared) (old new 
 
 -- ---- laws
 
-module _ {N : Type 0} (Calls : N → NodeId → ℕ → ℕ → NodeCall → NodeReply → N → Type 0) (cluster : N → Gates Shared) (seat : N → List NodeSeat) (desk : IsDesk Calls cluster seat) (config : TenantConfig) (slot : ℕ) where
+module _ {N : Type 0} (Calls : N → NodeId → ℕ → ℕ → NodeCall → NodeReply → N → Type 0) (cluster : N → Gates Shared) (seat : N → NodeSeat) (desk : IsDesk Calls cluster seat) (config : TenantConfig) (slot : ℕ) where
   abbrev nodes_at : N → List SoloNode
-  nodes_at here = seen_by config slot (cluster here).gates (seat here)
+  nodes_at here = seen_by config slot (cluster here) (seat here)
 
   abbrev IsThere : N → Type 0
   IsThere here = IsTenantIn config slot (cluster here) (seat here)
@@ -243,10 +293,10 @@ module _ {N : Type 0} (Calls : N → NodeId → ℕ → ℕ → NodeCall → Nod
       let same = desk.stays old new id slot moment call reply called in
       let shard = has there.some in
       record {
-        turn = elim made_call.6.grows [
+        turn = elim made_call.grows [
           | inl grows ↦
               let own = made config slot (cluster old) (seat old) (seat new) there id moment call reply shard made_call grows in
-              inr (own.0, tt, own.1, ap (λ c. seen_by config slot c.gates (seat new)) same ∙ own.2)
+              inr (own.0, tt, own.1, ap (λ c. seen_by config slot c (seat new)) same ∙ own.2)
           | inr (inl lack) ↦ inl (OutOfMemory, refl, lack.0)
           | inr (inr spent) ↦ inl (GateSpent, refl, spent.0)
         ];
@@ -264,7 +314,7 @@ some_shards : (config : Config) → IsTrue (are_sizes config) → 0 < config.sha
 some_shards config h = let some : 0 < config.shards = grind (arith, nat_tests) in some
 
 -- each tenant of the configuration is there
-pub tenant_there : (config : Config) (slot : ℕ) (tenant : Tenant) (cluster : Gates Shared) (seat : List NodeSeat) → slice_get config.tenants slot ≡ Some tenant → IsServiceOf config cluster seat
+pub tenant_there : (config : Config) (slot : ℕ) (tenant : Tenant) (cluster : Gates Shared) (seat : NodeSeat) → slice_get config.tenants slot ≡ Some tenant → IsServiceOf config cluster seat
     → IsTenantIn (tenant_config config tenant) slot cluster seat
 tenant_there config slot tenant cluster seat found h = record {
   nodes = new_are_nodes config cluster h.sizes h.shards h.opened;
@@ -274,11 +324,11 @@ tenant_there config slot tenant cluster seat found h = record {
   some = some_shards config h.sizes;
 }
 
-pub desk_received : {N M : Type 0} (Calls : N → NodeId → ℕ → ℕ → NodeCall → NodeReply → N → Type 0) (Gives : M → ℕ → M → Type 0) (cluster : N → Gates Shared) (seat : N → List NodeSeat)
+pub desk_received : {N M : Type 0} (Calls : N → NodeId → ℕ → ℕ → NodeCall → NodeReply → N → Type 0) (Gives : M → ℕ → M → Type 0) (cluster : N → Gates Shared) (seat : N → NodeSeat)
     (config : Config) (sent received : List ℕ) (nodes new_nodes : N) (moments new_moments : M) → IsConversationAtDesk Calls Gives cluster seat config sent received nodes new_nodes moments new_moments
-    → IsReceivedAlone Gives (λ own slot n. seen_by own slot (cluster n).gates (seat n)) config sent received nodes new_nodes moments new_moments
+    → IsReceivedAlone Gives (λ own slot n. seen_by own slot (cluster n) (seat n)) config sent received nodes new_nodes moments new_moments
 desk_received Calls Gives cluster seat config sent received nodes new_nodes moments new_moments h =
     let c = h.conversation.conversed in
-    (received_is Calls Gives is_without_turn (λ own slot n. seen_by own slot (cluster n).gates (seat n)) config sent received nodes new_nodes moments new_moments h.conversation
+    (received_is Calls Gives is_without_turn (λ own slot n. seen_by own slot (cluster n) (seat n)) config sent received nodes new_nodes moments new_moments h.conversation
     (desk_told Calls cluster seat h.desk (tenant_config config c.tenant) c.slot Gives (backend (new_session c.dc 1) nodes moments) c.serves.requests c.serves.replies (backend c.after new_nodes new_moments)
     (record { desk = h.desk; there = tenant_there config c.slot c.tenant (cluster nodes) (seat nodes) c.tenant_is h.there; served = c.serves.served; spared = h.conversation.spared }))).0

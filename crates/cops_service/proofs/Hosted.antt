@@ -98,11 +98,11 @@ own_replies home slot (c ∷ calls) held =
     let turn = node_step held.place c.moment c.call held.solo in
     ap (λ rest. told.Own turn.reply ∷ rest) (own_replies home slot calls (record { place = held.place; solo = turn.after }))
 
-pub life_as_alone : (slot moment seat : ℕ) (tenant : Tenant) (calls : List TimedCall) (opening : Shared) (before life : HostedLog) →
-    IsLegal IsSlotTurn opening (before ++ turn seat (Some (entry slot moment (Admit tenant) told.Admitted)) ∷ life) → slot_calls_at slot life ≡ map own_call calls →
+pub life_as_alone : (slot moment seat node : ℕ) (tenant : Tenant) (calls : List TimedCall) (opening : Shared) (before life : HostedLog) →
+    IsLegal IsSlotTurn opening (before ++ turn seat node (Some (entry slot moment (Admit tenant) told.Admitted)) ∷ life) → slot_calls_at slot life ≡ map own_call calls →
     replies_at slot life ≡ map told.Own (node_replies (place_for opening.home tenant.first_clock tenant.quota) calls (new_node opening.home.shape.data_centres))
-life_as_alone slot moment seat tenant calls opening before life legal are =
-    let split = goes_on IsSlotTurn opening legal.0 before (turn seat (Some (entry slot moment (Admit tenant) told.Admitted)) ∷ life) legal.1 in
+life_as_alone slot moment seat node tenant calls opening before life legal are =
+    let split = goes_on IsSlotTurn opening legal.0 before (turn seat node (Some (entry slot moment (Admit tenant) told.Admitted)) ∷ life) legal.1 in
     let there : Shared = split.0 in
     let made : IsSlotTurn there slot moment (Admit tenant) told.Admitted split.2.0 = split.2.1 in
     let home : Home = opening.home in

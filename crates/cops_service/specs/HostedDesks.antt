@@ -15,10 +15,10 @@ use Rattle.cops_node.specs.declared.hosted.SlotReply.TheVariants as told
 use Rattle.cops_node.specs.Hosting.{IsSlotTurn}
 use Rattle.cops_node.specs.Lacking.{MayLackAtSlot}
 use Rattle.cops_node.specs.Parts.{Shared}
-use Rattle.cops_model.specs.Place.{fits}
+use Rattle.cops_model.specs.Place.{fits, node_number}
 use Rattle.cops_node.specs.declared.Shape.{Shape}
 use Rattle.cops_node.specs.Shape.{place_in}
-use Rattle.cops_service.specs.Gates.{Gates, At, IsToldAtGate}
+use Rattle.cops_service.specs.Gates.{Gates, IsToldAtGate, openings}
 
 abbrev pub HostedSeat : Type 0
 HostedSeat = Known Shared SlotCall SlotReply
@@ -34,9 +34,9 @@ abbrev pub told_at_slot : Result SlotReply AllocError → SlotReply
 told_at_slot (Ok reply) = reply
 told_at_slot (Err error) = told.Refused OutOfMemory
 
--- a call of a slot at a node: the seat at that node gets the reply, and the seats at other nodes stay
-abbrev pub IsSlotCall : Gates Shared → List HostedSeat → NodeId → ℕ → ℕ → SlotCall → SlotReply → List HostedSeat → Type 0
-IsSlotCall cluster old id slot moment call reply new = At cluster id old new (IsToldAtGate IsSlotTurn MayLackAtSlot (told.Refused OutOfMemory) (told.Refused GateSpent) slot moment call reply)
+-- a call of a slot at a node: the seat gets the reply, as its history says
+abbrev pub IsSlotCall : Gates Shared → HostedSeat → NodeId → ℕ → ℕ → SlotCall → SlotReply → HostedSeat → Type 0
+IsSlotCall cluster old id slot moment call reply new = IsToldAtGate IsSlotTurn MayLackAtSlot (told.Refused OutOfMemory) (told.Refused GateSpent) slot moment call reply (openings cluster) (node_number cluster.shards id) old new
 
 -- the replies to a session or a carrier
 abbrev pub reply_to_own : SlotReply → NodeReply
@@ -46,5 +46,5 @@ reply_to_own told.Admitted = node_reply.Refused Torn
 reply_to_own told.Closed = node_reply.Refused Torn
 
 -- a call of a session or a carrier at a node, for the tenant of a slot
-abbrev pub IsOwnCall : Gates Shared → List HostedSeat → NodeId → ℕ → ℕ → NodeCall → NodeReply → List HostedSeat → Type 0
+abbrev pub IsOwnCall : Gates Shared → HostedSeat → NodeId → ℕ → ℕ → NodeCall → NodeReply → HostedSeat → Type 0
 IsOwnCall cluster old id slot moment call reply new = (answer : SlotReply) × (reply ≡ reply_to_own answer) × IsSlotCall cluster old id slot moment (Own call) answer new

@@ -184,7 +184,7 @@ fn turned<R: Wait + Abort>(
     cluster: &Cluster<Counter>,
     seat: &mut ServiceSeat<Counter>,
 ) -> u64
-    requires { IsSeatOf cluster.now seat.old × (cluster.now.shards ≡ 1) × (1 ≤ length cluster.now.gates) }
+    requires { IsSeatOf cluster.now seat.old × (cluster.now.shards ≡ 1) × (1 ≤ length cluster.now.gate.opening) }
     ensures { IsSeatOf cluster.now seat.new }
 {
     let id = NodeId { dc: 0, shard: 0 };
@@ -209,7 +209,7 @@ fn one_counter(alloc: Global) -> Result<Vec<Counter>, AllocError>
 /// A cluster of one machine, made again if memory is refused.
 fn one_machine(rt: &impl Abort, alloc: Global) -> (Cluster<Counter>, ServiceSeat<Counter>)
     ensures own { IsSeatOf result.0 result.1 }
-    ensures one { (result.0.shards ≡ 1) × (1 ≤ length result.0.gates) }
+    ensures one { (result.0.shards ≡ 1) × (1 ≤ length result.0.gate.opening) }
 {
     match Cluster::of(alloc, 1, one_counter(alloc).expect(rt, "memory")) {
         Ok(both) => both,

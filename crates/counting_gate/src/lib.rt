@@ -2,7 +2,7 @@
 #![tactic(auto)]
 
 ghost use Rattle.std.specs.Prelude.{◌≡◌, ◌<◌, ◌≤◌, IfOk, IfSome};
-ghost use Rattle.cops_gate.specs.Seats.{gate_home};
+ghost use Rattle.cops_gate.specs.Single.{single_home};
 
 mod counter;
 
@@ -17,7 +17,7 @@ pub fn two_turns<R: Wait>(
     gate: &Gate<Counter>,
     seat: &mut GateSeat<Counter>,
 ) -> Result<(u64, u64), Fault>
-    requires { seat.old.gate ≡ gate_home gate.now }
+    requires { seat.old.gate ≡ single_home gate.now }
     ensures { IfOk result (λ r. r.0 < r.1) }
 {
     let first = gate.step(rt, seat, 0, 0, Ask::Go)?;
@@ -31,7 +31,7 @@ pub fn last_turn<R: Wait>(
     gate: Gate<Counter>,
     mut seat: GateSeat<Counter>,
 ) -> Option<(u64, Counter)>
-    requires { seat.gate ≡ gate_home gate }
+    requires { seat.gate ≡ single_home gate }
     ensures { IfSome result (λ r. r.0 ≤ r.1.count) }
 {
     let Ok(reply) = gate.step(rt, &mut seat, 0, 0, Ask::Go) else {

@@ -1,6 +1,6 @@
 use Rattle.cops_node.specs.Parts.{home_in, IsMachineTurn}
-use Rattle.cops_service.specs.Gates.{EndEach}
-use Rattle.cops_service.proofs.Leaving.{are_left, at_some}
+use Rattle.cops_service.specs.Gates.{Ends}
+use Rattle.cops_service.proofs.Leaving.{are_left, are_left_together, at_some}
 use Rattle.cops_service.proofs.serving.serve_with.Goals as goal
 
 pub invariant_of-seated : goal.invariant_of-seated
@@ -10,4 +10,9 @@ invariant_of-seated g c =
 pub returns-in-Ok-Some-clause-left : goal.returns-in-Ok-Some-clause-left
 returns-in-Ok-Some-clause-left g c =
     are_left c.in-Ok.cluster c.into_seat-seat.result c.in-Ok-Some.nodes.items _ c.in-Ok.ensures.openings
-    (at_some c.in-Ok-Some.field-0 c.in-Ok-Some.nodes (λ machines. EndEach IsMachineTurn home_in c.in-Ok.cluster.gates c.into_seat-seat.result machines.items) c.in-Ok-Some.field-0-is c.in-Ok-Some.ensures.machines)
+    (at_some c.in-Ok-Some.field-0 c.in-Ok-Some.nodes (λ machines. Ends IsMachineTurn home_in c.in-Ok.cluster c.into_seat-seat.result machines.items) c.in-Ok-Some.field-0-is c.in-Ok-Some.ensures.machines)
+
+pub returns-in-Ok-Some-clause-together : goal.returns-in-Ok-Some-clause-together
+returns-in-Ok-Some-clause-together g c =
+    are_left_together c.in-Ok.cluster c.into_seat-seat.result c.in-Ok-Some.nodes.items _ c.in-Ok.ensures.openings
+    (at_some c.in-Ok-Some.field-0 c.in-Ok-Some.nodes (λ machines. Ends IsMachineTurn home_in c.in-Ok.cluster c.into_seat-seat.result machines.items) c.in-Ok-Some.field-0-is c.in-Ok-Some.ensures.machines)
