@@ -1,13 +1,13 @@
 -- What clap makes of words, by computing.
 use Rattle.std.proofs.Common.{◌≡◌, ◌≢◌, ◌⊎◌, inl, inr, arith, ◌<◌, ◌^◌, ◌∙◌, suc, ◌&&◌, not, ℕ, List, [], ◌∷◌, length, Option, Some, None, Bool, true, false, cond, codes, is_some, option_map, refl, sym, ap, ap₂, slice_get, subst, unwrap_or, Bor}
 use Rattle.std.specs.List.{list_any}
-use Rattle.std.specs.Prelude.{Result, Ok, Err}
+use Rattle.std.specs.Prelude.{Result}
 use Rattle.std.specs.Str.Parse.{ExplainsUnsignedError, HasUnsignedDigitsIfOk, IsNumeral, ParsesUnsigned, digits_value, without_leading_plus}
 use Rattle.std.specs.declared.num.ParseIntError.{ParseIntError}
 use Rattle.clap.specs.Facts.{explicit_source}
 use Rattle.clap.specs.Matches.{ReadsOne, subcommand_name_of}
 use Rattle.clap.specs.Walk.{Held, Names, answers_to, finished, nothing_held, settled, stop_after, walk, walk_from}
-use Rattle.clap.specs.Words.{Row, Shape, Text, is_simple, subcommand_of, subcommand_rows_of, takes}
+use Rattle.clap.specs.Words.{Row, Shape, Text, is_simple, subcommand_of, subcommand_rows_of}
 use Rattle.clap.specs.Simple.{argument_words, built, entered, label_of, names_of, rows_at}
 use Rattle.clap.specs.Kinds.{Kinds, check_kinds, or_else}
 use Rattle.clap.specs.Takes.{is_given}
@@ -15,7 +15,7 @@ use Rattle.clap.specs.Faults.{check_fault, defaults_fault, entered_fault, fault_
 use Rattle.clap.specs.declared.parser.matches.ArgMatches.{ArgMatches}
 use Rattle.clap.specs.declared.parser.matches.ArgMatches.TheViews.{out-ArgMatches}
 use Rattle.clap.proofs.OnLiterals.{clap_on_literals}
-use Rattle.cops_cli.specs.CommandLine.{IsSpelledBy, IsSubcommand, cops, subcommand_named, tenant_word, with_tenant_word}
+use Rattle.cops_cli.specs.CommandLine.{IsSpelledBy, cops, subcommand_named, tenant_word, with_tenant_word}
 
 pub is_simple_cops : is_simple cops ≡ true
 unfolding clap_on_literals
@@ -25,38 +25,10 @@ pub is_free_cops : is_simple_and_free cops ≡ true
 unfolding clap_on_literals
 is_free_cops = refl
 
-pub takes_run : (program : List ℕ) → takes cops (program ∷ codes "run" ∷ []) ≡ true
-unfolding clap_on_literals
-takes_run program = refl
-
-pub run_is_named : (program : List ℕ) → subcommand_named (program ∷ codes "run" ∷ []) ≡ Some (codes "run")
-unfolding clap_on_literals
-run_is_named program = refl
-
-pub takes_audit : (program : List ℕ) → takes cops (program ∷ codes "audit" ∷ []) ≡ true
-unfolding clap_on_literals
-takes_audit program = refl
-
-pub audit_is_named : (program : List ℕ) → subcommand_named (program ∷ codes "audit" ∷ []) ≡ Some (codes "audit")
-unfolding clap_on_literals
-audit_is_named program = refl
-
-pub takes_migrate : (program : List ℕ) → takes cops (program ∷ codes "migrate" ∷ []) ≡ true
-unfolding clap_on_literals
-takes_migrate program = refl
-
-pub migrate_is_named : (program : List ℕ) → subcommand_named (program ∷ codes "migrate" ∷ []) ≡ Some (codes "migrate")
-unfolding clap_on_literals
-migrate_is_named program = refl
-
 -- ---- lists and options
 
 pub differ : (m n : ℕ) → m < n → m ≡ n → ⊥
 differ m n less e = omega arith
-
--- the first letters differ
-pub not_serve : Some (codes "audit") ≡ Some (codes "serve") → ⊥
-not_serve e = differ 97 115 (omega arith) (ap (λ (o : Option Text). unwrap_or (slice_get (unwrap_or o []) 0) 0) e)
 
 abbrev number_of : Bool → ℕ
 number_of false = 0
@@ -127,6 +99,13 @@ serve_is_named (Some p) rows named with_rows =
     let name : p.0 ≡ codes "serve" = ap (λ o. unwrap_or o []) named in
     let its : p.1 ≡ rows = ap (λ o. unwrap_or o []) with_rows in
     ap₂ (λ (n : Text) (r : List Row). Some (n, r)) name its
+
+-- it is one of the subcommands
+abbrev pub IsSubcommand : Option Text → Type 0
+IsSubcommand found =
+    (found ≡ Some (codes "run"))
+    ⊎ ((found ≡ Some (codes "solo"))
+    ⊎ ((found ≡ Some (codes "audit")) ⊎ ((found ≡ Some (codes "replay")) ⊎ ((found ≡ Some (codes "migrate")) ⊎ (found ≡ Some (codes "serve"))))))
 
 by_found : (words : List Text) (x y z w v u : Shape) (o : Option Shape) → OneOf o x y z w v u → OneOf (option_map (λ (p : Text × List Row). p.0) (option_map (λ (s : Shape). rows_at s words) o)) x.name y.name z.name w.name v.name u.name
 by_found words x y z w v u o found = elim found [

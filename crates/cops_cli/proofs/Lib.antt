@@ -1,3 +1,4 @@
 mod CommandLineFacts
-mod NothingWritten
+mod Endings
+mod PlainWords
 pub mod ServingFacts

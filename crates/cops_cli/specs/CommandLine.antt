@@ -1,13 +1,16 @@
 -- The command line, as clap reads it.
-use Rattle.std.specs.Prelude.{◌≡◌, ◌⊎◌, ℕ, ◌<◌, ◌^◌, List, [], ◌∷◌, Option, Some, None, Bool, true, false, codes, option_map, unwrap_or}
+use Rattle.std.specs.Prelude.{◌≡◌, ◌⊎◌, ℕ, ◌<◌, ◌^◌, ◌==◌, not, IsTrue, List, [], ◌∷◌, Option, Some, None, Bool, true, false, codes, option_map, unwrap_or}
 use Rattle.std.specs.Str.Parse.{IsNumeral, digits_value, without_leading_plus}
-use Rattle.clap.specs.Words.{App, Row, Rule, Text, first_of, new_app, new_rule, one_of, subcommand_of, with_rule, with_subcommand}
+use Rattle.clap.specs.Kinds.{IsAmong}
+use Rattle.clap.specs.Words.{App, Row, Rule, Text, fault_of, first_of, kind_of, new_app, new_rule, one_of, subcommand_of, with_rule, with_subcommand}
 use Rattle.clap.specs.declared.builder.action.ArgAction.TheVariants.{SetTrue}
 use Rattle.clap.specs.declared.builder.value_parser.ValueParser.TheVariants.{Unsigned}
 use Rattle.clap.specs.Simple.{on_top}
 use Rattle.cops_cli.specs.declared.command_line.Service.{Service}
 use Rattle.cops_cli.specs.declared.command_line.Task.{Task}
 use Rattle.cops_cli.specs.declared.command_line.Task.TheVariants.{Run, Solo, Audit, Replay, Migrate, Serve}
+use Rattle.cops_cli.specs.declared.faults.CliFault.{CliFault}
+use Rattle.cops_cli.specs.declared.faults.CliFault.TheVariants.{CommandLine}
 
 abbrev pub run : App
 run = new_app (codes "run")
@@ -122,9 +125,18 @@ IsAskedBy words (Replay name) = alone_named words ≡ Some (codes "replay", name
 IsAskedBy words Migrate = subcommand_named words ≡ Some (codes "migrate")
 IsAskedBy words (Serve service) = IsServedBy words service
 
--- it is one of the subcommands
-abbrev pub IsSubcommand : Option Text → Type 0
-IsSubcommand found =
-    (found ≡ Some (codes "run"))
-    ⊎ ((found ≡ Some (codes "solo"))
-    ⊎ ((found ≡ Some (codes "audit")) ⊎ ((found ≡ Some (codes "replay")) ⊎ ((found ≡ Some (codes "migrate")) ⊎ (found ≡ Some (codes "serve"))))))
+-- the word does not begin with a hyphen
+abbrev pub is_plain : Text → Bool
+is_plain [] = true
+is_plain (byte ∷ bytes) = not (byte == 45)
+
+-- the program's name and a command without options, with its tenant or its address if it has one
+abbrev pub ArePlain : List Text → Type 0
+ArePlain (program ∷ command ∷ []) = (command ≡ codes "run") ⊎ ((command ≡ codes "audit") ⊎ (command ≡ codes "migrate"))
+ArePlain (program ∷ command ∷ word ∷ []) = IsTrue (is_plain word) × ((command ≡ codes "solo") ⊎ ((command ≡ codes "replay") ⊎ (command ≡ codes "serve")))
+ArePlain other = ⊥
+
+-- clap refuses the words for a reason that it has at these words
+abbrev pub IsRefusedAs : List Text → CliFault → Type 0
+IsRefusedAs words (CommandLine error) = IsAmong (kind_of error) (fault_of cops words)
+IsRefusedAs words other = ⊥

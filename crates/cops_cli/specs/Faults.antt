@@ -1,5 +1,5 @@
 -- What becomes of the faults of the calls that the program makes.
-use Rattle.std.specs.Prelude.{◌≡◌, ◌≢◌, ⊤, ℕ, Result, Err}
+use Rattle.std.specs.Prelude.{◌≡◌, ◌≢◌, ⊤}
 use Rattle.clap.specs.Words.{kind_of}
 use Rattle.clap.specs.declared.error.Error.{Error}
 use Rattle.clap.specs.declared.error.kind.ErrorKind.TheVariants as kind
@@ -17,37 +17,32 @@ use Rattle.cops_replay.specs.declared.refusals.ReplayRefusal.TheVariants as repl
 use Rattle.cops_cli.specs.declared.faults.CliFault.{CliFault}
 use Rattle.cops_cli.specs.declared.faults.CliFault.TheVariants.{CommandLine, NoText, BadHead, BadLine, UnknownTenant, ClockTooGreat, OutOfMemory, ReadFault, WriteFault, Torn}
 
--- the fault of a run
-abbrev pub ended_by : RunFault BadConfig → CliFault
-ended_by (run.Refused bad) = BadHead bad.line
-ended_by run.OutOfMemory = OutOfMemory
-ended_by run.ReadFault = ReadFault
-ended_by run.WriteFault = WriteFault
+-- the fault of a run whose refusals become these faults
+abbrev pub ended_by : {F : Type 0} → (F → CliFault) → RunFault F → CliFault
+ended_by refused (run.Refused refusal) = refused refusal
+ended_by refused run.OutOfMemory = OutOfMemory
+ended_by refused run.ReadFault = ReadFault
+ended_by refused run.WriteFault = WriteFault
 
--- the fault of a run for one tenant alone
-abbrev pub ended_alone_by : RunFault SoloRefusal → CliFault
-ended_alone_by (run.Refused (solo.BadConfig bad)) = BadHead bad.line
-ended_alone_by (run.Refused solo.UnknownTenant) = UnknownTenant
-ended_alone_by run.OutOfMemory = OutOfMemory
-ended_alone_by run.ReadFault = ReadFault
-ended_alone_by run.WriteFault = WriteFault
+-- the fault of a refused script
+abbrev pub bad_head : BadConfig → CliFault
+bad_head bad = BadHead bad.line
 
--- the fault of a replay
-abbrev pub ended_replay_by : RunFault ReplayRefusal → CliFault
-ended_replay_by (run.Refused (replay.BadConfig bad)) = BadHead bad.line
-ended_replay_by (run.Refused replay.UnknownTenant) = UnknownTenant
-ended_replay_by (run.Refused replay.ClockTooGreat) = ClockTooGreat
-ended_replay_by run.OutOfMemory = OutOfMemory
-ended_replay_by run.ReadFault = ReadFault
-ended_replay_by run.WriteFault = WriteFault
+-- the same for one tenant alone
+abbrev pub not_answered : SoloRefusal → CliFault
+not_answered (solo.BadConfig bad) = BadHead bad.line
+not_answered solo.UnknownTenant = UnknownTenant
 
--- the fault of a migration
-abbrev pub ended_migrating_by : RunFault MigrationRefusal → CliFault
-ended_migrating_by (run.Refused (migration.BadConfig bad)) = BadHead bad.line
-ended_migrating_by (run.Refused (migration.BadLine bad)) = BadLine bad.fault bad.line
-ended_migrating_by run.OutOfMemory = OutOfMemory
-ended_migrating_by run.ReadFault = ReadFault
-ended_migrating_by run.WriteFault = WriteFault
+-- the fault of a refused replay
+abbrev pub not_replayed : ReplayRefusal → CliFault
+not_replayed (replay.BadConfig bad) = BadHead bad.line
+not_replayed replay.UnknownTenant = UnknownTenant
+not_replayed replay.ClockTooGreat = ClockTooGreat
+
+-- the fault of a refused migration
+abbrev pub not_migrated : MigrationRefusal → CliFault
+not_migrated (migration.BadConfig bad) = BadHead bad.line
+not_migrated (migration.BadLine bad) = BadLine bad.fault bad.line
 
 -- the fault of a service, or of an audit
 abbrev pub ended_serving_by : Fault → CliFault
@@ -61,60 +56,8 @@ pub record RefusesWords (error : Error) (fault : CliFault) : Type 0 where
   pub lack : kind_of error ≡ kind.OutOfMemory → fault ≡ OutOfMemory
   pub words : kind_of error ≢ kind.OutOfMemory → fault ≡ CommandLine error
 
--- the fault is of the command line, or memory was refused
+-- the fault is of the command line
 abbrev pub IsOfWords : CliFault → Type 0
-IsOfWords (CommandLine error) = kind_of error ≢ kind.OutOfMemory
-IsOfWords OutOfMemory = ⊤
+IsOfWords (CommandLine error) = ⊤
+IsOfWords NoText = ⊤
 IsOfWords other = ⊥
-
--- where the fault is of the command line
-abbrev pub IfOfWords : CliFault → Type 0 → Type 0
-IfOfWords (CommandLine error) P = P
-IfOfWords NoText P = P
-IfOfWords other P = ⊤
-
--- where the fault is none of the command line
-abbrev pub UnlessOfWords : {T : Type 0} → Result T CliFault → Type 0 → Type 0
-UnlessOfWords (Err (CommandLine error)) P = ⊤
-UnlessOfWords (Err NoText) P = ⊤
-UnlessOfWords other P = P
-
--- where the head is bad, at such a line
-abbrev pub IfBadHead : CliFault → (ℕ → Type 0) → Type 0
-IfBadHead (BadHead line) P = P line
-IfBadHead other P = ⊤
-
--- where a tenant is not answered, by such a refusal
-abbrev pub IfNotAnswered : CliFault → (SoloRefusal → Type 0) → Type 0
-IfNotAnswered (BadHead line) P = P (solo.BadConfig (record { line = line }))
-IfNotAnswered UnknownTenant P = P solo.UnknownTenant
-IfNotAnswered other P = ⊤
-
--- where an audit is not migrated, by such a refusal
-abbrev pub IfNotMigrated : CliFault → (MigrationRefusal → Type 0) → Type 0
-IfNotMigrated (BadHead line) P = P (migration.BadConfig (record { line = line }))
-IfNotMigrated (BadLine why line) P = P (migration.BadLine (record { line = line; fault = why }))
-IfNotMigrated other P = ⊤
-
--- where the fault is of a line that can't be migrated
-abbrev pub IfBadLine : CliFault → Type 0 → Type 0
-IfBadLine (BadLine why line) P = P
-IfBadLine other P = ⊤
-
--- where a tenant's records are not replayed, by such a refusal
-abbrev pub IfNotReplayed : CliFault → (ReplayRefusal → Type 0) → Type 0
-IfNotReplayed (BadHead line) P = P (replay.BadConfig (record { line = line }))
-IfNotReplayed UnknownTenant P = P replay.UnknownTenant
-IfNotReplayed ClockTooGreat P = P replay.ClockTooGreat
-IfNotReplayed other P = ⊤
-
--- where a clock is too great
-abbrev pub IfClockTooGreat : CliFault → Type 0 → Type 0
-IfClockTooGreat ClockTooGreat P = P
-IfClockTooGreat other P = ⊤
-
--- where the fault is of one tenant: the head has none such, or his clock is too great
-abbrev pub IfOfTenant : CliFault → Type 0 → Type 0
-IfOfTenant UnknownTenant P = P
-IfOfTenant ClockTooGreat P = P
-IfOfTenant other P = ⊤

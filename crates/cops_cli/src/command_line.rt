@@ -1,11 +1,10 @@
 //! Reads the command line.
-ghost use Rattle.std.specs.Prelude.{◌≡◌, ℕ, List, [], ◌∷◌, codes, map, false, IfOk, IfErr, MatchResult};
+ghost use Rattle.std.specs.Prelude.{◌≡◌, ◌⊎◌, [], codes, map, false, IfOk, IfErr, OnOk};
 ghost use Rattle.clap.specs.Matches.{found_of};
 ghost use Rattle.clap.specs.Walk.{rows_of};
-ghost use Rattle.clap.specs.Words.{app_of, new_app, one_of, rule_of};
+ghost use Rattle.clap.specs.Words.{app_of, fault_of, new_app, one_of, rule_of};
 ghost use Rattle.clap.specs.declared.builder.command.Command.TheViews.{out-Command};
-ghost use Rattle.cops_cli.specs.CommandLine.{IsAskedBy, IsServiceIn, IsSpelledBy, address, audit, cops, flag, migrate, number, numbered_serve, replay, run, serve, solo, tenant, tenant_word, with_audit, with_migrate, with_replay, with_run, with_solo};
-ghost use Rattle.cops_cli.specs.Faults.{IsOfWords};
+ghost use Rattle.cops_cli.specs.CommandLine.{ArePlain, IsAskedBy, IsRefusedAs, IsServiceIn, IsSpelledBy, address, audit, cops, flag, migrate, number, numbered_serve, replay, run, serve, solo, tenant, tenant_word, with_audit, with_migrate, with_replay, with_run, with_solo};
 
 use crate::faults::CliFault;
 use crate::help_texts::{
@@ -299,13 +298,9 @@ fn service_in<'a>(serve: &ArgMatches<'a>) -> Service<'a>
 /// Reads the words, of which the first is the program's name. Fails if clap refuses them, or memory runs out.
 pub(crate) fn read_words<'a, S: AsStr>(alloc: Global, words: &'a [S]) -> Result<Task<'a>, CliFault>
     ensures asked { IfOk result (IsAskedBy (map S.text words.now)) }
-    ensures run { (program : List ℕ) → map S.text words.now ≡ program ∷ codes "run" ∷ [] →
-        MatchResult result (λ task. task ≡ Task.Run) (λ fault. fault ≡ CliFault.OutOfMemory) }
-    ensures audit { (program : List ℕ) → map S.text words.now ≡ program ∷ codes "audit" ∷ [] →
-        MatchResult result (λ task. task ≡ Task.Audit) (λ fault. fault ≡ CliFault.OutOfMemory) }
-    ensures migrate { (program : List ℕ) → map S.text words.now ≡ program ∷ codes "migrate" ∷ [] →
-        MatchResult result (λ task. task ≡ Task.Migrate) (λ fault. fault ≡ CliFault.OutOfMemory) }
-    ensures err { IfErr result IsOfWords }
+    ensures taken { OnOk result (fault_of cops (map S.text words.now) ≡ []) }
+    ensures refused { IfErr result (λ fault. (fault ≡ CliFault.OutOfMemory) ⊎ IsRefusedAs (map S.text words.now) fault) }
+    ensures plain { ArePlain (map S.text words.now) → IfErr result (λ fault. fault ≡ CliFault.OutOfMemory) }
 {
     let matches = command_line(alloc)?.try_get_matches_from(words)?;
     if let Some(solo) = matches.subcommand_matches("solo") {

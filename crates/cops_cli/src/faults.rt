@@ -1,6 +1,6 @@
 //! The faults that the program ends with.
 ghost use Rattle.std.specs.Prelude.{◌≡◌};
-ghost use Rattle.cops_cli.specs.Faults.{RefusesWords, ended_alone_by, ended_by, ended_migrating_by, ended_replay_by, ended_serving_by};
+ghost use Rattle.cops_cli.specs.Faults.{RefusesWords, bad_head, ended_by, ended_serving_by, not_answered, not_migrated, not_replayed};
 ghost use Rattle.cops_cli.specs.Statuses.{fault_status};
 ghost use Rattle.cops_cli.specs.declared.faults.CliFault.TheVariants.{OutOfMemory};
 
@@ -70,7 +70,7 @@ impl CliFault {
 }
 
 impl From<RunFault<BadConfig>> for CliFault {
-    ghost from_gives = { λ fault ended. ended ≡ ended_by fault };
+    ghost from_gives = { λ fault ended. ended ≡ ended_by bad_head fault };
 
     fn from(fault: RunFault<BadConfig>) -> CliFault {
         match fault {
@@ -83,7 +83,7 @@ impl From<RunFault<BadConfig>> for CliFault {
 }
 
 impl From<RunFault<SoloRefusal>> for CliFault {
-    ghost from_gives = { λ fault ended. ended ≡ ended_alone_by fault };
+    ghost from_gives = { λ fault ended. ended ≡ ended_by not_answered fault };
 
     fn from(fault: RunFault<SoloRefusal>) -> CliFault {
         match fault {
@@ -97,7 +97,7 @@ impl From<RunFault<SoloRefusal>> for CliFault {
 }
 
 impl From<RunFault<ReplayRefusal>> for CliFault {
-    ghost from_gives = { λ fault ended. ended ≡ ended_replay_by fault };
+    ghost from_gives = { λ fault ended. ended ≡ ended_by not_replayed fault };
 
     fn from(fault: RunFault<ReplayRefusal>) -> CliFault {
         match fault {
@@ -112,7 +112,7 @@ impl From<RunFault<ReplayRefusal>> for CliFault {
 }
 
 impl From<RunFault<MigrationRefusal>> for CliFault {
-    ghost from_gives = { λ fault ended. ended ≡ ended_migrating_by fault };
+    ghost from_gives = { λ fault ended. ended ≡ ended_by not_migrated fault };
 
     fn from(fault: RunFault<MigrationRefusal>) -> CliFault {
         match fault {

@@ -1,12 +1,8 @@
 //! The program over any reader and any writer.
-ghost use Rattle.std.specs.Prelude.{◌≡◌, ◌⊎◌, ◌^◌, ℕ, List, [], ◌∷◌, codes, map, Some, IfErr, IsErrOf, OnOk};
-ghost use Rattle.std.specs.Io.KnownBytes.{Keeps};
-ghost use Rattle.cops_types.specs.Counts.{HasRisen, HasRisenBy};
-ghost use Rattle.cops_types.specs.Sink.{sink_failures, sink_writer};
-ghost use Rattle.cops_types.specs.Source.{source_failures, source_reader, source_reads};
-ghost use Rattle.cops_cli.specs.CommandLine.{IsSubcommand, alone_named, subcommand_named};
-ghost use Rattle.cops_cli.specs.Faults.{IfOfWords, UnlessOfWords};
-ghost use Rattle.cops_cli.specs.Runs.{Audits, Migrates, Replays, Runs, RunsAlone, ServesOrFails};
+ghost use Rattle.std.specs.Prelude.{◌≡◌, ◌⊎◌, map, IfErr, IsErrAnd};
+ghost use Rattle.cops_cli.specs.CommandLine.{ArePlain};
+ghost use Rattle.cops_cli.specs.Commands.{EndsTask, MayEnd, RefusesTask, answering, answering_alone, auditing, command_of, migrating, replaying, streams};
+ghost use Rattle.cops_cli.specs.Faults.{IsOfWords};
 
 use crate::command_line::{Task, read_words};
 use crate::control::Hosted;
@@ -29,12 +25,7 @@ fn run<R: Read, O: Write>(
     source: &mut Source<R>,
     sink: &mut Sink<O>,
 ) -> Result<(), CliFault>
-    ensures runs { Runs (R.remaining (source_reader source.old)) (R.remaining (source_reader source.new))
-        (O.contents (sink_writer sink.old)) (O.contents (sink_writer sink.new)) result }
-    ensures read_fault { IsErrOf result CliFault.ReadFault →
-        HasRisen (source_failures source.old) (source_failures source.new)
-        ⊎ HasRisenBy (source_reads source.old) (source_reads source.new) (2 ^ 32) }
-    ensures write_fault { IsErrOf result CliFault.WriteFault → HasRisen (sink_failures sink.old) (sink_failures sink.new) }
+    ensures { MayEnd answering (streams R.remaining O.contents source.old sink.old) (streams R.remaining O.contents source.new sink.new) result }
 {
     run_script(alloc, source, sink)?;
     Ok(())
@@ -47,12 +38,7 @@ fn solo<R: Read, O: Write>(
     sink: &mut Sink<O>,
     tenant: &str,
 ) -> Result<(), CliFault>
-    ensures runs { RunsAlone tenant.now (R.remaining (source_reader source.old)) (R.remaining (source_reader source.new))
-        (O.contents (sink_writer sink.old)) (O.contents (sink_writer sink.new)) result }
-    ensures read_fault { IsErrOf result CliFault.ReadFault →
-        HasRisen (source_failures source.old) (source_failures source.new)
-        ⊎ HasRisenBy (source_reads source.old) (source_reads source.new) (2 ^ 32) }
-    ensures write_fault { IsErrOf result CliFault.WriteFault → HasRisen (sink_failures sink.old) (sink_failures sink.new) }
+    ensures { MayEnd (answering_alone tenant.now) (streams R.remaining O.contents source.old sink.old) (streams R.remaining O.contents source.new sink.new) result }
 {
     solo_script(alloc, source, sink, tenant.as_bytes())?;
     Ok(())
@@ -64,12 +50,7 @@ fn audit<R: Read, O: Write>(
     source: &mut Source<R>,
     sink: &mut Sink<O>,
 ) -> Result<(), CliFault>
-    ensures audits { Audits (R.remaining (source_reader source.old)) (R.remaining (source_reader source.new))
-        (O.contents (sink_writer sink.old)) (O.contents (sink_writer sink.new)) result }
-    ensures read_fault { IsErrOf result CliFault.ReadFault →
-        HasRisen (source_failures source.old) (source_failures source.new)
-        ⊎ HasRisenBy (source_reads source.old) (source_reads source.new) (2 ^ 32) }
-    ensures write_fault { IsErrOf result CliFault.WriteFault → HasRisen (sink_failures sink.old) (sink_failures sink.new) }
+    ensures { MayEnd auditing (streams R.remaining O.contents source.old sink.old) (streams R.remaining O.contents source.new sink.new) result }
 {
     audit_text(alloc, source, sink)?;
     Ok(())
@@ -82,12 +63,7 @@ fn replay<R: Read, O: Write>(
     sink: &mut Sink<O>,
     tenant: &str,
 ) -> Result<(), CliFault>
-    ensures replays { Replays tenant.now (R.remaining (source_reader source.old)) (R.remaining (source_reader source.new))
-        (O.contents (sink_writer sink.old)) (O.contents (sink_writer sink.new)) result }
-    ensures read_fault { IsErrOf result CliFault.ReadFault →
-        HasRisen (source_failures source.old) (source_failures source.new)
-        ⊎ HasRisenBy (source_reads source.old) (source_reads source.new) (2 ^ 32) }
-    ensures write_fault { IsErrOf result CliFault.WriteFault → HasRisen (sink_failures sink.old) (sink_failures sink.new) }
+    ensures { MayEnd (replaying tenant.now) (streams R.remaining O.contents source.old sink.old) (streams R.remaining O.contents source.new sink.new) result }
 {
     replay_text(alloc, source, sink, tenant.as_bytes())?;
     Ok(())
@@ -99,15 +75,33 @@ fn migrate<R: Read, O: Write>(
     source: &mut Source<R>,
     sink: &mut Sink<O>,
 ) -> Result<(), CliFault>
-    ensures migrates { Migrates (R.remaining (source_reader source.old)) (R.remaining (source_reader source.new))
-        (O.contents (sink_writer sink.old)) (O.contents (sink_writer sink.new)) result }
-    ensures read_fault { IsErrOf result CliFault.ReadFault →
-        HasRisen (source_failures source.old) (source_failures source.new)
-        ⊎ HasRisenBy (source_reads source.old) (source_reads source.new) (2 ^ 32) }
-    ensures write_fault { IsErrOf result CliFault.WriteFault → HasRisen (sink_failures sink.old) (sink_failures sink.new) }
+    ensures { MayEnd migrating (streams R.remaining O.contents source.old sink.old) (streams R.remaining O.contents source.new sink.new) result }
 {
     migrate_text(alloc, source, sink)?;
     Ok(())
+}
+
+/// Runs the command of a task.
+fn perform<T, R: Read, O: Write>(
+    rt: &T,
+    alloc: Global,
+    task: Task<'_>,
+    source: &mut Source<R>,
+    sink: &mut Sink<O>,
+) -> Result<(), CliFault>
+where
+    T: Net<Listener = TcpListener, Stream = TcpStream> + Threads + Wait + Clock + Sync,
+    T: Hosted + Eprint,
+    ensures { MayEnd (command_of task.entry) (streams R.remaining O.contents source.old sink.old) (streams R.remaining O.contents source.new sink.new) result }
+{
+    match task {
+        Task::Run => run(alloc, source, sink),
+        Task::Solo(tenant) => solo(alloc, source, sink, tenant),
+        Task::Audit => audit(alloc, source, sink),
+        Task::Replay(tenant) => replay(alloc, source, sink, tenant),
+        Task::Migrate => migrate(alloc, source, sink),
+        Task::Serve(service) => serve(rt, alloc, &service, source, sink),
+    }
 }
 
 /// Runs the command that the words name. The first word is the program's name.
@@ -121,40 +115,13 @@ pub(crate) fn answer<T, S: AsStr, R: Read, O: Write>(
 where
     T: Net<Listener = TcpListener, Stream = TcpStream> + Threads + Wait + Clock + Sync,
     T: Hosted + Eprint,
-    ensures runs { (program : List ℕ) → map S.text words.now ≡ program ∷ codes "run" ∷ [] →
-        Runs (R.remaining (source_reader source.old)) (R.remaining (source_reader source.new))
-        (O.contents (sink_writer sink.old)) (O.contents (sink_writer sink.new)) result }
-    ensures solo { (tenant : List ℕ) → alone_named (map S.text words.now) ≡ Some (codes "solo", tenant) →
-        UnlessOfWords result (RunsAlone tenant (R.remaining (source_reader source.old)) (R.remaining (source_reader source.new))
-        (O.contents (sink_writer sink.old)) (O.contents (sink_writer sink.new)) result) }
-    ensures audit { (program : List ℕ) → map S.text words.now ≡ program ∷ codes "audit" ∷ [] →
-        Audits (R.remaining (source_reader source.old)) (R.remaining (source_reader source.new))
-        (O.contents (sink_writer sink.old)) (O.contents (sink_writer sink.new)) result }
-    ensures replay { (tenant : List ℕ) → alone_named (map S.text words.now) ≡ Some (codes "replay", tenant) →
-        UnlessOfWords result (Replays tenant (R.remaining (source_reader source.old)) (R.remaining (source_reader source.new))
-        (O.contents (sink_writer sink.old)) (O.contents (sink_writer sink.new)) result) }
-    ensures migrate { (program : List ℕ) → map S.text words.now ≡ program ∷ codes "migrate" ∷ [] →
-        Migrates (R.remaining (source_reader source.old)) (R.remaining (source_reader source.new))
-        (O.contents (sink_writer sink.old)) (O.contents (sink_writer sink.new)) result }
-    ensures serve { subcommand_named (map S.text words.now) ≡ Some (codes "serve") →
-        UnlessOfWords result (ServesOrFails (R.remaining (source_reader source.old))
-        (O.contents (sink_writer sink.old)) (O.contents (sink_writer sink.new)) result) }
-    ensures asked { OnOk result (IsSubcommand (subcommand_named (map S.text words.now))) }
-    ensures words { IfErr result (λ fault. IfOfWords fault (
-        (source_reads source.new ≡ source_reads source.old)
-        × Keeps (O.contents (sink_writer sink.old)) (O.contents (sink_writer sink.new)))) }
-    ensures read_fault { IsErrOf result CliFault.ReadFault →
-        HasRisen (source_failures source.old) (source_failures source.new)
-        ⊎ HasRisenBy (source_reads source.old) (source_reads source.new) (2 ^ 32)
-        ⊎ (subcommand_named (map S.text words.now) ≡ Some (codes "serve")) }
-    ensures write_fault { IsErrOf result CliFault.WriteFault → HasRisen (sink_failures sink.old) (sink_failures sink.new) }
+    // The words are refused, and nothing is read or written; or the command that they ask for ends.
+    ensures ends { IsErrAnd result (RefusesTask (map S.text words.now) (streams R.remaining O.contents source.old sink.old) (streams R.remaining O.contents source.new sink.new))
+        ⊎ EndsTask (map S.text words.now) (streams R.remaining O.contents source.old sink.old) (streams R.remaining O.contents source.new sink.new) result }
+
+    // Plain words are never refused.
+    ensures plain { ArePlain (map S.text words.now) → IfErr result (λ ended. IsOfWords ended → ⊥) }
 {
-    match read_words(alloc, words)? {
-        Task::Run => run(alloc, source, sink),
-        Task::Solo(tenant) => solo(alloc, source, sink, tenant),
-        Task::Audit => audit(alloc, source, sink),
-        Task::Replay(tenant) => replay(alloc, source, sink, tenant),
-        Task::Migrate => migrate(alloc, source, sink),
-        Task::Serve(service) => serve(rt, alloc, &service, source, sink),
-    }
+    let task = read_words(alloc, words)?;
+    perform(rt, alloc, task, source, sink)
 }

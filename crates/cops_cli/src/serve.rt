@@ -9,7 +9,7 @@ ghost use Rattle.cops_node.specs.Clusters.{new_nodes};
 ghost use Rattle.cops_node.specs.Parts.{are_clocks};
 ghost use Rattle.cops_replay.specs.AuditText.{AreNodesOf, audit_of};
 ghost use Rattle.cops_service.specs.Left.{AreLeft};
-ghost use Rattle.cops_cli.specs.Runs.{ServesOrFails};
+ghost use Rattle.cops_cli.specs.Commands.{MayEnd, serving, streams};
 
 use crate::command_line::Service;
 use crate::control::{Hosted, follow_input};
@@ -177,6 +177,7 @@ fn conclude<R: Eprint, O: Write>(
     ensures ok { OnOk result (Appends (O.contents (sink_writer sink.old)) (O.contents (sink_writer sink.new)) (audit_of config.now served.now.nodes.items)) }
     ensures front { AppendsFront (O.contents (sink_writer sink.old)) (O.contents (sink_writer sink.new)) (audit_of config.now served.now.nodes.items) }
     ensures stopped { IfErr result (λ fault. (fault ≡ CliFault.OutOfMemory) ⊎ (fault ≡ CliFault.WriteFault) ⊎ (fault ≡ CliFault.ReadFault)) }
+    ensures lost { IsErrOf result CliFault.ReadFault → Appends (O.contents (sink_writer sink.old)) (O.contents (sink_writer sink.new)) (audit_of config.now served.now.nodes.items) }
     ensures write_fault { IsErrOf result CliFault.WriteFault → HasRisen (sink_failures sink.old) (sink_failures sink.new) }
 {
     match write_audit(alloc, sink, config, served.nodes.as_slice()) {
@@ -203,8 +204,7 @@ pub(crate) fn serve<R, I: Read, O: Write>(
 where
     R: Net<Listener = TcpListener, Stream = TcpStream> + Threads + Wait + Clock + Sync,
     R: Hosted + Eprint,
-    ensures serves { ServesOrFails (I.remaining (source_reader source.old)) (O.contents (sink_writer sink.old)) (O.contents (sink_writer sink.new)) result }
-    ensures write_fault { IsErrOf result CliFault.WriteFault → HasRisen (sink_failures sink.old) (sink_failures sink.new) }
+    ensures { MayEnd serving (streams I.remaining O.contents source.old sink.old) (streams I.remaining O.contents source.new sink.new) result }
 {
     let mut head = Source::new(ByteReader::new(source));
     let config = match read_config(alloc, &mut head) {

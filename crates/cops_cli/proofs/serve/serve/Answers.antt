@@ -1,7 +1,6 @@
-use Rattle.std.proofs.Common.{IsTrue, ◌≡◌, ◌∙◌, ap}
+use Rattle.std.proofs.Common.{IsTrue, ◌≡◌, ◌∙◌, ap, refl}
 use Rattle.std.specs.List.{list_all}
 use Rattle.cops_types.specs.HeadLines.{are_sizes, is_tenant}
-use Rattle.cops_types.specs.Sink.{sink_writer}
 use Rattle.cops_types.specs.Source.{source_reader}
 use Rattle.cops_types.proofs.WordLemmas.{both}
 use Rattle.cops_script.proofs.TenantConfigs.{clocks_of_good}
@@ -11,8 +10,8 @@ use Rattle.cops_cli.proofs.serve.serve.Goals as goal
 pub serve_clients-requires-clause-clocks : goal.serve_clients-requires-clause-clocks
 serve_clients-requires-clause-clocks g c = λ κs outlives. clocks_of_good c.in-Ok.config c.in-Ok.ensures.good
 
-pub returns-in-Err-serve_clients-clause-serves : goal.returns-in-Err-serve_clients-clause-serves
-returns-in-Err-serve_clients-clause-serves g c = ends_early _ _ c.in-Err-serve_clients.fault c.in-Err-serve_clients.ensures.stopped
+pub returns-in-Err-serve_clients : goal.returns-in-Err-serve_clients
+returns-in-Err-serve_clients g c = ends_early _ _ c.in-Err-serve_clients.fault refl c.in-Err-serve_clients.ensures.stopped
 
 pub conclude-requires-clause-nodes : goal.conclude-requires-clause-nodes
 conclude-requires-clause-nodes g c =
@@ -20,11 +19,10 @@ conclude-requires-clause-nodes g c =
     let sizes : IsTrue (are_sizes config) = (both (are_sizes config) (list_all is_tenant config.tenants) c.in-Ok.ensures.good).0 in
     left_nodes config c.in-Ok-serve_clients.served.nodes.items sizes c.in-Ok-serve_clients.ensures.left
 
-pub returns-clause-serves : goal.returns-clause-serves
-returns-clause-serves g c =
+pub returns : goal.returns
+returns g c =
     let same : g.I.Read.remaining (source_reader (source_reader c.new-head.result).source.now) ≡ g.I.Read.remaining (source_reader c.args.source.now) =
     ap (λ r. g.I.Read.remaining (source_reader r.source.now)) c.new-head.ensures.reader ∙ ap (λ s. g.I.Read.remaining (source_reader s)) c.new.ensures in
-    concludes (g.I.Read.remaining (source_reader c.args.source.now)) (g.O.Write.contents (sink_writer c.args.sink.now)) (g.O.Write.contents (sink_writer c.conclude.new.sink))
-    c.conclude.result c.in-Ok.config c.in-Ok-serve_clients.served.nodes.items
+    concludes _ _ c.conclude.result c.in-Ok.config c.in-Ok-serve_clients.served.nodes.items
     (served_from _ _ c.in-Ok.config c.in-Ok-serve_clients.served.nodes.items same c.in-Ok.ensures.config c.in-Ok-serve_clients.ensures.left)
-    c.conclude.ensures.ok c.conclude.ensures.front c.conclude.ensures.stopped
+    c.conclude.ensures.ok c.conclude.ensures.front c.conclude.ensures.stopped c.conclude.ensures.lost c.conclude.ensures.write_fault

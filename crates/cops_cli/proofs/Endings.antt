@@ -1,0 +1,33 @@
+-- How a replay ends early.
+use Rattle.std.proofs.Common.{◌≡◌, ◌⊎◌, ◌^◌, ℕ, List, inl, inr, refl, sym, subst}
+use Rattle.std.specs.Prelude.{IfSome, IsErrAnd, Result, Ok, Err}
+use Rattle.std.specs.Io.KnownBytes.{Keeps}
+use Rattle.cops_types.specs.Counts.{HasRisen, HasRisenBy}
+use Rattle.cops_script.specs.LineRuns.{IfRunRefused}
+use Rattle.cops_script.specs.declared.line_runs.fault.RunFault.{RunFault}
+use Rattle.cops_script.specs.declared.line_runs.fault.RunFault.TheVariants as run
+use Rattle.cops_replay.specs.ReplayText.{RefusesReplayOf}
+use Rattle.cops_replay.specs.declared.refusals.ReplayRefusal.{ReplayRefusal}
+use Rattle.cops_replay.specs.declared.refusals.ReplayRefusal.TheVariants as replay
+use Rattle.cops_cli.specs.Commands.{MayEnd, MayFail, Streams, replaying}
+use Rattle.cops_cli.specs.Faults.{ended_by, not_replayed}
+use Rattle.cops_cli.specs.declared.faults.CliFault.{CliFault}
+
+module _ (name : List ℕ) (old new : Streams) (begun : (replaying name).begins old new) where
+  replay_ends : (fault : RunFault ReplayRefusal) → IfRunRefused fault (λ refusal. IfSome old.remaining (λ bytes. RefusesReplayOf name bytes refusal)) → IfRunRefused fault (λ refusal. Keeps old.contents new.contents) →
+      (fault ≡ run.ReadFault → HasRisen old.read_failures new.read_failures ⊎ HasRisenBy old.reads new.reads (2 ^ 32)) → (fault ≡ run.WriteFault → HasRisen old.write_failures new.write_failures) →
+      MayFail (replaying name) old new (ended_by not_replayed fault)
+  replay_ends (run.Refused (replay.BadConfig bad)) refused unwritten read write = record { why = inr (refused, unwritten); begun = begun }
+  replay_ends (run.Refused replay.UnknownTenant) refused unwritten read write = record { why = inr (refused, unwritten); begun = begun }
+  replay_ends (run.Refused replay.ClockTooGreat) refused unwritten read write = record { why = inr (refused, unwritten); begun = begun }
+  replay_ends run.OutOfMemory refused unwritten read write = record { why = inl tt; begun = begun }
+  replay_ends run.ReadFault refused unwritten read write = record { why = inl (read refl); begun = begun }
+  replay_ends run.WriteFault refused unwritten read write = record { why = inl (write refl); begun = begun }
+
+  -- the tenant is named by the bytes of a text
+  pub replay_fails : {T : Type 0} → (tenant : List ℕ) → name ≡ tenant → (fault : RunFault ReplayRefusal) (result : Result T CliFault) → IfRunRefused fault (λ refusal. IfSome old.remaining (λ bytes. RefusesReplayOf name bytes refusal)) →
+      IfRunRefused fault (λ refusal. Keeps old.contents new.contents) → (fault ≡ run.ReadFault → HasRisen old.read_failures new.read_failures ⊎ HasRisenBy old.reads new.reads (2 ^ 32)) →
+      (fault ≡ run.WriteFault → HasRisen old.write_failures new.write_failures) → IsErrAnd result (λ ended. ended ≡ ended_by not_replayed fault) → MayEnd (replaying tenant) old new result
+  replay_fails tenant same fault (Ok done) refused unwritten read write is = absurd is
+  replay_fails tenant same fault (Err ended) refused unwritten read write is =
+      subst (λ (it : List ℕ). MayFail (replaying it) old new ended) same (subst (MayFail (replaying name) old new) (sym is) (replay_ends fault refused unwritten read write))
