@@ -85,14 +85,6 @@ impl Layout {
         }
     }
 
-    /// How many tenants a head has at least.
-    pub const fn fewest_tenants(self) -> usize {
-        match self {
-            Layout::One => 1,
-            Layout::Two => 0,
-        }
-    }
-
     pub const fn hello_tag(self) -> u8 {
         match self {
             Layout::One => 0x01,

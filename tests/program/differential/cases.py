@@ -146,7 +146,7 @@ def compare_alone(pair: Pair, text: bytes, run: Outcome | None, lives: Lives | N
 
 
 def compare_files_of_nobody(pair: Pair, audit: bytes) -> None:
-    """An audit whose head has no tenant, and the same as a file of layout 1, whose heads have one at least."""
+    """An audit whose head has no tenant, and the same as a file of layout 1."""
     for file in audit, audit.split(b"\n", 1)[1]:
         pair.both(["replay", "zeta"], file)
         if "migrate" in pair.commands:

@@ -96,7 +96,7 @@ class Lines(unittest.TestCase):
             self.assertEqual(both(words, text_of([*AUDIT_HEAD, *FRONT])), bad)
 
     def test_a_head_without_tenants(self):
-        """Each line but the host's then names none, and no name is taken. In layout 1 there is no such head."""
+        """Each line but the host's then names none, and no name is taken."""
         head = [HEAD[0], HEAD[-1]]
         pairs = [(reply, line) for reply, line in event_lines() if reply != b"- E04"]
         lines = [line for _, line in pairs]
@@ -104,10 +104,10 @@ class Lines(unittest.TestCase):
         self.check(both(["run"], text_of([*head, *lines])), replies)
         self.check(both(["audit"], text_of([*head, *lines])), [AUDIT_HEAD[0], *head])
         unknown = Outcome(2, b"", b"cops: E02\n")
-        for text in (["solo", "acme"], text_of(head)), (["replay", "acme"], text_of([AUDIT_HEAD[0], *head])):
-            self.assertEqual(both(*text), unknown)
-        for words in ["replay", "acme"], ["migrate"]:
-            self.assertEqual(both(words, text_of(head)), Outcome(2, b"", b"cops: configuration line 2\n"))
+        for words in ["solo", "acme"], ["replay", "acme"]:
+            self.assertEqual(both(words, text_of(head)), unknown)
+        self.assertEqual(both(["replay", "acme"], text_of([AUDIT_HEAD[0], *head])), unknown)
+        self.check(both(["migrate"], text_of(head)), [AUDIT_HEAD[0], *head])
 
     def test_heads_cut_at_every_byte(self):
         head = text_of(HEAD)
