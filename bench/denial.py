@@ -16,7 +16,7 @@ import time
 
 ROOT = pathlib.Path(__file__).resolve().parents[1]
 sys.dont_write_bytecode = True
-sys.path[:0] = [str(ROOT / "tests" / "hostile"), str(ROOT / "tests" / "service"), str(ROOT / "clients" / "python")]
+sys.path[:0] = [str(ROOT / "tests" / "program" / "hostile"), str(ROOT / "tests" / "program" / "service"), str(ROOT / "clients" / "python")]
 
 import collisions  # noqa: E402
 import service  # noqa: E402

@@ -175,7 +175,8 @@ fn two_threads_take_turns_at_three_nodes(rt: HostRuntime) -> Result<(), Fail> {
 #[test]
 fn refused_memory_hands_the_states_back(rt: HostRuntime) -> Result<(), Fail> {
     let alloc = rt.alloc();
-    let made = match ClusterGate::open(alloc, three(alloc)?) {
+    let counters = three(alloc).expect(&rt, "memory");
+    let made = match ClusterGate::open(alloc, counters) {
         Ok(made) => Ok(made),
         Err((fault, states)) => {
             assert!(rt; fault == Fault::OutOfMemory && states.len() == 3);
