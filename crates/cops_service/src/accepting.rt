@@ -1,4 +1,4 @@
-//! Accepting connections, and handing them to workers.
+//! Accepts connections and hands them to workers.
 use crate::reports::Reports;
 use crate::stops::Stop;
 use crossbeam_channel::{SendTimeoutError, Sender};
@@ -9,16 +9,16 @@ use std::sync::Wait;
 use std::time::{Clock, Duration};
 use std::{io, thread};
 
-/// The first pause after an error of `accept`, in milliseconds. Each is twice as long as the one before.
+/// The first pause after an error of `accept`, in milliseconds. Each later pause is twice as long.
 const FIRST_PAUSE: u64 = 10;
 
 /// The longest pause.
 const LONGEST_PAUSE: u64 = 1000;
 
-/// How many milliseconds a connection waits for a worker before the end of the service is looked at.
+/// A connection that waits for a worker checks for the end of the service at this interval, in milliseconds.
 const PATIENCE: u64 = 250;
 
-// What Linux calls the errors of a listener that can't listen any more.
+// The errors of a listener that is lost, as Linux numbers them (`errno`).
 const EBADF: i32 = 9;
 
 const EINVAL: i32 = 22;
@@ -27,7 +27,7 @@ const ENOTSOCK: i32 = 88;
 
 const EOPNOTSUPP: i32 = 95;
 
-/// A connection, and who made it.
+/// A connection and its client's address.
 #[derive(Drop)]
 pub(crate) struct Accepted {
     pub(crate) stream: TcpStream,
@@ -37,7 +37,7 @@ pub(crate) struct Accepted {
 /// How a service ended.
 #[derive(Clone, Copy, Debug, PartialEq, Eq)]
 pub enum ServiceEnd {
-    /// It served all connections that it was to serve, or was asked to end.
+    /// It served its number of connections, or was asked to end.
     Done,
     /// The listener failed for good.
     ListenerFailed,
@@ -45,7 +45,7 @@ pub enum ServiceEnd {
     NoThread,
 }
 
-// Whether the listener is lost for good.
+// Returns `true` if the listener is lost for good.
 fn is_lost(error: &io::Error) -> bool {
     matches!(
         error.raw_os_error(),
@@ -53,7 +53,7 @@ fn is_lost(error: &io::Error) -> bool {
     )
 }
 
-// Waits after an error of `accept`. A connection that its client gave up before it was accepted is none.
+// Waits after an error of `accept`, unless the client gave up before it was accepted.
 fn pause<R: Clock>(rt: &R, error: &io::Error, failures: u64) {
     if error.kind() == ErrorKind::ConnectionAborted {
         return;
@@ -63,7 +63,7 @@ fn pause<R: Clock>(rt: &R, error: &io::Error, failures: u64) {
     thread::sleep(rt, Duration::from_millis(length));
 }
 
-// The next connection, unless an end is asked for or the listener is lost. Other errors are tried again.
+// Returns the next connection, unless the service ends or the listener is lost. Tries again after other errors.
 fn accept<R: Wait + Clock, L: Reports>(
     rt: &R,
     listener: &TcpListener,
@@ -93,8 +93,7 @@ fn accept<R: Wait + Clock, L: Reports>(
     unreachable!()
 }
 
-// Hands a connection to a worker. It ends unserved if no worker comes free before the end of the service, or memory runs
-// out.
+// Hands a connection to a worker. Closes it unserved if no worker is free before the service ends, or memory runs out.
 fn hand_on<R: Wait + Clock>(
     rt: &R,
     accepted: Accepted,
@@ -111,7 +110,7 @@ fn hand_on<R: Wait + Clock>(
     }
 }
 
-/// Accepts connections and hands them on, until it has accepted so many, an end is asked for, or the listener is lost.
+/// Accepts up to `connections` connections and hands them on. Stops earlier if the service ends or the listener is lost.
 pub(crate) fn accept_each<R: Wait + Clock, L: Reports>(
     rt: &R,
     listener: &TcpListener,

@@ -1,17 +1,17 @@
-//! Memory that a thread asks for ahead.
+//! Reserves memory from the system ahead of use.
 //!
-//! The C library grows the memory of a thread other than the first by single pages. Each takes a system call, for which all
-//! threads that touch a new page wait. A large block that is allocated and freed grows it by the whole block at once. Its
-//! pages aren't touched, so the process gets no larger.
+//! The C library grows the heap of each thread but the first by single pages. Each page takes a system call, during which
+//! all threads that touch a new page wait. Allocating and freeing a large block grows the heap by the whole block at once.
+//! Its pages aren't touched, so resident memory stays the same.
 use std::alloc::Global;
 
-// After how many calls at nodes a thread asks ahead.
+// A thread reserves once in this many node calls.
 const CALLS: u32 = 1024;
 
-// How many bytes it asks for: about what so many puts of small values keep.
+// The bytes that it reserves: about what that many puts of small values keep.
 const BYTES: usize = 512 * 1024;
 
-/// Counts the calls of a thread, and asks for memory ahead once in so many.
+/// Counts a thread's node calls, and reserves memory at intervals.
 #[derive(Drop)]
 pub(crate) struct Ahead {
     alloc: Global,
@@ -19,12 +19,12 @@ pub(crate) struct Ahead {
 }
 
 impl Ahead {
-    /// Asks at the first call.
+    /// Returns a counter that reserves at the first call.
     pub(crate) fn new(alloc: Global) -> Ahead {
         Ahead { alloc, left: 0 }
     }
 
-    /// Counts a call. It doesn't matter if memory runs out here: whoever needs some asks for it.
+    /// Counts a call. Ignores a failed reservation: the call that needs memory asks for it again.
     #[inline(always)]
     pub(crate) fn count(&mut self) {
         if self.left == 0 {
@@ -35,7 +35,7 @@ impl Ahead {
     }
 }
 
-// Asks for a block, and gives it back.
+// Allocates a block and frees it.
 #[cold]
 #[inline(never)]
 fn ask(alloc: Global) {

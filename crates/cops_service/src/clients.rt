@@ -16,7 +16,7 @@ use std::alloc::Global;
 use std::io::{Read, Write};
 use std::time::Clock;
 
-/// How a conversation ended, and the reader and the writer that it leaves.
+/// The end of a conversation, with its reader and writer.
 #[derive(Drop)]
 pub(crate) struct Conversed<R, O> {
     pub(crate) ended: Result<Ended, Fault>,
@@ -55,7 +55,7 @@ pub(crate) fn serve_client<R: Read + Drop, O: Write + Drop, N: Nodes, M: Moments
     }
 }
 
-/// The same over a socket.
+/// Does the same over a socket.
 pub(crate) fn serve_line<C: Clock, N: Nodes, M: Moments>(
     alloc: Global,
     config: &Config,

@@ -1,22 +1,22 @@
-//! When a tenant's part of a node is to be collected.
+//! When each tenant's part of a node is due for garbage collection.
 use crate::notes::{Noted, Notes, Sizes, TenantNode, Visit};
 use cops_types::Config;
 use std::alloc::{AllocError, Global};
 use std::time::Duration;
 
-/// Stands for no time.
+/// Means no time.
 const NEVER: u64 = u64::MAX;
 
-/// After how many milliseconds a collection that failed is tried again.
+/// A failed collection is tried again after this many milliseconds.
 const AGAIN: u64 = 1000;
 
-/// How many milliseconds a rest has, at most.
+/// The longest rest, in milliseconds.
 const LONGEST_REST: u64 = 60_000;
 
-/// What one collection came to.
+/// The result of one collection.
 #[derive(Clone, Copy)]
 pub(crate) enum Collected {
-    /// So many versions were removed.
+    /// It removed this many versions.
     Removed(u64),
     /// It was refused.
     Refused,
@@ -24,31 +24,31 @@ pub(crate) enum Collected {
 
 #[derive(Clone, Copy)]
 struct Due {
-    // It is among the places that are kept.
+    // Whether `kept` lists the place.
     is_kept: bool,
-    // It is to be collected at once.
+    // Whether to collect the place at once.
     is_asked: bool,
-    // When what no collection has covered is due.
+    // When the oldest version that no collection has covered is due.
     at: u64,
-    // When a version last came.
+    // When the latest version came.
     latest: u64,
 }
 
-/// The places where something may be stale, each with the time from which a collection removes it.
+/// The places where a version may be stale, each with the time from which a collection removes it.
 ///
-/// A collection covers all that became stale longer ago than the transaction time. No call takes memory.
+/// A collection covers each version that became stale longer ago than the transaction time. No call allocates.
 #[derive(Drop)]
 pub(crate) struct Dues {
     sizes: Sizes,
     trans_time: u64,
     dues: Vec<Due>,
     kept: Vec<TenantNode>,
-    // No kept place is due earlier.
+    // A lower bound of the times at which kept places are due.
     next: u64,
 }
 
 impl Dues {
-    /// Nothing is due at any place of the configuration.
+    /// Returns a schedule in which no place of the configuration is due.
     pub(crate) fn new(
         alloc: Global,
         config: &Config,
@@ -70,7 +70,7 @@ impl Dues {
         })
     }
 
-    /// A version came at the place, or was refused for lack of room.
+    /// Records that a version came at the place, or was refused by quota.
     pub(crate) fn note(&mut self, visit: &Visit, now: u64) {
         let at = due_after(now, self.trans_time);
         let number = visit.place.number(self.sizes) as usize;
@@ -92,12 +92,12 @@ impl Dues {
         }
     }
 
-    /// For how long nothing is due, if anything will be.
+    /// Returns the time until a place is due, if one will be.
     pub(crate) fn rest(&self, now: u64) -> Option<Duration> {
         rest_until(self.next, now)
     }
 
-    /// Lists the places that are due, or asked for at once, in an empty list with room for all.
+    /// Lists the places that are due or to be collected at once. The list must be empty, with room for all.
     pub(crate) fn ready(&self, now: u64, ready: &mut Vec<TenantNode>) {
         if now < self.next {
             return;
@@ -109,13 +109,13 @@ impl Dues {
         }
     }
 
-    // Whether the place is due, or asked for at once.
+    // Returns `true` if the place is due or to be collected at once.
     fn is_ready(&self, place: &TenantNode, now: u64) -> bool {
         let due = self.dues.get(place.number(self.sizes) as usize);
         due.is_some_and(|due| due.is_asked || due.at <= now)
     }
 
-    /// The place was collected at this time. If it was refused it is tried again a little later.
+    /// Records a collection of the place at this time. A refused one is tried again after `AGAIN`.
     pub(crate) fn collected(&mut self, place: &TenantNode, time: u64, came: Collected) {
         let Some(due) = self.dues.get_mut(place.number(self.sizes) as usize) else {
             return;
@@ -130,7 +130,7 @@ impl Dues {
         };
     }
 
-    /// Forgets the places where nothing is due any more.
+    /// Forgets the places where nothing is due.
     pub(crate) fn settle(&mut self) {
         let sizes = self.sizes;
         let dues = &mut self.dues;
@@ -147,18 +147,18 @@ impl Dues {
     }
 }
 
-// When a place is due again that was collected at this time, if a version last came at another.
+// Returns when a place is due again after a collection, from the time of its latest version.
 fn due_again(latest: u64, trans_time: u64, time: u64) -> u64 {
     let at = due_after(latest, trans_time);
     if at > time { at } else { NEVER }
 }
 
-// From when on a collection removes what becomes stale at this time.
+// Returns the time from which a collection removes what becomes stale at this time.
 fn due_after(time: u64, trans_time: u64) -> u64 {
     time.saturating_add(trans_time).saturating_add(1)
 }
 
-/// How long it is until then, if that is ever.
+/// Returns the time until then, if it ever comes.
 pub(crate) fn rest_until(time: u64, now: u64) -> Option<Duration> {
     if time == NEVER {
         return None;
@@ -166,7 +166,7 @@ pub(crate) fn rest_until(time: u64, now: u64) -> Option<Duration> {
     Some(Duration::from_millis(time.saturating_sub(now).min(LONGEST_REST)))
 }
 
-/// What a thread that collects keeps: the work items that it took, the places that it collects now, and what is due.
+/// The collector's state: the work items that it took, the places that it collects now, and what is due.
 #[derive(Drop)]
 pub(crate) struct Collecting {
     pub(crate) visits: Vec<Visit>,
@@ -175,7 +175,7 @@ pub(crate) struct Collecting {
 }
 
 impl Collecting {
-    /// Nothing is due.
+    /// Returns a state in which nothing is due.
     pub(crate) fn new(alloc: Global, config: &Config, notes: &Notes) -> Result<Self, AllocError> {
         let visits = notes.grown.room(alloc)?;
         let places = Vec::with_capacity(alloc, visits.capacity())?;
@@ -187,7 +187,7 @@ impl Collecting {
         })
     }
 
-    /// Sorts the work items that were taken, and lists the places that are to be collected now.
+    /// Records the work items that were taken, and lists the places to collect now.
     pub(crate) fn sort(&mut self, now: u64) {
         for visit in self.visits.as_slice() {
             self.dues.note(visit, now);

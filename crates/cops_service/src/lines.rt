@@ -11,18 +11,18 @@ use std::io::{ErrorKind, Read, Write};
 use std::net::{Shutdown, TcpStream};
 use std::time::{Clock, Duration};
 
-/// After how many milliseconds a read or a write that waits looks at the time.
+/// A read or write that waits checks the time at this interval, in milliseconds.
 const TICK: u64 = 250;
 
-/// How many milliseconds open connections have after an end was asked for, if there is no other limit.
+/// The grace of open connections after the service is asked to end, in milliseconds, if there is no idle limit.
 const GRACE: u64 = 5000;
 
-/// How many reads a connection that is closed has at most, and for how many milliseconds.
+/// The most reads of a connection that is being closed, and the milliseconds that they may take.
 const LAST_READS: u32 = 64;
 
 const LAST_MILLIS: u64 = 1000;
 
-/// How many milliseconds open connections have after an end was asked for.
+/// Returns the grace of open connections after the service is asked to end, in milliseconds.
 pub(crate) fn grace_of(idle: u64) -> u64 {
     if idle == 0 {
         GRACE
@@ -31,17 +31,17 @@ pub(crate) fn grace_of(idle: u64) -> u64 {
     }
 }
 
-/// A socket, until when its client may take its time, and what came of it.
+/// A socket with its client's deadline and its outcome.
 #[derive(Drop)]
 pub(crate) struct Line<'a, C: Clock> {
     clock: &'a C,
     stream: &'a TcpStream,
     stop: &'a Stop,
-    // How many milliseconds a client may take, and 0 if there is no limit.
+    // The client's time limit in milliseconds; 0 is no limit.
     limit: u64,
-    // How many it may take once the service is to end.
+    // The same once the service is asked to end.
     grace: u64,
-    // When the client's time began: at the start, or when a reply was written.
+    // When the client's time began: at the start or the last written reply.
     since: Cell<u64>,
     saw_end: Cell<bool>,
     is_idle: Cell<bool>,
@@ -49,14 +49,14 @@ pub(crate) struct Line<'a, C: Clock> {
 }
 
 impl<'a, C: Clock> Line<'a, C> {
-    /// A client may take so many seconds for a frame, or for taking what it is sent; 0 is no limit.
+    /// Wraps a socket whose client may take `idle` seconds to send a frame, or to take a reply; 0 is no limit.
     pub(crate) fn new(
         clock: &'a C,
         stream: &'a TcpStream,
         stop: &'a Stop,
         idle: u64,
     ) -> Line<'a, C> {
-        // A reply goes out at once. If that can't be set the client waits a little longer.
+        // Without Nagle's algorithm a reply goes out at once. If that can't be set, the client waits a little longer.
         let _ = stream.set_nodelay(true);
         let tick = Some(Duration::from_millis(TICK));
         let _ = stream.set_read_timeout(tick);
@@ -74,7 +74,7 @@ impl<'a, C: Clock> Line<'a, C> {
         }
     }
 
-    /// What came of it.
+    /// Returns how the connection went.
     pub(crate) fn course(&self) -> Course {
         Course {
             saw_end: self.saw_end.get(),
@@ -82,18 +82,18 @@ impl<'a, C: Clock> Line<'a, C> {
         }
     }
 
-    /// What was written.
+    /// Returns the counts of written frames.
     pub(crate) fn tally(&self) -> Tally {
         self.tally.get()
     }
 
-    // Whether the service has ended, and with it the time of the connection.
+    // Returns `true` if the service has ended, and with it the connection's grace.
     #[inline(always)]
     fn is_stopped(&self) -> bool {
         self.stop.is_over(self.clock, self.grace)
     }
 
-    // Whether the client's time that began then is over.
+    // Returns `true` if the client's time that began then is over.
     fn is_over(&self, since: u64) -> bool {
         if self.limit == 0 {
             return false;
@@ -105,14 +105,14 @@ impl<'a, C: Clock> Line<'a, C> {
         is_over
     }
 
-    // Begins the client's time anew.
+    // Restarts the client's time.
     fn renew(&self) {
         if self.limit != 0 {
             self.since.set(millis(self.clock));
         }
     }
 
-    // Reads once. None if nothing came for a while.
+    // Reads once. Returns `None` if nothing came for a while.
     fn read_once(&self, buf: &mut [u8]) -> Option<io::Result<usize>>
         ensures { IfSome result (λ read. ReadsAtMost read buf.new) }
     {
@@ -129,7 +129,7 @@ impl<'a, C: Clock> Line<'a, C> {
         }
     }
 
-    // Writes once. None if nothing was taken for a while.
+    // Writes once. Returns `None` if the client took nothing for a while.
     fn write_once(&self, buf: &[u8]) -> Option<io::Result<usize>>
         ensures { IfSome result (λ written. WritesAtMost written buf.now) }
     {
@@ -147,8 +147,8 @@ impl<'a, C: Clock> Line<'a, C> {
         }
     }
 
-    /// Closes the side of the server, and lets the client close its own: what it still sends is read for a while, so that
-    /// it isn't cut off from replies that are on their way.
+    /// Shuts down the server's side, and lets the client close its own: reads on for a while, so that the system doesn't drop
+    /// replies that are on their way.
     pub(crate) fn close(&self) {
         if self.saw_end.get() || self.stream.shutdown(Shutdown::Write).is_err() {
             return;
@@ -173,12 +173,12 @@ impl<'a, C: Clock> Line<'a, C> {
     }
 }
 
-// Whether a call that failed so is to be made again.
+// Returns `true` if a call that failed with this error should be repeated.
 fn is_pause(error: &io::Error) -> bool {
     matches!(error.kind(), ErrorKind::WouldBlock | ErrorKind::Interrupted)
 }
 
-/// What a client sends.
+/// The bytes that a client sends.
 #[derive(Drop)]
 pub(crate) struct Incoming<'a, 'b, C: Clock> {
     pub(crate) line: &'b Line<'a, C>,
@@ -201,7 +201,7 @@ impl<C: Clock> Read for Incoming<'_, '_, C> {
     }
 }
 
-/// What a client is sent.
+/// The bytes that a client gets.
 #[derive(Drop)]
 pub(crate) struct Outgoing<'a, 'b, C: Clock> {
     pub(crate) line: &'b Line<'a, C>,

@@ -1,35 +1,35 @@
-//! What a service tells its operator.
+//! A service's reports to its operator.
 use cops_types::Fault;
 use cops_wire::Ended;
 use std::net::SocketAddr;
 use std::sync::atomic::{AtomicU64, Ordering};
 
-/// Why a connection ended otherwise than cleanly.
+/// Why a connection didn't end cleanly.
 #[derive(Clone, Copy, Debug)]
 pub enum Cause {
     /// The first message was refused.
     Refused,
-    /// What came was no frame, or no request.
+    /// The client sent something other than a request's frame.
     BrokenFrame,
     /// The input ended inside a frame, or before the first one.
     CutOff,
-    /// The client sent nothing, took nothing or didn't finish a frame for too long.
+    /// The client sent nothing, took nothing or left a frame unfinished for too long.
     Idle,
     ReadingFailed,
     WritingFailed,
     OutOfMemory,
 }
 
-/// Hears of connections that end otherwise than cleanly, and of a listener that works again.
+/// Gets reports of connections that don't end cleanly, and of a listener that works again.
 pub trait Reports {
-    /// A connection ended.
+    /// Reports the end of a connection.
     fn ended(&self, peer: &SocketAddr, cause: Cause);
 
-    /// A connection was accepted after so many failures in a row.
+    /// Reports a connection that was accepted after this many failures in a row.
     fn accepts_again(&self, failures: u64);
 }
 
-/// Tells nobody.
+/// Ignores all reports.
 #[derive(Clone, Copy)]
 pub struct Silent;
 
@@ -39,14 +39,14 @@ impl Reports for Silent {
     fn accepts_again(&self, _failures: u64) {}
 }
 
-/// What came of a connection, beside what `Connection::converse` says.
+/// How a connection went, beside the result of `Connection::converse`.
 #[derive(Clone, Copy)]
 pub(crate) struct Course {
     pub(crate) saw_end: bool,
     pub(crate) is_idle: bool,
 }
 
-/// Why a connection ended, unless it ended cleanly.
+/// Returns why a connection ended, unless it ended cleanly.
 pub(crate) fn cause_of(ended: &Result<Ended, Fault>, course: Course) -> Option<Cause> {
     match ended {
         Ok(Ended::Clean) => None,
@@ -61,7 +61,7 @@ pub(crate) fn cause_of(ended: &Result<Ended, Fault>, course: Course) -> Option<C
     }
 }
 
-/// How many connections were served, how many requests were answered on them, and how many of those were refused.
+/// Counts of served connections, of answered requests, and of refused ones among these.
 #[derive(Drop)]
 pub(crate) struct Totals {
     connections: AtomicU64,
@@ -69,7 +69,7 @@ pub(crate) struct Totals {
     refused: AtomicU64,
 }
 
-/// The totals of a service that has ended.
+/// The final counts of a service.
 #[derive(Clone, Copy, Debug)]
 pub struct Counts {
     pub connections: u64,
@@ -86,7 +86,7 @@ impl Totals {
         }
     }
 
-    /// Adds a connection that has ended.
+    /// Counts a connection that has ended.
     pub(crate) fn add(&self, requests: u64, refused: u64) {
         self.connections.fetch_add(1, Ordering::SeqCst);
         self.requests.fetch_add(requests, Ordering::SeqCst);

@@ -5,10 +5,10 @@ use std::os::fd::OwnedFd;
 use std::sync::atomic::{AtomicU64, Ordering};
 use std::time::{Clock, Duration};
 
-/// Stands for a time at which nobody has asked yet.
+/// Means that nobody has asked yet.
 const NOT_ASKED: u64 = u64::MAX;
 
-/// Lets another thread end a service: it stops accepting, and open connections may finish what they sent.
+/// Lets another thread end a service: it stops accepting, and open connections may finish their requests.
 #[derive(Drop)]
 pub struct Stop {
     // When somebody asked, in milliseconds of the monotonic clock.
@@ -18,7 +18,7 @@ pub struct Stop {
 }
 
 impl Stop {
-    /// An end that nobody asks for.
+    /// Returns a stop that nobody can ask for.
     pub fn never() -> Stop {
         Stop {
             asked: AtomicU64::new(NOT_ASKED),
@@ -26,7 +26,7 @@ impl Stop {
         }
     }
 
-    /// An end of the service that listens here. Fails if the process may open no more descriptors.
+    /// Returns a stop for the service that listens here. Fails if the process may open no more descriptors.
     pub fn of(listener: &TcpListener) -> io::Result<Stop> {
         let socket = OwnedFd::from(listener.try_clone()?);
         Ok(Stop {
@@ -35,7 +35,7 @@ impl Stop {
         })
     }
 
-    /// Asks for the end, and shuts the listener, so that nobody waits at it.
+    /// Asks for the end, and shuts the listener down, so that no thread waits for it.
     pub fn ask<C: Clock>(&self, clock: &C) {
         self.asked.store(millis(clock), Ordering::SeqCst);
         if let Some(listener) = &self.listener {
@@ -43,12 +43,12 @@ impl Stop {
         }
     }
 
-    /// Whether somebody has asked.
+    /// Returns `true` if somebody has asked.
     pub(crate) fn is_asked(&self) -> bool {
         self.asked.load(Ordering::SeqCst) != NOT_ASKED
     }
 
-    /// Whether somebody asked longer ago than so many milliseconds.
+    /// Returns `true` if somebody asked longer ago than this many milliseconds.
     #[inline(always)]
     pub(crate) fn is_over<C: Clock>(&self, clock: &C, grace: u64) -> bool {
         let asked = self.asked.load(Ordering::SeqCst);
@@ -56,7 +56,7 @@ impl Stop {
     }
 }
 
-/// Milliseconds of the monotonic clock.
+/// Returns the monotonic clock's time in milliseconds.
 pub(crate) fn millis<C: Clock>(clock: &C) -> u64 {
     let time = clock.monotonic().unwrap_or(Duration::ZERO);
     time.as_secs()

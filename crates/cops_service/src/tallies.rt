@@ -3,15 +3,15 @@
 /// The tag of a refusal.
 const REFUSED: u8 = 0xff;
 
-/// How many frames have gone by, and how many of them are refusals.
+/// Counts frames that pass, and refusals among them.
 #[derive(Clone, Copy)]
 pub(crate) struct Tally {
     pub(crate) frames: u64,
     pub(crate) refusals: u64,
-    // How many bytes of a length have gone by, and what they say.
+    // The bytes of a length that have passed, and their value.
     head: u32,
     length: u32,
-    // How many bytes of a body are to come, and whether the first of them is.
+    // The remaining bytes of a body, and whether its first one is among them.
     left: u32,
     is_tag: bool,
 }
@@ -28,7 +28,7 @@ impl Tally {
         }
     }
 
-    /// Lets bytes go by.
+    /// Counts bytes that pass.
     pub(crate) fn count(&mut self, bytes: &[u8]) {
         let mut rest = bytes;
         for _ in 0..bytes.len() {
@@ -39,7 +39,7 @@ impl Tally {
         }
     }
 
-    // Lets a byte of a length go by, or what there is of a body. Returns the bytes behind it.
+    // Passes a byte of a length, or the present part of a body. Returns the bytes after it.
     fn step<'b>(&mut self, bytes: &'b [u8]) -> &'b [u8] {
         let Some(first) = bytes.first() else {
             return bytes;
@@ -58,7 +58,7 @@ impl Tally {
         &bytes[skipped..]
     }
 
-    // A byte of a length.
+    // Passes a byte of a length.
     fn take_length(&mut self, byte: u8) {
         self.length = self.length.wrapping_shl(8) | u32::from(byte);
         self.head = self.head.wrapping_add(1);
@@ -70,7 +70,7 @@ impl Tally {
         }
     }
 
-    // The first byte of a body.
+    // Passes the first byte of a body.
     fn take_tag(&mut self, tag: u8) {
         self.is_tag = false;
         self.frames = self.frames.saturating_add(1);

@@ -1,11 +1,11 @@
-//! Streams whose head could not be carried, until they are tried again.
+//! Streams whose head could not be carried, until their next try.
 use crate::dues::rest_until;
 use crate::notes::{Noted, Notes, Sizes, Stream};
 use std::alloc::{AllocError, Global};
 use std::sync::Wait;
 use std::time::Duration;
 
-/// The first pause before a stream is tried again, in milliseconds. Each is twice as long as the one before.
+/// The first pause before a stream is tried again, in milliseconds. Each later pause is twice as long.
 const SHORTEST: u64 = 5;
 
 /// The longest pause.
@@ -14,24 +14,24 @@ const LONGEST: u64 = 1000;
 #[derive(Clone, Copy)]
 struct Pause {
     is_kept: bool,
-    // How long it is.
+    // Its length.
     length: u64,
-    // When it is over.
+    // When it ends.
     over: u64,
 }
 
-/// Streams that wait, each with a pause. No call takes memory.
+/// Streams that wait, each with a pause. No call allocates.
 #[derive(Drop)]
 pub(crate) struct Waiting {
     sizes: Sizes,
     pauses: Vec<Pause>,
     kept: Vec<Stream>,
-    // No pause is over earlier.
+    // A lower bound of the ends of the pauses.
     next: u64,
 }
 
 impl Waiting {
-    /// No stream waits.
+    /// Returns a state in which no stream waits.
     pub(crate) fn new(alloc: Global, notes: &Notes, streams: usize) -> Result<Self, AllocError> {
         let none = Pause {
             is_kept: false,
@@ -46,7 +46,7 @@ impl Waiting {
         })
     }
 
-    /// Keeps a stream that was tried in vain, for a pause twice as long as the one before.
+    /// Keeps a stream that could not be carried, for a pause twice as long as its last.
     pub(crate) fn keep(&mut self, stream: &Stream, now: u64) {
         let Some(pause) = self.pauses.get_mut(stream.number(self.sizes) as usize) else {
             return;
@@ -60,7 +60,7 @@ impl Waiting {
         }
     }
 
-    /// Forgets a stream that went on, or has nothing left.
+    /// Forgets a stream that went on or is empty.
     pub(crate) fn forget(&mut self, stream: &Stream) {
         let number = stream.number(self.sizes);
         let Some(pause) = self.pauses.get_mut(number as usize) else {
@@ -75,12 +75,12 @@ impl Waiting {
         self.kept.retain(|other| other.number(sizes) != number);
     }
 
-    /// For how long no pause is over, if a stream waits.
+    /// Returns the time until a pause ends, if a stream waits.
     pub(crate) fn rest(&self, now: u64) -> Option<Duration> {
         rest_until(self.next, now)
     }
 
-    /// Notes the streams whose pause is over.
+    /// Lists the streams whose pause is over as work items.
     pub(crate) fn note_ready<R: Wait>(&mut self, rt: &R, notes: &Notes, now: u64) {
         if now < self.next {
             return;
@@ -95,7 +95,7 @@ impl Waiting {
         self.next = next;
     }
 
-    /// Notes the streams of this tenant.
+    /// Lists this tenant's streams as work items.
     pub(crate) fn note_tenant<R: Wait>(&self, rt: &R, notes: &Notes, slot: u64) {
         for stream in self.kept.as_slice() {
             if stream.from.slot == slot {
@@ -104,7 +104,7 @@ impl Waiting {
         }
     }
 
-    /// Notes all of them.
+    /// Lists all of them as work items.
     pub(crate) fn note_all<R: Wait>(&self, rt: &R, notes: &Notes) {
         for stream in self.kept.as_slice() {
             notes.sent.add(rt, *stream);
@@ -112,7 +112,7 @@ impl Waiting {
     }
 }
 
-// The pause that follows one of this length.
+// Returns the pause after one of this length.
 fn longer(length: u64) -> u64 {
     length.saturating_mul(2).clamp(SHORTEST, LONGEST)
 }
