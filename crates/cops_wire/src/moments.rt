@@ -2,7 +2,7 @@ ghost use Rattle.std.specs.Prelude.{ℕ};
 
 /// A source of timestamps for the steps of requests, in milliseconds.
 pub trait Moments {
-    /// Which timestamp may come next, and the state that then gives the later ones.
+    /// Relates a state, the next timestamp that it may give, and the state after it.
     ghost Gives: { Self → ℕ → Self → Type 0 };
 
     /// Returns the next timestamp.

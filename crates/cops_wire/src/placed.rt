@@ -1,7 +1,7 @@
-//! Parts of frames, put at a place of bytes that are there already.
+//! Writes parts of frames over existing bytes, at an offset.
 //!
-//! What stands before the place stays, and the answer is the place behind the part. Bytes behind that may have any value: whoever goes on
-//! from there writes over them. No memory is asked for, so the caller sees to it that there is room.
+//! Bytes before the offset stay. Each function returns the offset after the part. Bytes after it may have any value: the next
+//! part overwrites them. Nothing is allocated, so the caller must provide the room.
 ghost use Rattle.std.specs.Prelude.{◌≡◌, ◌≤◌, ◌+◌, [], ◌∷◌, ◌++◌, length, take, IfSome};
 ghost use Rattle.std.specs.List.{flat_map};
 ghost use Rattle.byteorder.specs.Endian.{big_bytes};
@@ -12,7 +12,7 @@ use byteorder::{BigEndian, ByteOrder};
 use cops_types::placed::{put_byte, put_bytes, put_word};
 use cops_types::{Bytes, Version};
 
-/// Puts a number in two bytes.
+/// Writes a number in two bytes.
 #[inline(always)]
 pub(crate) fn put_number_16(bytes: &mut [u8], at: usize, number: u16) -> usize
     requires { at + 2 ≤ length bytes.old }
@@ -24,7 +24,7 @@ pub(crate) fn put_number_16(bytes: &mut [u8], at: usize, number: u16) -> usize
     put_word(bytes, at, &cells)
 }
 
-/// Puts a number in four bytes.
+/// Writes a number in four bytes.
 #[inline(always)]
 pub(crate) fn put_number_32(bytes: &mut [u8], at: usize, number: u32) -> usize
     requires { at + 4 ≤ length bytes.old }
@@ -36,7 +36,7 @@ pub(crate) fn put_number_32(bytes: &mut [u8], at: usize, number: u32) -> usize
     put_word(bytes, at, &cells)
 }
 
-/// Puts a version in eight bytes.
+/// Writes a version in eight bytes.
 #[inline(always)]
 pub(crate) fn put_version(bytes: &mut [u8], at: usize, version: Version) -> usize
     requires { at + 8 ≤ length bytes.old }
@@ -48,7 +48,7 @@ pub(crate) fn put_version(bytes: &mut [u8], at: usize, version: Version) -> usiz
     put_word(bytes, at, &cells)
 }
 
-/// Puts a key behind its length.
+/// Writes a key's length and the key.
 #[inline(always)]
 pub(crate) fn put_key(bytes: &mut [u8], at: usize, key: &[u8]) -> usize
     requires counted { IsCounted 1 key.now }
@@ -60,7 +60,7 @@ pub(crate) fn put_key(bytes: &mut [u8], at: usize, key: &[u8]) -> usize
     put_bytes(bytes, of_key, key)
 }
 
-/// Puts a value behind its length.
+/// Writes a value's length and the value.
 #[inline(always)]
 pub(crate) fn put_value(bytes: &mut [u8], at: usize, value: &[u8]) -> usize
     requires counted { IsCounted 2 value.now }
@@ -72,7 +72,7 @@ pub(crate) fn put_value(bytes: &mut [u8], at: usize, value: &[u8]) -> usize
     put_bytes(bytes, of_value, value)
 }
 
-/// Puts a length, a tag, a handle, and how many keys, or bytes of a key, there are.
+/// Writes a length, a tag, a handle, and the number of keys or of a key's bytes.
 #[inline(always)]
 pub(crate) fn put_head(
     bytes: &mut [u8],
@@ -93,7 +93,7 @@ pub(crate) fn put_head(
     put_byte(bytes, of_count, count)
 }
 
-/// Puts keys behind one another, each behind its length, or finds that there is no room for them.
+/// Writes each key's length and the key, in order, or finds that there is no room for them.
 #[inline(always)]
 pub(crate) fn put_keys(bytes: &mut [u8], at: usize, keys: &[Bytes]) -> Option<usize>
     requires within { at ≤ length bytes.old }

@@ -1,4 +1,4 @@
-//! Answers of requests, as the frames of their replies.
+//! Serializes the answers of requests as frames.
 ghost use Rattle.std.specs.Prelude.{◌≡◌, ◌≤◌, ◌+◌, [], ◌∷◌, ◌++◌, length, map, take, true, IfOk, MatchBool, OnOk, OnErr};
 ghost use Rattle.std.specs.Bool.{OnTrue};
 ghost use Rattle.std.specs.List.{flat_map};
@@ -21,19 +21,19 @@ use std::alloc::AllocError;
 /// The greatest length of a body.
 const LONGEST_BODY: usize = 4_000_000;
 
-/// How many bytes a pair has at most: a key behind its length, and a version.
+/// The most bytes of a pair: a key's length, the key and a version.
 const LONGEST_PAIR: usize = 73;
 
-/// How many bytes a pair with a short key has at most.
+/// The most bytes of a pair with a short key.
 const LONGEST_SHORT_PAIR: usize = 24;
 
-/// How many bytes a value has at most that is put with its key and its version at once.
+/// The most bytes of a value that is written together with its key and version.
 const SHORT_VALUE: usize = 114;
 
-/// How many bytes a key has at most with a short value, its version, and how many dependencies there are.
+/// The most bytes of a key with a short value, its version and its number of dependencies.
 const SHORT_HELD: usize = 192;
 
-/// The bytes of a key, which one byte can count.
+/// Returns a key's bytes, which one byte can count.
 fn key_bytes(key: &Key) -> &[u8]
     ensures value { result.now ≡ key.now }
     ensures counted { length result.now ≤ 64 }
@@ -41,7 +41,7 @@ fn key_bytes(key: &Key) -> &[u8]
     key.bytes()
 }
 
-/// Puts a pair at a place with room for it.
+/// Writes a pair at an offset with room for it.
 #[inline(always)]
 fn put_pair(bytes: &mut [u8], at: usize, pair: &Pair) -> usize
     requires { at + LONGEST_PAIR ≤ length bytes.old }
@@ -52,7 +52,7 @@ fn put_pair(bytes: &mut [u8], at: usize, pair: &Pair) -> usize
     put_version(bytes, of_version, pair.version)
 }
 
-/// Puts a pair at the end. On `Err` nothing is put.
+/// Appends a pair. On `Err` nothing is appended.
 #[inline(always)]
 fn push_pair(out: &mut Vec<u8>, pair: &Pair) -> Result<(), AllocError>
     ensures ok { OnOk result (out.new.items ≡ out.old.items ++ link_of (link_to pair.now)) }
@@ -65,7 +65,7 @@ fn push_pair(out: &mut Vec<u8>, pair: &Pair) -> Result<(), AllocError>
     Ok(())
 }
 
-/// Puts a pair with a short key at a place with room for it.
+/// Writes a pair with a short key at an offset with room for it.
 #[inline(always)]
 fn put_short_pair(bytes: &mut [u8], at: usize, pair: &ShortPair) -> usize
     requires { at + LONGEST_SHORT_PAIR ≤ length bytes.old }
@@ -77,7 +77,7 @@ fn put_short_pair(bytes: &mut [u8], at: usize, pair: &ShortPair) -> usize
     put_version(bytes, of_version, pair.version())
 }
 
-/// Puts a pair with a short key at the end. On `Err` nothing is put.
+/// Appends a pair with a short key. On `Err` nothing is appended.
 #[inline(always)]
 fn push_short_pair(out: &mut Vec<u8>, pair: &ShortPair) -> Result<(), AllocError>
     ensures ok { OnOk result (out.new.items ≡ out.old.items ++ link_of (link_to pair.now)) }
@@ -90,7 +90,7 @@ fn push_short_pair(out: &mut Vec<u8>, pair: &ShortPair) -> Result<(), AllocError
     Ok(())
 }
 
-/// Puts pairs with short keys at the end. On `Err` a prefix of them may be there.
+/// Appends pairs with short keys. On `Err` a prefix of them may be there.
 fn push_short_pairs(out: &mut Vec<u8>, pairs: &[ShortPair]) -> Result<(), AllocError>
     ensures ok { OnOk result (out.new.items ≡ out.old.items ++ flat_map link_of (map link_to pairs.now)) }
     ensures front { StartsWith out.new.items out.old.items }
@@ -101,7 +101,7 @@ fn push_short_pairs(out: &mut Vec<u8>, pairs: &[ShortPair]) -> Result<(), AllocE
     Ok(())
 }
 
-/// Puts dependencies of any kind at the end. On `Err` a prefix of them may be there.
+/// Appends dependencies of any kind. On `Err` a prefix of them may be there.
 #[inline(never)]
 fn push_any_pairs(out: &mut Vec<u8>, deps: &OwnedDeps) -> Result<(), AllocError>
     ensures ok { OnOk result (out.new.items ≡ out.old.items ++ flat_map link_of (map link_to deps.now)) }
@@ -113,7 +113,7 @@ fn push_any_pairs(out: &mut Vec<u8>, deps: &OwnedDeps) -> Result<(), AllocError>
     Ok(())
 }
 
-/// Puts the dependencies at the end. On `Err` a prefix of them may be there.
+/// Appends the dependencies. On `Err` a prefix of them may be there.
 fn push_pairs(out: &mut Vec<u8>, deps: &OwnedDeps) -> Result<(), AllocError>
     ensures ok { OnOk result (out.new.items ≡ out.old.items ++ flat_map link_of (map link_to deps.now)) }
     ensures front { StartsWith out.new.items out.old.items }
@@ -124,7 +124,7 @@ fn push_pairs(out: &mut Vec<u8>, deps: &OwnedDeps) -> Result<(), AllocError>
     }
 }
 
-/// Puts a key and what it had, up to its dependencies, of which it puts the number, if there is room for a short value.
+/// Writes a key, its value and version, and the number of dependencies, if there is room for a short value.
 #[inline(always)]
 fn put_held(
     bytes: &mut [u8],
@@ -147,7 +147,7 @@ fn put_held(
     put_number_16(bytes, of_deps, deps)
 }
 
-/// Puts a key and what it had at the end, with room that is asked for once, up to its dependencies. On `Err` nothing is put.
+/// Appends a key, its value and version, and the number of dependencies. Reserves once. On `Err` nothing is appended.
 #[inline(always)]
 fn push_short_held(
     out: &mut Vec<u8>,
@@ -168,7 +168,7 @@ fn push_short_held(
     Ok(())
 }
 
-/// Puts a value, its version, and how many dependencies there are at the end. On `Err` a prefix of that may be there.
+/// Appends a value, its version and the number of dependencies. On `Err` a prefix of that may be there.
 fn push_valued(
     out: &mut Vec<u8>,
     value: &[u8],
@@ -184,7 +184,7 @@ fn push_valued(
     push_number_16(out, deps)
 }
 
-/// Puts a key and what it had at the end as `push_held` does, part by part.
+/// Appends the same as `push_held`, part by part.
 #[inline(never)]
 fn push_long_held(
     out: &mut Vec<u8>,
@@ -203,7 +203,7 @@ fn push_long_held(
     push_valued(out, value, version, deps)
 }
 
-/// Puts a key and what it had at the end, up to its dependencies, of which it puts how many there are.
+/// Appends a key, its value and version, and the number of dependencies.
 ///
 /// On `Err` a prefix of that may be there.
 #[inline(always)]
@@ -225,7 +225,7 @@ fn push_held(
     push_long_held(out, key, value, version, deps)
 }
 
-/// Puts a key that had nothing at the end. On `Err` a prefix of that may be there.
+/// Appends a key without a value. On `Err` a prefix of that may be there.
 fn push_absent(out: &mut Vec<u8>, key: &[u8]) -> Result<(), AllocError>
     requires { length key.now ≤ 64 }
     ensures ok { OnOk result (out.new.items ≡ out.old.items ++ (spelled_key key.now ++ (0 ∷ []))) }
@@ -253,7 +253,7 @@ fn push_read(out: &mut Vec<u8>, read: &Read) -> Result<(), AllocError>
     }
 }
 
-/// Whether two bytes can count the value and the dependencies.
+/// Returns `true` if two bytes can count the value's bytes and the dependencies.
 fn can_be_counted(read: &Read) -> bool
     ensures { result ≡ is_counted read.now }
 {
@@ -263,7 +263,7 @@ fn can_be_counted(read: &Read) -> bool
     }
 }
 
-/// Puts the reads at the end, as the body of a message, or finds that one of their counts can't be written.
+/// Appends the reads as the body of a message, or finds that one of their counts can't be written.
 ///
 /// A prefix of them may be there if it finds so, and on `Err`.
 fn push_reads(out: &mut Vec<u8>, reads: &[Read]) -> Result<bool, AllocError>
@@ -284,7 +284,7 @@ fn push_reads(out: &mut Vec<u8>, reads: &[Read]) -> Result<bool, AllocError>
     Ok(true)
 }
 
-/// Puts a frame with the reads at the end, if one can hold them. Otherwise, and on `Err`, a prefix of it may be there.
+/// Appends a frame with the reads, if one can hold them. Otherwise, and on `Err`, a prefix of it may be there.
 fn push_values(out: &mut Vec<u8>, reads: &[Read]) -> Result<bool, AllocError>
     ensures held { IfOk result (λ held. held ≡ is_one_frame reads.now) }
     ensures ok { IfOk result (λ held. MatchBool held (out.new.items ≡ out.old.items ++ spelling (values_of reads.now)) (StartsWith out.new.items out.old.items)) }
@@ -303,7 +303,7 @@ fn push_values(out: &mut Vec<u8>, reads: &[Read]) -> Result<bool, AllocError>
     Ok(true)
 }
 
-/// Puts a frame with a stored pair at a place with room for it.
+/// Writes a frame with a stored pair at an offset with room for it.
 #[inline(always)]
 fn put_stored(bytes: &mut [u8], at: usize, pair: &Pair) -> usize
     requires { at + 5 + LONGEST_PAIR ≤ length bytes.old }
@@ -316,7 +316,7 @@ fn put_stored(bytes: &mut [u8], at: usize, pair: &Pair) -> usize
     put_pair(bytes, of_pair, pair)
 }
 
-/// Puts a frame with a stored pair at the end. On `Err` nothing is put.
+/// Appends a frame with a stored pair. On `Err` nothing is appended.
 fn push_stored(out: &mut Vec<u8>, pair: &Pair) -> Result<(), AllocError>
     ensures ok { OnOk result (out.new.items ≡ out.old.items ++ spelling (Message.Stored pair.now.key pair.now.version)) }
     ensures err { OnErr result (out.new.items ≡ out.old.items) }
@@ -328,7 +328,7 @@ fn push_stored(out: &mut Vec<u8>, pair: &Pair) -> Result<(), AllocError>
     Ok(())
 }
 
-/// Puts the reply that gives an answer at the end. On `Err` nothing is put.
+/// Appends the reply with an answer. On `Err` nothing is appended.
 pub(crate) fn push_reply(out: &mut Vec<u8>, answer: &Answer) -> Result<(), AllocError>
     ensures ok { OnOk result (out.new.items ≡ out.old.items ++ spelling (message_of_answer answer.now)) }
     ensures err { OnErr result (out.new.items ≡ out.old.items) }

@@ -1,4 +1,4 @@
-//! Short frames of puts and get transactions, put at the end of a vector with room that is asked for once.
+//! Appends short frames of puts and get transactions to a vector, and reserves once.
 ghost use Rattle.std.specs.Prelude.{◌≡◌, ◌≤◌, ◌<◌, ◌+◌, ◌-◌, ◌^◌, ℕ, List, ◌∷◌, ◌++◌, length, take, IfOk, IfSome, MatchBool, OnErr, OnOk};
 ghost use Rattle.cops_wire.specs.Fitting.{CanBeWritten, IsCounted, PartsFit};
 ghost use Rattle.cops_wire.specs.Spelling.{body_of, spelled_text, spelling};
@@ -11,13 +11,13 @@ use cops_types::Bytes;
 use cops_types::placed::put_bytes;
 use std::alloc::AllocError;
 
-/// How many bytes a short frame has at most.
+/// The most bytes of a short frame.
 const SHORT_FRAME: usize = 128;
 
-/// How many bytes the frame of a short put has at most for which less room is cleared.
+/// The most bytes of a put's frame for which less room is cleared.
 const SHORTER_FRAME: usize = 64;
 
-/// Puts the frame of a put.
+/// Writes the frame of a put.
 #[inline(always)]
 fn put_put(bytes: &mut [u8], at: usize, handle: &[u8; 9], key: &[u8], value: &[u8]) -> usize
     requires key { IsCounted 1 key.now }
@@ -32,7 +32,7 @@ fn put_put(bytes: &mut [u8], at: usize, handle: &[u8; 9], key: &[u8], value: &[u
     put_value(bytes, of_value, value)
 }
 
-/// Puts a place for a length, and the body of a get transaction, or finds that there is no room for its keys.
+/// Writes a placeholder for a length, and the body of a get transaction, or finds that there is no room for its keys.
 #[inline(always)]
 fn put_get(bytes: &mut [u8], at: usize, handle: &[u8; 9], keys: &[Bytes]) -> Option<usize>
     requires counted { PartsFit 1 (IsCounted 1) keys.now }
@@ -45,7 +45,7 @@ fn put_get(bytes: &mut [u8], at: usize, handle: &[u8; 9], keys: &[Bytes]) -> Opt
     put_keys(bytes, of_keys, keys)
 }
 
-/// Cuts off what stands behind a frame, and writes its length over the place for it.
+/// Cuts off the bytes after a frame, and writes its length over the placeholder.
 #[inline(always)]
 fn end_frame(out: &mut Vec<u8>, start: usize, end: usize)
     requires start { start + 4 ≤ end }
@@ -58,7 +58,7 @@ fn end_frame(out: &mut Vec<u8>, start: usize, end: usize)
     BigEndian::write_u32(&mut out[start..], len);
 }
 
-/// Puts the frame of a put at the end, with room for so many bytes that is asked for once. On `Err` nothing is put.
+/// Appends the frame of a put, and reserves this many bytes once. On `Err` nothing is appended.
 #[inline(always)]
 fn push_put_within<const ROOM: usize>(
     out: &mut Vec<u8>,
@@ -80,7 +80,7 @@ fn push_put_within<const ROOM: usize>(
     Ok(())
 }
 
-/// Puts the frame of a put at the end, if it is short, and returns whether it is.
+/// Appends the frame of a put if it is short, and returns whether it is.
 fn push_short_put(
     out: &mut Vec<u8>,
     handle: &[u8; 9],
@@ -104,7 +104,7 @@ fn push_short_put(
     Ok(true)
 }
 
-/// Puts the frame of a get transaction at the end, if it is short, and returns whether it is.
+/// Appends the frame of a get transaction if it is short, and returns whether it is.
 fn push_short_get(out: &mut Vec<u8>, handle: &[u8; 9], keys: &[Bytes]) -> Result<bool, AllocError>
     requires { PartsFit 1 (IsCounted 1) keys.now }
     ensures ok { IfOk result (λ short. MatchBool short (out.new.items ≡ out.old.items ++ spelling (Message.GetTrans handle.now keys.now)) (out.new.items ≡ out.old.items)) }
@@ -120,7 +120,7 @@ fn push_short_get(out: &mut Vec<u8>, handle: &[u8; 9], keys: &[Bytes]) -> Result
     Ok(true)
 }
 
-/// Puts the frame of a put or a get transaction at the end, if it is short, and returns whether it is.
+/// Appends the frame of a put or a get transaction if it is short, and returns whether it is.
 pub(crate) fn push_short(out: &mut Vec<u8>, message: &Message) -> Result<bool, AllocError>
     requires { CanBeWritten message.now }
     ensures ok { IfOk result (λ short. MatchBool short (out.new.items ≡ out.old.items ++ spelling message.now) (out.new.items ≡ out.old.items)) }
