@@ -25,9 +25,9 @@ pub fn each_tenant_is_alone()
         ≡ replies place more (world_replies others more (new_clusters others)) }
 {}
 
-/// What follows from the main theorem for a tenant without an out-of-memory reply: its replies are
-/// those of a cluster of its own, and the same in any other run that agrees on its own events and
-/// on its configuration.
+/// Theorem: by the main theorem, a tenant without an out-of-memory reply gets the replies of a
+/// cluster of its own, and the same ones in any other run with the same own events and
+/// configuration.
 pub fn tenants_with_memory_are_alone()
     ensures alone { (config : Config) (events : List Event) (told : List Reply) (slot : ℕ) → MainTheorem config events told → slot < length config.tenants →
         IsSpared (replies slot events told) → replies slot events told ≡ solo_replies (config_at config slot) (own slot events) }
@@ -37,14 +37,14 @@ pub fn tenants_with_memory_are_alone()
         IsSpared (replies slot events told) → IsSpared (replies place more heard) → replies slot events told ≡ replies place more heard }
 {}
 
-/// Whatever a tenant does in a cluster of its own, and however often memory runs out, the lists in the
-/// audits of its nodes are within the limit of its lists.
+/// Theorem: in a cluster of a tenant's own, the lists in its nodes' audits are within its limit of
+/// lists, however often memory runs out.
 pub fn audited_lists_are_within_the_limit()
     ensures { (config : TenantConfig) (acts : List Act) (told : List Reply) (left : SoloCluster) → 0 < config.shards →
         Goes config acts told (new_cluster config) left → AllByRecursion (HasFewInAudit config) left.nodes }
 {}
 
-/// From the main theorem: each tenant's acts and replies keep the laws that it can check itself.
+/// Theorem: by the main theorem, each tenant's acts and replies keep the laws that it can check itself.
 pub fn tenants_transcripts_are_causal()
     ensures { (config : Config) (events : List Event) (told : List Reply) (slot : ℕ) → MainTheorem config events told → slot < length config.tenants → 0 < (config_at config slot).shards →
         KeepsClientLaws (transcript (own slot events) (replies slot events told)) × ShowsTrueLists (own slot events) (replies slot events told) × ShowsPasts (own slot events) (replies slot events told) }

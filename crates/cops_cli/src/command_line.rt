@@ -53,16 +53,16 @@ const IDLE: &str = "idle";
 
 const VERBOSE: &str = "verbose";
 
-/// How many workers there are by default.
+/// The default number of workers.
 const SOME_WORKERS: u64 = 4;
 
-/// How many workers there may be.
+/// The most workers.
 const MOST_WORKERS: u64 = 16;
 
-/// How many connections may be served, and are by default.
+/// The most connections to serve, and the default.
 const MOST_CONNECTIONS: u64 = 4294967295;
 
-/// How many seconds `--idle` takes, at most. The default is 0, which is no limit.
+/// The greatest `--idle`, in seconds. The default is 0, which is no limit.
 const MOST_IDLE: u64 = 4294967295;
 
 fn run_command<'a>(alloc: Global) -> Command<'a>

@@ -1,4 +1,4 @@
-//! Standard input behind the head, where a line ends the service.
+//! Reads standard input after the head, where the line `end` ends the service.
 ghost use Rattle.std.specs.Prelude.{◌≡◌, IfErr};
 
 use crate::faults::CliFault;
@@ -13,23 +13,23 @@ use std::time::Clock;
 /// The line that ends the service.
 const END: [u8; 3] = *b"end";
 
-/// What a line says.
+/// The meaning of a line.
 #[derive(Clone, Copy, Debug, PartialEq, Eq)]
 enum Said {
-    /// It is empty, or not whole.
+    /// An empty or unfinished line.
     Nothing,
-    /// The service is to end.
+    /// The service should end.
     End,
-    /// The line of this number says something else.
+    /// The line of this number is anything else.
     Other(u64),
 }
 
 /// Lines of standard input, which come byte by byte.
 #[derive(Clone, Copy)]
 struct Lines {
-    // How many have come.
+    // The number of ended lines.
     count: u64,
-    // How many bytes of the next one have come, and whether they are the first ones of `end`.
+    // The length of the unfinished line, and whether it is a prefix of `end`.
     length: usize,
     begins_end: bool,
 }

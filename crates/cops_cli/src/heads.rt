@@ -22,7 +22,7 @@ impl<'a, I: Read> ByteReader<'a, I> {
         ByteReader { source, lines: 0 }
     }
 
-    /// How many lines have ended.
+    /// The number of lines that have ended.
     pub(crate) fn lines(&self) -> u64 {
         self.lines
     }

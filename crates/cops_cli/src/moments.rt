@@ -1,4 +1,4 @@
-//! The time of a service.
+//! A service's clock.
 use cops_wire::Moments;
 use std::time::{Clock, Duration};
 
@@ -7,9 +7,9 @@ use std::time::{Clock, Duration};
 #[derive_where(Clone, Copy)]
 pub(crate) struct SteadyMoments<'a, R: Clock> {
     clock: &'a R,
-    // What the steady clock showed at the start.
+    // The monotonic clock at the start.
     start: Duration,
-    // How many milliseconds there were since 1970 at the start, and 0 where the system's clock can't be read.
+    // The system's clock at the start, in milliseconds since 1970; 0 if it can't be read.
     first: u64,
 }
 

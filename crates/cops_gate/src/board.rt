@@ -53,7 +53,7 @@ pub enum Stage {
 
 /// A seat's knowledge. No value of it is ever made.
 pub struct View<M, C, R> {
-    /// How the gate began. A seat that has ended does not know it.
+    /// The gate's opening. A seat that has ended does not know it.
     pub opening: Option<Opening<M>>,
     pub number: u64,
     /// `true` if the seat knows its number. Until then it has made no turn.

@@ -1,5 +1,5 @@
-//! How a thread waits for the machine: it looks again, and then sleeps until a turn ends. It reads
-//! the words without a seat, so nothing here changes what a seat knows.
+//! A thread's wait for the machine: it polls, and then sleeps until a turn ends. It reads the words
+//! without a seat, so nothing here changes a seat's knowledge.
 ghost use Rattle.std.specs.Prelude.{◌<◌, ◌≤◌, ◌^◌, IfOk};
 ghost use Rattle.cops_gate.specs.Plays.{AreWords};
 

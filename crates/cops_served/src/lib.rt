@@ -1,4 +1,4 @@
-//! What the contracts of connections, carriers and collections say is what a history asks of actors.
+//! Theorems from the contracts of connections, carriers and collections to the actors of a history.
 #![tactic(auto)]
 
 mod laws;

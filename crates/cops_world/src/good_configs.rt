@@ -1,4 +1,4 @@
-//! Whether a configuration keeps to the limits of a head, so that worlds and nodes can be made of it.
+//! Checks that a configuration keeps to the limits of a head, so that worlds and nodes can be made of it.
 ghost use Rattle.std.specs.Prelude.{◌≡◌, ◌&&◌, IsTrue, nat_le};
 ghost use Rattle.std.specs.List.{list_all};
 ghost use Rattle.cops_types.specs.HeadLines.{are_sizes, is_between, is_quota, is_tenant, most_shards};
