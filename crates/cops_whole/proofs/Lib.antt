@@ -7,3 +7,12 @@ pub mod SmallCluster
 pub mod Making
 pub mod Threads
 pub mod NoOps
+pub mod Filling
+pub mod Histories
+pub mod SeatCalls
+pub mod Services
+pub mod DeskActors
+pub mod Crews
+pub mod AtShards
+pub mod SeatThreads
+pub mod SmallService

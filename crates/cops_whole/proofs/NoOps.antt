@@ -129,8 +129,12 @@ module _ (config : Config) (log : List WholeTurn) (is : IsLogOfGates config log)
               (mid, inr (reply_is, refl, may), rest mid (passed before w mid mid first (rw (at, entry_is, lack) refl)) leads)
           either false spared (next, call, leads) = (next, call, rest next (passed before w mid next first (rw (at, entry_is, spared) (next, call, refl))) leads)
 
+  -- a node that the log of gates leaves is one that the whole log leaves
+  pub leads_filled : (left : Shared) → LeadsOn (new_shared config number) (Kept log) left → LeadsOn (new_shared config number) (entries_at number log) left
+  leads_filled left leads = filled [] log (new_shared config number) left refl refl leads
+
   pub leads_whole : number < config.data_centres * config.shards → (left : Shared) × LeadsOn (new_shared config number) (entries_at number log) left
-  leads_whole within = let led = is.legal number within in (led.0, filled [] log (new_shared config number) led.0 refl refl led.1)
+  leads_whole within = let led = is.legal number within in (led.0, leads_filled led.0 led.1)
 
 pub gates_whole : (config : Config) (log : List WholeTurn) → IsLogOfGates config log → IsWholeLog config log
 gates_whole config log is = record { there = is.there; legal = λ number within. leads_whole config log is number within }

@@ -27,10 +27,10 @@ audited_as t = record { moment = t.moment; call = t.call; reply = t.reply }
 abbrev opened : Shared
 opened = new_shared small_config 0
 
-abbrev written : Shared
+abbrev pub written : Shared
 written = record opened { audit = noted 0 (audited_as small_put) opened.audit }
 
-abbrev collected : Shared
+abbrev pub collected : Shared
 collected = record written { audit = noted 1 (audited_as small_collection) written.audit }
 
 put_others : (other : ℕ) → other ≢ 0 → trail_of other written.audit ≡ trail_of other opened.audit
@@ -43,7 +43,7 @@ collect_others zero differ = refl
 collect_others (suc zero) differ = absurd (differ refl)
 collect_others (suc (suc other)) differ = refl
 
-put_is : IsMachineTurn opened 0 small_put.moment small_put.call small_put.reply written
+pub put_is : IsMachineTurn opened 0 small_put.moment small_put.call small_put.reply written
 put_is = record {
   own = λ place at. subst (λ (p : Place). IsSoloTurn 0 small_put.moment small_put.call small_put.reply p opened written) (some_same (place_there small_config (small_tenant 1) 0) place at) (refl, refl);
   noted = λ some. inr refl;
@@ -53,7 +53,7 @@ put_is = record {
   terms = refl;
 }
 
-collect_is : IsMachineTurn written 1 small_collection.moment small_collection.call small_collection.reply collected
+pub collect_is : IsMachineTurn written 1 small_collection.moment small_collection.call small_collection.reply collected
 collect_is = record {
   own = λ place at. subst (λ (p : Place). IsSoloTurn 1 small_collection.moment small_collection.call small_collection.reply p written collected) (some_same (place_there small_config (small_tenant 2) 0) place at) (refl, refl);
   noted = λ some. inr refl;
@@ -96,7 +96,7 @@ wrote = (
   ),
 )
 
-all_behave : (seat : ℕ) → AllByRecursion (BehavesInSlot small_config) (small_actors seat)
+pub all_behave : (seat : ℕ) → AllByRecursion (BehavesInSlot small_config) (small_actors seat)
 all_behave zero = ((small_tenant 1, refl, wrote), tt)
 all_behave (suc zero) = ((small_tenant 2, refl, (None, (refl, refl, refl), tt)), tt)
 all_behave (suc (suc seat)) = tt
@@ -117,7 +117,7 @@ all_made (suc (suc seat)) =
     let one : (1 == suc (suc seat)) ≡ false = apart 1 (suc (suc seat)) (λ e. omega (arith, e)) in
     rw (zeroth, one) refl
 
-nothing : (seat : ℕ) → 2 ≤ seat → small_actors seat ≡ []
+pub nothing : (seat : ℕ) → 2 ≤ seat → small_actors seat ≡ []
 nothing zero past = absurd (omega (arith, past))
 nothing (suc zero) past = absurd (omega (arith, past))
 nothing (suc (suc seat)) past = refl

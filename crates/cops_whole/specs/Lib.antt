@@ -3,3 +3,5 @@ pub mod Seats
 pub mod SmallCluster
 pub mod Threads
 pub mod NoOps
+pub mod Services
+pub mod SmallService

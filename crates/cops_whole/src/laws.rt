@@ -3,6 +3,7 @@ ghost use Rattle.std.specs.List.{flat_map};
 ghost use Rattle.cops_types.specs.declared.configs.Config.{Config};
 ghost use Rattle.cops_types.specs.declared.configs.Tenant.{Tenant};
 ghost use Rattle.cops_types.specs.TenantConfig.{tenant_config};
+ghost use Rattle.cops_gate.specs.Seats.{Origin};
 ghost use Rattle.cops_model.specs.Carrier.{Stream};
 ghost use Rattle.cops_model.specs.Cluster.{has_stream};
 ghost use Rattle.cops_model.specs.declared.calls.NodeCall.TheVariants.{Collect};
@@ -15,11 +16,17 @@ ghost use Rattle.cops_history.specs.Turns.{IsLegalAtEach, all_new, node_numbered
 ghost use Rattle.cops_history.specs.History.{Done, Told, AreActs, all_done, seat_in, turns};
 ghost use Rattle.cops_model.specs.declared.deliveries.Delivery.{Delivery};
 ghost use Rattle.cops_service.specs.Carried.{Delivers};
+ghost use Rattle.cops_service.specs.Connections.{IsDesk};
 ghost use Rattle.cops_service.specs.Conversing.{ConverseAll};
+ghost use Rattle.cops_service.specs.Desks.{IsDeskCall, NodeSeat};
+ghost use Rattle.cops_service.specs.Gates.{Gates};
+ghost use Rattle.cops_service.specs.Slots.{NodeLog};
 ghost use Rattle.cops_whole.specs.Threads.{AreCallsOfActors};
 ghost use Rattle.cops_whole.specs.NoOps.{IsLogOfGates};
 ghost use Rattle.cops_whole.specs.Seats.{AddsTurns, AllRecorded, IsServedCluster, MakesAll, SlotActor, own_commands, turns_by_actor};
+ghost use Rattle.cops_whole.specs.Services.{IsCallAtShard, IsCrewRun, IsLogOfService, IsServiceRun, IsTenantOfService, SeatActors, actors_numbered, past_numbers};
 ghost use Rattle.cops_whole.specs.SmallCluster.{small_actors, small_config, small_log};
+ghost use Rattle.cops_whole.specs.SmallService.{small_gates, small_history};
 ghost use Rattle.cops_whole.specs.Whole.{CallEntry, WholeTurn, AreServedForTenant, IsWholeLog, LeadsOn, Represents, entries_at, own_log, own_turns, place_there, seat_turns, tenant_turn, whole_turn};
 
 use cops_node::Nodes;
@@ -99,4 +106,49 @@ pub fn threads_make_calls_of_actors<N: Nodes, M: Moments>()
 /// lack memory there.
 pub fn logs_of_gates_are_whole()
     ensures { (config : Config) (log : List WholeTurn) → IsLogOfGates config log → IsWholeLog config log }
+{}
+
+/// Theorem: the calls that actors make at a desk are those of the desk's seat.
+pub fn actors_call_by_seats<N: Nodes>()
+    ensures { (cluster : N → Gates Shared) (seat : N → NodeSeat) (config : Config) (nodes new_nodes : N) → IsDesk (KeepsShape N.shape N.Answers) cluster seat →
+        AreCallsOfActors (KeepsShape N.shape N.Answers) config nodes new_nodes → AreCallsOfActors (IsDeskCall (cluster nodes)) config (seat nodes) (seat new_nodes) }
+{}
+
+/// Theorem: what each thread of a service does with its seat are calls of actors that behave, at shards that exist: the
+/// conversations of a worker, a delivery of a carrier, a collection, and one after another.
+pub fn seats_make_calls_of_actors<M: Moments>()
+    ensures workers { (config : Config) (cluster : Gates Shared) (count : ℕ) (first last : NodeSeat) (moments later : M) → 0 < config.shards →
+        ConverseAll (IsDeskCall cluster) M.Gives config count first last moments later → AreCallsOfActors (IsCallAtShard config cluster) config first last }
+    ensures carriers { (config : Config) (cluster : Gates Shared) (tenant : Tenant) (slot : ℕ) (stream : Stream) (ending : Delivery) (first last : NodeSeat) → slice_get config.tenants slot ≡ Some tenant →
+        has_stream (tenant_config config tenant) stream.origin.dc stream.origin.shard stream.to_dc ≡ true →
+        Delivers (IsDeskCall cluster) config.shards slot stream first last ending → AreCallsOfActors (IsCallAtShard config cluster) config first last }
+    ensures collectors { (config : Config) (cluster : Gates Shared) (tenant : Tenant) (slot moment : ℕ) (id : NodeId) (reply : NodeReply) (first last : NodeSeat) → slice_get config.tenants slot ≡ Some tenant →
+        id.shard < config.shards → IsDeskCall cluster first id slot moment Collect reply last → AreCallsOfActors (IsCallAtShard config cluster) config first last }
+    ensures later { (config : Config) (cluster : Gates Shared) (first between last : NodeSeat) → AreCallsOfActors (IsCallAtShard config cluster) config first between →
+        AreCallsOfActors (IsCallAtShard config cluster) config between last → AreCallsOfActors (IsCallAtShard config cluster) config first last }
+{}
+
+/// Theorem: a service that ran is a cluster that its seats served. Its log has each call with its reply. Where memory
+/// was refused, the gate's history has a no-op turn.
+pub fn services_are_served_clusters()
+    ensures { (config : Config) (cluster : Gates Shared) (history : NodeLog) (seats : ℕ) (actors : ℕ → List SlotActor) → IsServiceRun config cluster history seats actors →
+        (log : List WholeTurn) × IsLogOfService config history seats actors log }
+{}
+
+/// Theorem: so one log serves all tenants of a service causally: each tenant's commands are acts of a cluster that the
+/// tenant has to itself, and the nodes that the history leaves represent what these acts leave.
+pub fn tenants_of_services_are_served_causally()
+    ensures { (config : Config) (cluster : Gates Shared) (history : NodeLog) (seats : ℕ) (actors : ℕ → List SlotActor) → 0 < config.shards → IsServiceRun config cluster history seats actors →
+        (log : List WholeTurn) × IsLogOfService config history seats actors log
+        × ((slot : ℕ) (tenant : Tenant) → slice_get config.tenants slot ≡ Some tenant → IsTenantOfService config tenant slot history actors log) }
+{}
+
+/// Theorem: seats that threads gave back make a service, if no other seat made a turn.
+pub fn crews_run_services()
+    ensures { (config : Config) (cluster : Gates Shared) (history : NodeLog) (crew : List SeatActors) → IsCrewRun config cluster history crew → IsServiceRun config cluster history (past_numbers crew) (actors_numbered crew) }
+{}
+
+/// Theorem: a service that ran the small cluster meets the premises.
+pub fn small_service_ran()
+    ensures { (gate : Origin Shared) → IsServiceRun small_config (small_gates gate) small_history 2 small_actors }
 {}

@@ -1,0 +1,84 @@
+-- The small cluster is one that a service ran.
+use Rattle.std.proofs.Common.{◌≡◌, ℕ, zero, suc, ◌+◌, ◌^◌, ◌<◌, ◌≤◌, [], ◌∷◌, length, inl, refl, sym, subst, arith}
+use Rattle.std.specs.Prelude.{Some}
+use mathlib.Core.Option.{some, some-injective, some-ne-none}
+use lib.ListN.{get_elem?}
+use Rattle.cops_gate.specs.declared.board.Opening.{Opening}
+use Rattle.cops_gate.specs.History.{IsLegal, IsWhole, turn, turns_at}
+use Rattle.cops_gate.specs.Plays.{HasRoom}
+use Rattle.cops_gate.specs.Seats.{Origin}
+use Rattle.cops_node.specs.Clusters.{new_nodes, new_shared}
+use Rattle.cops_node.specs.Parts.{Shared, IsMachineTurn}
+use Rattle.cops_service.specs.Desks.{IsDeskCall}
+use Rattle.cops_service.specs.Gates.{openings}
+use Rattle.cops_service.specs.Slots.{NodeLog}
+use Rattle.cops_whole.specs.Services.{IsServiceRun, SeatDid}
+use Rattle.cops_whole.specs.SmallCluster.{small_actors, small_collection, small_config, small_put}
+use Rattle.cops_whole.specs.SmallService.{small_beginning, small_entry, small_gates, small_history, small_seat}
+use Rattle.cops_whole.proofs.Nodes.{some_same}
+use Rattle.cops_whole.proofs.SmallCluster.{all_behave, collect_is, collected, nothing, put_is, written}
+
+abbrev opened : Shared
+opened = new_shared small_config 0
+
+module _ (gate : Origin Shared) where
+  -- there is one node
+  at_one : (P : ℕ → Shared → Type 0) → P 0 opened → (n : ℕ) (first : Shared) → get_elem? (openings (small_gates gate)) n ≡ some first → P n first
+  at_one P holds zero first at = subst (P 0) (some-injective opened first at) holds
+  at_one P holds (suc n) first at = absurd (some-ne-none first (sym at))
+
+  whole_beginning : IsWhole IsMachineTurn (openings (small_gates gate)) small_beginning
+  whole_beginning = ((omega arith, tt), at_one (λ n first. IsLegal IsMachineTurn first (turns_at n small_beginning)) (written, (written, put_is, refl)))
+
+  whole_history : IsWhole IsMachineTurn (openings (small_gates gate)) small_history
+  whole_history = ((omega arith, (omega arith, tt)), at_one (λ n first. IsLegal IsMachineTurn first (turns_at n small_history)) (collected, (written, put_is, (collected, collect_is, refl))))
+
+  abbrev opening : Opening Shared
+  opening = record { states = (new_nodes small_config).nodes; ticket = 0 }
+
+  has_room : (history : NodeLog) → length (turns_at 0 history) ≤ 2 ^ 62 → HasRoom (Some opening) history
+  has_room history few other is n first at =
+      let same : opening ≡ other = some_same opening other is in
+      subst (λ (o : Opening Shared). o.ticket + length (turns_at n history) ≤ 2 ^ 62) same
+      (at_one (λ m node. 0 + length (turns_at m history) ≤ 2 ^ 62) (omega (arith, few)) n first (subst (λ (o : Opening Shared). get_elem? o.states n ≡ some first) (sym same) at))
+
+  puts : IsDeskCall (small_gates gate) (small_seat gate 0 []) small_put.node 0 small_put.moment small_put.call small_put.reply (small_seat gate 0 small_beginning)
+  puts = record { grows = inl (whole_beginning, ([], refl), refl); same = (refl, refl); room = has_room small_beginning (omega arith) }
+
+  collects : IsDeskCall (small_gates gate) (small_seat gate 1 small_beginning) small_collection.node 1 small_collection.moment small_collection.call small_collection.reply (small_seat gate 1 small_history)
+  collects = record { grows = inl (whole_history, ([], refl), refl); same = (refl, refl); room = has_room small_history (omega arith) }
+
+  all_did : (seat : ℕ) → seat < 2 → SeatDid small_config (small_gates gate) small_history seat (small_actors seat)
+  all_did zero within = record {
+    first = small_seat gate 0 [];
+    last = small_seat gate 0 small_beginning;
+    number_is = refl;
+    no_turn = refl;
+    made = (small_seat gate 0 small_beginning, (small_seat gate 0 small_beginning, (omega arith, puts), refl), refl);
+    behave = all_behave 0;
+    ticketed = ((refl, tt), tt);
+    all_of = ((turn 1 0 (Some (small_entry 1 small_collection)) ∷ [], refl), refl);
+  }
+  all_did (suc zero) within = record {
+    first = small_seat gate 1 small_beginning;
+    last = small_seat gate 1 small_history;
+    number_is = refl;
+    no_turn = refl;
+    made = (small_seat gate 1 small_history, (small_seat gate 1 small_history, (omega arith, collects), refl), refl);
+    behave = all_behave 1;
+    ticketed = ((refl, tt), tt);
+    all_of = (([], refl), refl);
+  }
+  all_did (suc (suc seat)) within = absurd (omega (arith, within))
+
+  legal_at_each : (number : ℕ) → number < 1 → IsLegal IsMachineTurn (new_shared small_config number) (turns_at number small_history)
+  legal_at_each zero within = (collected, (written, put_is, (collected, collect_is, refl)))
+  legal_at_each (suc number) within = absurd (omega (arith, within))
+
+  pub small_service : IsServiceRun small_config (small_gates gate) small_history 2 small_actors
+  small_service = record {
+    gate = record { shards = refl; opened = refl; legal = legal_at_each };
+    seated = (omega arith, (omega arith, tt));
+    did = all_did;
+    few = nothing;
+  }
