@@ -1,8 +1,8 @@
 -- Each note of what is due is of something stale that is there.
 use Rattle.std.proofs.Common.{◌≡◌, ℕ, ◌-◌, ◌≤◌, Bool, true, false, cond, not, ◌&&◌, ◌||◌, List, [], ◌∷◌, ◌++◌, map, refl, sym, ap, ◌∙◌, subst, filter, arith, true≢false, nat_lt, nat_le, min, max, length, sum_by}
-use Rattle.std.specs.Prelude.{Option, Some, None, if◌then◌else◌, is_none, position}
+use Rattle.std.specs.Prelude.{Option, Some, None, if◌then◌else◌, is_none}
 use Rattle.std.specs.List.{list_any, fold, AllByRecursion}
-use Rattle.std.specs.Map.{keys_of}
+use Rattle.std.specs.Map.{lookup}
 use Rattle.std.proofs.lemmas.Bool.Decides.{nat_tests}
 use Rattle.std.proofs.lemmas.List.Folds.{list_any-append}
 use Rattle.cops_types.specs.declared.records.Record.{Record}
@@ -15,16 +15,16 @@ use Rattle.cops_store.specs.Chains.{KeptChain, IsChain, Rises, earlier, fresh_ro
 use Rattle.cops_store.specs.Tables.{AreFounded, AreNoted, Chains, IsFreed, IsShelf, IsTable, all_rows, chain_at, chains_of, collect_chains, collect_chains_by, has_since, is_founded, is_hit, is_since, put_off, renewed, staying, with_key, with_record}
 use Rattle.cops_store.proofs.Lists.{each_append, each_both, each_weaker}
 use Rattle.cops_store.proofs.Versions.{and_both, list_any_weaker, list_any-filter, or_left, or_right}
-use Rattle.cops_store.proofs.Tables.{a_key, at_index, chains_of-split}
+use Rattle.cops_store.proofs.Tables.{a_key, chains_of-split, found_by_lookup}
 use Rattle.cops_store.proofs.Collections.{cleaned_by_all, noted_cleaned, staying_unripe, table_cleaned}
 
 -- ---- one more key
 founded-with_key : (p : List ℕ) (chains : Chains) (d : Due) → is_founded chains d ≡ true → is_founded (with_key p chains) d ≡ true
 founded-with_key p chains d h = by (list_any (λ (e : List ℕ × List Dated). key_eq p e.0) chains)
   where
-    by : (b : Bool) → is_founded (if b then chains else chains ++ (p, []) ∷ []) d ≡ true
+    by : (b : Bool) → is_founded (if b then chains else (p, []) ∷ chains) d ≡ true
     by true = h
-    by false = list_any-append (λ (e : List ℕ × List Dated). key_eq d.key e.0 && has_since d.stale e.1) chains ((p, []) ∷ []) ∙ or_left _ _ h
+    by false = or_right (key_eq d.key p && false) _ h
 
 pub AreFounded-with_key : (due : List Due) (p : List ℕ) (chains : Chains) → AreFounded due chains → AreFounded due (with_key p chains)
 AreFounded-with_key due p chains h = each_weaker _ _ (λ d. founded-with_key p chains d) due h
@@ -107,12 +107,12 @@ AreFounded-next due next p n chains is chained there open_yet h = subst (λ d. A
     (each_append _ due (record { key = p; stale = n.at } ∷ []) (AreFounded-with_record due p n chains chained h) (founded_commit p n chains there open_yet, tt))
 
 -- a key that is found is there
-pub key_there : (p : List ℕ) (entries : List (List ℕ × KeptChain)) (i : ℕ) → Some i ≡ position (key_eq p) (keys_of entries) → list_any (λ (e : List ℕ × List Dated). key_eq p e.0) (chains_of entries) ≡ true
-key_there p entries i index =
-    let at = at_index p entries i index in
-    ap (λ es. list_any (λ (e : List ℕ × List Dated). key_eq p e.0) (chains_of es)) at.is
-    ∙ ap (list_any (λ (e : List ℕ × List Dated). key_eq p e.0)) (chains_of-split p at.value at.before at.after)
-    ∙ a_key p at.value.items (chains_of at.before) (chains_of at.after)
+pub key_there : (p : List ℕ) (entries : List (List ℕ × KeptChain)) (v : KeptChain) → lookup (key_eq p) entries ≡ Some v → list_any (λ (e : List ℕ × List Dated). key_eq p e.0) (chains_of entries) ≡ true
+key_there p entries v found =
+    let there = found_by_lookup p entries v found in
+    ap (λ es. list_any (λ (e : List ℕ × List Dated). key_eq p e.0) (chains_of es)) there.2
+    ∙ ap (list_any (λ (e : List ℕ × List Dated). key_eq p e.0)) (chains_of-split p v there.0 there.1)
+    ∙ a_key p v.items (chains_of there.0) (chains_of there.1)
 
 -- ---- after a collection
 module _ (now trans_time : ℕ) where

@@ -4,6 +4,7 @@ use Rattle.std.specs.Prelude.{Result, Ok, Err, OnOk, is_err, Option, Some, None,
 use Rattle.std.specs.List.{list_any, AllByRecursion, IsDistinct}
 use Rattle.std.specs.List.Sorted.{IsPermutation}
 use Rattle.std.specs.Map.{keys_of, lookup}
+use Rattle.std.proofs.lemmas.Map.Keys.{IsDistinct-cons}
 use Rattle.std.proofs.lemmas.List.Sorted.{length_permutation, sum_by-IsPermutation}
 use Rattle.std.proofs.lemmas.List.Sums.{sum_by-cons}
 use Rattle.cops_types.specs.declared.records.Record.{Record}
@@ -86,9 +87,9 @@ key_split p (e ∷ chains) h = by (key_eq p e.0) refl h (key_split p chains)
 with_key_has : (p : List ℕ) (chains : Chains) → list_any (λ (e : List ℕ × List Dated). key_eq p e.0) (with_key p chains) ≡ true
 with_key_has p chains = by (list_any (λ (e : List ℕ × List Dated). key_eq p e.0) chains) refl
   where
-    by : (b : Bool) → list_any (λ (e : List ℕ × List Dated). key_eq p e.0) chains ≡ b → list_any (λ (e : List ℕ × List Dated). key_eq p e.0) (if b then chains else chains ++ (p, []) ∷ []) ≡ true
+    by : (b : Bool) → list_any (λ (e : List ℕ × List Dated). key_eq p e.0) chains ≡ b → list_any (λ (e : List ℕ × List Dated). key_eq p e.0) (if b then chains else (p, []) ∷ chains) ≡ true
     by true is = is
-    by false is = a_key p [] chains []
+    by false is = ap (λ b. b || list_any (λ (e : List ℕ × List Dated). key_eq p e.0) chains) (key_eq-refl p)
 
 -- what is shown once the record is put
 rows-with_record : (p : List ℕ) (n : Record) (chains : Chains) → n.entry.key ≡ p → IsTable chains → list_any (λ (e : List ℕ × List Dated). key_eq p e.0) chains ≡ true
@@ -169,3 +170,21 @@ module _ (p : List ℕ) (v : Timestamp) (entries : List (List ℕ × KeptChain))
     where
       other : (k : Dated) → key_eq k.record_of.entry.key p ≡ false → k.record_of.entry.key ≡ p → k.record_of.entry.version ≢ v
       other k no_key is = absurd (true≢false (sym (subst (λ key. key_eq k.record_of.entry.key key ≡ true) is (key_eq-refl k.record_of.entry.key)) ∙ no_key))
+
+-- with one for the key, no two chains are of one key
+pub unique_with_key : (p : List ℕ) (chains : Chains) → IsDistinct key_eq (map (λ (e : List ℕ × List Dated). e.0) chains) → IsDistinct key_eq (map (λ (e : List ℕ × List Dated). e.0) (with_key p chains))
+unique_with_key p chains h = by (list_any (λ (e : List ℕ × List Dated). key_eq p e.0) chains) refl
+  where
+    apart : (chains : Chains) → list_any (λ (e : List ℕ × List Dated). key_eq p e.0) chains ≡ false → AllByRecursion (λ q. key_eq p q ≡ false) (map (λ (e : List ℕ × List Dated). e.0) chains)
+    apart [] none = tt
+    apart (e ∷ chains) none = both (key_eq p e.0) refl none (apart chains)
+      where
+        both : (b : Bool) → key_eq p e.0 ≡ b → (b || list_any (λ (e : List ℕ × List Dated). key_eq p e.0) chains) ≡ false
+            → (list_any (λ (e : List ℕ × List Dated). key_eq p e.0) chains ≡ false → AllByRecursion (λ q. key_eq p q ≡ false) (map (λ (e : List ℕ × List Dated). e.0) chains))
+            → (key_eq p e.0 ≡ false) × AllByRecursion (λ q. key_eq p q ≡ false) (map (λ (e : List ℕ × List Dated). e.0) chains)
+        both true is k rest = absurd (true≢false k)
+        both false is k rest = (is, rest k)
+
+    by : (b : Bool) → list_any (λ (e : List ℕ × List Dated). key_eq p e.0) chains ≡ b → IsDistinct key_eq (map (λ (e : List ℕ × List Dated). e.0) (if b then chains else (p, []) ∷ chains))
+    by true is = h
+    by false is = IsDistinct-cons key_eq p (map (λ (e : List ℕ × List Dated). e.0) chains) (apart chains is) h

@@ -62,11 +62,11 @@ module _ {A : Type 0} (part : Kept → List A) where
   part_set_other shelves slot other s none differ =
       part_at 0 other other (set shelves slot s) none (omega arith) ∙ ap part (get_or-set_other shelves slot other s nothing differ) ∙ sym (part_at 0 other other shelves none (omega arith))
 
-rows_at : (slot : ℕ) (shelves : List Kept) → rows_in slot (rows_from 0 shelves) ≡ (get_or shelves slot nothing).rows
+pub rows_at : (slot : ℕ) (shelves : List Kept) → rows_in slot (rows_from 0 shelves) ≡ (get_or shelves slot nothing).rows
 rows_at slot shelves = part_at (λ (k : Kept). k.rows) 0 slot slot shelves refl (omega arith)
 
 -- if a slot is there, no default is taken
-same_default : (shelves : List Kept) (n : ℕ) (d e : Kept) → n < length shelves → get_or shelves n d ≡ get_or shelves n e
+pub same_default : (shelves : List Kept) (n : ℕ) (d e : Kept) → n < length shelves → get_or shelves n d ≡ get_or shelves n e
 same_default [] n d e lt = absurd (omega arith)
 same_default (k ∷ shelves) zero d e lt = refl
 same_default (k ∷ shelves) (suc n) d e lt = same_default shelves n d e (omega arith)

@@ -1,6 +1,6 @@
-//! Cached indices of a tenant's keys in its table.
+//! Cached indices of all slots' keys in their table.
 
-use crate::chain::Chain;
+use crate::rows::{Row, SlotKey};
 use cops_types::{Key, Seeds};
 use indexmap::IndexMap;
 use std::alloc::{AllocError, Global};
@@ -17,11 +17,12 @@ pub struct Guesses {
     cells: Vec<u32>,
 }
 
-// Returns a number that depends on the key alone. It takes no seeds: keys that share it only share
-// a cell.
+// Returns a number that depends on the slot and the key alone. It takes no seeds: keys that share
+// it only share a cell.
 #[inline(always)]
-fn number_of(key: &Key) -> usize {
+fn number_of(slot: usize, key: &Key) -> usize {
     let mut hasher = FoldHasher::default();
+    slot.hash(&mut hasher);
     key.hash(&mut hasher);
     hasher.finish() as usize
 }
@@ -34,10 +35,10 @@ impl Guesses {
         }
     }
 
-    // Returns the cell of a key.
+    // Returns the cell of a slot's key.
     #[inline(always)]
-    pub(crate) fn cell_of(&self, key: &Key) -> usize {
-        number_of(key) & self.cells.len().saturating_sub(1)
+    pub(crate) fn cell_of(&self, slot: usize, key: &Key) -> usize {
+        number_of(slot, key) & self.cells.len().saturating_sub(1)
     }
 
     // Returns the index in a cell.
@@ -49,10 +50,10 @@ impl Guesses {
         }
     }
 
-    // Returns the cached index for a key.
+    // Returns the cached index for a slot's key.
     #[inline(always)]
-    pub(crate) fn guess_for(&self, key: &Key) -> usize {
-        self.guess(self.cell_of(key))
+    pub(crate) fn guess_for(&self, slot: usize, key: &Key) -> usize {
+        self.guess(self.cell_of(slot, key))
     }
 
     // Stores the index of a key in a cell.
@@ -67,23 +68,23 @@ impl Guesses {
     #[inline(always)]
     pub(crate) fn reserve(
         &mut self,
-        table: &IndexMap<Key, Chain, Seeds>,
+        rows: &IndexMap<SlotKey, Row, Seeds>,
     ) -> Result<(), AllocError> {
-        if table.len() < self.cells.len() / 2 {
+        if rows.len() < self.cells.len() / 2 {
             return Ok(());
         }
-        self.grow(table)
+        self.grow(rows)
     }
 
     // Doubles the number of cells, or makes the first, and enters the keys of the table.
     #[inline(never)]
-    fn grow(&mut self, table: &IndexMap<Key, Chain, Seeds>) -> Result<(), AllocError> {
+    fn grow(&mut self, rows: &IndexMap<SlotKey, Row, Seeds>) -> Result<(), AllocError> {
         let cells = self.cells.len().saturating_mul(2).max(FEWEST);
         let alloc = *self.cells.allocator();
         self.cells = vec![in alloc; 0; cells]?;
-        for place in 0..table.len() {
-            if let Some((key, _)) = table.get_index(place) {
-                let cell = self.cell_of(key);
+        for place in 0..rows.len() {
+            if let Some((at, _)) = rows.get_index(place) {
+                let cell = self.cell_of(at.slot, &at.key);
                 self.note(cell, place);
             }
         }

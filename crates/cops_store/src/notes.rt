@@ -1,13 +1,10 @@
-//! The garbage-collection entries of one tenant.
+//! The garbage-collection entries of one slot.
 ghost use Rattle.std.specs.Prelude.{◌≡◌, ◌≤◌, ◌++◌, ◌∷◌, [], ℕ, List, false, not, map, filter, OnOk, IsOk, IsTrue};
 ghost use Rattle.std.specs.List.{AllByRecursion};
-ghost use Rattle.cops_store.specs.Tables.{chains_of, hits, is_hit as may_hit, renewed as renewed_note};
+ghost use Rattle.cops_store.specs.Lines.{chains_at};
+ghost use Rattle.cops_store.specs.Tables.{hits, is_hit as may_hit, renewed as renewed_note};
 
-use crate::chain::Chain;
-use crate::guesses::Guesses;
-use crate::table::{self, Due};
-use cops_types::{Key, Seeds};
-use indexmap::IndexMap;
+use crate::table::{self, Due, Table};
 use std::alloc::{AllocError, Global};
 use std::marker::Model;
 
@@ -86,16 +83,10 @@ impl DueNotes {
     }
 
     // Postpones the entries of the keys that were cleaned, and drops those that are still due.
-    pub(crate) fn put_off(
-        &mut self,
-        table: &IndexMap<Key, Chain, Seeds>,
-        guesses: &Guesses,
-        now: u64,
-        trans_time: u64,
-    )
-        ensures { self.new.items ≡ filter (λ d. not (may_hit now trans_time d)) (map (renewed_note now trans_time (chains_of table.now.entries)) self.old.items) }
+    pub(crate) fn put_off(&mut self, table: &Table, slot: usize, now: u64, trans_time: u64)
+        ensures { self.new.items ≡ filter (λ d. not (may_hit now trans_time d)) (map (renewed_note now trans_time (chains_at slot table.now)) self.old.items) }
     {
-        table::renew(table, guesses, &mut self.list, now, trans_time);
+        table.renew(slot, &mut self.list, now, trans_time);
         table::forget(&mut self.list, now, trans_time);
         self.least = least_of(&self.list);
     }

@@ -141,3 +141,41 @@ fn two_slots_with_one_key(rt: HostRuntime) {
     collect(&rt, &mut store, 0, 600, 100, 0);
     collect(&rt, &mut store, 0, 601, 100, 1);
 }
+
+/// A short and a long key of two slots, in turn.
+fn with_keys_in_turn(rt: &impl Abort, alloc: Global) -> Store
+    ensures { result.tenants ≡ 2 }
+{
+    let mut store = store(rt, alloc, 2);
+    keep(rt, alloc, &mut store, 0, b"a", 1, 5);
+    keep(rt, alloc, &mut store, 1, b"a", 2, 5);
+    keep(rt, alloc, &mut store, 0, b"a_key_of_more_bytes", 3, 5);
+    keep(rt, alloc, &mut store, 1, b"a_key_of_more_bytes", 4, 5);
+    store
+}
+
+/// Asserts the latest clock of a slot's short and long key.
+fn assert_latest(rt: &impl Abort, store: &Store, slot: usize, short: u64, long: u64) {
+    assert_eq!(rt; clock(store.latest(slot, &key(rt, b"a"))), short);
+    assert_eq!(rt; clock(store.latest(slot, &key(rt, b"a_key_of_more_bytes"))), long);
+}
+
+#[test]
+fn a_dropped_slot_leaves_the_keys_between_its_own(rt: HostRuntime) {
+    let mut store = with_keys_in_turn(&rt, rt.alloc());
+    store.drop_slot(0);
+    assert_latest(&rt, &store, 0, 0, 0);
+    assert_latest(&rt, &store, 1, 2, 4);
+    assert_in_use(&rt, store.in_use(0), 0, 0);
+    assert_in_use(&rt, store.in_use(1), 2, 24);
+}
+
+#[test]
+fn a_dropped_slot_is_used_again(rt: HostRuntime) {
+    let mut store = with_keys_in_turn(&rt, rt.alloc());
+    store.drop_slot(0);
+    keep(&rt, rt.alloc(), &mut store, 0, b"a_key_of_more_bytes", 6, 9);
+    store.drop_slot(1);
+    assert_latest(&rt, &store, 0, 0, 6);
+    assert_latest(&rt, &store, 1, 0, 0);
+}

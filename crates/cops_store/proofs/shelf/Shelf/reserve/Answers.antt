@@ -1,18 +1,14 @@
 use Rattle.std.proofs.Common.{sym, subst}
 use Rattle.std.specs.List.{IsDistinct}
 use Rattle.cops_types.specs.Key.{key_eq}
-use Rattle.cops_store.specs.Tables.{IsShelf, chains_of}
+use Rattle.cops_store.specs.Lines.{chains_at, chain_entries_at}
+use Rattle.cops_store.specs.Tables.{IsShelf}
 use Rattle.cops_store.proofs.Tables.{keys_of_chains}
 use Rattle.cops_store.proofs.Shelves.{roomy_shelf}
 use Rattle.cops_store.proofs.shelf.Shelf.reserve.Goals as goal
 
-pub make_room-requires : goal.make_room-requires
-make_room-requires c = record { unique = subst (IsDistinct key_eq) (keys_of_chains c.self.inside.table.entries) c.self.invariant.table.unique }
-
-pub invariant_of-self-2 : goal.invariant_of-self-2
-invariant_of-self-2 c =
-    let chains = chains_of c.self.inside.table.entries in
-    let next = chains_of c.make_room.new.table.entries in
-    subst (λ due. IsShelf c.self.inside.used due next) (sym c.make_room.ensures.due)
-    (roomy_shelf c.self.inside.used c.self.inside.due.items c.args.key.now chains next c.self.invariant c.in_ok-i.ensures.chains
-    (subst (IsDistinct key_eq) (sym (keys_of_chains c.make_room.new.table.entries)) c.make_room.ensures.unique))
+pub returns-clause-shelf : goal.returns-clause-shelf
+returns-clause-shelf c =
+    subst (λ due. IsShelf c.args.self.now.used due (chains_at c.args.slot c.reserve-2.new.self)) (sym c.reserve.ensures.items)
+    (roomy_shelf c.args.self.now.used c.args.self.now.due.items c.args.key.now (chains_at c.args.slot c.args.table.now) (chains_at c.args.slot c.reserve-2.new.self) c.requires.shelf c.in_ok-reserve-2.ensures.chains
+    (subst (IsDistinct key_eq) (sym (keys_of_chains (chain_entries_at c.args.slot c.reserve-2.new.self))) c.reserve-2.ensures.distinct))
