@@ -17,11 +17,12 @@ use Rattle.cops_types.specs.Records.{StandsFor}
 use Rattle.cops_types.specs.Version.{Timestamp, no_version, last_clock}
 use Rattle.cops_store.specs.Contents.{Contents, rows_of}
 use Rattle.cops_outbox.specs.Queues.{Queues, queue_of}
+use Rattle.cops_model.specs.declared.calls.AuditEntry.{AuditEntry}
 use Rattle.cops_model.specs.declared.calls.NodeId.{NodeId}
 use Rattle.cops_node.specs.declared.Terms.{Terms}
 use Rattle.cops_node.specs.declared.parts.Part.{Part}
 use Rattle.cops_node.specs.declared.Home.{Home}
-use Rattle.cops_node.specs.Parts.{AllFit, IsFresh, IsHome, IsNode, StandsAt, StandsForTrail, home_of, left_by, mark_in, no_calls, opening_terms, place_under, terms_in, terms_of, trails_of}
+use Rattle.cops_node.specs.Parts.{AllFit, IsFresh, IsHome, IsNode, StandsAt, StandsForTrail, home_of, left_by, mark_in, no_calls, opening_terms, place_under, terms_in, terms_of, trail_of}
 use Rattle.cops_model.specs.Place.{Place}
 use Rattle.cops_node.proofs.Slots.{PlaceIn, some_same, some_there, terms_in_part, terms_shown, view_of}
 
@@ -36,22 +37,16 @@ copies_are clones x (y ∷ ys) f h = let here : y ≡ x = one h.0 in let rest = 
 
 -- ---- a new node
 
--- no slot has made a call
-fresh_trails : (dcs : ℕ) (parts : List (Option Part)) → AllByRecursion (λ p. IfSome p (IsFresh dcs)) parts → trails_of parts ≡ no_calls (length parts)
-fresh_trails dcs [] fresh = refl
-fresh_trails dcs (None ∷ parts) fresh = ap (λ ts. [] ∷ ts) (fresh_trails dcs parts fresh.1)
-fresh_trails dcs (Some p ∷ parts) fresh = let first = fresh.0.trail in let rest = fresh_trails dcs parts fresh.1 in (λ i. first i ∷ rest i)
-
 pub no_calls_fit : (place : Place) (slots : ℕ) → AllByRecursion (AllFit place) (no_calls slots)
 no_calls_fit place zero = tt
 no_calls_fit place (suc slots) = (tt, no_calls_fit place slots)
 
 -- what contracts see of a new node
-pub new_view : (config : Config) (id : NodeId) (parts : List (Option Part)) → AllByRecursion (λ p. IfSome p (IsFresh config.data_centres)) parts → terms_in parts ≡ opening_terms config
-    → view_of (home_of config id) parts ≡ record { home = home_of config id; terms = opening_terms config; audit = no_calls (length config.tenants) }
-new_view config id parts fresh terms =
+pub new_view : (config : Config) (id : NodeId) (parts : List (Option Part)) (audit : List (List AuditEntry)) → audit ≡ no_calls (length parts) → terms_in parts ≡ opening_terms config
+    → view_of (home_of config id) parts audit ≡ record { home = home_of config id; terms = opening_terms config; audit = no_calls (length config.tenants) }
+new_view config id parts audit none terms =
     let long : length parts ≡ length config.tenants = sym (length-map parts (option_map terms_in_part)) ∙ ap length terms ∙ length-map config.tenants (λ (t : Tenant). Some (terms_of t)) in
-    let trails = fresh_trails config.data_centres parts fresh ∙ ap no_calls long in
+    let trails = none ∙ ap no_calls long in
     λ i. record { home = home_of config id; terms = terms i; audit = trails i }
 
 pub replicate_read : {A : Type 0} (n i : ℕ) (x : A) → get_or (replicate n x) i x ≡ x
@@ -103,9 +98,8 @@ no_rows rows h = none_of rows (sym (length_permutation rows [] h.records))
 -- the part of a tenant before any call, if the slot is empty
 pub fresh_part : (home : Home) (slot : ℕ) (part : Part) (store : Contents) (outbox : Queues) → IsHome home → IsFresh home.shape.data_centres part → part.terms.first_clock ≤ last_clock
     → slot < store.tenants → slot < outbox.tenants → outbox.own ≡ home.id.dc → length outbox.queues ≡ home.shape.data_centres → StandsFor (rows_of slot store) [] → ((dc : ℕ) → queue_of slot dc outbox ≡ [])
-    → StandsForTrail slot home part store outbox
+    → StandsForTrail slot home part [] store outbox
 fresh_part home slot part store outbox node h clock stored queued own all empty waits =
-    let none : [] ≡ part.trail.calls = sym h.trail in
     let place : Place = place_under home part.terms in
     let stands : StandsAt slot place part.counters store outbox (left_by place []) = record {
       home_is = node;
@@ -126,16 +120,16 @@ fresh_part home slot part store outbox node h clock stored queued own all empty 
       late = tt;
     } in
     record {
-      stands = subst (λ t. StandsAt slot place part.counters store outbox (left_by place t)) none stands;
-      moment = subst (λ t. (left_by place t).moment ≡ part.moment) none (sym h.moment);
-      trail_is = subst (λ t. (left_by place t).trail ≡ t) none refl;
+      stands = stands;
+      moment = sym h.moment;
+      trail_is = refl;
     }
 
-pub IsNode-new : (config : Config) (id : NodeId) (parts : List (Option Part)) (store : Contents) (outbox : Queues) → id.dc < config.data_centres → id.shard < config.shards → config.data_centres * config.shards ≤ NODES
+pub IsNode-new : (config : Config) (id : NodeId) (parts : List (Option Part)) (audit : List (List AuditEntry)) (store : Contents) (outbox : Queues) → id.dc < config.data_centres → id.shard < config.shards → config.data_centres * config.shards ≤ NODES
     → AllByRecursion (λ (t : Tenant). t.first_clock ≤ last_clock) config.tenants → AllByRecursion (λ p. IfSome p (IsFresh config.data_centres)) parts → terms_in parts ≡ opening_terms config
     → store.tenants ≡ length parts → outbox ≡ record { own = id.dc; tenants = length parts; queues = replicate config.data_centres (replicate (length parts) []) }
-    → ((slot : ℕ) → StandsFor (rows_of slot store) []) → IsNode (home_of config id) parts store outbox
-IsNode-new config id parts store outbox dc shard numbers clocks fresh terms stored outbox_is empty = record {
+    → ((slot : ℕ) → StandsFor (rows_of slot store) []) → audit ≡ no_calls (length parts) → IsNode (home_of config id) parts audit store outbox
+IsNode-new config id parts audit store outbox dc shard numbers clocks fresh terms stored outbox_is empty none = record {
   slots = record {
     home_is = node;
     stored = omega arith;
@@ -143,18 +137,24 @@ IsNode-new config id parts store outbox dc shard numbers clocks fresh terms stor
     own_is = own;
     all_queues = all;
   };
+  audited = ap length none ∙ length_replicate (length parts) [];
   each = λ slot part read.
       let lt = some_there parts slot part read in
       let clock = clock_at config.tenants slot part.terms clocks (sym (ap (λ (ts : List (Option Terms)). get_or ts slot None) terms) ∙ terms_shown parts slot part read) in
-      fresh_part (home_of config id) slot part store outbox node (fresh_at config.data_centres parts slot part fresh read) clock
-      (omega arith) (let long = ap (λ (o : Queues). o.tenants) outbox_is in omega arith) own all (empty slot) (waits slot);
+      subst (λ t. StandsForTrail slot (home_of config id) part t store outbox) (sym (no_trail slot))
+      (fresh_part (home_of config id) slot part store outbox node (fresh_at config.data_centres parts slot part fresh read) clock
+      (omega arith) (let long = ap (λ (o : Queues). o.tenants) outbox_is in omega arith) own all (empty slot) (waits slot));
   vacant = λ slot read. record {
+    none = no_trail slot;
     rows = no_rows (rows_of slot store) (empty slot);
     queues = waits slot;
   };
-  fitting = subst (AllByRecursion (AllFit (PlaceIn (home_of config id)))) (sym (fresh_trails config.data_centres parts fresh)) (no_calls_fit (PlaceIn (home_of config id)) (length parts));
+  fitting = subst (AllByRecursion (AllFit (PlaceIn (home_of config id)))) (sym none) (no_calls_fit (PlaceIn (home_of config id)) (length parts));
 }
   where
+    no_trail : (slot : ℕ) → trail_of slot audit ≡ []
+    no_trail slot = ap (trail_of slot) none ∙ replicate_read (length parts) slot []
+
     node : IsHome (home_of config id)
     node = record {
       dc_exists = dc;

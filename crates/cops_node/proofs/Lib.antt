@@ -4,7 +4,7 @@ pub mod Clusters
 pub mod Effects
 pub mod Slots
 pub mod ToldTurns
-pub mod TrailLemmas
+pub mod PageLemmas
 pub mod Stored
 mod Examples
 pub mod FoundLemmas

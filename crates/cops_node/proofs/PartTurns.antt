@@ -1,5 +1,5 @@
 -- What one call of a slot does to what a node keeps of it.
-use Rattle.std.proofs.Common.{◌≡◌, ℕ, ◌<◌, Bool, true, false, not, [], ◌∷◌, ◌++◌, length, refl, sym, ap, ◌∙◌, subst, arith, true≢false, nat_lt, max, inr}
+use Rattle.std.proofs.Common.{◌≡◌, ℕ, ◌<◌, Bool, true, false, not, [], ◌∷◌, ◌++◌, length, refl, sym, ap, ◌∙◌, subst, arith, true≢false, nat_lt, max, List}
 use Rattle.cops_types.specs.declared.faults.Fault.TheVariants.{AuditFull}
 use Rattle.cops_types.specs.Records.{StandsFor}
 use Rattle.cops_store.specs.Contents.{Contents, rows_of}
@@ -12,7 +12,7 @@ use Rattle.cops_node.specs.declared.Terms.{Terms}
 use Rattle.cops_node.specs.declared.parts.Counters.{Counters}
 use Rattle.cops_node.specs.declared.parts.Part.{Part}
 use Rattle.cops_node.specs.declared.Home.{Home}
-use Rattle.cops_node.specs.Parts.{HasPartRoom, HasSolo, IsDone, IsPartTurn, IsUnchanged, JoinsCalls, OthersStay, StandsAt, StandsForTrail, left_by, place_under, solo_in}
+use Rattle.cops_node.specs.Parts.{HasPartRoom, HasSolo, IsDone, IsPartTurn, IsUnchanged, OthersStay, StandsAt, StandsForTrail, place_under, solo_in}
 use Rattle.cops_model.specs.SoloNode.{SoloNode}
 use Rattle.cops_model.specs.Step.{CallEffect, audited, effect, node_step, unchanged}
 use Rattle.cops_node.proofs.AuditLaws.{trail_of_effect}
@@ -30,21 +30,21 @@ nothing_done counters counters' store store' outbox outbox' slot same = record {
   data_centres = ap (λ (o : Queues). length o.queues) same.outbox_is;
 }
 
-module _ (slot : ℕ) (home : Home) (p new : Part) (store store' : Contents) (outbox outbox' : Queues) (old : StandsForTrail slot home p store outbox)
-    (terms_are : new.terms ≡ p.terms) (moment_is : new.moment ≡ p.moment) (calls_are : new.trail.calls ≡ p.trail.calls)
+module _ (slot : ℕ) (home : Home) (p new : Part) (calls : List AuditEntry) (store store' : Contents) (outbox outbox' : Queues) (old : StandsForTrail slot home p calls store outbox)
+    (terms_are : new.terms ≡ p.terms) (moment_is : new.moment ≡ p.moment)
     (same : IsUnchanged p.counters store outbox new.counters store' outbox') where
-  pub stands_still : StandsForTrail slot home new store' outbox'
+  pub stands_still : StandsForTrail slot home new calls store' outbox'
   stands_still =
       let terms = sym terms_are in
-      let calls = sym calls_are in
       let h = old.stands in
-      let stands : StandsAt slot (place_under home p.terms) p.counters store' outbox' (solo_in home p) = record {
+      let solo : SoloNode = solo_in home p.terms calls in
+      let stands : StandsAt slot (place_under home p.terms) p.counters store' outbox' (solo_in home p.terms calls) = record {
         home_is = h.home_is;
         stored = subst (λ n. slot < n) (sym same.tenants) h.stored;
         queued = subst (λ (o : Queues). slot < o.tenants) (sym same.outbox_is) h.queued;
         own_is = ap (λ (o : Queues). o.own) same.outbox_is ∙ h.own_is;
         all_queues = ap (λ (o : Queues). length o.queues) same.outbox_is ∙ h.all_queues;
-        rows = subst (λ rs. StandsFor rs (solo_in home p).recs) (sym (ap (λ rs. rows_of slot (record store { rows = rs })) same.rows)) h.rows;
+        rows = subst (λ rs. StandsFor rs solo.recs) (sym (ap (λ rs. rows_of slot (record store { rows = rs })) same.rows)) h.rows;
         queues = λ dc is_other. ap (queue_of slot dc) same.outbox_is ∙ h.queues dc is_other;
         all_acked = h.all_acked;
         acked = h.acked;
@@ -54,16 +54,16 @@ module _ (slot : ℕ) (home : Home) (p new : Part) (store store' : Contents) (ou
         late = h.late;
       } in
       record {
-        stands = subst (λ t. StandsAt slot (place_under home new.terms) new.counters store' outbox' (left_by (place_under home new.terms) t)) calls
-            (subst (λ (q : Terms). StandsAt slot (place_under home q) new.counters store' outbox' (left_by (place_under home q) p.trail.calls)) terms (subst (λ (k : Counters). StandsAt slot (place_under home p.terms) k store' outbox' (solo_in home p)) (sym same.counters_are) stands));
-        moment = subst (λ t. (left_by (place_under home new.terms) t).moment ≡ new.moment) calls (subst (λ (q : Terms). (left_by (place_under home q) p.trail.calls).moment ≡ new.moment) terms (old.moment ∙ sym moment_is));
-        trail_is = subst (λ t. (left_by (place_under home new.terms) t).trail ≡ t) calls (subst (λ (q : Terms). (left_by (place_under home q) p.trail.calls).trail ≡ p.trail.calls) terms old.trail_is);
+        stands = subst (λ (q : Terms). StandsAt slot (place_under home q) new.counters store' outbox' (solo_in home q calls)) terms
+            (subst (λ (k : Counters). StandsAt slot (place_under home p.terms) k store' outbox' (solo_in home p.terms calls)) (sym same.counters_are) stands);
+        moment = subst (λ (q : Terms). (solo_in home q calls).moment ≡ new.moment) terms (old.moment ∙ sym moment_is);
+        trail_is = subst (λ (q : Terms). (solo_in home q calls).trail ≡ calls) terms old.trail_is;
       }
 
--- whether the audit is full, as the part counts it
-audit_room : (slot : ℕ) (home : Home) (p : Part) (store : Contents) (outbox : Queues) → StandsForTrail slot home p store outbox
-    → nat_lt (length (solo_in home p).trail) p.terms.quota.audit ≡ nat_lt (length p.trail.calls) p.terms.quota.audit
-audit_room slot home p store outbox h = ap (λ t. nat_lt (length t) p.terms.quota.audit) h.trail_is
+-- whether the audit is full, as its calls are counted
+audit_room : (slot : ℕ) (home : Home) (p : Part) (calls : List AuditEntry) (store : Contents) (outbox : Queues) → StandsForTrail slot home p calls store outbox
+    → nat_lt (length (solo_in home p.terms calls).trail) p.terms.quota.audit ≡ nat_lt (length calls) p.terms.quota.audit
+audit_room slot home p calls store outbox h = ap (λ t. nat_lt (length t) p.terms.quota.audit) h.trail_is
 
 not_not : (b : Bool) → not b ≡ false → b ≡ true
 not_not true h = refl
@@ -74,39 +74,40 @@ not_yes true h = absurd (true≢false (sym h))
 not_yes false h = refl
 
 -- a full audit refuses the call
-pub full_turn : (slot moment : ℕ) (home : Home) (call : NodeCall) (p : Part) (store : Contents) (outbox : Queues) (full : Bool) → StandsForTrail slot home p store outbox
-    → full ≡ not (nat_lt (length p.trail.calls) p.terms.quota.audit) → full ≡ true → IsPartTurn home moment call (Refused AuditFull) p p
-full_turn slot moment home call p store outbox full h test closed =
-    let turn : node_step (place_under home p.terms) moment call (solo_in home p) ≡ unchanged (Refused AuditFull) (solo_in home p) =
-    step_full (place_under home p.terms) moment call (solo_in home p) (audit_room slot home p store outbox h ∙ not_yes _ (sym test ∙ closed)) in
+pub full_turn : (slot moment : ℕ) (home : Home) (call : NodeCall) (p : Part) (calls : List AuditEntry) (store : Contents) (outbox : Queues) (full : Bool) → StandsForTrail slot home p calls store outbox
+    → full ≡ not (nat_lt (length calls) p.terms.quota.audit) → full ≡ true → IsPartTurn home p.terms moment call (Refused AuditFull) calls calls
+full_turn slot moment home call p calls store outbox full h test closed =
+    let turn : node_step (place_under home p.terms) moment call (solo_in home p.terms calls) ≡ unchanged (Refused AuditFull) (solo_in home p.terms calls) =
+    step_full (place_under home p.terms) moment call (solo_in home p.terms calls) (audit_room slot home p calls store outbox h ∙ not_yes _ (sym test ∙ closed)) in
     (sym (ap (λ (t : CallEffect). t.reply) turn), sym (ap (λ (t : CallEffect). t.after) turn))
 
 -- a call that is not refused for a full audit came to one that has room
-pub open_room : (slot : ℕ) (home : Home) (p : Part) (store : Contents) (outbox : Queues) (full : Bool) → StandsForTrail slot home p store outbox
-    → full ≡ not (nat_lt (length p.trail.calls) p.terms.quota.audit) → full ≡ false → HasPartRoom home p
-open_room slot home p store outbox full h test open_is = audit_room slot home p store outbox h ∙ not_not _ (sym test ∙ open_is)
+pub open_room : (slot : ℕ) (home : Home) (p : Part) (calls : List AuditEntry) (store : Contents) (outbox : Queues) (full : Bool) → StandsForTrail slot home p calls store outbox
+    → full ≡ not (nat_lt (length calls) p.terms.quota.audit) → full ≡ false → HasPartRoom home p calls
+open_room slot home p calls store outbox full h test open_is = audit_room slot home p calls store outbox h ∙ not_not _ (sym test ∙ open_is)
 
 -- some solo node is what the slot stands for, at the raised timestamp
-pub raised_solo : (slot now moment : ℕ) (home : Home) (p : Part) (store : Contents) (outbox : Queues) → StandsForTrail slot home p store outbox → now ≡ max p.moment moment → HasSolo slot now (place_under home p.terms) p.counters store outbox
-raised_solo slot now moment home p store outbox old now_is =
-    let solo : SoloNode = solo_in home p in
+pub raised_solo : (slot now moment : ℕ) (home : Home) (p : Part) (calls : List AuditEntry) (store : Contents) (outbox : Queues) → StandsForTrail slot home p calls store outbox → now ≡ max p.moment moment
+    → HasSolo slot now (place_under home p.terms) p.counters store outbox
+raised_solo slot now moment home p calls store outbox old now_is =
+    let solo : SoloNode = solo_in home p.terms calls in
     let low = old.moment in
     (record solo { moment = now }, refl, StandsAt-raised slot (place_under home p.terms) p.counters store outbox solo now old.stands (omega arith))
 
 -- a call that has its effect
-module _ (slot moment now : ℕ) (home : Home) (call : NodeCall) (p new : Part) (store store' : Contents) (outbox outbox' : Queues) (told kept : NodeReply) (full : Bool)
-    (part : StandsForTrail slot home p store outbox)
-    (test : full ≡ not (nat_lt (length p.trail.calls) p.terms.quota.audit)) (open_is : full ≡ false) (now_is : now ≡ max p.moment moment)
-    (terms_are : new.terms ≡ p.terms) (moment_is : new.moment ≡ now) (calls_are : new.trail.calls ≡ p.trail.calls ++ record { moment = moment; call = call; reply = kept } ∷ [])
-    (done : IsDone slot now (place_under home p.terms) call told p.counters store outbox new.counters store' outbox') (same : kept ≡ told) where
+module _ (slot moment now : ℕ) (home : Home) (call : NodeCall) (p new : Part) (calls calls' : List AuditEntry) (store store' : Contents) (outbox outbox' : Queues) (told : NodeReply) (full : Bool)
+    (part : StandsForTrail slot home p calls store outbox)
+    (test : full ≡ not (nat_lt (length calls) p.terms.quota.audit)) (open_is : full ≡ false) (now_is : now ≡ max p.moment moment)
+    (terms_are : new.terms ≡ p.terms) (moment_is : new.moment ≡ now) (calls_are : calls' ≡ calls ++ record { moment = moment; call = call; reply = told } ∷ [])
+    (done : IsDone slot now (place_under home p.terms) call told p.counters store outbox new.counters store' outbox') where
   abbrev entry : AuditEntry
-  entry = record { moment = moment; call = call; reply = kept }
+  entry = record { moment = moment; call = call; reply = told }
 
   abbrev solo : SoloNode
-  solo = solo_in home p
+  solo = solo_in home p.terms calls
 
   abbrev raised : SoloNode
-  raised = record (solo_in home p) { moment = max (solo_in home p).moment moment }
+  raised = record (solo_in home p.terms calls) { moment = max (solo_in home p.terms calls).moment moment }
 
   now_raised : raised.moment ≡ now
   now_raised = ap (λ n. max n moment) part.moment ∙ sym now_is
@@ -118,30 +119,27 @@ module _ (slot moment now : ℕ) (home : Home) (call : NodeCall) (p new : Part) 
   effect_is = done raised now_raised stands_raised
 
   turn_is : node_step (place_under home p.terms) moment call solo ≡ audited moment call (effect (place_under home p.terms) call raised)
-  turn_is = step_open (place_under home p.terms) moment call solo (audit_room slot home p store outbox part ∙ not_not _ (sym test ∙ open_is))
+  turn_is = step_open (place_under home p.terms) moment call solo (audit_room slot home p calls store outbox part ∙ not_not _ (sym test ∙ open_is))
 
-  turn_after : left_by (place_under home p.terms) new.trail.calls ≡ (node_step (place_under home p.terms) moment call solo).after
-  turn_after = ap (left_by (place_under home p.terms)) calls_are ∙ left_by-push (place_under home p.terms) p.trail.calls entry
+  turn_after : solo_in home p.terms calls' ≡ (node_step (place_under home p.terms) moment call solo).after
+  turn_after = ap (solo_in home p.terms) calls_are ∙ left_by-push (place_under home p.terms) calls entry
 
-  after_is : left_by (place_under home p.terms) new.trail.calls ≡ (audited moment call (effect (place_under home p.terms) call raised)).after
+  after_is : solo_in home p.terms calls' ≡ (audited moment call (effect (place_under home p.terms) call raised)).after
   after_is = turn_after ∙ ap (λ (t : CallEffect). t.after) turn_is
 
-  pub turn_stands : StandsForTrail slot home new store' outbox'
+  pub turn_stands : StandsForTrail slot home new calls' store' outbox'
   turn_stands =
       let terms = sym terms_are in
       record {
-        stands = subst (λ (q : Terms). StandsAt slot (place_under home q) new.counters store' outbox' (left_by (place_under home q) new.trail.calls)) terms
+        stands = subst (λ (q : Terms). StandsAt slot (place_under home q) new.counters store' outbox' (solo_in home q calls')) terms
             (subst (λ (s : SoloNode). StandsAt slot (place_under home p.terms) new.counters store' outbox' s) (sym after_is) (StandsAt-audited slot (place_under home p.terms) new.counters store' outbox' (effect (place_under home p.terms) call raised).after _ effect_is.1));
-        moment = subst (λ (q : Terms). (left_by (place_under home q) new.trail.calls).moment ≡ new.moment) terms (ap (λ (s : SoloNode). s.moment) after_is ∙ moment_of_effect (place_under home p.terms) call raised ∙ now_raised ∙ sym moment_is);
-        trail_is = subst (λ (q : Terms). (left_by (place_under home q) new.trail.calls).trail ≡ new.trail.calls) terms
+        moment = subst (λ (q : Terms). (solo_in home q calls').moment ≡ new.moment) terms (ap (λ (s : SoloNode). s.moment) after_is ∙ moment_of_effect (place_under home p.terms) call raised ∙ now_raised ∙ sym moment_is);
+        trail_is = subst (λ (q : Terms). (solo_in home q calls').trail ≡ calls') terms
             (ap (λ (s : SoloNode). s.trail) after_is
             ∙ ap (λ t. t ++ record { moment = moment; call = call; reply = (effect (place_under home p.terms) call raised).reply } ∷ []) (trail_of_effect (place_under home p.terms) call raised ∙ part.trail_is)
-            ∙ ap (λ r. p.trail.calls ++ record { moment = moment; call = call; reply = r } ∷ []) (sym (same ∙ effect_is.0))
+            ∙ ap (λ r. calls ++ record { moment = moment; call = call; reply = r } ∷ []) (sym effect_is.0)
             ∙ sym calls_are);
       }
 
-  pub turn_done : IsPartTurn home moment call told p new
+  pub turn_done : IsPartTurn home p.terms moment call told calls calls'
   turn_done = (effect_is.0 ∙ sym (ap (λ (t : CallEffect). t.reply) turn_is), turn_after)
-
-  pub turn_joins : JoinsCalls moment call told p new
-  turn_joins = inr (calls_are ∙ ap (λ r. p.trail.calls ++ record { moment = moment; call = call; reply = r } ∷ []) same)

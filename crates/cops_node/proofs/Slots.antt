@@ -1,8 +1,8 @@
 -- What one call of a slot does to what a node keeps of all slots.
 use Rattle.std.proofs.Common.{◌≡◌, ◌≢◌, ℕ, zero, suc, ◌<◌, Bool, true, false, cond, List, [], ◌∷◌, ◌++◌, length, map, refl, sym, ap, ◌∙◌, subst, arith, true≢false, nat_eq, nat_lt, max, get_or, set}
 use Rattle.std.specs.Prelude.{if◌then◌else◌, IsTrue, is_some, Option, Some, None, OnErr, Result, Ok, Err}
-use Rattle.std.specs.Option.{option_map}
-use Rattle.std.proofs.Common.{inl, inr}
+use Rattle.std.specs.Option.{option_copied, option_map}
+use Rattle.std.proofs.Common.{inl, inr, Bor}
 use Rattle.std.proofs.lemmas.Bool.Decides.{Decides-eqb}
 use Rattle.std.specs.List.{AllByRecursion}
 use Rattle.std.proofs.lemmas.List.{get_or-set_same, get_or-set_other, map-append, map-set}
@@ -26,7 +26,7 @@ use Rattle.cops_node.specs.declared.parts.Counters.{Counters}
 use Rattle.cops_node.specs.declared.parts.Part.{Part}
 use Rattle.cops_node.specs.Lacking.{MayLack}
 use Rattle.cops_node.specs.declared.Home.{Home}
-use Rattle.cops_node.specs.Parts.{AllFit, HasPartRoom, IsNode, IsPartTurn, IsSoloTurn, IsUnused, JoinsCalls, JoinsTrail, OthersStay, Shared, StandsAt, StandsForTrail, has_audit_room, left_by, noted, place_at, place_under, solo_in, terms_in, trail_in, trail_of, trails_of}
+use Rattle.cops_node.specs.Parts.{AllFit, HasPartRoom, IsNode, IsPartTurn, IsSoloTurn, IsUnused, JoinsAudit, JoinsTrail, OthersStay, Shared, StandsAt, StandsForTrail, has_audit_room, left_by, noted, place_at, place_under, solo_in, terms_in, trail_of}
 use Rattle.cops_model.specs.Place.{Place, fits}
 use Rattle.cops_node.specs.Run.{calls_in_trail, node_after}
 use Rattle.cops_node.specs.Shape.{place_in}
@@ -152,8 +152,8 @@ pub some_same : {A : Type 0} (a b : A) → Some a ≡ Some b → a ≡ b
 some_same a b is = ap (held a) is
 
 -- what contracts see
-abbrev pub view_of : Home → List (Option Part) → Shared
-view_of home parts = record { home = home; terms = terms_in parts; audit = trails_of parts }
+abbrev pub view_of : Home → List (Option Part) → List (List AuditEntry) → Shared
+view_of home parts audit = record { home = home; terms = terms_in parts; audit = audit }
 
 abbrev pub terms_in_part : Part → Terms
 terms_in_part part = part.terms
@@ -165,46 +165,46 @@ has_room place slot node call is may = subst (λ p. IsTrue (has_audit_room slot 
 pub terms_shown : (parts : List (Option Part)) (slot : ℕ) (part : Part) → get_or parts slot None ≡ Some part → get_or (terms_in parts) slot None ≡ Some part.terms
 terms_shown parts slot part read = map_read (option_map terms_in_part) parts slot None ∙ ap (option_map terms_in_part) read
 
-pub place_shown : (home : Home) (parts : List (Option Part)) (slot : ℕ) (part : Part) → get_or parts slot None ≡ Some part → place_at slot (view_of home parts) ≡ Some (place_under home part.terms)
-place_shown home parts slot part read = ap (option_map (place_under home)) (terms_shown parts slot part read)
+pub place_shown : (home : Home) (parts : List (Option Part)) (audit : List (List AuditEntry)) (slot : ℕ) (part : Part) → get_or parts slot None ≡ Some part → place_at slot (view_of home parts audit) ≡ Some (place_under home part.terms)
+place_shown home parts audit slot part read = ap (option_map (place_under home)) (terms_shown parts slot part read)
 
-pub none_shown : (home : Home) (parts : List (Option Part)) (slot : ℕ) → get_or parts slot None ≡ None → place_at slot (view_of home parts) ≡ None
-none_shown home parts slot read = ap (option_map (place_under home)) (map_read (option_map terms_in_part) parts slot None ∙ ap (option_map terms_in_part) read)
+pub none_shown : (home : Home) (parts : List (Option Part)) (audit : List (List AuditEntry)) (slot : ℕ) → get_or parts slot None ≡ None → place_at slot (view_of home parts audit) ≡ None
+none_shown home parts audit slot read = ap (option_map (place_under home)) (map_read (option_map terms_in_part) parts slot None ∙ ap (option_map terms_in_part) read)
 
-pub place_read : (home : Home) (parts : List (Option Part)) (slot : ℕ) (place : Place) (part : Part) → place_at slot (view_of home parts) ≡ Some place → get_or parts slot None ≡ Some part → place ≡ place_under home part.terms
-place_read home parts slot place part is read = some_same place (place_under home part.terms) (sym is ∙ place_shown home parts slot part read)
+pub place_read : (home : Home) (parts : List (Option Part)) (audit : List (List AuditEntry)) (slot : ℕ) (place : Place) (part : Part) → place_at slot (view_of home parts audit) ≡ Some place → get_or parts slot None ≡ Some part
+    → place ≡ place_under home part.terms
+place_read home parts audit slot place part is read = some_same place (place_under home part.terms) (sym is ∙ place_shown home parts audit slot part read)
 
 -- a slot has a part if it shows a place
-pub is_some_shown : (home : Home) (parts : List (Option Part)) (slot : ℕ) → is_some (place_at slot (view_of home parts)) ≡ is_some (get_or parts slot None)
-is_some_shown home parts slot = ap (λ t. is_some (option_map (place_under home) t)) (map_read (option_map terms_in_part) parts slot None) ∙ by (get_or parts slot None)
+pub is_some_shown : (home : Home) (parts : List (Option Part)) (audit : List (List AuditEntry)) (slot : ℕ) → is_some (place_at slot (view_of home parts audit)) ≡ is_some (get_or parts slot None)
+is_some_shown home parts audit slot = ap (λ t. is_some (option_map (place_under home) t)) (map_read (option_map terms_in_part) parts slot None) ∙ by (get_or parts slot None)
   where
     by : (p : Option Part) → is_some (option_map (place_under home) (option_map terms_in_part p)) ≡ is_some p
     by None = refl
     by (Some p) = refl
 
+-- a place that is shown is that of a part
+pub part_shown : (home : Home) (parts : List (Option Part)) (audit : List (List AuditEntry)) (slot : ℕ) (place : Place) → place_at slot (view_of home parts audit) ≡ Some place → (part : Part) × (get_or parts slot None ≡ Some part)
+part_shown home parts audit slot place is = by (get_or parts slot None) refl
+  where
+    by : (p : Option Part) → get_or parts slot None ≡ p → (part : Part) × (get_or parts slot None ≡ Some part)
+    by None read = absurd (true≢false (sym (sym (is_some_shown home parts audit slot ∙ ap is_some read) ∙ ap is_some is)))
+    by (Some part) read = (part, read)
+
+-- and a slot without a place has no part
+pub no_part_shown : (home : Home) (parts : List (Option Part)) (audit : List (List AuditEntry)) (slot : ℕ) → place_at slot (view_of home parts audit) ≡ None → get_or parts slot None ≡ None
+no_part_shown home parts audit slot is = by (get_or parts slot None) refl
+  where
+    by : (p : Option Part) → get_or parts slot None ≡ p → get_or parts slot None ≡ None
+    by None read = read
+    by (Some part) read = absurd (true≢false (sym (is_some_shown home parts audit slot ∙ ap is_some read) ∙ ap is_some is))
+
 pub terms_set : (parts : List (Option Part)) (slot : ℕ) (old new : Part) → get_or parts slot None ≡ Some old → new.terms ≡ old.terms → terms_in (set parts slot (Some new)) ≡ terms_in parts
 terms_set parts slot old new read same = map-set_same (option_map terms_in_part) parts slot (Some new) None (ap Some same ∙ ap (option_map terms_in_part) (sym read))
 
--- the trails of the parts
-pub trail_read : (parts : List (Option Part)) (slot : ℕ) (part : Part) → get_or parts slot None ≡ Some part → trail_of slot (trails_of parts) ≡ part.trail.calls
-trail_read parts slot part read = map_read trail_in parts slot None ∙ ap trail_in read
-
-pub no_trail : (parts : List (Option Part)) (slot : ℕ) → get_or parts slot None ≡ None → trail_of slot (trails_of parts) ≡ []
-no_trail parts slot read = map_read trail_in parts slot None ∙ ap trail_in read
-
-pub trails_kept : (parts : List (Option Part)) (slot : ℕ) (old new : Part) → get_or parts slot None ≡ Some old → new.trail.calls ≡ old.trail.calls → trails_of (set parts slot (Some new)) ≡ trails_of parts
-trails_kept parts slot old new read same = map-set_same trail_in parts slot (Some new) None (same ∙ ap trail_in (sym read))
-
-pub trails_noted : (parts : List (Option Part)) (slot : ℕ) (old new : Part) (entry : AuditEntry) → get_or parts slot None ≡ Some old → new.trail.calls ≡ old.trail.calls ++ entry ∷ [] → trails_of (set parts slot (Some new)) ≡ noted slot entry (trails_of parts)
-trails_noted parts slot old new entry read more =
-    map-set trail_in parts slot (Some new)
-    ∙ ap (set (trails_of parts) slot) (more ∙ ap (λ t. t ++ entry ∷ []) (sym (trail_read parts slot old read)))
-
-pub trail_elsewhere : (parts : List (Option Part)) (slot other : ℕ) (p : Option Part) → other ≢ slot → trail_of other (trails_of (set parts slot p)) ≡ trail_of other (trails_of parts)
-trail_elsewhere parts slot other p differ = ap (trail_of other) (map-set trail_in parts slot p) ∙ get_or-set_other (trails_of parts) slot other (trail_in p) [] differ
-
-pub place_elsewhere : (home : Home) (parts : List (Option Part)) (slot other : ℕ) (p : Option Part) → other ≢ slot → place_at other (view_of home (set parts slot p)) ≡ place_at other (view_of home parts)
-place_elsewhere home parts slot other p differ =
+pub place_elsewhere : (home : Home) (parts : List (Option Part)) (audit audit' : List (List AuditEntry)) (slot other : ℕ) (p : Option Part) → other ≢ slot
+    → place_at other (view_of home (set parts slot p) audit') ≡ place_at other (view_of home parts audit)
+place_elsewhere home parts audit audit' slot other p differ =
     ap (λ ts. option_map (place_under home) (get_or ts other None)) (map-set (option_map terms_in_part) parts slot p)
     ∙ ap (option_map (place_under home)) (get_or-set_other (terms_in parts) slot other (option_map terms_in_part p) None differ)
 
@@ -212,11 +212,11 @@ abbrev pub PlaceIn : Home → Place
 PlaceIn home = place_in home.shape home.id
 
 -- one slot is another, and the others stay
-pub IsNode-set : (home : Home) (parts : List (Option Part)) (slot : ℕ) (p : Option Part) (store store' : Contents) (outbox outbox' : Queues) → IsNode home parts store outbox → slot < length parts
-    → ((part : Part) → p ≡ Some part → StandsForTrail slot home part store' outbox') → (p ≡ None → IsUnused slot store' outbox') → OthersStay slot store outbox store' outbox'
-    → AllByRecursion (AllFit (PlaceIn home)) (trails_of (set parts slot p))
-    → IsNode home (set parts slot p) store' outbox'
-IsNode-set home parts slot p store store' outbox outbox' h within own unused stay fitting = record {
+pub IsNode-set : (home : Home) (parts : List (Option Part)) (audit audit' : List (List AuditEntry)) (slot : ℕ) (p : Option Part) (store store' : Contents) (outbox outbox' : Queues) → IsNode home parts audit store outbox → slot < length parts
+    → ((part : Part) → p ≡ Some part → StandsForTrail slot home part (trail_of slot audit') store' outbox') → (p ≡ None → IsUnused slot (trail_of slot audit') store' outbox') → OthersStay slot store outbox store' outbox'
+    → length audit' ≡ length audit → ((other : ℕ) → other ≢ slot → trail_of other audit' ≡ trail_of other audit) → AllByRecursion (AllFit (PlaceIn home)) audit'
+    → IsNode home (set parts slot p) audit' store' outbox'
+IsNode-set home parts audit audit' slot p store store' outbox outbox' h within own unused stay many elsewhere fitting = record {
   slots =
       let n = h.slots in
       let long = length-set parts slot p in
@@ -229,6 +229,7 @@ IsNode-set home parts slot p store store' outbox outbox' h within own unused sta
         own_is = stay.own ∙ n.own_is;
         all_queues = stay.data_centres ∙ n.all_queues;
       };
+  audited = many ∙ h.audited ∙ sym (length-set parts slot p);
   each = λ s part read. each s part read (nat_eq s slot) refl;
   vacant = λ s read. vacant s read (nat_eq s slot) refl;
   fitting = fitting;
@@ -237,30 +238,35 @@ IsNode-set home parts slot p store store' outbox outbox' h within own unused sta
     here : (s : ℕ) → s ≡ slot → get_or (set parts slot p) s None ≡ p
     here s same = ap (λ m. get_or (set parts slot p) m None) same ∙ get_or-set_same parts slot p None within
 
-    each : (s : ℕ) (part : Part) → get_or (set parts slot p) s None ≡ Some part → (b : Bool) → nat_eq s slot ≡ b → StandsForTrail s home part store' outbox'
+    each : (s : ℕ) (part : Part) → get_or (set parts slot p) s None ≡ Some part → (b : Bool) → nat_eq s slot ≡ b → StandsForTrail s home part (trail_of s audit') store' outbox'
     each s part read true is =
         let same : s ≡ slot = (Decides-eqb s slot).0 is in
-        subst (λ m. StandsForTrail m home part store' outbox') (sym same) (own part (sym (here s same) ∙ read))
+        subst (λ m. StandsForTrail m home part (trail_of m audit') store' outbox') (sym same) (own part (sym (here s same) ∙ read))
     each s part read false is =
         let differ : s ≢ slot = λ same. true≢false (sym ((Decides-eqb s slot).1 same) ∙ is) in
         let old = h.each s part (sym (get_or-set_other parts slot s p None differ) ∙ read) in
-        record {
-          stands = StandsAt-other slot s (place_under home part.terms) part.counters store store' outbox outbox' (solo_in home part) differ stay old.stands;
+        subst (λ t. StandsForTrail s home part t store' outbox') (sym (elsewhere s differ)) (record {
+          stands = StandsAt-other slot s (place_under home part.terms) part.counters store store' outbox outbox' (solo_in home part.terms (trail_of s audit)) differ stay old.stands;
           moment = old.moment;
           trail_is = old.trail_is;
-        }
+        })
 
-    vacant : (s : ℕ) → get_or (set parts slot p) s None ≡ None → (b : Bool) → nat_eq s slot ≡ b → IsUnused s store' outbox'
+    vacant : (s : ℕ) → get_or (set parts slot p) s None ≡ None → (b : Bool) → nat_eq s slot ≡ b → IsUnused s (trail_of s audit') store' outbox'
     vacant s read true is =
         let same : s ≡ slot = (Decides-eqb s slot).0 is in
-        subst (λ m. IsUnused m store' outbox') (sym same) (unused (sym (here s same) ∙ read))
+        subst (λ m. IsUnused m (trail_of m audit') store' outbox') (sym same) (unused (sym (here s same) ∙ read))
     vacant s read false is =
         let differ : s ≢ slot = λ same. true≢false (sym ((Decides-eqb s slot).1 same) ∙ is) in
         let old = h.vacant s (sym (get_or-set_other parts slot s p None differ) ∙ read) in
         record {
+          none = elsewhere s differ ∙ old.none;
           rows = stay.rows s differ ∙ old.rows;
           queues = λ dc. stay.queues s dc differ ∙ old.queues dc;
         }
+
+pub copied_none : {X : Type 0} (r : Option (Bor X)) → option_copied r ≡ None → r ≡ None
+copied_none None h = refl
+copied_none (Some x) h = absurd (true≢false (ap is_some h))
 
 -- ---- which calls fit
 
@@ -280,63 +286,61 @@ OnErr-any (Err e) P p = p
 
 -- ---- what contracts see
 
--- a part that keeps its terms and its calls does not show
-pub view_set : (home : Home) (slot : ℕ) (parts : List (Option Part)) (p new : Part) → get_or parts slot None ≡ Some p → new.terms ≡ p.terms → new.trail.calls ≡ p.trail.calls
-    → view_of home (set parts slot (Some new)) ≡ view_of home parts
-view_set home slot parts p new read same calls =
+-- a part that keeps its terms does not show
+pub view_set : (home : Home) (slot : ℕ) (parts : List (Option Part)) (audit audit' : List (List AuditEntry)) (p new : Part) → get_or parts slot None ≡ Some p → new.terms ≡ p.terms → audit' ≡ audit
+    → view_of home (set parts slot (Some new)) audit' ≡ view_of home parts audit
+view_set home slot parts audit audit' p new read same calls =
     let terms = terms_set parts slot p new read same in
-    let trails = trails_kept parts slot p new read calls in
-    λ i. record { home = home; terms = terms i; audit = trails i }
+    λ i. record { home = home; terms = terms i; audit = calls i }
 
 -- the solo node's audit is the slot's trail
-pub solo_trail : (home : Home) (slot : ℕ) (parts : List (Option Part)) (store : Contents) (outbox : Queues) (place : Place) (part : Part) → IsNode home parts store outbox → get_or parts slot None ≡ Some part
-    → place_at slot (view_of home parts) ≡ Some place → part.trail.calls ≡ (left_by place (trail_of slot (trails_of parts))).trail
-solo_trail home slot parts store outbox place part node read found =
-    let is : place ≡ place_under home part.terms = place_read home parts slot place part found read in
-    let calls : part.trail.calls ≡ trail_of slot (trails_of parts) = sym (trail_read parts slot part read) in
-    subst (λ t. part.trail.calls ≡ (left_by place t).trail) calls
-    (subst (λ (p : Place). part.trail.calls ≡ (left_by p part.trail.calls).trail) (sym is) (sym (node.each slot part read).trail_is))
+pub solo_trail : (home : Home) (slot : ℕ) (parts : List (Option Part)) (audit : List (List AuditEntry)) (store : Contents) (outbox : Queues) (place : Place) → IsNode home parts audit store outbox
+    → place_at slot (view_of home parts audit) ≡ Some place → trail_of slot audit ≡ (left_by place (trail_of slot audit)).trail
+solo_trail home slot parts audit store outbox place node found =
+    let part = part_shown home parts audit slot place found in
+    let is : place ≡ place_under home part.0.terms = place_read home parts audit slot place part.0 found part.1 in
+    subst (λ (p : Place). trail_of slot audit ≡ (left_by p (trail_of slot audit)).trail) (sym is) (sym (node.each slot part.0 part.1).trail_is)
 
 -- if memory was refused at the part, it may be at the node
-pub lack_shown : (home : Home) (slot : ℕ) (call : NodeCall) (parts : List (Option Part)) (part : Part) → get_or parts slot None ≡ Some part → HasPartRoom home part → MayLack (view_of home parts) slot call
-lack_shown home slot call parts part read room =
-    let calls : trail_of slot (trails_of parts) ≡ part.trail.calls = trail_read parts slot part read in
-    (place_under home part.terms, place_shown home parts slot part read, (λ i. nat_lt (length (left_by (place_under home part.terms) (calls i)).trail) part.terms.quota.audit) ∙ room)
+pub lack_shown : (home : Home) (slot : ℕ) (call : NodeCall) (parts : List (Option Part)) (audit : List (List AuditEntry)) (part : Part) → get_or parts slot None ≡ Some part → HasPartRoom home part (trail_of slot audit)
+    → MayLack (view_of home parts audit) slot call
+lack_shown home slot call parts audit part read room = (place_under home part.terms, place_shown home parts audit slot part read, room)
 
 -- ---- a call of a slot, from what it does to the slot's part
 
-module _ (home : Home) (slot moment : ℕ) (call : NodeCall) (parts : List (Option Part)) (p new : Part) (store store' : Contents) (outbox outbox' : Queues)
-    (node : IsNode home parts store outbox) (read : get_or parts slot None ≡ Some p) (terms_are : new.terms ≡ p.terms)
-    (stands : StandsForTrail slot home new store' outbox') (others : OthersStay slot store outbox store' outbox') where
+module _ (home : Home) (slot moment : ℕ) (call : NodeCall) (parts : List (Option Part)) (audit audit' : List (List AuditEntry)) (p new : Part) (store store' : Contents) (outbox outbox' : Queues)
+    (node : IsNode home parts audit store outbox) (read : get_or parts slot None ≡ Some p) (terms_are : new.terms ≡ p.terms)
+    (stands : StandsForTrail slot home new (trail_of slot audit') store' outbox') (others : OthersStay slot store outbox store' outbox') where
   within : slot < length parts
   within = some_there parts slot p read
 
-  own : (part : Part) → Some new ≡ Some part → StandsForTrail slot home part store' outbox'
-  own part is = subst (λ (q : Part). StandsForTrail slot home q store' outbox') (some_same new part is) stands
+  own : (part : Part) → Some new ≡ Some part → StandsForTrail slot home part (trail_of slot audit') store' outbox'
+  own part is = subst (λ (q : Part). StandsForTrail slot home q (trail_of slot audit') store' outbox') (some_same new part is) stands
 
-  whole : AllByRecursion (AllFit (PlaceIn home)) (trails_of (set parts slot (Some new))) → IsNode home (set parts slot (Some new)) store' outbox'
-  whole fitting = IsNode-set home parts slot (Some new) store store' outbox outbox' node within own (λ is. absurd (true≢false (ap is_some is))) others fitting
+  whole : length audit' ≡ length audit → ((other : ℕ) → other ≢ slot → trail_of other audit' ≡ trail_of other audit) → AllByRecursion (AllFit (PlaceIn home)) audit' → IsNode home (set parts slot (Some new)) audit' store' outbox'
+  whole many elsewhere fitting = IsNode-set home parts audit audit' slot (Some new) store store' outbox outbox' node within own (λ is. absurd (true≢false (ap is_some is))) others many elsewhere fitting
 
-  pub node_same : new.trail.calls ≡ p.trail.calls → IsNode home (set parts slot (Some new)) store' outbox'
-  node_same same = whole (subst (AllByRecursion (AllFit (PlaceIn home))) (sym (trails_kept parts slot p new read same)) node.fitting)
+  pub node_same : audit' ≡ audit → IsNode home (set parts slot (Some new)) audit' store' outbox'
+  node_same same = whole (ap length same) (λ other differ. ap (trail_of other) same) (subst (AllByRecursion (AllFit (PlaceIn home))) (sym same) node.fitting)
 
-  pub node_joined : (reply : NodeReply) → IsTrue (fits (PlaceIn home) call) → JoinsCalls moment call reply p new → IsNode home (set parts slot (Some new)) store' outbox'
+  pub node_joined : (reply : NodeReply) → IsTrue (fits (PlaceIn home) call) → JoinsAudit slot moment call reply audit audit' → IsNode home (set parts slot (Some new)) audit' store' outbox'
   node_joined reply fit (inl same) = node_same same.1
   node_joined reply fit (inr more) =
-      whole (subst (AllByRecursion (AllFit (PlaceIn home))) (sym (trails_noted parts slot p new (record { moment = moment; call = call; reply = reply }) read more))
-      (AuditFits-noted (PlaceIn home) slot (trails_of parts) (record { moment = moment; call = call; reply = reply }) node.fitting fit))
+      let entry : AuditEntry = record { moment = moment; call = call; reply = reply } in
+      whole (ap length more ∙ length-set audit slot (trail_of slot audit ++ entry ∷ []))
+      (λ other differ. ap (trail_of other) more ∙ trail_other slot other audit entry differ)
+      (subst (AllByRecursion (AllFit (PlaceIn home))) (sym more) (AuditFits-noted (PlaceIn home) slot audit entry node.fitting fit))
 
-  pub trail_joined : (reply : NodeReply) → JoinsCalls moment call reply p new → JoinsTrail slot moment call reply (view_of home parts) (view_of home (set parts slot (Some new)))
-  trail_joined reply (inl same) = inl (same.0, view_set home slot parts p new read terms_are same.1)
-  trail_joined reply (inr more) = inr (trails_noted parts slot p new (record { moment = moment; call = call; reply = reply }) read more)
+  pub trail_joined : (reply : NodeReply) → JoinsAudit slot moment call reply audit audit' → JoinsTrail slot moment call reply (view_of home parts audit) (view_of home (set parts slot (Some new)) audit')
+  trail_joined reply (inl same) = inl (same.0, view_set home slot parts audit audit' p new read terms_are same.1)
+  trail_joined reply (inr more) = inr more
 
-  pub solo_turned : (reply : NodeReply) → IsPartTurn home moment call reply p new → (place : Place) → place_at slot (view_of home parts) ≡ Some place
-      → IsSoloTurn slot moment call reply place (view_of home parts) (view_of home (set parts slot (Some new)))
+  pub elsewhere_joined : (reply : NodeReply) (other : ℕ) → other ≢ slot → JoinsAudit slot moment call reply audit audit' → trail_of other audit' ≡ trail_of other audit
+  elsewhere_joined reply other differ (inl same) = ap (trail_of other) same.1
+  elsewhere_joined reply other differ (inr more) = ap (trail_of other) more ∙ trail_other slot other audit (record { moment = moment; call = call; reply = reply }) differ
+
+  pub solo_turned : (reply : NodeReply) → IsPartTurn home p.terms moment call reply (trail_of slot audit) (trail_of slot audit') → (place : Place) → place_at slot (view_of home parts audit) ≡ Some place
+      → IsSoloTurn slot moment call reply place (view_of home parts audit) (view_of home (set parts slot (Some new)) audit')
   solo_turned reply turn place found =
-      let is : place ≡ place_under home p.terms = place_read home parts slot place p found read in
-      let back : place_under home p.terms ≡ place = sym is in
-      let calls : p.trail.calls ≡ trail_of slot (trails_of parts) = sym (trail_read parts slot p read) in
-      let after : trail_of slot (trails_of (set parts slot (Some new))) ≡ new.trail.calls = trail_read (set parts slot (Some new)) slot new (get_or-set_same parts slot (Some new) None within) in (
-        turn.0 ∙ (λ i. (node_step (back i) moment call (left_by (back i) (calls i))).reply),
-        (λ i. left_by (is i) (after i)) ∙ turn.1 ∙ (λ i. (node_step (back i) moment call (left_by (back i) (calls i))).after),
-      )
+      let is : place ≡ place_under home p.terms = place_read home parts audit slot place p found read in
+      subst (λ (q : Place). IsSoloTurn slot moment call reply q (view_of home parts audit) (view_of home (set parts slot (Some new)) audit')) (sym is) turn

@@ -19,7 +19,7 @@ pub mod Clusters
 pub mod Lives
 pub mod Taken
 pub mod ToldReplies
-pub mod Trails
+pub mod Pages
 pub use Rattle.cops_outbox.specs.Queues
 pub mod Hosting
 pub mod Lacking

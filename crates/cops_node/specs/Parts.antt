@@ -219,26 +219,19 @@ IsDone slot now place call reply counters store outbox counters' store' outbox' 
 abbrev pub terms_in : List (Option Part) → List (Option Terms)
 terms_in parts = map (option_map (λ (part : Part). part.terms)) parts
 
--- the trail of each slot; a slot without a tenant has none
-abbrev pub trail_in : Option Part → List AuditEntry
-trail_in None = []
-trail_in (Some part) = part.trail.calls
+-- the solo node that these calls leave under a tenant's terms
+abbrev pub solo_in : Home → Terms → List AuditEntry → SoloNode
+solo_in home terms calls = left_by (place_under home terms) calls
 
-abbrev pub trails_of : List (Option Part) → List (List AuditEntry)
-trails_of parts = map trail_in parts
+-- the state of a slot represents what its calls leave
+pub record StandsForTrail (slot : ℕ) (home : Home) (part : Part) (calls : List AuditEntry) (store : Contents) (outbox : Queues) : Type 0 where
+  pub stands : StandsAt slot (place_under home part.terms) part.counters store outbox (solo_in home part.terms calls)
+  pub moment : (solo_in home part.terms calls).moment ≡ part.moment
+  pub trail_is : (solo_in home part.terms calls).trail ≡ calls
 
--- the solo node that the trail of a part leaves
-abbrev pub solo_in : Home → Part → SoloNode
-solo_in home part = left_by (place_under home part.terms) part.trail.calls
-
--- the state of a slot represents what its trail leaves
-pub record StandsForTrail (slot : ℕ) (home : Home) (part : Part) (store : Contents) (outbox : Queues) : Type 0 where
-  pub stands : StandsAt slot (place_under home part.terms) part.counters store outbox (solo_in home part)
-  pub moment : (solo_in home part).moment ≡ part.moment
-  pub trail_is : (solo_in home part).trail ≡ part.trail.calls
-
--- the slot has no records and no queued entries
-pub record IsUnused (slot : ℕ) (store : Contents) (outbox : Queues) : Type 0 where
+-- the slot has no calls, no records and no queued entries
+pub record IsUnused (slot : ℕ) (calls : List AuditEntry) (store : Contents) (outbox : Queues) : Type 0 where
+  pub none : calls ≡ []
   pub rows : rows_of slot store ≡ []
   pub queues : (dc : ℕ) → queue_of slot dc outbox ≡ []
 
@@ -250,34 +243,33 @@ pub record HasSlots (home : Home) (slots : ℕ) (store : Contents) (outbox : Que
   pub own_is : outbox.own ≡ home.id.dc
   pub all_queues : length outbox.queues ≡ home.shape.data_centres
 
-pub record IsNode (home : Home) (parts : List (Option Part)) (store : Contents) (outbox : Queues) : Type 0 where
+pub record IsNode (home : Home) (parts : List (Option Part)) (audit : List (List AuditEntry)) (store : Contents) (outbox : Queues) : Type 0 where
   pub slots : HasSlots home (length parts) store outbox
-  pub each : (slot : ℕ) (part : Part) → slice_index_or parts slot None ≡ Some part → StandsForTrail slot home part store outbox
-  pub vacant : (slot : ℕ) → slice_index_or parts slot None ≡ None → IsUnused slot store outbox
-  pub fitting : AllByRecursion (AllFit (place_in home.shape home.id)) (trails_of parts)
+  pub audited : length audit ≡ length parts
+  pub each : (slot : ℕ) (part : Part) → slice_index_or parts slot None ≡ Some part → StandsForTrail slot home part (trail_of slot audit) store outbox
+  pub vacant : (slot : ℕ) → slice_index_or parts slot None ≡ None → IsUnused slot (trail_of slot audit) store outbox
+  pub fitting : AllByRecursion (AllFit (place_in home.shape home.id)) audit
 
 -- a part before any call, at a node of this many data centres
 pub record IsFresh (data_centres : ℕ) (part : Part) : Type 0 where
   pub moment : part.moment ≡ 0
   pub clock_is : part.counters.clock ≡ part.terms.first_clock
   pub marks : part.counters.marks.items ≡ replicate data_centres no_version
-  pub trail : part.trail.calls ≡ []
 
--- the turn of the solo node that a part represents
-abbrev pub IsPartTurn : Home → ℕ → NodeCall → NodeReply → Part → Part → Type 0
-IsPartTurn home moment call reply old new =
-    (reply ≡ (node_step (place_under home old.terms) moment call (solo_in home old)).reply)
-    × (left_by (place_under home old.terms) new.trail.calls ≡ (node_step (place_under home old.terms) moment call (solo_in home old)).after)
+-- the turn of the solo node that a slot's calls leave, before and after
+abbrev pub IsPartTurn : Home → Terms → ℕ → NodeCall → NodeReply → List AuditEntry → List AuditEntry → Type 0
+IsPartTurn home terms moment call reply calls calls' =
+    (reply ≡ (node_step (place_under home terms) moment call (solo_in home terms calls)).reply)
+    × (solo_in home terms calls' ≡ (node_step (place_under home terms) moment call (solo_in home terms calls)).after)
 
--- the call and its reply join the calls, unless the audit was full
-abbrev pub JoinsCalls : ℕ → NodeCall → NodeReply → Part → Part → Type 0
-JoinsCalls moment call reply old new =
-    ((reply ≡ Refused AuditFull) × (new.trail.calls ≡ old.trail.calls))
-    ⊎ (new.trail.calls ≡ old.trail.calls ++ record { moment = moment; call = call; reply = reply } ∷ [])
+-- the call and its reply join the slot's calls, unless these were too many
+abbrev pub JoinsAudit : ℕ → ℕ → NodeCall → NodeReply → List (List AuditEntry) → List (List AuditEntry) → Type 0
+JoinsAudit slot moment call reply audit audit' =
+    ((reply ≡ Refused AuditFull) × (audit' ≡ audit)) ⊎ (audit' ≡ noted slot (record { moment = moment; call = call; reply = reply }) audit)
 
--- the audit of a part has room for one more call
-abbrev pub HasPartRoom : Home → Part → Type 0
-HasPartRoom home part = IsTrue (nat_lt (length (solo_in home part).trail) part.terms.quota.audit)
+-- there is room for one more call after these
+abbrev pub HasPartRoom : Home → Part → List AuditEntry → Type 0
+HasPartRoom home part calls = IsTrue (nat_lt (length (solo_in home part.terms calls).trail) part.terms.quota.audit)
 
 -- ---- tenants that come and go
 

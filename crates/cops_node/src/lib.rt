@@ -16,6 +16,9 @@ mod limits;
 mod lives;
 mod node;
 mod nodes;
+#[cfg(test)]
+mod page_tests;
+mod pages;
 mod part_turns;
 mod parts;
 mod puts;
@@ -27,9 +30,6 @@ mod tenant_tests;
 mod test_nodes;
 #[cfg(test)]
 mod tests;
-#[cfg(test)]
-mod trail_tests;
-mod trails;
 
 pub use cluster::Cluster0;
 pub use cops_model::{AuditEntry, NodeCall, NodeId, NodeReply, Wanted};
@@ -39,9 +39,9 @@ pub use laws::{audit_tells_all, greatest_version_stays, marks_never_fall};
 pub use limits::has_clocks;
 pub use node::Node;
 pub use nodes::Nodes;
+pub use pages::{AuditPages, Page, PageList};
 pub use parts::{Counters, Part};
 pub use rows::{AuditRow, Exchange, Packing};
-pub use trails::Trail;
 
 /// The sizes of a cluster: the number of data centres, and of shards in each.
 #[derive(Clone, Copy, Debug)]

@@ -1,4 +1,4 @@
-//! A node for many tenants: one store and one outbox for all, and a trail of calls for each.
+//! A node for many tenants: one store, one outbox and one audit for all.
 ghost use Rattle.std.specs.Prelude.{◌≡◌, ◌≢◌, ℕ, ◌<◌, ◌≤◌, ◌+◌, max, length, map, slice_get, slice_index_or, false, [], List, None, Some, Ok, Err, IsTrue, IsSome, IsOk, IfOk, OnOk, OnErr};
 ghost use Rattle.std.specs.List.{AllByRecursion};
 ghost use Rattle.std.specs.Option.{option_copied};
@@ -11,7 +11,7 @@ ghost use Rattle.cops_model.specs.Place.{Place, is_home, is_other_dc, is_other_e
 ghost use Rattle.cops_node.specs.Shape.{place_in};
 
 use crate::parts::{self, Part};
-use crate::{AuditRow, Home, NodeCall, NodeId, NodeReply, Shape, Terms, part_turns};
+use crate::{AuditPages, AuditRow, Home, NodeCall, NodeId, NodeReply, Shape, Terms, part_turns};
 use cops_outbox::Outbox;
 use cops_store::Store;
 use cops_types::{Config, Fault, Key, Machine, Quota, Seeds, Tenant};
@@ -30,18 +30,20 @@ pub struct Node {
     home: Home,
     /// The state of each slot that has a tenant.
     parts: Vec<Option<Part>>,
+    /// The calls of all slots.
+    audit: AuditPages,
     store: Store,
     outbox: Outbox,
 }
 
 impl Model for Node {
-    ghost use Rattle.cops_node.specs.Parts.{Shared, IsNode, terms_in, trails_of};
+    ghost use Rattle.cops_node.specs.Parts.{Shared, IsNode, terms_in};
 
     ghost Value = { Shared };
 
-    ghost view = { λ n. record { home = n.home; terms = terms_in n.parts.items; audit = trails_of n.parts.items } };
+    ghost view = { λ n. record { home = n.home; terms = terms_in n.parts.items; audit = n.audit.trails } };
 
-    ghost invariant = { λ n. IsNode n.home n.parts.items n.store n.outbox };
+    ghost invariant = { λ n. IsNode n.home n.parts.items n.audit.trails n.store n.outbox };
 }
 
 impl Node {
@@ -62,6 +64,7 @@ impl Node {
             Err(_) => return Err(AllocError),
         };
         let outbox = Outbox::new(alloc, config.data_centres as usize, id.dc, tenants)?;
+        let audit = AuditPages::new(alloc, tenants)?;
         Ok(Node {
             alloc,
             home: Home {
@@ -73,6 +76,7 @@ impl Node {
                 trans_time: config.trans_time,
             },
             parts,
+            audit,
             store,
             outbox,
         })
@@ -129,10 +133,7 @@ impl Node {
         ensures calls { result ≡ length (trail_of slot self.now.audit) }
         ensures solo { (place : Place) → place_at slot self.now ≡ Some place → result ≡ length (solo_of slot place self.now).trail }
     {
-        match parts::of(&self.parts, slot) {
-            Some(part) => part.trail.len(),
-            None => 0,
-        }
+        self.audit.len(slot as usize)
     }
 
     /// Returns the call at an index of the trail of a slot.
@@ -141,10 +142,7 @@ impl Node {
         ensures solo { (own : Place) → place_at slot self.now ≡ Some own → option_copied result ≡ slice_get (solo_of slot own self.now).trail place }
         ensures vacant { place_at slot self.now ≡ None → result ≡ None }
     {
-        match parts::of(&self.parts, slot) {
-            Some(part) => part.trail.get(place),
-            None => None,
-        }
+        self.audit.get(slot as usize, place)
     }
 
     /// Theorem: each call in the audit could come to this node.
@@ -194,8 +192,7 @@ impl Node {
         self.store.admit(slot)?;
         self.outbox.admit(slot)?;
         let more = (slot + 1).saturating_sub(self.parts.len());
-        let mut added = parts::vacant(self.alloc, more)?;
-        self.parts.append(&mut added)?;
+        parts::add_vacant(self.alloc, &mut self.parts, &mut self.audit, more)?;
         self.parts[slot] = Some(part);
         Ok(())
     }
@@ -218,6 +215,7 @@ impl Node {
         let slot = slot as usize;
         self.store.drop_slot(slot);
         self.outbox.drop_slot(slot);
+        self.audit.clear(slot);
         self.parts[slot] = None;
         Ok(())
     }
@@ -248,6 +246,7 @@ impl Node {
                     self.alloc,
                     &self.home,
                     part,
+                    &mut self.audit,
                     &mut self.store,
                     &mut self.outbox,
                     slot,

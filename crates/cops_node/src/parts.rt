@@ -1,15 +1,14 @@
 //! A node's state of one tenant, beside the store and the outbox.
-ghost use Rattle.std.specs.Prelude.{◌≡◌, ◌+◌, ◌/◌, ◌^◌, ◌<◌, ◌≤◌, false, max, not, nat_lt, length, slice_set, slice_index_or, replicate, List, None, Some, IfOk, IfSome};
+ghost use Rattle.std.specs.Prelude.{◌≡◌, ◌+◌, ◌++◌, ◌/◌, ◌^◌, ◌<◌, ◌≤◌, false, max, not, nat_lt, length, slice_set, slice_index_or, replicate, List, None, Some, IfOk, IfSome, OnErr, OnOk};
 ghost use Rattle.std.specs.Option.{option_copied};
 ghost use Rattle.std.specs.List.{AllByRecursion};
 ghost use Rattle.cops_types.specs.Layout.{NODES};
 ghost use Rattle.cops_types.specs.Records.{Tracked, mark};
 ghost use Rattle.cops_types.specs.Version.{version_le, last_clock};
-ghost use Rattle.cops_node.specs.Parts.{AreMarks, IsFresh, IsHome, is_opened_as, mark_in, opening_terms, terms_in, terms_of};
+ghost use Rattle.cops_node.specs.Parts.{AreMarks, IsFresh, IsHome, is_opened_as, mark_in, no_calls, opening_terms, terms_in, terms_of, trail_of};
 ghost use Rattle.cops_model.specs.Place.{node_number};
 
-use crate::trails::Trail;
-use crate::{Home, Terms};
+use crate::{AuditPages, Home, Terms};
 use cops_types::{Config, Tenant, Version};
 use std::alloc::{AllocError, Global};
 
@@ -21,13 +20,12 @@ pub struct Counters {
     pub marks: Vec<Version>,
 }
 
-/// A node's state of one slot: its terms, its `now`, its counters and its calls.
+/// A node's state of one slot: its terms, its `now` and its counters. Its calls are in the audit.
 #[derive(Debug, Drop)]
 pub struct Part {
     pub terms: Terms,
     pub moment: u64,
     pub counters: Counters,
-    pub trail: Trail,
 }
 
 // Returns the part of a tenant before any call, at a node of this many data centres.
@@ -41,7 +39,6 @@ pub(crate) fn fresh(alloc: Global, data_centres: u64, terms: Terms) -> Result<Pa
         terms,
         moment: 0,
         counters: Counters { clock, marks },
-        trail: Trail::empty(alloc),
     })
 }
 
@@ -69,8 +66,26 @@ pub(crate) fn fresh_parts(alloc: Global, config: &Config) -> Result<Vec<Option<P
     Ok(parts)
 }
 
+// Adds this many slots without a tenant and without calls.
+pub(crate) fn add_vacant(
+    alloc: Global,
+    parts: &mut Vec<Option<Part>>,
+    audit: &mut AuditPages,
+    more: usize,
+) -> Result<(), AllocError>
+    ensures parts { OnOk result (parts.new.items ≡ parts.old.items ++ replicate more None) }
+    ensures trails { OnOk result (audit.new.trails ≡ audit.old.trails ++ no_calls more) }
+    ensures err { OnErr result ((parts.new.items ≡ parts.old.items) × (audit.new ≡ audit.old)) }
+{
+    let mut added = vacant(alloc, more)?;
+    parts.reserve(more)?;
+    audit.add_slots(more)?;
+    parts.append(&mut added).unwrap();
+    Ok(())
+}
+
 // Returns this many slots without a tenant.
-pub(crate) fn vacant(alloc: Global, slots: usize) -> Result<Vec<Option<Part>>, AllocError>
+fn vacant(alloc: Global, slots: usize) -> Result<Vec<Option<Part>>, AllocError>
     ensures { IfOk result (λ parts. parts.items ≡ replicate slots None) }
 {
     let mut parts = Vec::new(alloc);
@@ -106,13 +121,13 @@ pub(crate) fn is_of(part: &Part, tenant: &Tenant) -> bool
         && own.audit == quota.audit
 }
 
-// Returns `true` if the audit of the part is full.
-pub(crate) fn is_audit_full(part: &Part) -> bool
-    ensures full { result ≡ not (nat_lt (length part.now.trail.calls) part.now.terms.quota.audit) }
-    ensures countable { result ≡ false → length part.now.trail.calls + 1 < 2 ^ 64 }
+// Returns `true` if the audit has no room for another call of the slot.
+pub(crate) fn is_audit_full(audit: &AuditPages, slot: usize, part: &Part) -> bool
+    ensures full { result ≡ not (nat_lt (length (trail_of slot audit.now.trails)) part.now.terms.quota.audit) }
+    ensures countable { result ≡ false → length (trail_of slot audit.now.trails) + 1 < 2 ^ 64 }
 {
     let quota = part.terms.quota;
-    part.trail.len() >= quota.audit
+    audit.len(slot) >= quota.audit
 }
 
 // Returns the node's number.

@@ -11,5 +11,4 @@ returns-clause-fresh c =
       moment = refl;
       clock_is = refl;
       marks = copies_are (λ (x y : Timestamp). y ≡ x) c.none.result c.in_ok-marks.marks.items (λ y k. k) c.in_ok-marks.ensures.items ∙ ap (λ n. replicate n c.none.result) long ∙ ap (replicate c.args.data_centres) c.none.ensures;
-      trail = c.empty.ensures;
     }

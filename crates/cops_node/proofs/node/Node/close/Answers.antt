@@ -1,36 +1,46 @@
-use Rattle.std.proofs.Common.{◌≡◌, ◌∙◌, ap, not, sym, true, get_or}
+use Rattle.std.proofs.Common.{◌≡◌, ◌<◌, ◌∙◌, ap, arith, length, not, sym, true, get_or, set, []}
 use Rattle.std.specs.Prelude.{None, is_some}
-use Rattle.std.proofs.lemmas.List.{get_or-set_same}
+use Rattle.std.proofs.lemmas.List.{get_or-set_other, get_or-set_same}
 use Rattle.cops_node.specs.Parts.{Shared, place_at, trail_of}
 use Rattle.cops_node.proofs.Admissions.{IsNode-closed, is_there, some_copied}
-use Rattle.cops_node.proofs.Slots.{no_trail, none_shown, place_elsewhere, trail_elsewhere}
+use Rattle.cops_node.proofs.Slots.{none_shown, place_elsewhere}
 use Rattle.cops_node.proofs.node.Node.close.Goals as goal
+
+-- the slot has a part
+there : (c : goal.Joined-index_mut) → c.args.slot < length c.self.inside.parts.items
+there c =
+    is_there c.self.inside.parts.items c.args.slot
+    (ap (λ ps. is_some (get_or ps c.args.slot None)) (sym c.deref.ensures.value) ∙ ap is_some (sym c.of.ensures) ∙ some_copied c.of.result (c.is_none.ensures ∙ ap not c.if-is_none.false))
+
+pub clear-requires : goal.clear-requires
+clear-requires c =
+    let lt = is_there c.self.inside.parts.items c.args.slot
+    (ap (λ ps. is_some (get_or ps c.args.slot None)) (sym c.deref.ensures.value) ∙ ap is_some (sym c.of.ensures) ∙ some_copied c.of.result (c.is_none.ensures ∙ ap not c.if-is_none.false)) in
+    let many = c.self.invariant.audited in
+    omega arith
 
 pub invariant_of-self : goal.invariant_of-self
 invariant_of-self c =
-    let there : is_some (get_or c.self.inside.parts.items c.args.slot None) ≡ true = ap (λ ps. is_some (get_or ps c.args.slot None)) (sym c.deref.ensures.value) ∙ ap is_some (sym c.of.ensures) ∙ some_copied c.of.result (c.is_none.ensures ∙ ap not c.if-is_none.false) in
-    IsNode-closed c.self.inside.home c.args.slot c.self.inside.parts.items c.self.inside.store c.drop_slot.new.self c.self.inside.outbox c.drop_slot-2.new.self
-    c.self.invariant (is_there c.self.inside.parts.items c.args.slot there) c.drop_slot.ensures.dropped c.drop_slot-2.ensures.dropped (record {
+    let node = IsNode-closed c.self.inside.home c.args.slot c.self.inside.parts.items c.self.inside.audit.trails c.self.inside.store c.drop_slot.new.self c.self.inside.outbox c.drop_slot-2.new.self
+    c.self.invariant (there c) c.drop_slot.ensures.dropped c.drop_slot-2.ensures.dropped (record {
       rows = c.drop_slot.ensures.others;
       queues = c.drop_slot-2.ensures.others;
       tenants = c.drop_slot.ensures.tenants;
       own = c.drop_slot-2.ensures.own;
       queued = c.drop_slot-2.ensures.tenants;
       data_centres = c.drop_slot-2.ensures.data_centres;
-    })
+    }) in
+    rw c.clear.ensures node
 
 pub returns-clause-place : goal.returns-clause-place
-returns-clause-place c =
-    let there : is_some (get_or c.self.inside.parts.items c.args.slot None) ≡ true = ap (λ ps. is_some (get_or ps c.args.slot None)) (sym c.deref.ensures.value) ∙ ap is_some (sym c.of.ensures) ∙ some_copied c.of.result (c.is_none.ensures ∙ ap not c.if-is_none.false) in
-    none_shown c.self.inside.home _ c.args.slot (get_or-set_same c.self.inside.parts.items c.args.slot None None (is_there c.self.inside.parts.items c.args.slot there))
+returns-clause-place c = none_shown c.self.inside.home (set c.self.inside.parts.items c.args.slot None) c.clear.new.self.trails c.args.slot (get_or-set_same c.self.inside.parts.items c.args.slot None None (there c))
 
 pub returns-clause-empty : goal.returns-clause-empty
 returns-clause-empty c =
-    let there : is_some (get_or c.self.inside.parts.items c.args.slot None) ≡ true = ap (λ ps. is_some (get_or ps c.args.slot None)) (sym c.deref.ensures.value) ∙ ap is_some (sym c.of.ensures) ∙ some_copied c.of.result (c.is_none.ensures ∙ ap not c.if-is_none.false) in
-    no_trail _ c.args.slot (get_or-set_same c.self.inside.parts.items c.args.slot None None (is_there c.self.inside.parts.items c.args.slot there))
+    ap (trail_of c.args.slot) c.clear.ensures ∙ get_or-set_same c.self.inside.audit.trails c.args.slot [] [] (let lt = there c in let many = c.self.invariant.audited in omega arith)
 
 pub returns-clause-others : goal.returns-clause-others
 returns-clause-others c = λ other differ. (
-  place_elsewhere c.self.inside.home c.self.inside.parts.items c.args.slot other None differ ∙ ap (place_at other) c.self.view_is,
-  trail_elsewhere c.self.inside.parts.items c.args.slot other None differ ∙ ap (λ (v : Shared). trail_of other v.audit) c.self.view_is,
+  place_elsewhere c.self.inside.home c.self.inside.parts.items c.self.inside.audit.trails c.clear.new.self.trails c.args.slot other None differ ∙ ap (place_at other) c.self.view_is,
+  ap (trail_of other) c.clear.ensures ∙ get_or-set_other c.self.inside.audit.trails c.args.slot other [] [] differ ∙ ap (λ (v : Shared). trail_of other v.audit) c.self.view_is,
 )

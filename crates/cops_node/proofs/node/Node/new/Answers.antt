@@ -1,13 +1,18 @@
 use Rattle.std.proofs.Common.{◌≡◌, ap, ◌∙◌, length, []}
 use Rattle.std.specs.Prelude.{replicate}
+use Rattle.cops_node.specs.Parts.{no_calls}
 use Rattle.cops_node.proofs.Fresh.{IsNode-new, clocks_of, new_view, numbers_fit}
 use Rattle.cops_node.proofs.node.Node.new.Goals as goal
+
+none : (c : goal.In_ok-audit) → c.in_ok-audit.audit.trails ≡ no_calls (length c.in_ok-parts.parts.items)
+none c = c.in_ok-audit.ensures ∙ ap no_calls (c.len-tenants.ensures ∙ c.in_ok-parts.parts.ok.0)
 
 pub invariant_of-result : goal.invariant_of-result
 invariant_of-result c =
     let long : c.len-tenants.result ≡ length c.in_ok-parts.parts.items = c.len-tenants.ensures ∙ c.in_ok-parts.parts.ok.0 in
-    IsNode-new c.args.config.now c.args.id c.in_ok-parts.parts.items c.in-Ok.store c.in_ok-outbox.outbox c.requires.dc_exists c.requires.shard_exists (numbers_fit c.args.config.now c.requires.sizes) (clocks_of c.args.config.now.tenants c.requires.clocks)
+    IsNode-new c.args.config.now c.args.id c.in_ok-parts.parts.items c.in_ok-audit.audit.trails c.in-Ok.store c.in_ok-outbox.outbox c.requires.dc_exists c.requires.shard_exists (numbers_fit c.args.config.now c.requires.sizes) (clocks_of c.args.config.now.tenants c.requires.clocks)
     c.in_ok-parts.ensures.fresh c.in_ok-parts.ensures.terms (c.in-Ok.ensures.tenants ∙ long) (c.in_ok-outbox.ensures ∙ ap (λ n. record { own = c.args.id.dc; tenants = n; queues = replicate c.args.config.now.data_centres (replicate n []) }) long) c.in-Ok.ensures.empty
+    (none c)
 
 pub returns : goal.returns
-returns c = new_view c.args.config.now c.args.id c.in_ok-parts.parts.items c.in_ok-parts.ensures.fresh c.in_ok-parts.ensures.terms
+returns c = new_view c.args.config.now c.args.id c.in_ok-parts.parts.items c.in_ok-audit.audit.trails (none c) c.in_ok-parts.ensures.terms
