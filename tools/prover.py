@@ -150,7 +150,7 @@ class Room:
         shutil.rmtree(os.path.dirname(os.path.dirname(folder)))
 
     def build(self, crate):
-        """Takes over what the repository built of a crate that only stands below others, or builds it."""
+        """Takes over what the repository built of a crate that others stand on, or proves and builds it. Returns what is wrong, if anything."""
         tree = self.tree(crate)
         folder = f"{tree}/crates/{crate.name}"
         for part in SOURCES:
@@ -159,10 +159,9 @@ class Room:
         for part in ("incremental", "rlib"):
             if os.path.isdir(f"{crate.folder}/out/{part}"):
                 link(f"{crate.folder}/out/{part}", f"{folder}/out")
-        outcome = rt(folder, "lib", "--jobs", "1")
+        outcome = rt(folder, "lib", "--jobs", str(getattr(LANE, "width", 1)))
         if outcome.status:
             return f"rt lib ended with status {outcome.status}\n{outcome.text[-6000:]}"
-        shutil.rmtree(f"{folder}/out/incremental", ignore_errors=True)
         os.rename(folder, self.proved(crate))
         shutil.rmtree(tree)
         return ""
