@@ -1,6 +1,6 @@
 -- The small cluster is one that a service ran.
-use Rattle.std.proofs.Common.{◌≡◌, ℕ, zero, suc, ◌+◌, ◌^◌, ◌<◌, ◌≤◌, [], ◌∷◌, length, inl, refl, sym, subst, arith}
-use Rattle.std.specs.Prelude.{Some}
+use Rattle.std.proofs.Common.{◌≡◌, ℕ, zero, suc, ◌+◌, ◌^◌, ◌<◌, ◌≤◌, [], ◌∷◌, length, inl, inr, refl, sym, subst, arith}
+use Rattle.std.specs.Prelude.{None, Some}
 use mathlib.Core.Option.{some, some-injective, some-ne-none}
 use lib.ListN.{get_elem?}
 use Rattle.cops_gate.specs.declared.board.Opening.{Opening}
@@ -13,8 +13,9 @@ use Rattle.cops_service.specs.Desks.{IsDeskCall}
 use Rattle.cops_service.specs.Gates.{openings}
 use Rattle.cops_service.specs.Slots.{NodeLog}
 use Rattle.cops_whole.specs.Services.{IsServiceRun, SeatDid}
-use Rattle.cops_whole.specs.SmallCluster.{small_actors, small_collection, small_config, small_put}
-use Rattle.cops_whole.specs.SmallService.{small_beginning, small_entry, small_gates, small_history, small_seat}
+use Rattle.cops_whole.specs.SmallCluster.{small_actors, small_collection, small_config, small_put, small_tenant}
+use Rattle.cops_whole.specs.SmallService.{lacking_actors, lacking_collection, lacking_history, small_beginning, small_entry, small_gates, small_history, small_seat}
+use Rattle.cops_whole.specs.Whole.{place_there}
 use Rattle.cops_whole.proofs.Nodes.{some_same}
 use Rattle.cops_whole.proofs.SmallCluster.{all_behave, collect_is, collected, nothing, put_is, written}
 
@@ -81,4 +82,56 @@ module _ (gate : Origin Shared) where
     seated = (omega arith, (omega arith, tt));
     did = all_did;
     few = nothing;
+  }
+
+  -- ---- the collection was refused memory
+
+  whole_lacking : IsWhole IsMachineTurn (openings (small_gates gate)) lacking_history
+  whole_lacking = ((omega arith, (omega arith, tt)), at_one (λ n first. IsLegal IsMachineTurn first (turns_at n lacking_history)) (written, (written, put_is, (written, refl, refl))))
+
+  lacks : IsDeskCall (small_gates gate) (small_seat gate 1 small_beginning) lacking_collection.node 1 lacking_collection.moment lacking_collection.call lacking_collection.reply (small_seat gate 1 lacking_history)
+  lacks = record {
+    grows = inr (inl (refl, (whole_lacking, ([], refl), refl), (small_beginning, opened, written, refl, refl, (written, put_is, refl), (place_there small_config (small_tenant 2) 0, refl, refl))));
+    same = (refl, refl);
+    room = has_room lacking_history (omega arith);
+  }
+
+  did_lacking : (seat : ℕ) → seat < 2 → SeatDid small_config (small_gates gate) lacking_history seat (lacking_actors seat)
+  did_lacking zero within = record {
+    first = small_seat gate 0 [];
+    last = small_seat gate 0 small_beginning;
+    number_is = refl;
+    no_turn = refl;
+    made = (small_seat gate 0 small_beginning, (small_seat gate 0 small_beginning, (omega arith, puts), refl), refl);
+    behave = all_behave 0;
+    ticketed = ((refl, tt), tt);
+    all_of = ((turn 1 0 None ∷ [], refl), refl);
+  }
+  did_lacking (suc zero) within = record {
+    first = small_seat gate 1 small_beginning;
+    last = small_seat gate 1 lacking_history;
+    number_is = refl;
+    no_turn = refl;
+    made = (small_seat gate 1 lacking_history, (small_seat gate 1 lacking_history, (omega arith, lacks), refl), refl);
+    behave = ((small_tenant 2, refl, (None, (refl, refl, refl), tt)), tt);
+    ticketed = ((refl, tt), tt);
+    all_of = (([], refl), refl);
+  }
+  did_lacking (suc (suc seat)) within = absurd (omega (arith, within))
+
+  none_lacking : (seat : ℕ) → 2 ≤ seat → lacking_actors seat ≡ []
+  none_lacking zero past = absurd (omega (arith, past))
+  none_lacking (suc zero) past = absurd (omega (arith, past))
+  none_lacking (suc (suc seat)) past = refl
+
+  legal_lacking : (number : ℕ) → number < 1 → IsLegal IsMachineTurn (new_shared small_config number) (turns_at number lacking_history)
+  legal_lacking zero within = (written, (written, put_is, (written, refl, refl)))
+  legal_lacking (suc number) within = absurd (omega (arith, within))
+
+  pub lacking_service : IsServiceRun small_config (small_gates gate) lacking_history 2 lacking_actors
+  lacking_service = record {
+    gate = record { shards = refl; opened = refl; legal = legal_lacking };
+    seated = (omega arith, (omega arith, tt));
+    did = did_lacking;
+    few = none_lacking;
   }

@@ -26,7 +26,7 @@ ghost use Rattle.cops_whole.specs.NoOps.{IsLogOfGates};
 ghost use Rattle.cops_whole.specs.Seats.{AddsTurns, AllRecorded, IsServedCluster, MakesAll, SlotActor, own_commands, turns_by_actor};
 ghost use Rattle.cops_whole.specs.Services.{IsCallAtShard, IsCrewRun, IsLogOfService, IsServiceRun, IsTenantOfService, SeatActors, actors_numbered, past_numbers};
 ghost use Rattle.cops_whole.specs.SmallCluster.{small_actors, small_config, small_log};
-ghost use Rattle.cops_whole.specs.SmallService.{small_gates, small_history};
+ghost use Rattle.cops_whole.specs.SmallService.{lacking_actors, lacking_history, small_gates, small_history};
 ghost use Rattle.cops_whole.specs.Whole.{CallEntry, WholeTurn, AreServedForTenant, IsWholeLog, LeadsOn, Represents, entries_at, own_log, own_turns, place_there, seat_turns, tenant_turn, whole_turn};
 
 use cops_node::Nodes;
@@ -148,7 +148,8 @@ pub fn crews_run_services()
     ensures { (config : Config) (cluster : Gates Shared) (history : NodeLog) (crew : List SeatActors) → IsCrewRun config cluster history crew → IsServiceRun config cluster history (past_numbers crew) (actors_numbered crew) }
 {}
 
-/// Theorem: a service that ran the small cluster meets the premises.
+/// Theorem: a service that ran the small cluster meets the premises, also if a call was refused memory.
 pub fn small_service_ran()
-    ensures { (gate : Origin Shared) → IsServiceRun small_config (small_gates gate) small_history 2 small_actors }
+    ensures all { (gate : Origin Shared) → IsServiceRun small_config (small_gates gate) small_history 2 small_actors }
+    ensures lacking { (gate : Origin Shared) → IsServiceRun small_config (small_gates gate) lacking_history 2 lacking_actors }
 {}
