@@ -12,7 +12,7 @@ use Rattle.std.proofs.lemmas.Option.{slice_get-get_or, slice_get_past}
 use Rattle.cops_model.specs.declared.calls.AuditEntry.{AuditEntry}
 use Rattle.cops_node.specs.declared.pages.Page.{Page}
 use Rattle.cops_node.specs.declared.pages.PageList.{PageList}
-use Rattle.cops_node.specs.Pages.{AreBelow, AuditLists, AreNumbered, ArePages, IsEarlier, IsListTurn, IsPageAdded, IsPageChain, IsPageList, IsPageOf, IsRefilled, OtherPagesStay, PAGE, before_in, calls_in, calls_to, list_at, no_pages, number_in, page_at, rows_in, skip_in, spare_for, spare_in, spare_of, spare_to}
+use Rattle.cops_node.specs.Pages.{AreBelow, AuditLists, AreNumbered, ArePages, IsEarlier, IsListTurn, IsPageAdded, IsPageChain, IsPageList, IsPageOf, IsRefilled, OtherPagesStay, PAGE, before_in, calls_in, calls_to, list_at, no_pages, number_of_page, page_at, calls_of_page, skip_in, spare_for, spare_in, spare_of, spare_to}
 use Rattle.cops_node.specs.Parts.{trail_of}
 use Rattle.cops_node.proofs.Admissions.{padded_read}
 use Rattle.cops_node.proofs.Slots.{map_read, some_same, some_there}
@@ -64,11 +64,11 @@ chain_kept pages pages' slot rows (suc n) at same h =
     let rest = chain_kept pages pages' slot PAGE n (before_in (page_at pages at)) earlier h.3 in (
       (
         page_kept pages pages' slot n at here h.0,
-        ap (λ o. length (rows_in o)) here ∙ h.1,
+        ap (λ o. length (calls_of_page o)) here ∙ h.1,
         subst (λ o. IsEarlier pages' slot n (skip_in o)) (sym here) (earlier_kept pages pages' slot n (skip_in (page_at pages at)) earlier h.2),
         subst (λ o. IsPageChain pages' slot PAGE n (before_in o)) (sym here) rest.0,
       ),
-      ap (λ o. calls_to pages' n (before_in o) ++ rows_in o) here ∙ ap (λ es. es ++ rows_in (page_at pages at)) rest.1,
+      ap (λ o. calls_to pages' n (before_in o) ++ calls_of_page o) here ∙ ap (λ es. es ++ calls_of_page (page_at pages at)) rest.1,
     )
 
 -- the list of another slot stays
@@ -94,14 +94,14 @@ full_length pages slot zero at h = refl
 full_length pages slot (suc n) at h =
     let rest = full_length pages slot n (before_in (page_at pages at)) h.3 in
     let here = h.1 in
-    let long = length-append (calls_to pages n (before_in (page_at pages at))) (rows_in (page_at pages at)) in
+    let long = length-append (calls_to pages n (before_in (page_at pages at))) (calls_of_page (page_at pages at)) in
     omega arith
 
 pub chain_length : (pages : List (Option Page)) (slot rows n at : ℕ) → IsPageChain pages slot rows (suc n) at → length (calls_to pages (suc n) at) ≡ n * PAGE + rows
 chain_length pages slot rows n at h =
     let rest = full_length pages slot n (before_in (page_at pages at)) h.3 in
     let here = h.1 in
-    let long = length-append (calls_to pages n (before_in (page_at pages at))) (rows_in (page_at pages at)) in
+    let long = length-append (calls_to pages n (before_in (page_at pages at))) (calls_of_page (page_at pages at)) in
     omega arith
 
 -- the page of a number is at one place
@@ -109,21 +109,21 @@ one_place : (pages : List (Option Page)) (slot m n at last : ℕ) → AreNumbere
 one_place pages slot m n at last alone k h same = alone at last k.0 h.0 k.1 h.1 k.2 h.2 (k.3 ∙ same ∙ sym h.3)
 
 top_page : (pages : List (Option Page)) (slot rows n last m at row : ℕ) → AreNumbered pages slot → IsPageChain pages slot rows (suc n) last → m ≡ n → IsPageOf pages slot m at → row < PAGE
-    → slice_get (calls_to pages (suc n) last) (m * PAGE + row) ≡ slice_get (rows_in (page_at pages at)) row
+    → slice_get (calls_to pages (suc n) last) (m * PAGE + row) ≡ slice_get (calls_of_page (page_at pages at)) row
 top_page pages slot rows n last m at row alone h same k small =
     let place = one_place pages slot m n at last alone k h.0 same in
     let long = full_length pages slot n (before_in (page_at pages last)) h.3 in
     let e : m * PAGE + row ≡ length (calls_to pages n (before_in (page_at pages last))) + row = omega arith in
-    ap (slice_get (calls_to pages (suc n) last)) e ∙ get_right (calls_to pages n (before_in (page_at pages last))) (rows_in (page_at pages last)) row ∙ ap (λ x. slice_get (rows_in (page_at pages x)) row) (sym place)
+    ap (slice_get (calls_to pages (suc n) last)) e ∙ get_right (calls_to pages n (before_in (page_at pages last))) (calls_of_page (page_at pages last)) row ∙ ap (λ x. slice_get (calls_of_page (page_at pages x)) row) (sym place)
 
 -- the call at an index of the page of a number
 pub at_page : (pages : List (Option Page)) (slot rows n last m at row : ℕ) → AreNumbered pages slot → IsPageChain pages slot rows (suc n) last → m ≤ n → IsPageOf pages slot m at → row < PAGE
-    → slice_get (calls_to pages (suc n) last) (m * PAGE + row) ≡ slice_get (rows_in (page_at pages at)) row
+    → slice_get (calls_to pages (suc n) last) (m * PAGE + row) ≡ slice_get (calls_of_page (page_at pages at)) row
 at_page pages slot rows zero last m at row alone h le k small = top_page pages slot rows zero last m at row alone h (omega arith) k small
 at_page pages slot rows (suc n) last m at row alone h le k small = elim (cases_lt m (suc n)) [
   | inl lt ↦
       let long = full_length pages slot (suc n) (before_in (page_at pages last)) h.3 in
-      get_left (calls_to pages (suc n) (before_in (page_at pages last))) (rows_in (page_at pages last)) (m * PAGE + row) (omega arith)
+      get_left (calls_to pages (suc n) (before_in (page_at pages last))) (calls_of_page (page_at pages last)) (m * PAGE + row) (omega arith)
       ∙ at_page pages slot PAGE n (before_in (page_at pages last)) m at row alone h.3 (omega arith) k small
   | inr past ↦ top_page pages slot rows (suc n) last m at row alone h (omega arith) k small
 ]
@@ -220,7 +220,7 @@ module _ (pages pages' : List (Option Page)) (slot n last : ℕ) (calls : List A
       let rest = chain_kept pages pages' slot PAGE n (before_in (page_at pages last)) kept h.3 in
       let before : before_in (page_at pages' last) ≡ before_in (page_at pages last) = ap before_in is.is ∙ is.before ∙ sym (ap before_in is.was) in
       let skip : skip_in (page_at pages' last) ≡ skip_in (page_at pages last) = ap skip_in is.is ∙ is.skip ∙ sym (ap skip_in is.was) in
-      let rows_are : rows_in (page_at pages' last) ≡ calls = ap rows_in is.is ∙ is.calls_are in (
+      let rows_are : calls_of_page (page_at pages' last) ≡ calls = ap calls_of_page is.is ∙ is.calls_are in (
         (
           (is.page', is.is, is.slot ∙ ap (λ (p : Page). p.slot) same ∙ h.0.2, is.number ∙ ap (λ (p : Page). p.number) same ∙ h.0.3),
           ap length rows_are,
@@ -277,12 +277,12 @@ last_there pages slot list h some =
     page_there pages slot n.0 list.last (subst (λ k. IsPageChain pages slot h.rows k list.last) n.1 h.chain).0
 
 -- whether the last page is full, by the numbers of calls and of pages
-last_rows : (pages : List (Option Page)) (slot : ℕ) (list : PageList) (n : ℕ) → (h : IsPageList pages slot list) → list.pages ≡ suc n → (length (rows_in (page_at pages list.last)) ≡ h.rows) × (list.count ≡ n * PAGE + h.rows)
+last_rows : (pages : List (Option Page)) (slot : ℕ) (list : PageList) (n : ℕ) → (h : IsPageList pages slot list) → list.pages ≡ suc n → (length (calls_of_page (page_at pages list.last)) ≡ h.rows) × (list.count ≡ n * PAGE + h.rows)
 last_rows pages slot list n h many =
     let chain = subst (λ k. IsPageChain pages slot h.rows k list.last) many h.chain in
     (chain.1, h.counted ∙ ap (λ k. length (calls_to pages k list.last)) many ∙ chain_length pages slot h.rows n list.last chain)
 
-pub room_in_last : (pages : List (Option Page)) (slot : ℕ) (list : PageList) → IsPageList pages slot list → list.count / PAGE < list.pages → length (rows_in (page_at pages list.last)) < PAGE
+pub room_in_last : (pages : List (Option Page)) (slot : ℕ) (list : PageList) → IsPageList pages slot list → list.count / PAGE < list.pages → length (calls_of_page (page_at pages list.last)) < PAGE
 room_in_last pages slot list h lt =
     let some : 0 < list.pages = omega arith in
     let n = some_pages list.pages some in
@@ -310,7 +310,7 @@ last_is_full pages slot list h le = by list.pages refl
         subst (λ r. IsPageChain pages slot r list.pages list.last) full h.chain
 
 -- room was made in the last page
-pub list_widened : (pages pages' : List (Option Page)) (slot : ℕ) (list : PageList) → IsPageList pages slot list → 0 < list.pages → IsRefilled pages pages' list.last (rows_in (page_at pages list.last))
+pub list_widened : (pages pages' : List (Option Page)) (slot : ℕ) (list : PageList) → IsPageList pages slot list → 0 < list.pages → IsRefilled pages pages' list.last (calls_of_page (page_at pages list.last))
     → IsListTurn pages pages' slot list × (calls_in pages' list ≡ calls_in pages list)
 list_widened pages pages' slot list h some is =
     let n = some_pages list.pages some in
@@ -318,16 +318,16 @@ list_widened pages pages' slot list h some is =
     let long = last.0 in
     let fits = h.fits in
     let whole : calls_in pages list ≡ calls_to pages (suc n.0) list.last = ap (λ k. calls_to pages k list.last) n.1 in
-    let turn = list_refilled pages pages' slot n.0 list.last (rows_in (page_at pages list.last)) is list list h n.1 refl refl refl (omega arith) (h.counted ∙ ap length whole) in
+    let turn = list_refilled pages pages' slot n.0 list.last (calls_of_page (page_at pages list.last)) is list list h n.1 refl refl refl (omega arith) (h.counted ∙ ap length whole) in
     (turn.0, turn.1 ∙ sym whole)
 
 -- a call joined the last page
-pub list_noted : (pages pages' : List (Option Page)) (slot : ℕ) (list list' : PageList) (row : AuditEntry) → IsPageList pages slot list → 0 < list.pages → length (rows_in (page_at pages list.last)) < PAGE
-    → IsRefilled pages pages' list.last (rows_in (page_at pages list.last) ++ row ∷ []) → list'.pages ≡ list.pages → list'.last ≡ list.last → list'.count ≡ list.count + 1
+pub list_noted : (pages pages' : List (Option Page)) (slot : ℕ) (list list' : PageList) (row : AuditEntry) → IsPageList pages slot list → 0 < list.pages → length (calls_of_page (page_at pages list.last)) < PAGE
+    → IsRefilled pages pages' list.last (calls_of_page (page_at pages list.last) ++ row ∷ []) → list'.pages ≡ list.pages → list'.last ≡ list.last → list'.count ≡ list.count + 1
     → IsListTurn pages pages' slot list' × (calls_in pages' list' ≡ calls_in pages list ++ row ∷ [])
 list_noted pages pages' slot list list' row h some small is many' last' count' =
     let n = some_pages list.pages some in
-    let rows : List AuditEntry = rows_in (page_at pages list.last) in
+    let rows : List AuditEntry = calls_of_page (page_at pages list.last) in
     let front : List AuditEntry = calls_to pages n.0 (before_in (page_at pages list.last)) in
     let whole : calls_in pages list ≡ calls_to pages (suc n.0) list.last = ap (λ k. calls_to pages k list.last) n.1 in
     let more : front ++ (rows ++ row ∷ []) ≡ calls_in pages list ++ row ∷ [] = sym (append_assoc front rows (row ∷ [])) ∙ ap (λ es. es ++ row ∷ []) (sym whole) in
@@ -337,7 +337,7 @@ list_noted pages pages' slot list list' row h some small is many' last' count' =
     (turn.0, turn.1 ∙ more)
 
 -- room for a call is only in a page
-pub spare_small : (page : Option Page) → 0 < spare_in page → length (rows_in page) < PAGE
+pub spare_small : (page : Option Page) → 0 < spare_in page → length (calls_of_page page) < PAGE
 spare_small None lt = absurd (omega arith)
 spare_small (Some page) lt = let long = page.rows.ok.0 in omega arith
 
@@ -363,8 +363,8 @@ module _ (pages pages' : List (Option Page)) (slot : ℕ) (list list' : PageList
   skip_is : skip_in (page_at pages' list'.last) ≡ is.page.skip
   skip_is = ap skip_in is.is
 
-  rows_are : rows_in (page_at pages' list'.last) ≡ []
-  rows_are = ap rows_in is.is ∙ is.empty
+  rows_are : calls_of_page (page_at pages' list'.last) ≡ []
+  rows_are = ap calls_of_page is.is ∙ is.empty
 
   old_pages : IsPageChain pages' slot PAGE list.pages list.last × (calls_to pages' list.pages list.last ≡ calls_to pages list.pages list.last)
   old_pages = chain_kept pages pages' slot PAGE list.pages list.last kept_to full
@@ -611,8 +611,8 @@ spare_found pages list some found =
     let n = some_pages list.pages some in
     subst (λ k. 0 < spare_to pages k list.last) (sym n.1) found
 
-pub number_shown : (pages : List (Option Page)) (slot n at : ℕ) → IsPageOf pages slot n at → number_in (page_at pages at) ≡ n
-number_shown pages slot n at h = ap number_in h.1 ∙ h.3
+pub number_shown : (pages : List (Option Page)) (slot n at : ℕ) → IsPageOf pages slot n at → number_of_page (page_at pages at) ≡ n
+number_shown pages slot n at h = ap number_of_page h.1 ∙ h.3
 
 pub pages_there : (pages : List (Option Page)) (slot n last : ℕ) → HasPages pages slot n last → 0 < n → IsSome (page_at pages last)
 pages_there pages slot n last h some =
@@ -648,7 +648,7 @@ page_of_call pages slot list place h lt = by list.pages refl
         (n, many, omega arith)
 
 pub call_shown : (pages : List (Option Page)) (slot : ℕ) (list : PageList) (n place at : ℕ) → IsPageList pages slot list → list.pages ≡ suc n → place / PAGE ≤ n → IsPageOf pages slot (place / PAGE) at
-    → slice_get (rows_in (page_at pages at)) (place % PAGE) ≡ slice_get (calls_in pages list) place
+    → slice_get (calls_of_page (page_at pages at)) (place % PAGE) ≡ slice_get (calls_in pages list) place
 call_shown pages slot list n place at h many le page =
     sym (at_page pages slot h.rows n list.last (place / PAGE) at (place % PAGE) h.numbered (subst (λ k. IsPageChain pages slot h.rows k list.last) many h.chain) le page (mod-lt place (omega arith)))
     ∙ ap (slice_get (calls_to pages (suc n) list.last)) (div-add-mod' place PAGE)

@@ -17,9 +17,9 @@ PAGE = 64
 abbrev pub page_at : List (Option Page) → ℕ → Option Page
 page_at pages at = slice_index_or pages at None
 
-abbrev pub rows_in : Option Page → List AuditEntry
-rows_in None = []
-rows_in (Some page) = page.rows.items
+abbrev pub calls_of_page : Option Page → List AuditEntry
+calls_of_page None = []
+calls_of_page (Some page) = page.rows.items
 
 abbrev pub before_in : Option Page → ℕ
 before_in None = 0
@@ -29,9 +29,9 @@ abbrev pub skip_in : Option Page → ℕ
 skip_in None = 0
 skip_in (Some page) = page.skip
 
-abbrev pub number_in : Option Page → ℕ
-number_in None = 0
-number_in (Some page) = page.number
+abbrev pub number_of_page : Option Page → ℕ
+number_of_page None = 0
+number_of_page (Some page) = page.number
 
 -- how many more calls a page takes without allocation
 abbrev pub spare_in : Option Page → ℕ
@@ -41,7 +41,7 @@ spare_in (Some page) = min (vec_capacity page.rows) PAGE - vec_len page.rows
 -- the calls in this many pages, of which the last is at this place
 abbrev pub calls_to : List (Option Page) → ℕ → ℕ → List AuditEntry
 calls_to pages zero at = []
-calls_to pages (suc n) at = calls_to pages n (before_in (page_at pages at)) ++ rows_in (page_at pages at)
+calls_to pages (suc n) at = calls_to pages n (before_in (page_at pages at)) ++ calls_of_page (page_at pages at)
 
 abbrev pub spare_to : List (Option Page) → ℕ → ℕ → ℕ
 spare_to pages zero at = 0
@@ -59,7 +59,7 @@ IsEarlier pages slot number at = (number ≡ 0) ⊎ ((earlier : ℕ) × (earlier
 abbrev pub IsPageChain : List (Option Page) → ℕ → ℕ → ℕ → ℕ → Type 0
 IsPageChain pages slot rows zero at = Unit {0}
 IsPageChain pages slot rows (suc n) at =
-    IsPageOf pages slot n at × (length (rows_in (page_at pages at)) ≡ rows) × IsEarlier pages slot n (skip_in (page_at pages at))
+    IsPageOf pages slot n at × (length (calls_of_page (page_at pages at)) ≡ rows) × IsEarlier pages slot n (skip_in (page_at pages at))
     × IsPageChain pages slot PAGE n (before_in (page_at pages at))
 
 -- no two pages of the slot have one number

@@ -2,7 +2,7 @@
 ghost use Rattle.std.specs.Prelude.{◌≡◌, ℕ, suc, ◌+◌, ◌/◌, ◌^◌, ◌<◌, ◌≤◌, true, false, [], ◌∷◌, ◌++◌, length, nat_lt, replicate, slice_get, slice_set, Some, IsSome, IfOk, OnOk, OnErr};
 ghost use Rattle.std.specs.Option.{option_copied};
 ghost use Rattle.slab.specs.Slab.{HasRoomFor};
-ghost use Rattle.cops_node.specs.Pages.{PAGE as SIZE, AreNumbered, IsEarlier, IsListTurn, IsPageAdded, IsPageChain, IsPageList, IsPageOf, IsRefilled, number_in, page_at, rows_in, spare_in, spare_of};
+ghost use Rattle.cops_node.specs.Pages.{PAGE as SIZE, AreNumbered, IsEarlier, IsListTurn, IsPageAdded, IsPageChain, IsPageList, IsPageOf, IsRefilled, number_of_page, page_at, calls_of_page, spare_in, spare_of};
 ghost use Rattle.cops_node.specs.Parts.{no_calls, noted, trail_of};
 
 use crate::AuditRow;
@@ -78,7 +78,7 @@ fn has_room(list: &PageList) -> bool
 // Returns the number of the page at a place.
 fn number_at(pages: &Slab<Page>, at: usize) -> u64
     requires { IsSome (page_at pages.now.slots at) }
-    ensures { result ≡ number_in (page_at pages.now.slots at) }
+    ensures { result ≡ number_of_page (page_at pages.now.slots at) }
 {
     let page = &pages[at];
     page.number
@@ -87,8 +87,8 @@ fn number_at(pages: &Slab<Page>, at: usize) -> u64
 // Reserves memory for one more call in a page.
 fn widen(pages: &mut Slab<Page>, at: usize) -> Result<(), AllocError>
     requires { IsSome (page_at pages.old.slots at) }
-    ensures ok { OnOk result (length (rows_in (page_at pages.old.slots at)) < SIZE → 0 < spare_in (page_at pages.new.slots at)) }
-    ensures calls { IsRefilled pages.old.slots pages.new.slots at (rows_in (page_at pages.old.slots at)) }
+    ensures ok { OnOk result (length (calls_of_page (page_at pages.old.slots at)) < SIZE → 0 < spare_in (page_at pages.new.slots at)) }
+    ensures calls { IsRefilled pages.old.slots pages.new.slots at (calls_of_page (page_at pages.old.slots at)) }
 {
     let page = &mut pages[at];
     page.rows.reserve(1)
@@ -97,7 +97,7 @@ fn widen(pages: &mut Slab<Page>, at: usize) -> Result<(), AllocError>
 // Appends a call to a page, into reserved memory.
 fn append(pages: &mut Slab<Page>, at: usize, row: AuditRow)
     requires { 0 < spare_in (page_at pages.old.slots at) }
-    ensures { IsRefilled pages.old.slots pages.new.slots at (rows_in (page_at pages.old.slots at) ++ row ∷ []) }
+    ensures { IsRefilled pages.old.slots pages.new.slots at (calls_of_page (page_at pages.old.slots at) ++ row ∷ []) }
 {
     let page = &mut pages[at];
     page.rows.push_reserved(row);

@@ -1,5 +1,5 @@
 use Rattle.std.proofs.Common.{◌≡◌, ◌<◌, ◌≤◌, ◌∙◌, arith, subst}
-use Rattle.cops_node.specs.Pages.{IsPageOf, number_in, page_at}
+use Rattle.cops_node.specs.Pages.{IsPageOf, number_of_page, page_at}
 use Rattle.cops_node.proofs.PageLemmas.{number_shown, page_there}
 use Rattle.cops_node.proofs.pages.find.Goals as goal
 
@@ -24,7 +24,7 @@ loop-at-smaller c =
     let next = c.earlier-at.ensures c.requires.0 here.0 here.1 here.2 c.requires.4 (omega arith) in
     let new = number_shown c.args.pages.now.slots c.requires.0 next.0 c.earlier-at.result next.2.0 in
     let before = next.4 in
-    let less : number_in (page_at c.args.pages.now.slots c.earlier-at.result) < number_in (page_at c.args.pages.now.slots c.loop-at.at) = omega arith in
+    let less : number_of_page (page_at c.args.pages.now.slots c.earlier-at.result) < number_of_page (page_at c.args.pages.now.slots c.loop-at.at) = omega arith in
     less
 
 pub loop-at-preserved : goal.loop-at-preserved

@@ -1,5 +1,5 @@
 use Rattle.std.proofs.Common.{ℕ, suc, ◌≤◌}
-use Rattle.cops_node.specs.Pages.{AreNumbered, IsPageChain, number_in, page_at}
+use Rattle.cops_node.specs.Pages.{AreNumbered, IsPageChain, number_of_page, page_at}
 use Rattle.cops_node.proofs.pages.find.Given as goal
 
 abbrev pub invariant-loop-at : goal.invariant-loop-at
@@ -8,4 +8,4 @@ invariant-loop-at l =
     → (m rows' : ℕ) × IsPageChain l.pages.slots slot rows' (suc m) l.at × (l.number ≤ m)
 
 abbrev pub decreases-loop-at : goal.decreases-loop-at
-decreases-loop-at l = number_in (page_at l.pages.slots l.at)
+decreases-loop-at l = number_of_page (page_at l.pages.slots l.at)
