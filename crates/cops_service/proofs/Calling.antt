@@ -7,7 +7,7 @@ use Rattle.cops_model.specs.declared.calls.NodeCall.{NodeCall}
 use Rattle.cops_model.specs.declared.calls.NodeCall.TheVariants.{Collect}
 use Rattle.cops_model.specs.declared.calls.NodeId.{NodeId}
 use Rattle.cops_model.specs.declared.calls.NodeReply.{NodeReply}
-use Rattle.cops_service.specs.Calling.{IsCallFor, AreCallsFor, CallsOnlyFor, CollectsIfThere, DoneForEach}
+use Rattle.cops_service.specs.Calling.{IsCallFor, AreCallsFor, CallsOnlyFor, CollectAll, CollectsIfThere, DoneForEach}
 use Rattle.cops_service.specs.Noted.{IsThere}
 use Rattle.cops_service.specs.declared.notes.TenantNode.{TenantNode}
 
@@ -28,6 +28,14 @@ module _ {N : Type 0} (answers : N → NodeId → ℕ → ℕ → NodeCall → N
 
   pub passed_over : (config : Config) (place : TenantNode) (found : Bool) (nodes : N) → (IsThere config place → IsTrue found) → found ≡ false → CollectsIfThere answers config place nodes nodes
   passed_over config place found nodes only not_found = inr (λ there. false≢true (sym not_found ∙ only there), refl)
+
+  -- places that are collected, behind others
+  pub collected_on : (config : Config) (places : List TenantNode) (old between new : N) → ((count : ℕ) × CollectAll answers config count old between) → DoneForEach (λ place. CollectsIfThere answers config place) places between new
+      → (count : ℕ) × CollectAll answers config count old new
+  collected_on config [] old between new all none = (all.0, subst (λ n. CollectAll answers config all.0 old n) (sym none) all.1)
+  collected_on config (place ∷ places) old between new all (middle, inl (there, does), later) = collected_on config places old middle new (suc all.0, (between, place, all.1, there, does)) later
+  collected_on config (place ∷ places) old between new all (middle, inr (not_there, none), later) =
+      collected_on config places old middle new (all.0, subst (λ n. CollectAll answers config all.0 old n) (sym none) all.1) later
 
 module _ {N X : Type 0} (Does : X → N → N → Type 0) where
   done_next : (xs : List X) (x : X) (old between new : N) → DoneForEach Does xs old between → Does x between new → DoneForEach Does (xs ++ x ∷ []) old new

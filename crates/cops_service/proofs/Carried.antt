@@ -1,7 +1,8 @@
 -- Steps of a carrier, one after another.
-use Rattle.std.proofs.Common.{◌≡◌, ◌∙◌, ℕ, suc, ap, refl, subst, sym}
+use Rattle.std.proofs.Common.{◌≡◌, ◌∙◌, ℕ, zero, suc, ap, refl, subst, sym}
 use Rattle.std.specs.Prelude.{max}
-use Rattle.cops_model.specs.Carrier.{Carrier, Stream, carrier_after, carrier_next, new_carrier, progress_of}
+use Rattle.cops_types.specs.declared.configs.Config.{Config}
+use Rattle.cops_model.specs.Carrier.{Carrier, Stream, carrier_after, new_carrier, progress_of}
 use Rattle.cops_model.specs.Log.{Call, Directed, Ended, LogStep, Next, Replied, Restart}
 use Rattle.cops_model.specs.declared.calls.NodeCall.{NodeCall}
 use Rattle.cops_model.specs.declared.calls.NodeId.{NodeId}
@@ -10,7 +11,7 @@ use Rattle.cops_model.specs.declared.deliveries.Delivery.{Delivery}
 use Rattle.cops_model.specs.declared.deliveries.Progress.{Progress}
 use Rattle.cops_model.specs.declared.deliveries.Progress.TheVariants.{Working, Done}
 use Rattle.cops_repl.specs.Stands.{CarrierStandsFor, IsStepOf, KeptCarrier, StandsIfWorking}
-use Rattle.cops_service.specs.Carried.{Delivers, TakesSteps}
+use Rattle.cops_service.specs.Carried.{DeliverAll, Delivers, DeliversSome, TakesSteps}
 
 -- a step that shows an end is followed by it
 ends_so : (next : Next Delivery) (ending : Delivery) → Done ending ≡ progress_of next → next ≡ Ended ending
@@ -45,3 +46,16 @@ module _ {N : Type 0} (answers : N → NodeId → ℕ → ℕ → NodeCall → N
     -- it has ended
     pub delivered : (ending : Delivery) → shows ≡ Done ending → Delivers answers shards slot stream old new ending
     delivered ending done = (suc come.2.0, carrier_after solo step, more, ends_so _ ending (sym done ∙ taken.shown))
+
+-- ---- one carrier after another
+
+module _ {N : Type 0} (answers : N → NodeId → ℕ → ℕ → NodeCall → NodeReply → N → Type 0) (config : Config) where
+  pub carried_on : (old between new : N) → ((count : ℕ) × DeliverAll answers config count old between) → DeliversSome answers config between new → (count : ℕ) × DeliverAll answers config count old new
+  carried_on old between new all one = (suc all.0, (between, all.1, one))
+
+  all_joined : (later : ℕ) (old between new : N) → ((count : ℕ) × DeliverAll answers config count old between) → DeliverAll answers config later between new → (count : ℕ) × DeliverAll answers config count old new
+  all_joined zero old between new all none = (all.0, subst (λ n. DeliverAll answers config all.0 old n) (sym none) all.1)
+  all_joined (suc later) old between new all more = carried_on old more.0 new (all_joined later old between more.0 all more.1) more.2
+
+  pub carried_both : (old between new : N) → ((count : ℕ) × DeliverAll answers config count old between) → ((count : ℕ) × DeliverAll answers config count between new) → (count : ℕ) × DeliverAll answers config count old new
+  carried_both old between new before after = all_joined after.0 old between new before after.1

@@ -30,6 +30,11 @@ module _ {N : Type 0} (answers : N → NodeId → ℕ → ℕ → NodeCall → N
   abbrev pub CollectsIfThere : Config → TenantNode → N → N → Type 0
   CollectsIfThere config place old new = (IsThere config place × Collects place old new) ⊎ ((IsThere config place → ⊥) × (new ≡ old))
 
+  -- so many places that are there are collected, one after another
+  abbrev pub CollectAll : Config → ℕ → N → N → Type 0
+  CollectAll config zero old new = new ≡ old
+  CollectAll config (suc count) old new = (between : N) × (place : TenantNode) × CollectAll config count old between × IsThere config place × Collects place between new
+
 -- it is done for each of these, in order
 abbrev pub DoneForEach : {N X : Type 0} → (X → N → N → Type 0) → List X → N → N → Type 0
 DoneForEach Does [] old new = new ≡ old

@@ -1,6 +1,7 @@
 -- A carrier at nodes, from its first call to its end.
 use Rattle.std.specs.Prelude.{◌≡◌, ℕ, zero, suc, max, Result, Ok, Err}
 use Rattle.std.specs.declared.alloc.AllocError.{AllocError}
+use Rattle.cops_types.specs.declared.configs.Config.{Config}
 use Rattle.cops_types.specs.declared.faults.Fault.TheVariants.{OutOfMemory}
 use Rattle.cops_model.specs.Carrier.{Carrier, Stream, carrier_after, carrier_next, new_carrier}
 use Rattle.cops_model.specs.Log.{Call, Directed, Ended, Replied}
@@ -9,6 +10,7 @@ use Rattle.cops_model.specs.declared.calls.NodeId.{NodeId}
 use Rattle.cops_model.specs.declared.calls.NodeReply.{NodeReply}
 use Rattle.cops_model.specs.declared.deliveries.Delivery.{Delivery}
 use Rattle.cops_model.specs.declared.deliveries.Delivery.TheVariants.{Refused}
+use Rattle.cops_service.specs.Noted.{IsStream}
 use Rattle.cops_service.specs.declared.notes.Stream.{Stream as Noted}
 
 -- the stream of a work item
@@ -38,3 +40,13 @@ module _ {N : Type 0} (answers : N → NodeId → ℕ → ℕ → NodeCall → N
   abbrev pub Delivers : Stream → N → N → Delivery → Type 0
   Delivers stream old new ending =
       (count : ℕ) × (last : Carrier) × TakesSteps count old (new_carrier stream) new last × (carrier_next shards last.stream last.log ≡ Ended ending)
+
+module _ {N : Type 0} (answers : N → NodeId → ℕ → ℕ → NodeCall → NodeReply → N → Type 0) (config : Config) where
+  -- a new carrier of a stream of the configuration takes its steps to its end
+  abbrev pub DeliversSome : N → N → Type 0
+  DeliversSome old new = (stream : Noted) × (ending : Delivery) × IsStream config stream × Delivers answers config.shards stream.from.slot (carried_stream stream) old new ending
+
+  -- so many carriers do, one after another
+  abbrev pub DeliverAll : ℕ → N → N → Type 0
+  DeliverAll zero old new = new ≡ old
+  DeliverAll (suc count) old new = (between : N) × DeliverAll count old between × DeliversSome between new

@@ -1,0 +1,81 @@
+-- The threads of a service: what each did with its seat, and the one history that has it all.
+use Rattle.std.specs.Prelude.{◌≡◌, ℕ, List, [], ◌∷◌, ◌++◌, length, IsTrue}
+use Rattle.std.specs.List.{AllByRecursion}
+use Rattle.cops_types.specs.declared.configs.Config.{Config}
+use Rattle.cops_types.specs.HeadLines.{are_sizes}
+use Rattle.cops_gate.specs.History.{StartsWith}
+use Rattle.cops_gate.specs.Seats.{HasAllOf}
+use Rattle.cops_node.specs.Clusters.{new_nodes, shape_of}
+use Rattle.cops_node.specs.Parts.{Shared}
+use Rattle.cops_service.specs.Calling.{CollectAll}
+use Rattle.cops_service.specs.Carried.{DeliverAll}
+use Rattle.cops_service.specs.Conversing.{ConverseAll}
+use Rattle.cops_service.specs.Desks.{AreNodes, IsDeskCall, NodeSeat, shape_in}
+use Rattle.cops_service.specs.Gates.{Gates, HasNoTurn, IsSeatOf, openings}
+use Rattle.cops_service.specs.Left.{LeavesEach}
+use Rattle.cops_service.specs.Slots.{NodeLog}
+
+-- the cluster has the nodes of this configuration
+pub record IsOpenFor (config : Config) (cluster : Gates Shared) : Type 0 where
+  pub nodes : AreNodes cluster
+  pub shape : shape_in cluster ≡ shape_of config
+  pub sizes : IsTrue (are_sizes config)
+
+module _ (config : Config) (cluster : Gates Shared) where
+  -- A worker's seat goes from the first to the second: conversations with clients, one after another. Each call is one at the cluster
+  abbrev pub ServesClients : {M : Type 0} → (M → ℕ → M → Type 0) → M → NodeSeat → NodeSeat → Type 0
+  ServesClients {M = M} Gives moments first last = (count : ℕ) × (later : M) × ConverseAll (IsDeskCall cluster) Gives config count first last moments later
+
+  -- a carrier's: each stream is carried from its first call to its end
+  abbrev pub CarriesStreams : NodeSeat → NodeSeat → Type 0
+  CarriesStreams first last = (count : ℕ) × DeliverAll (IsDeskCall cluster) config count first last
+
+  -- a collector's: places are collected
+  abbrev pub CollectsPlaces : NodeSeat → NodeSeat → Type 0
+  CollectsPlaces first last = (count : ℕ) × CollectAll (IsDeskCall cluster) config count first last
+
+-- The seat had made no turn when its thread began, and since then has done just this.
+pub record HasJustDone (cluster : Gates Shared) (Does : NodeSeat → NodeSeat → Type 0) (seat : NodeSeat) : Type 0 where
+  pub own : IsSeatOf cluster seat
+  pub first : NodeSeat
+  pub no_turn : HasNoTurn first
+  pub does : Does first seat
+
+module _ {M : Type 0} (Gives : M → ℕ → M → Type 0) (moments : M) (config : Config) (cluster : Gates Shared) where
+  -- the seats of so many workers
+  abbrev pub AreOfWorkers : ℕ → List NodeSeat → Type 0
+  AreOfWorkers count seats = (length seats ≡ count) × AllByRecursion (HasJustDone cluster (ServesClients config cluster Gives moments)) seats
+
+  -- the seats of so many workers, and then that of the carrier
+  pub record AreOfServers (count : ℕ) (seats : List NodeSeat) : Type 0 where
+    pub workers : List NodeSeat
+    pub carrier : NodeSeat
+    pub are : seats ≡ workers ++ carrier ∷ []
+    pub serve : AreOfWorkers count workers
+    pub carries : HasJustDone cluster (CarriesStreams config cluster) carrier
+
+  -- and then that of the collector
+  pub record AreOfCrew (count : ℕ) (seats : List NodeSeat) : Type 0 where
+    pub servers : List NodeSeat
+    pub collector : NodeSeat
+    pub are : seats ≡ servers ++ collector ∷ []
+    pub serve : AreOfServers count servers
+    pub collects : HasJustDone cluster (CollectsPlaces config cluster) collector
+
+  -- a seat has seen all that the threads' seats saw, and of the turns of each those that it made
+  pub record HasSeenCrew (workers : ℕ) (seat : NodeSeat) : Type 0 where
+    pub seats : List NodeSeat
+    pub crew : AreOfCrew workers seats
+    pub all : AllByRecursion (HasAllOf seat.history) seats
+
+-- One history leaves these nodes from the new ones of the configuration. A prefix of it has all that the threads' seats saw; of the
+-- turns of each seat it has those that the seat made: conversations of a worker, carriers, or collections.
+pub record AreServedBy {M : Type 0} (Gives : M → ℕ → M → Type 0) (moments : M) (config : Config) (workers : ℕ) (nodes : List Shared) : Type 0 where
+  pub cluster : Gates Shared
+  pub opened : openings cluster ≡ (new_nodes config).nodes
+  pub shards : cluster.shards ≡ config.shards
+  pub log : NodeLog
+  pub leaves : LeavesEach (openings cluster) log nodes
+  pub last : NodeSeat
+  pub prefix : StartsWith log last.history
+  pub seen : HasSeenCrew Gives moments config cluster workers last
