@@ -112,7 +112,7 @@ read_whole Old lines number config = refl
 -- ---- one more line, and the tenants
 
 -- the second front has no tenant, one more than the first, or the same
-abbrev Grows : Front → Front → Type 0
+abbrev pub Grows : Front → Front → Type 0
 Grows AtStart (Within config) = config.tenants ≡ []
 Grows (Within old) (Within config) = (tenant : Tenant) × (config.tenants ≡ old.tenants ++ tenant ∷ []) × IsTrue (is_name tenant.name) × IsTrue (may_join old tenant)
 Grows (Within old) (Begun config) = config.tenants ≡ old.tenants
@@ -130,7 +130,7 @@ old_grows (Within old) line next (inl joins) = subst (Grows (Within old)) (sym j
 old_grows (Within old) line next (inr ends) = subst (Grows (Within old)) (sym ends.after) refl
 old_grows (Begun old) line next f = absurd f
 
-grows_by : (layout : Layout) (front : Front) (line : List ℕ) (next : Front) → front_by layout front line ≡ Some next → Grows front next
+pub grows_by : (layout : Layout) (front : Front) (line : List ℕ) (next : Front) → front_by layout front line ≡ Some next → Grows front next
 grows_by Today front line next e = grows front line next (front_after-is front line next e)
 grows_by Early front line next e = old_grows front line next (old_front_after-is front line next e)
 grows_by Old front line next e = old_grows front line next (old_front_after-is front line next e)
@@ -158,7 +158,7 @@ named_push : (tenants : List Tenant) (tenant : Tenant) → AreNamed tenants → 
 named_push [] tenant all one = (one, tt)
 named_push (first ∷ tenants) tenant all one = (all.0, named_push tenants tenant all.1 one)
 
-counted_next : (layout : Layout) (front : Front) (count : ℕ) (config : Config) → IsCounted layout front count → Grows front (Within config) → IsCounted layout (Within config) (counted count)
+pub counted_next : (layout : Layout) (front : Front) (count : ℕ) (config : Config) → IsCounted layout front count → Grows front (Within config) → IsCounted layout (Within config) (counted count)
 counted_next layout AtStart count config c none = record {
   counts = counted-small layout AtStart count c ∙ (let n = c.counts in let zeroth = ap length none in omega arith);
   small = (let zeroth = ap length none in omega arith);
@@ -174,7 +174,7 @@ counted_next layout (Within old) count config c (tenant, more, name, may) =
     }
 counted_next layout (Begun old) count config c g = absurd g
 
-named_begun : (layout : Layout) (front : Front) (count : ℕ) (config : Config) → IsCounted layout front count → Grows front (Begun config) → AreNamed config.tenants
+pub named_begun : (layout : Layout) (front : Front) (count : ℕ) (config : Config) → IsCounted layout front count → Grows front (Begun config) → AreNamed config.tenants
 named_begun layout AtStart count config c g = absurd g
 named_begun layout (Within old) count config c same = subst AreNamed (sym same) c.named
 named_begun layout (Begun old) count config c g = absurd g

@@ -1,5 +1,5 @@
 -- A head that was read is read again from the lines that are written of it, with each token in lower case with hyphens.
-use Rattle.std.proofs.Common.{◌≡◌, ℕ, ◌+◌, ◌*◌, ◌<◌, ◌≤◌, Bool, true, false, cond, ◌&&◌, inl, inr, All, List, [], ◌∷◌, ◌++◌, length, map, take, drop, slice_index, if◌then◌else◌, refl, sym, subst, ap, ◌∙◌, append_assoc, append-nil, arith}
+use Rattle.std.proofs.Common.{◌≡◌, ℕ, ◌+◌, ◌*◌, ◌<◌, ◌≤◌, ◌^◌, Bool, true, false, cond, ◌&&◌, inl, inr, All, List, [], ◌∷◌, ◌++◌, length, map, take, drop, slice_index, if◌then◌else◌, refl, sym, subst, ap, ◌∙◌, append_assoc, append-nil, arith}
 use Rattle.std.specs.Prelude.{IsTrue, codes, decimal, ◌==◌, Option, Some, None}
 use Rattle.std.specs.List.{AllByRecursion, AllPass, flat_map, list_all}
 use Rattle.std.proofs.lemmas.Bool.Decides.{nat_tests, Decides-eqb}
@@ -12,7 +12,7 @@ use Rattle.uuid.proofs.TextLemmas.{by_index_at, by_index_length, nibble_small}
 use Rattle.cops_types.specs.declared.configs.Config.{Config}
 use Rattle.cops_types.specs.declared.configs.Tenant.{Tenant}
 use Rattle.cops_types.specs.Head.{Front, AtStart, Within, Begun, Follows, Leads, Whole, BadAt, Says, head_of, reading_from, with_tenant}
-use Rattle.cops_types.specs.HeadLines.{IsClusterLine, IsTenantLine, are_sizes, begin_line, cluster_line, is_tenant, tenant_line}
+use Rattle.cops_types.specs.HeadLines.{IsClusterLine, IsTenantLineTo, are_sizes, begin_line, cluster_line, is_tenant_to, tenant_line}
 use Rattle.cops_types.specs.Lines.{lines_of, onto_first}
 use Rattle.cops_types.specs.Version.{last_clock}
 use Rattle.cops_types.specs.Words.{is_u64, newline, space, spaced}
@@ -116,8 +116,8 @@ lines_within config = cluster_line config ∷ map written_tenant config.tenants
 abbrev pub written_head : Config → List (List ℕ)
 written_head config = lines_within config ++ begin_line ∷ []
 
-pub tenant_written : (tenant : Tenant) → IsToken tenant.token → IsTrue (is_tenant tenant) → IsTenantLine (written_tenant tenant) tenant
-tenant_written tenant token is =
+pub tenant_written : (last : ℕ) (tenant : Tenant) → IsToken tenant.token → IsTrue (is_tenant_to last tenant) → IsTenantLineTo last (written_tenant tenant) tenant
+tenant_written last tenant token is =
     let text = hyphenated_text lower tenant.token in
     let parses : parsed text ≡ Some tenant.token = sym (parses_hyphenated lower tenant.token (inl refl) token.size token.fit) in
     record { token = text; spelled = refl; one_word = token_is_word text tenant.token (token_text_lacks space (omega arith) tenant.token) parses; parses = parses; within = is }
@@ -142,15 +142,15 @@ spaced_lacks word (next ∷ words) lacks all = all_both (λ byte. (byte == newli
 number_lacks : (n : ℕ) → IsTrue (is_u64 n) → Lacks newline (decimal n)
 number_lacks n h = decimal_lacks newline newline_foreign n h
 
-cluster_lacks : (config : Config) → IsTrue (are_sizes config) → Lacks newline (cluster_line config)
+pub cluster_lacks : (config : Config) → IsTrue (are_sizes config) → Lacks newline (cluster_line config)
 cluster_lacks config h =
     let fits = sizes_fit config h in
     spaced_lacks (codes "cluster") (decimal config.data_centres ∷ decimal config.shards ∷ decimal config.trans_time ∷ decimal config.restarts ∷ []) (lacks_from_test newline (codes "cluster") refl)
     (number_lacks config.data_centres fits.data_centres, (number_lacks config.shards fits.shards, (number_lacks config.trans_time fits.trans_time, (number_lacks config.restarts fits.restarts, tt))))
 
-tenant_lacks : (tenant : Tenant) → IsTrue (is_tenant tenant) → Lacks newline (written_tenant tenant)
-tenant_lacks tenant h =
-    let fits = tenant_fits last_clock (omega arith) tenant h in
+pub tenant_lacks : (last : ℕ) → last < 2 ^ 64 → (tenant : Tenant) → IsTrue (is_tenant_to last tenant) → Lacks newline (written_tenant tenant)
+tenant_lacks last small tenant h =
+    let fits = tenant_fits last small tenant h in
     let quota = tenant.quota in
     let token = hyphenated_text lower tenant.token in
     spaced_lacks (codes "tenant")
@@ -206,7 +206,7 @@ follows_again (Within config) line next again (inl joins) =
     let tenant = joins.tenant in
     let token = parsed_token joins.said.token tenant.token joins.said.parses in
     let more = one_more (lines_within config) (Within config) (written_tenant tenant) (Within (with_tenant config tenant)) again
-    (inl (record { tenant = tenant; said = tenant_written tenant token joins.said.within; may = joins.may; after = refl })) (tenant_lacks tenant joins.said.within) in
+    (inl (record { tenant = tenant; said = tenant_written last_clock tenant token joins.said.within; may = joins.may; after = refl })) (tenant_lacks last_clock (omega arith) tenant joins.said.within) in
     subst LeadsAgain (sym joins.after)
     (subst (λ lines. LeadsTo (cluster_line config ∷ lines) (Within (with_tenant config tenant))) (sym (map-append written_tenant config.tenants (tenant ∷ []))) more)
 follows_again (Within config) line next again (inr ends) =

@@ -1,11 +1,11 @@
 -- A replay has one result, and depends on the tenant's part of the file alone.
-use Rattle.std.proofs.Common.{◌≡◌, ℕ, ◌+◌, true, false, ◌||◌, List, [], ◌∷◌, inl, inr, refl, sym, subst, ap, ◌∙◌}
+use Rattle.std.proofs.Common.{◌≡◌, ℕ, ◌+◌, true, false, ◌||◌, List, [], ◌∷◌, map, inl, inr, refl, sym, subst, ap, ◌∙◌}
 use Rattle.std.specs.Prelude.{Some, None, nat_lt, slice_get}
 use Rattle.std.specs.List.{list_any}
 use Rattle.cops_types.specs.declared.configs.Config.{Config}
 use Rattle.cops_types.specs.declared.configs.Tenant.{Tenant}
 use Rattle.cops_types.specs.Head.{Whole, BadAt}
-use Rattle.cops_types.specs.Lines.{lines_of}
+use Rattle.cops_types.specs.Lines.{cut_line, lines_of}
 use Rattle.cops_types.specs.Slots.{slot_of_name}
 use Rattle.cops_types.specs.TenantConfig.{TenantConfig, tenant_config}
 use Rattle.cops_model.specs.SoloNode.{SoloNode}
@@ -18,9 +18,10 @@ use Rattle.cops_replay.specs.declared.refusals.ReplayRefusal.TheVariants.{BadCon
 use Rattle.cops_replay.specs.OldRecords.{last_early_clock}
 use Rattle.cops_replay.specs.OwnLines.{alone_lines}
 use Rattle.cops_replay.specs.Replaying.{fresh_nodes}
-use Rattle.cops_replay.specs.ReplayParts.{HasPart}
-use Rattle.cops_replay.specs.ReplayText.{FindsBy, IsReplayBy, IsReplayOf, IsRefusedBy, RefusesReplayOf, head_by, is_great_in, replayed_text, starts_great_in}
+use Rattle.cops_replay.specs.ReplayParts.{HasPart, seen_lines}
+use Rattle.cops_replay.specs.ReplayText.{FindsBy, IsReplayBy, IsReplayOf, IsRefusedBy, RefusesReplayOf, head_by, is_great_in, longest_record, replayed_text, starts_great_in}
 use Rattle.cops_replay.specs.VersionLayouts.{nodes_after_in}
+use Rattle.cops_replay.proofs.RecordRuns.{great_cut, told_cut}
 
 one_found : (layout rules : Layout) (config : TenantConfig) (passed : ℕ) (nodes : List SoloNode) (lines : List (List ℕ)) (one other : Replayed) → FindsBy layout rules config passed nodes lines one → FindsBy layout rules config passed nodes lines other → one ≡ other
 one_found layout rules config passed nodes [] one other p q = p ∙ sym q
@@ -94,12 +95,32 @@ starts_alike Today c d t u same = refl
 starts_alike Early c d t u same = ap (λ (config : TenantConfig). nat_lt last_early_clock config.first_clock) same
 starts_alike Old c d t u same = refl
 
+-- lines are replayed as they are cut
+finds_cut : (layout rules : Layout) (config : TenantConfig) (passed : ℕ) (nodes : List SoloNode) (lines : List (List ℕ)) (found : Replayed) → FindsBy layout rules config passed nodes lines found →
+    FindsBy layout rules config passed nodes (map (cut_line longest_record) lines) found
+finds_cut layout rules config passed nodes [] found p = p
+finds_cut layout rules config passed nodes (line ∷ lines) found (inl (told, is, agrees, p)) =
+    inl (told, told_cut layout line ∙ is, agrees, finds_cut layout rules config (passed + 1) (nodes_after_in rules config told nodes) lines found p)
+finds_cut layout rules config passed nodes (line ∷ lines) found (inr (differs, e)) = inr ((λ told is agrees. differs told (sym (told_cut layout line) ∙ is) agrees), e)
+
+finds_uncut : (layout rules : Layout) (config : TenantConfig) (passed : ℕ) (nodes : List SoloNode) (lines : List (List ℕ)) (found : Replayed) → FindsBy layout rules config passed nodes (map (cut_line longest_record) lines) found →
+    FindsBy layout rules config passed nodes lines found
+finds_uncut layout rules config passed nodes [] found p = p
+finds_uncut layout rules config passed nodes (line ∷ lines) found (inl (told, is, agrees, p)) =
+    inl (told, sym (told_cut layout line) ∙ is, agrees, finds_uncut layout rules config (passed + 1) (nodes_after_in rules config told nodes) lines found p)
+finds_uncut layout rules config passed nodes (line ∷ lines) found (inr (differs, e)) = inr ((λ told is agrees. differs told (told_cut layout line ∙ is) agrees), e)
+
+any_cut : (layout : Layout) (lines : List (List ℕ)) → list_any (is_great_in layout) (map (cut_line longest_record) lines) ≡ list_any (is_great_in layout) lines
+any_cut layout [] = refl
+any_cut layout (line ∷ lines) = λ i. great_cut layout line i || any_cut layout lines i
+
 module _ (name one other : List ℕ) (layout : Layout) (config : TenantConfig) (own : List (List ℕ)) (p : HasPart name one layout config own) (q : HasPart name other layout config own) where
   replayed_by : (text : List ℕ) → IsReplayBy layout name (lines_of one) text → IsReplayBy layout name (lines_of other) text
   replayed_by text r =
       let same = same_tenant name layout (lines_of one) r.config p.head_config r.records p.records r.slot p.slot r.tenant p.tenant r.head p.head r.there p.there r.tenant_is p.tenant_is in
       let mine : tenant_config r.config r.tenant ≡ tenant_config q.head_config q.tenant = (λ i. tenant_config (same.config i) (same.tenant i)) ∙ p.config_is ∙ sym q.config_is in
-      let lines : alone_lines name r.records ≡ alone_lines name q.records = ap (alone_lines name) same.records ∙ p.own_is ∙ sym q.own_is in
+      let lines : seen_lines name r.records ≡ seen_lines name q.records = ap (seen_lines name) same.records ∙ p.own_is ∙ sym q.own_is in
+      let any = sym (any_cut layout (alone_lines name q.records)) ∙ ap (list_any (is_great_in layout)) (sym lines) ∙ any_cut layout (alone_lines name r.records) in
       record {
         config = q.head_config;
         records = q.records;
@@ -108,10 +129,12 @@ module _ (name one other : List ℕ) (layout : Layout) (config : TenantConfig) (
         head = q.head;
         there = q.there;
         tenant_is = q.tenant_is;
-        fits = (λ i. sym (starts_alike layout r.config q.head_config r.tenant q.tenant mine) i || list_any (is_great_in layout) (sym lines i)) ∙ r.fits;
+        fits = (λ i. sym (starts_alike layout r.config q.head_config r.tenant q.tenant mine) i || any i) ∙ r.fits;
         found = r.found;
-        finds = subst (λ ls. FindsBy layout layout (tenant_config q.head_config q.tenant) 0 (fresh_nodes (tenant_config q.head_config q.tenant)) ls r.found) lines
-            (subst (λ (c : TenantConfig). FindsBy layout layout c 0 (fresh_nodes c) (alone_lines name r.records) r.found) mine r.finds);
+        finds = finds_uncut layout layout (tenant_config q.head_config q.tenant) 0 (fresh_nodes (tenant_config q.head_config q.tenant)) (alone_lines name q.records) r.found
+            (subst (λ ls. FindsBy layout layout (tenant_config q.head_config q.tenant) 0 (fresh_nodes (tenant_config q.head_config q.tenant)) ls r.found) lines
+            (finds_cut layout layout (tenant_config q.head_config q.tenant) 0 (fresh_nodes (tenant_config q.head_config q.tenant)) (alone_lines name r.records) r.found
+            (subst (λ (c : TenantConfig). FindsBy layout layout c 0 (fresh_nodes c) (alone_lines name r.records) r.found) mine r.finds)));
         text_is = r.text_is;
       }
 
@@ -127,7 +150,8 @@ module _ (name one other : List ℕ) (layout : Layout) (config : TenantConfig) (
   refused_by ClockTooGreat r =
       let same = same_tenant name layout (lines_of one) r.config p.head_config r.records p.records r.slot p.slot r.tenant p.tenant r.head p.head r.there p.there r.tenant_is p.tenant_is in
       let mine : tenant_config r.config r.tenant ≡ tenant_config q.head_config q.tenant = (λ i. tenant_config (same.config i) (same.tenant i)) ∙ p.config_is ∙ sym q.config_is in
-      let lines : alone_lines name r.records ≡ alone_lines name q.records = ap (alone_lines name) same.records ∙ p.own_is ∙ sym q.own_is in
+      let lines : seen_lines name r.records ≡ seen_lines name q.records = ap (seen_lines name) same.records ∙ p.own_is ∙ sym q.own_is in
+      let any = sym (any_cut layout (alone_lines name q.records)) ∙ ap (list_any (is_great_in layout)) (sym lines) ∙ any_cut layout (alone_lines name r.records) in
       record {
         config = q.head_config;
         records = q.records;
@@ -136,7 +160,7 @@ module _ (name one other : List ℕ) (layout : Layout) (config : TenantConfig) (
         head = q.head;
         there = q.there;
         tenant_is = q.tenant_is;
-        great = (λ i. sym (starts_alike layout r.config q.head_config r.tenant q.tenant mine) i || list_any (is_great_in layout) (sym lines i)) ∙ r.great;
+        great = (λ i. sym (starts_alike layout r.config q.head_config r.tenant q.tenant mine) i || any i) ∙ r.great;
       }
 
   pub refused_alike : (refusal : ReplayRefusal) → RefusesReplayOf name one refusal → RefusesReplayOf name other refusal

@@ -16,6 +16,7 @@ use Rattle.cops_types.specs.OpenSlots.{admission_refusal, begun_with, has_name, 
 use Rattle.cops_types.specs.Search.{first_refusal}
 use Rattle.cops_types.specs.TenantTexts.{AreApart, has_text}
 use Rattle.cops_types.specs.Words.{first_word}
+use Rattle.cops_types.specs.Version.{last_clock}
 use Rattle.cops_types.proofs.BegunSlots.{apart_behind, apart_more}
 use Rattle.cops_types.proofs.FrontLemmas.{head_of-says}
 use Rattle.cops_types.proofs.HeadLemmas.{tenant_in-is}
@@ -286,7 +287,7 @@ tenants_lead config front (tenant ∷ more) few fit apart =
     (fresh_behind (λ t. t.name) front tenant more apart.names) (fresh_behind (λ t. t.token) front tenant more apart.tokens)) in
     let rest = tenants_lead config (front ++ tenant ∷ []) more (subst (λ (ts : List Tenant). length ts ≤ most_tenants) (sym together) few) fit.1 (subst (λ (ts : List Tenant). AreAllApart (map Some ts)) (sym together) apart) in (
       Within (with_tenants config (front ++ tenant ∷ [])),
-      inl (record { tenant = tenant; said = tenant_written tenant fit.0.token fit.0.good; may = may; after = refl }),
+      inl (record { tenant = tenant; said = tenant_written last_clock tenant fit.0.token fit.0.good; may = may; after = refl }),
       subst (λ (ts : List Tenant). Leads (Within (with_tenants config (front ++ tenant ∷ []))) (map written_tenant more ++ begin_line ∷ []) (Begun (with_tenants config ts))) together rest,
     )
 

@@ -49,7 +49,7 @@ by_test {C} false holds fails = fails refl
 -- ---- the first line
 
 -- a line tells today's layout if what is seen of it does
-cut_layout : (line : List ℕ) → bytes_eq (cut_line longest_record line) layout_line ≡ bytes_eq line layout_line
+pub cut_layout : (line : List ℕ) → bytes_eq (cut_line longest_record line) layout_line ≡ bytes_eq line layout_line
 cut_layout line = by_test (bytes_eq line layout_line)
     (λ is. ap (λ l. bytes_eq (cut_line longest_record l) layout_line) (bytes_from_test line layout_line is) ∙ sym is)
     (λ isnt. by_test (bytes_eq (cut_line longest_record line) layout_line)
@@ -62,7 +62,7 @@ cut_layout line = by_test (bytes_eq line layout_line)
         let short : length line ≤ longest_record + 1 = (let full = length-take (longest_record + 1) line in omega (arith, size, full)) in
         sym (take_all (longest_record + 1) line short) ∙ cut
 
-layout_first : (line : List ℕ) (lines : List (List ℕ)) (t : Bool) → bytes_eq line layout_line ≡ t → layout_of (line ∷ lines) ≡ cond t Today Early
+pub layout_first : (line : List ℕ) (lines : List (List ℕ)) (t : Bool) → bytes_eq line layout_line ≡ t → layout_of (line ∷ lines) ≡ cond t Today Early
 layout_first line lines t e = ap (λ b. cond b Today Early) e
 
 -- if the next line isn't such a first line, the file is of layout 1

@@ -35,7 +35,7 @@ zeta done z 0
 - zeta
 ";
 
-const GAMA_AND_BETA: &[u8] = b"layout 2
+pub(crate) const GAMA_AND_BETA: &[u8] = b"layout 2
 cluster 1 1 5000 1
 tenant gama 00000000-0000-0000-0000-000000000003 0 100 10000 10 4 20 8 1000
 tenant beta 00000000-0000-0000-0000-000000000002 0 100 10000 10 4 20 8 1000
@@ -64,7 +64,7 @@ acme open a 0
 ";
 
 /// The output of a run, unless memory ran out.
-fn written<E: Drop>(
+pub(crate) fn written<E: Drop>(
     rt: &impl Abort,
     ran: Result<(), RunFault<E>>,
     sink: Sink<Vec<u8>>,

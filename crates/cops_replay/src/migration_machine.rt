@@ -108,7 +108,7 @@ fn record_fault(line: &[u8]) -> Option<Fault>
 }
 
 /// Appends a line, with its newline.
-fn push_line(out: &mut Vec<u8>, line: &[u8]) -> Result<(), AllocError>
+pub(crate) fn push_line(out: &mut Vec<u8>, line: &[u8]) -> Result<(), AllocError>
     ensures { OnOk result (out.new.items ≡ out.old.items ++ ended line.now) }
 {
     out.extend_from_slice(line)?;

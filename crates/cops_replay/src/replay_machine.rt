@@ -73,7 +73,7 @@ fn new_head() -> ReplayStage
 }
 
 /// Returns `true` if a line is the first one, and names today's layout.
-fn tells_today(head: &OldHeadSoFar, line: &[u8]) -> bool
+pub(crate) fn tells_today(head: &OldHeadSoFar, line: &[u8]) -> bool
     ensures { result ≡ tells_today head.now line.now }
 {
     head.lines == 0 && line == b"layout 2".as_slice()

@@ -1,0 +1,292 @@
+-- A tenant's own part of an audit is an audit of the same layout, with the same part.
+use Rattle.std.proofs.Common.{◌≡◌, ℕ, zero, suc, ◌+◌, ◌<◌, ◌≤◌, ◌^◌, Bool, true, false, cond, inl, inr, ◌⊎◌, List, [], ◌∷◌, ◌++◌, length, map, take, refl, sym, subst, ap, ◌∙◌, arith}
+use Rattle.std.specs.Prelude.{IsTrue, Option, Some, None, flat_map, slice_get}
+use Rattle.std.specs.List.{AllByRecursion}
+use Rattle.std.specs.Option.{option_and_then}
+use Rattle.std.specs.Str.{bytes_eq}
+use Rattle.cops_types.specs.declared.configs.Config.{Config}
+use Rattle.cops_types.specs.declared.configs.Tenant.{Tenant}
+use Rattle.cops_types.specs.Head.{Front, AtStart, Within, Begun, Ends, Joins, HeadReading, Whole, BadAt, head_with, is_begun, with_tenant}
+use Rattle.cops_types.specs.HeadLines.{IsClusterLine, are_sizes, begin_line, cluster_line, is_tenant_to, tenant_in_to}
+use Rattle.cops_types.specs.Lines.{cut_line, lines_of}
+use Rattle.cops_types.specs.OldHead.{last_old_clock}
+use Rattle.cops_types.specs.Slots.{slot_of_name}
+use Rattle.cops_types.specs.TenantConfig.{tenant_config}
+use Rattle.cops_types.specs.Version.{last_clock}
+use Rattle.cops_types.specs.Words.{first_word, newline}
+use Rattle.cops_types.proofs.FrontLemmas.{front_after-is}
+use Rattle.cops_types.proofs.HeadLemmas.{tenant_fits, tenant_in_to-finds}
+use Rattle.cops_types.proofs.WordLemmas.{Lacks, bytes_from_test, lacks_from_test, same_bytes, same_value}
+use Rattle.cops_model.specs.MainTheorem.{with_tenant_alone}
+use Rattle.cops_script.proofs.ApartTenants.{found_at, short_name}
+use Rattle.cops_replay.specs.declared.layouts.Layout.{Layout}
+use Rattle.cops_replay.specs.declared.layouts.Layout.TheVariants.{Today, Early, Old}
+use Rattle.cops_replay.specs.declared.refusals.ReplayRefusal.{ReplayRefusal}
+use Rattle.cops_replay.specs.AuditText.{ended, layout_line}
+use Rattle.cops_replay.specs.OpenAudits.{with_tenants}
+use Rattle.cops_replay.specs.OwnLines.{alone_lines}
+use Rattle.cops_replay.specs.OwnParts.{IsPartOf, layout_lines, lone_head_lines, part_text}
+use Rattle.cops_replay.specs.Replayings.{is_replayed}
+use Rattle.cops_replay.specs.ReplayParts.{HasPart, seen_lines}
+use Rattle.cops_replay.specs.ReplayRules.{front_by}
+use Rattle.cops_replay.specs.ReplayText.{IsReplayOf, RefusesReplayOf, head_by, layout_of, longest_record}
+use Rattle.cops_replay.proofs.AuditHeads.{bad_end, bad_first, read_once, read_whole, reading_by}
+use Rattle.cops_replay.proofs.HeadsBack.{IsToken, cluster_lacks, lines_of-lack, lines_of-lines, lines_of-more, parsed_token, tenant_lacks, tenant_written, written_tenant}
+use Rattle.cops_replay.proofs.OldFronts.{OldJoins, old_front_after-is}
+use Rattle.cops_replay.proofs.OneAnswer.{refused_alike, replayed_alike}
+use Rattle.cops_replay.proofs.RecordRuns.{same_own}
+
+-- ---- what a head that was read has
+
+-- the greatest first clock in a head
+abbrev last_in : Layout → ℕ
+last_in Today = last_clock
+last_in Early = last_old_clock
+last_in Old = last_old_clock
+
+last_small : (layout : Layout) → last_in layout < 2 ^ 64
+last_small Today = omega arith
+last_small Early = omega arith
+last_small Old = omega arith
+
+record IsGood (layout : Layout) (tenant : Tenant) : Type 0 where
+  token : IsToken tenant.token
+  within : IsTrue (is_tenant_to (last_in layout) tenant)
+
+record AreGood (layout : Layout) (config : Config) : Type 0 where
+  sizes : IsTrue (are_sizes config)
+  starts : front_by layout AtStart (cluster_line config) ≡ Some (Within (with_tenants config []))
+  tenants : AllByRecursion (IsGood layout) config.tenants
+
+abbrev IsGoodFront : Layout → Front → Type 0
+IsGoodFront layout AtStart = Unit {0}
+IsGoodFront layout (Within config) = AreGood layout config
+IsGoodFront layout (Begun config) = AreGood layout config
+
+all_push : {X : Type 0} (P : X → Type 0) (xs : List X) (x : X) → AllByRecursion P xs → P x → AllByRecursion P (xs ++ x ∷ [])
+all_push P [] x all one = (one, tt)
+all_push P (y ∷ xs) x all one = (all.0, all_push P xs x all.1 one)
+
+all_at : {X : Type 0} (P : X → Type 0) (xs : List X) (i : ℕ) (x : X) → AllByRecursion P xs → slice_get xs i ≡ Some x → P x
+all_at P [] i x all at = absurd (let clash : ⊥ = cc in clash)
+all_at P (y ∷ xs) zero x all at = subst P (same_value y x at) all.0
+all_at P (y ∷ xs) (suc i) x all at = all_at P xs i x all.1 at
+
+good_start : (layout : Layout) (line : List ℕ) (config : Config) (next : Front) → IsClusterLine line config → next ≡ Within config → front_by layout AtStart line ≡ Some next → IsGoodFront layout next
+good_start layout line config next is after e =
+    subst (IsGoodFront layout) (sym after) (record {
+      sizes = is.within;
+      starts = ap (front_by layout AtStart) (sym is.spelled) ∙ e ∙ ap Some after ∙ ap (λ tenants. Some (Within (with_tenants config tenants))) is.bare;
+      tenants = subst (AllByRecursion (IsGood layout)) (sym is.bare) tt;
+    })
+
+good_joined : (layout : Layout) (config : Config) (tenant : Tenant) → AreGood layout config → IsGood layout tenant → AreGood layout (with_tenant config tenant)
+good_joined layout config tenant g t = record { sizes = g.sizes; starts = g.starts; tenants = all_push (IsGood layout) config.tenants tenant g.tenants t }
+
+good_today : (config : Config) (line : List ℕ) (next : Front) → AreGood Today config → Joins config line next ⊎ Ends config line next → IsGoodFront Today next
+good_today config line next g (inl joins) =
+    subst (IsGoodFront Today) (sym joins.after) (good_joined Today config joins.tenant g (record { token = parsed_token joins.said.token joins.tenant.token joins.said.parses; within = joins.said.within }))
+good_today config line next g (inr ends) = subst (IsGoodFront Today) (sym ends.after) g
+
+good_old : (layout : Layout) → last_in layout ≡ last_old_clock → (config : Config) (line : List ℕ) (next : Front) → AreGood layout config → OldJoins config line next ⊎ Ends config line next → IsGoodFront layout next
+good_old layout last config line next g (inl joins) =
+    subst (IsGoodFront layout) (sym joins.after) (good_joined layout config joins.tenant g (record {
+      token = parsed_token joins.said.token joins.tenant.token joins.said.parses;
+      within = subst (λ n. IsTrue (is_tenant_to n joins.tenant)) (sym last) joins.said.within;
+    }))
+good_old layout last config line next g (inr ends) = subst (IsGoodFront layout) (sym ends.after) g
+
+good_next : (layout : Layout) (front : Front) (line : List ℕ) (next : Front) → IsGoodFront layout front → front_by layout front line ≡ Some next → IsGoodFront layout next
+good_next Today AtStart line next g e = let f = front_after-is AtStart line next e in good_start Today line f.0 next f.1 f.2 e
+good_next Today (Within config) line next g e = good_today config line next g (front_after-is (Within config) line next e)
+good_next Today (Begun config) line next g e = absurd (let clash : ⊥ = cc in clash)
+good_next Early AtStart line next g e = let f = old_front_after-is AtStart line next e in good_start Early line f.0 next f.1 f.2 e
+good_next Early (Within config) line next g e = good_old Early refl config line next g (old_front_after-is (Within config) line next e)
+good_next Early (Begun config) line next g e = absurd (let clash : ⊥ = cc in clash)
+good_next Old AtStart line next g e = let f = old_front_after-is AtStart line next e in good_start Old line f.0 next f.1 f.2 e
+good_next Old (Within config) line next g e = good_old Old refl config line next g (old_front_after-is (Within config) line next e)
+good_next Old (Begun config) line next g e = absurd (let clash : ⊥ = cc in clash)
+
+-- what holds of all lines holds of those after the head
+record IsGoodHead (P : List ℕ → Type 0) (layout : Layout) (config : Config) (rest : List (List ℕ)) : Type 0 where
+  good : AreGood layout config
+  kept : AllByRecursion P rest
+
+module _ (P : List ℕ → Type 0) (layout : Layout) (config : Config) (rest : List (List ℕ)) where
+  good_whole : (found : Config) (lines : List (List ℕ)) (number : ℕ) → AreGood layout found → AllByRecursion P lines → reading_by layout lines number (Begun found) ≡ Whole config rest → IsGoodHead P layout config rest
+  good_whole found lines number g all e =
+      let whole : Whole found lines ≡ Whole config rest = sym (read_whole layout lines number found) ∙ e in
+      let its : found ≡ config = cc in
+      let after : lines ≡ rest = cc in
+      record { good = subst (AreGood layout) its g; kept = subst (AllByRecursion P) after all }
+
+  no_end : (number : ℕ) (front : Front) → is_begun front ≡ false → reading_by layout [] number front ≡ Whole config rest → IsGoodHead P layout config rest
+  no_end number front still e = let bad : BadAt number ≡ Whole config rest = sym (bad_end layout front number still) ∙ e in absurd (let clash : ⊥ = cc in clash)
+
+  by_line : (line : List ℕ) (lines : List (List ℕ)) (number : ℕ) (front : Front) → is_begun front ≡ false → IsGoodFront layout front → reading_by layout (line ∷ lines) number front ≡ Whole config rest →
+      ((next : Front) → IsGoodFront layout next → reading_by layout lines (number + 1) next ≡ Whole config rest → IsGoodHead P layout config rest) →
+      (found : Option Front) → front_by layout front line ≡ found → IsGoodHead P layout config rest
+  by_line line lines number front still g e again None is = let bad : BadAt number ≡ Whole config rest = sym (bad_first layout front number line lines still is) ∙ e in absurd (let clash : ⊥ = cc in clash)
+  by_line line lines number front still g e again (Some next) is = again next (good_next layout front line next g is) (sym (read_once layout front number line lines next still is) ∙ e)
+
+  good_read : (lines : List (List ℕ)) (number : ℕ) (front : Front) → IsGoodFront layout front → AllByRecursion P lines → reading_by layout lines number front ≡ Whole config rest → IsGoodHead P layout config rest
+  good_read [] number AtStart g all e = no_end number AtStart refl e
+  good_read [] number (Within found) g all e = no_end number (Within found) refl e
+  good_read [] number (Begun found) g all e = good_whole found [] number g all e
+  good_read (line ∷ lines) number AtStart g all e = by_line line lines number AtStart refl g e (λ next h r. good_read lines (number + 1) next h all.1 r) (front_by layout AtStart line) refl
+  good_read (line ∷ lines) number (Within found) g all e = by_line line lines number (Within found) refl g e (λ next h r. good_read lines (number + 1) next h all.1 r) (front_by layout (Within found) line) refl
+  good_read (line ∷ lines) number (Begun found) g all e = good_whole found (line ∷ lines) number g all e
+
+good_head : (P : List ℕ → Type 0) (layout : Layout) (lines : List (List ℕ)) (config : Config) (rest : List (List ℕ)) → AllByRecursion P lines → head_by layout lines ≡ Whole config rest → IsGoodHead P layout config rest
+good_head P Today [] config rest all e = absurd (let clash : ⊥ = cc in clash)
+good_head P Today (line ∷ lines) config rest all e = good_read P Today config rest lines 2 AtStart tt all.1 e
+good_head P Early lines config rest all e = good_read P Early config rest lines 1 AtStart tt all e
+good_head P Old lines config rest all e = good_read P Old config rest lines 1 AtStart tt all e
+
+-- ---- the head of a part is read back
+
+joins_by : (layout : Layout) (config : Config) (tenant : Tenant) → tenant_in_to (last_in layout) (written_tenant tenant) ≡ Some tenant → front_by layout (Within (with_tenants config [])) (written_tenant tenant) ≡ Some (Within (with_tenant_alone config tenant))
+joins_by Today config tenant e = ap (option_and_then (head_with (with_tenants config []))) e
+joins_by Early config tenant e = ap (option_and_then (head_with (with_tenants config []))) e
+joins_by Old config tenant e = ap (option_and_then (head_with (with_tenants config []))) e
+
+begins_by : (layout : Layout) (config : Config) → front_by layout (Within config) begin_line ≡ Some (Begun config)
+begins_by Today config = refl
+begins_by Early config = refl
+begins_by Old config = refl
+
+module _ (config : Config) (tenant : Tenant) (others : List (List ℕ)) where
+  lone_read : (layout : Layout) (number : ℕ) → AreGood layout config → IsGood layout tenant → reading_by layout (lone_head_lines config tenant ++ others) number AtStart ≡ Whole (with_tenant_alone config tenant) others
+  lone_read layout number g t =
+      let alone = with_tenant_alone config tenant in
+      let bare = with_tenants config [] in
+      let found = tenant_in_to-finds (last_in layout) (last_small layout) (written_tenant tenant) tenant (tenant_written (last_in layout) tenant t.token t.within) in
+      read_once layout AtStart number (cluster_line config) (written_tenant tenant ∷ begin_line ∷ others) (Within bare) refl g.starts
+      ∙ read_once layout (Within bare) (number + 1) (written_tenant tenant) (begin_line ∷ others) (Within alone) refl (joins_by layout config tenant found)
+      ∙ read_once layout (Within alone) (number + 1 + 1) begin_line others (Begun alone) refl (begins_by layout alone)
+      ∙ read_whole layout others (number + 1 + 1 + 1) alone
+
+  head_back : (layout : Layout) → AreGood layout config → IsGood layout tenant → head_by layout ((layout_lines layout ++ lone_head_lines config tenant) ++ others) ≡ Whole (with_tenant_alone config tenant) others
+  head_back Today g t = lone_read Today 2 g t
+  head_back Early g t = lone_read Early 1 g t
+  head_back Old g t = lone_read Old 1 g t
+
+  layout_back : (layout : Layout) → is_replayed layout ≡ true → layout_of ((layout_lines layout ++ lone_head_lines config tenant) ++ others) ≡ layout
+  layout_back Today is = ap (λ b. cond b Today Early) (same_bytes layout_line)
+  layout_back Early is = refl
+  layout_back Old is = absurd (let clash : ⊥ = cc in clash)
+
+lone_lacks : (layout : Layout) (config : Config) (tenant : Tenant) → AreGood layout config → IsGood layout tenant → AllByRecursion (Lacks newline) (lone_head_lines config tenant)
+lone_lacks layout config tenant g t = (cluster_lacks config g.sizes, (tenant_lacks (last_in layout) (last_small layout) tenant t.within, (lacks_from_test newline begin_line refl, tt)))
+
+head_lacks : (layout : Layout) (config : Config) (tenant : Tenant) → AreGood layout config → IsGood layout tenant → AllByRecursion (Lacks newline) (layout_lines layout ++ lone_head_lines config tenant)
+head_lacks Today config tenant g t = (lacks_from_test newline layout_line refl, lone_lacks Today config tenant g t)
+head_lacks Early config tenant g t = lone_lacks Early config tenant g t
+head_lacks Old config tenant g t = lone_lacks Old config tenant g t
+
+-- ---- the lines of a part
+
+lacks_take : (s n : ℕ) (xs : List ℕ) → Lacks s xs → Lacks s (take n xs)
+lacks_take s zero [] h = tt
+lacks_take s zero (x ∷ xs) h = tt
+lacks_take s (suc n) [] h = tt
+lacks_take s (suc n) (x ∷ xs) h = (h.0, lacks_take s n xs h.1)
+
+take_twice : (n : ℕ) (xs : List ℕ) → take n (take n xs) ≡ take n xs
+take_twice zero [] = refl
+take_twice zero (x ∷ xs) = refl
+take_twice (suc n) [] = refl
+take_twice (suc n) (x ∷ xs) = ap (λ l. x ∷ l) (take_twice n xs)
+
+module _ (name : List ℕ) where
+  seen_lack : (lines : List (List ℕ)) → AllByRecursion (Lacks newline) lines → AllByRecursion (Lacks newline) (seen_lines name lines)
+  seen_lack [] all = tt
+  seen_lack (line ∷ lines) all = by_own (bytes_eq (first_word line) name) (seen_lack lines all.1)
+    where
+      by_own : (own : Bool) → AllByRecursion (Lacks newline) (seen_lines name lines) →
+          AllByRecursion (Lacks newline) (map (cut_line longest_record) (cond own (line ∷ alone_lines name lines) (alone_lines name lines)))
+      by_own true rest = (lacks_take newline (longest_record + 1) line all.0, rest)
+      by_own false rest = rest
+
+  -- the tenant's lines among these are all of them
+  seen_twice : length name ≤ 16 → (lines : List (List ℕ)) → seen_lines name (seen_lines name lines) ≡ seen_lines name lines
+  seen_twice short [] = refl
+  seen_twice short (line ∷ lines) = by_own (bytes_eq (first_word line) name) refl (seen_twice short lines)
+    where
+      by_own : (own : Bool) → bytes_eq (first_word line) name ≡ own → seen_lines name (seen_lines name lines) ≡ seen_lines name lines →
+          seen_lines name (map (cut_line longest_record) (cond own (line ∷ alone_lines name lines) (alone_lines name lines))) ≡ map (cut_line longest_record) (cond own (line ∷ alone_lines name lines) (alone_lines name lines))
+      by_own true e rest =
+          let still = same_own name line short ∙ e in
+          ap (λ b. map (cut_line longest_record) (cond b (cut_line longest_record line ∷ alone_lines name (seen_lines name lines)) (alone_lines name (seen_lines name lines)))) still
+          ∙ (λ i. take_twice (longest_record + 1) line i ∷ rest i)
+      by_own false e rest = rest
+
+-- ---- a part of a file
+
+told_layout : (lines : List (List ℕ)) → is_replayed (layout_of lines) ≡ true
+told_layout [] = refl
+told_layout (line ∷ lines) = by_line (bytes_eq line layout_line)
+  where
+    by_line : (t : Bool) → is_replayed (cond t Today Early) ≡ true
+    by_line true = refl
+    by_line false = refl
+
+first_found : (name : List ℕ) (tenant : Tenant) → bytes_eq tenant.name name ≡ true → slot_of_name (tenant ∷ []) name ≡ Some 0
+first_found name tenant e = rw e refl
+
+module _ (name bytes part : List ℕ) (p : IsPartOf name bytes part) where
+  abbrev layout : Layout
+  layout = layout_of (lines_of bytes)
+
+  abbrev own : List (List ℕ)
+  own = seen_lines name p.records
+
+  good : IsGoodHead (Lacks newline) layout p.config p.records
+  good = good_head (Lacks newline) layout (lines_of bytes) p.config p.records (lines_of-lack bytes) p.head
+
+  its : IsGood layout p.tenant
+  its = all_at (IsGood layout) p.config.tenants p.slot p.tenant good.good.tenants p.tenant_is
+
+  named : bytes_eq p.tenant.name name ≡ true
+  named =
+      let found = found_at p.config.tenants name p.slot p.there in
+      ap (λ (t : Tenant). bytes_eq t.name name) (same_value p.tenant found.0 (sym p.tenant_is ∙ found.1)) ∙ found.2
+
+  short : length name ≤ 16
+  short =
+      let fits = tenant_fits (last_in layout) (last_small layout) p.tenant its.within in
+      subst (λ n. length n ≤ 16) (bytes_from_test p.tenant.name name named) (short_name p.tenant.name fits.name)
+
+  part_lines : lines_of part ≡ (layout_lines layout ++ lone_head_lines p.config p.tenant) ++ own
+  part_lines =
+      ap lines_of p.text_is ∙ lines_of-more (layout_lines layout ++ lone_head_lines p.config p.tenant) (flat_map ended own) (head_lacks layout p.config p.tenant good.good its)
+      ∙ ap (λ lines. (layout_lines layout ++ lone_head_lines p.config p.tenant) ++ lines) (lines_of-lines own (seen_lack name p.records good.kept))
+
+  of_file : HasPart name bytes layout (tenant_config p.config p.tenant) own
+  of_file = record { head_config = p.config; records = p.records; slot = p.slot; tenant = p.tenant; layout_is = refl; head = p.head; there = p.there; tenant_is = p.tenant_is; config_is = refl; own_is = refl }
+
+  of_part : HasPart name part layout (tenant_config p.config p.tenant) own
+  of_part = record {
+    head_config = with_tenant_alone p.config p.tenant;
+    records = own;
+    slot = 0;
+    tenant = p.tenant;
+    layout_is = ap layout_of part_lines ∙ layout_back p.config p.tenant own layout (told_layout (lines_of bytes));
+    head = ap (head_by layout) part_lines ∙ head_back p.config p.tenant own layout good.good its;
+    there = first_found name p.tenant named;
+    tenant_is = refl;
+    config_is = refl;
+    own_is = seen_twice name short p.records;
+  }
+
+  pub part_replays : (text : List ℕ) → (IsReplayOf name bytes text → IsReplayOf name part text) × (IsReplayOf name part text → IsReplayOf name bytes text)
+  part_replays text = (
+    replayed_alike name bytes part layout (tenant_config p.config p.tenant) own of_file of_part text,
+    replayed_alike name part bytes layout (tenant_config p.config p.tenant) own of_part of_file text,
+  )
+
+  pub part_refuses_alike : (refusal : ReplayRefusal) → (RefusesReplayOf name bytes refusal → RefusesReplayOf name part refusal) × (RefusesReplayOf name part refusal → RefusesReplayOf name bytes refusal)
+  part_refuses_alike refusal = (
+    refused_alike name bytes part layout (tenant_config p.config p.tenant) own of_file of_part refusal,
+    refused_alike name part bytes layout (tenant_config p.config p.tenant) own of_part of_file refusal,
+  )
