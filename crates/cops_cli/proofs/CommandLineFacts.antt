@@ -55,18 +55,19 @@ pub unwrap_or-now : (o : Option (Bor Text)) (d : Bor Text) → (unwrap_or o d).n
 unwrap_or-now None d = refl
 unwrap_or-now (Some s) d = refl
 
--- it is one of six, or none
-abbrev OneOf : {X : Type 0} → Option X → X → X → X → X → X → X → Type 0
-OneOf o x y z w v u = (o ≡ None) ⊎ ((o ≡ Some x) ⊎ ((o ≡ Some y) ⊎ ((o ≡ Some z) ⊎ ((o ≡ Some w) ⊎ ((o ≡ Some v) ⊎ (o ≡ Some u))))))
+-- it is one of seven, or none
+abbrev OneOf : {X : Type 0} → Option X → X → X → X → X → X → X → X → Type 0
+OneOf o x y z w v u t = (o ≡ None) ⊎ ((o ≡ Some x) ⊎ ((o ≡ Some y) ⊎ ((o ≡ Some z) ⊎ ((o ≡ Some w) ⊎ ((o ≡ Some v) ⊎ ((o ≡ Some u) ⊎ (o ≡ Some t)))))))
 
-either_of : {X : Type 0} (a b c d e f : Bool) (x y z w v u : X) → OneOf (cond a (Some x) (cond b (Some y) (cond c (Some z) (cond d (Some w) (cond e (Some v) (cond f (Some u) None)))))) x y z w v u
-either_of true b c d e f x y z w v u = inr (inl refl)
-either_of false true c d e f x y z w v u = inr (inr (inl refl))
-either_of false false true d e f x y z w v u = inr (inr (inr (inl refl)))
-either_of false false false true e f x y z w v u = inr (inr (inr (inr (inl refl))))
-either_of false false false false true f x y z w v u = inr (inr (inr (inr (inr (inl refl)))))
-either_of false false false false false true x y z w v u = inr (inr (inr (inr (inr (inr refl)))))
-either_of false false false false false false x y z w v u = inl refl
+either_of : {X : Type 0} (a b c d e f g : Bool) (x y z w v u t : X) → OneOf (cond a (Some x) (cond b (Some y) (cond c (Some z) (cond d (Some w) (cond e (Some v) (cond f (Some u) (cond g (Some t) None))))))) x y z w v u t
+either_of true b c d e f g x y z w v u t = inr (inl refl)
+either_of false true c d e f g x y z w v u t = inr (inr (inl refl))
+either_of false false true d e f g x y z w v u t = inr (inr (inr (inl refl)))
+either_of false false false true e f g x y z w v u t = inr (inr (inr (inr (inl refl))))
+either_of false false false false true f g x y z w v u t = inr (inr (inr (inr (inr (inl refl)))))
+either_of false false false false false true g x y z w v u t = inr (inr (inr (inr (inr (inr (inl refl))))))
+either_of false false false false false false true x y z w v u t = inr (inr (inr (inr (inr (inr (inr refl))))))
+either_of false false false false false false false x y z w v u t = inl refl
 
 -- ---- what is named
 
@@ -105,10 +106,10 @@ abbrev pub IsSubcommand : Option Text → Type 0
 IsSubcommand found =
     (found ≡ Some (codes "run"))
     ⊎ ((found ≡ Some (codes "solo"))
-    ⊎ ((found ≡ Some (codes "audit")) ⊎ ((found ≡ Some (codes "replay")) ⊎ ((found ≡ Some (codes "migrate")) ⊎ (found ≡ Some (codes "serve"))))))
+    ⊎ ((found ≡ Some (codes "audit")) ⊎ ((found ≡ Some (codes "replay")) ⊎ ((found ≡ Some (codes "extract")) ⊎ ((found ≡ Some (codes "migrate")) ⊎ (found ≡ Some (codes "serve")))))))
 
-by_found : (words : List Text) (x y z w v u : Shape) (o : Option Shape) → OneOf o x y z w v u → OneOf (option_map (λ (p : Text × List Row). p.0) (option_map (λ (s : Shape). rows_at s words) o)) x.name y.name z.name w.name v.name u.name
-by_found words x y z w v u o found = elim found [
+by_found : (words : List Text) (x y z w v u t : Shape) (o : Option Shape) → OneOf o x y z w v u t → OneOf (option_map (λ (p : Text × List Row). p.0) (option_map (λ (s : Shape). rows_at s words) o)) x.name y.name z.name w.name v.name u.name t.name
+by_found words x y z w v u t o found = elim found [
   | inl e ↦ inl (ap name_of e)
   | inr first ↦ elim first [
     | inl e ↦ inr (inl (ap name_of e))
@@ -120,7 +121,10 @@ by_found words x y z w v u o found = elim found [
           | inl e ↦ inr (inr (inr (inr (inl (ap name_of e)))))
           | inr fifth ↦ elim fifth [
             | inl e ↦ inr (inr (inr (inr (inr (inl (ap name_of e))))))
-            | inr e ↦ inr (inr (inr (inr (inr (inr (ap name_of e))))))
+            | inr sixth ↦ elim sixth [
+              | inl e ↦ inr (inr (inr (inr (inr (inr (inl (ap name_of e)))))))
+              | inr e ↦ inr (inr (inr (inr (inr (inr (inr (ap name_of e)))))))
+            ]
           ]
         ]
       ]
@@ -138,8 +142,8 @@ by_stop : (stop : Option (Text × List Text)) → let name = option_map (λ (p :
 by_stop None = inl refl
 by_stop (Some p) =
     let is_it = λ (s : Shape). answers_to p.0 (label_of s) in
-    by_found p.1 (sub_of 0) (sub_of 1) (sub_of 2) (sub_of 3) (sub_of 4) (sub_of 5) _
-    (either_of (is_it (sub_of 0)) (is_it (sub_of 1)) (is_it (sub_of 2)) (is_it (sub_of 3)) (is_it (sub_of 4)) (is_it (sub_of 5)) (sub_of 0) (sub_of 1) (sub_of 2) (sub_of 3) (sub_of 4) (sub_of 5))
+    by_found p.1 (sub_of 0) (sub_of 1) (sub_of 2) (sub_of 3) (sub_of 4) (sub_of 5) (sub_of 6) _
+    (either_of (is_it (sub_of 0)) (is_it (sub_of 1)) (is_it (sub_of 2)) (is_it (sub_of 3)) (is_it (sub_of 4)) (is_it (sub_of 5)) (is_it (sub_of 6)) (sub_of 0) (sub_of 1) (sub_of 2) (sub_of 3) (sub_of 4) (sub_of 5) (sub_of 6))
 
 -- the subcommands that can be found
 pub subcommands : (words : List Text) → (subcommand_named words ≡ None) ⊎ IsSubcommand (subcommand_named words)

@@ -93,7 +93,19 @@ replay_leaf : (word : Text) → leaf_of (sub_of 3) word [] (nothing_held, value)
 unfolding clap_on_literals
 replay_leaf word = refl
 
-serve_top : (program word : Text) → fault_of cops (program ∷ codes "serve" ∷ word ∷ []) ≡ top_of (codes "serve") word (level_fault (sub_of 5) [] nothing_held (word ∷ []) false [])
+extract_top : (program word : Text) → fault_of cops (program ∷ codes "extract" ∷ word ∷ []) ≡ top_of (codes "extract") word (level_fault (sub_of 4) [] nothing_held (word ∷ []) false [])
+unfolding clap_on_literals
+extract_top program word = refl
+
+extract_rest : (word : Text) → top_of (codes "extract") word [] ≡ []
+unfolding clap_on_literals
+extract_rest word = refl
+
+extract_leaf : (word : Text) → leaf_of (sub_of 4) word [] (nothing_held, value) ≡ []
+unfolding clap_on_literals
+extract_leaf word = refl
+
+serve_top : (program word : Text) → fault_of cops (program ∷ codes "serve" ∷ word ∷ []) ≡ top_of (codes "serve") word (level_fault (sub_of 6) [] nothing_held (word ∷ []) false [])
 unfolding clap_on_literals
 serve_top program word = refl
 
@@ -101,7 +113,7 @@ serve_rest : (word : Text) → top_of (codes "serve") word [] ≡ []
 unfolding clap_on_literals
 serve_rest word = refl
 
-serve_leaf : (word : Text) → leaf_of (sub_of 5) word [] (nothing_held, value) ≡ []
+serve_leaf : (word : Text) → leaf_of (sub_of 6) word [] (nothing_held, value) ≡ []
 unfolding clap_on_literals
 serve_leaf word = refl
 
@@ -126,10 +138,15 @@ replay_passes program word plain =
     let none = hyphens_differ word plain in
     replay_top program word ∙ ap (top_of (codes "replay") word) (leaf_passes (sub_of 3) word none.0 none.1 (replay_leaf word)) ∙ replay_rest word
 
+pub extract_passes : (program word : Text) → IsTrue (is_plain word) → fault_of cops (program ∷ codes "extract" ∷ word ∷ []) ≡ []
+extract_passes program word plain =
+    let none = hyphens_differ word plain in
+    extract_top program word ∙ ap (top_of (codes "extract") word) (leaf_passes (sub_of 4) word none.0 none.1 (extract_leaf word)) ∙ extract_rest word
+
 pub serve_passes : (program word : Text) → IsTrue (is_plain word) → fault_of cops (program ∷ codes "serve" ∷ word ∷ []) ≡ []
 serve_passes program word plain =
     let none = hyphens_differ word plain in
-    serve_top program word ∙ ap (top_of (codes "serve") word) (leaf_passes (sub_of 5) word none.0 none.1 (serve_leaf word)) ∙ serve_rest word
+    serve_top program word ∙ ap (top_of (codes "serve") word) (leaf_passes (sub_of 6) word none.0 none.1 (serve_leaf word)) ∙ serve_rest word
 
 pub run_passes : (program : Text) → fault_of cops (program ∷ codes "run" ∷ []) ≡ []
 unfolding clap_on_literals
@@ -157,7 +174,10 @@ plain_passes (program ∷ command ∷ word ∷ []) plain = elim plain.1 [
   | inl solo ↦ subst (λ (text : Text). fault_of cops (program ∷ text ∷ word ∷ []) ≡ []) (sym solo) (solo_passes program word plain.0)
   | inr others ↦ elim others [
     | inl replay ↦ subst (λ (text : Text). fault_of cops (program ∷ text ∷ word ∷ []) ≡ []) (sym replay) (replay_passes program word plain.0)
-    | inr serve ↦ subst (λ (text : Text). fault_of cops (program ∷ text ∷ word ∷ []) ≡ []) (sym serve) (serve_passes program word plain.0)
+    | inr last ↦ elim last [
+      | inl extract ↦ subst (λ (text : Text). fault_of cops (program ∷ text ∷ word ∷ []) ≡ []) (sym extract) (extract_passes program word plain.0)
+      | inr serve ↦ subst (λ (text : Text). fault_of cops (program ∷ text ∷ word ∷ []) ≡ []) (sym serve) (serve_passes program word plain.0)
+    ]
   ]
 ]
 plain_passes (program ∷ command ∷ word ∷ more ∷ rest) plain = absurd plain

@@ -14,11 +14,12 @@ use Rattle.cops_types.specs.Sink.{AppendsFront}
 use Rattle.cops_node.specs.Clusters.{new_nodes}
 use Rattle.cops_node.specs.Parts.{Shared}
 use Rattle.cops_node.proofs.Fresh.{numbers_fit}
-use Rattle.cops_replay.specs.AuditText.{AreNodesOf, audit_of}
+use Rattle.cops_replay.specs.AuditText.{AreNodesOf, audit_of, his_nodes}
+use Rattle.cops_replay.specs.WrittenAudits.{AllReplaySame, HaveLines, SaysSame}
 use Rattle.cops_replay.proofs.NodesOf.{nodes_with_sites}
 use Rattle.cops_service.specs.Left.{AreLeft}
 use Rattle.cops_service.proofs.Told.{left_count, left_in_place}
-use Rattle.cops_cli.specs.Commands.{AreServed, MayEnd, MayFail, Streams, serving}
+use Rattle.cops_cli.specs.Commands.{AreServed, HasHead, MayEnd, MayFail, Streams, serving}
 use Rattle.cops_cli.specs.Faults.{ended_serving_by}
 use Rattle.cops_cli.specs.declared.faults.CliFault.{CliFault}
 use Rattle.cops_cli.specs.declared.faults.CliFault.TheVariants.{OutOfMemory, ReadFault, WriteFault, Torn}
@@ -29,24 +30,43 @@ left_nodes config nodes sizes left =
     nodes_with_sites config nodes (numbers_fit config sizes) (left_count config nodes left)
     (λ number node below is. left_in_place config number nodes node left (slice_get-get_or nodes number node below ∙ ap Some (sym is)))
 
+-- a head that is known is that of the configuration, so a replay of the text says the same
+says_for : (known : Option (List ℕ)) (config : Config) (nodes : List Shared) → IfSome known (λ bytes. (lines : List (List ℕ)) × (head_of (lines_of bytes) ≡ Whole config lines))
+    → ((lines rest : List (List ℕ)) → head_of lines ≡ Whole config rest → HaveLines config (his_nodes config nodes) → SaysSame config (his_nodes config nodes) (audit_of config nodes))
+    → IfSome known (λ bytes. HaveLines config (his_nodes config nodes) → SaysSame config (his_nodes config nodes) (audit_of config nodes))
+says_for None config nodes head says = tt
+says_for (Some bytes) config nodes head says = says (lines_of bytes) head.0 head.1
+
 -- a head is read by a reader of its own, which has the same bytes before it
 pub served_from : (known old : Option (List ℕ)) (config : Config) (nodes : List Shared) → known ≡ old
-    → IfSome known (λ bytes. (lines : List (List ℕ)) × (head_of (lines_of bytes) ≡ Whole config lines)) → AreLeft (new_nodes config).nodes nodes → AreServed old config nodes
-served_from known old config nodes same head left = record { head = subst (λ bytes. IfSome bytes (λ it. (lines : List (List ℕ)) × (head_of (lines_of it) ≡ Whole config lines))) same head; left = left }
+    → IfSome known (λ bytes. (lines : List (List ℕ)) × (head_of (lines_of bytes) ≡ Whole config lines)) → AreLeft (new_nodes config).nodes nodes → AllReplaySame config (his_nodes config nodes)
+    → ((lines rest : List (List ℕ)) → head_of lines ≡ Whole config rest → HaveLines config (his_nodes config nodes) → SaysSame config (his_nodes config nodes) (audit_of config nodes))
+    → AreServed old config nodes
+served_from known old config nodes same head left replays says =
+    let its = subst (λ bytes. IfSome bytes (λ it. (lines : List (List ℕ)) × (head_of (lines_of it) ≡ Whole config lines))) same head in
+    record { head = its; left = left; replays = replays; says_same = says_for old config nodes its says }
 
 keeps : (known : Option (List ℕ)) → Keeps known known
 keeps None = tt
 keeps (Some bytes) = refl
 
+-- the head is known
+pub head_is : (known old : Option (List ℕ)) (config : Config) → known ≡ old → IfSome known (λ bytes. (lines : List (List ℕ)) × (head_of (lines_of bytes) ≡ Whole config lines)) → IfSome old HasHead
+head_is known old config same head = subst (λ (bytes : Option (List ℕ)). IfSome bytes HasHead) same (its known head)
+  where
+    its : (known : Option (List ℕ)) → IfSome known (λ bytes. (lines : List (List ℕ)) × (head_of (lines_of bytes) ≡ Whole config lines)) → IfSome known HasHead
+    its None head = tt
+    its (Some bytes) head = (config, head.0, head.1)
+
 -- a service that ends before anything is written
-pub ends_early : (old new : Streams) (ended : CliFault) → new.contents ≡ old.contents → (ended ≡ OutOfMemory) ⊎ ((ended ≡ ReadFault) ⊎ (ended ≡ Torn)) → MayFail serving old new ended
-ends_early old new ended same stopped =
+pub ends_early : (old new : Streams) (ended : CliFault) → new.contents ≡ old.contents → IfSome old.remaining HasHead → (ended ≡ OutOfMemory) ⊎ ((ended ≡ ReadFault) ⊎ (ended ≡ Torn)) → MayFail serving old new ended
+ends_early old new ended same head stopped =
     let kept : Keeps old.contents new.contents = subst (Keeps old.contents) (sym same) (keeps old.contents) in
     elim stopped [
       | inl lack ↦ subst (MayFail serving old new) (sym lack) (record { why = inl tt; begun = inl kept })
       | inr others ↦ elim others [
         | inl failed ↦ subst (MayFail serving old new) (sym failed) (record { why = inr (inl kept); begun = inl kept })
-        | inr torn ↦ subst (MayFail serving old new) (sym torn) (record { why = inr kept; begun = inl kept })
+        | inr torn ↦ subst (MayFail serving old new) (sym torn) (record { why = inr (head, kept); begun = inl kept })
       ]
     ]
 

@@ -8,7 +8,7 @@ use Rattle.clap.specs.declared.builder.value_parser.ValueParser.TheVariants.{Uns
 use Rattle.clap.specs.Simple.{on_top}
 use Rattle.cops_cli.specs.declared.command_line.Service.{Service}
 use Rattle.cops_cli.specs.declared.command_line.Task.{Task}
-use Rattle.cops_cli.specs.declared.command_line.Task.TheVariants.{Run, Solo, Audit, Replay, Migrate, Serve}
+use Rattle.cops_cli.specs.declared.command_line.Task.TheVariants.{Run, Solo, Audit, Replay, Extract, Migrate, Serve}
 use Rattle.cops_cli.specs.declared.faults.CliFault.{CliFault}
 use Rattle.cops_cli.specs.declared.faults.CliFault.TheVariants.{CommandLine}
 
@@ -26,6 +26,9 @@ audit = new_app (codes "audit")
 
 abbrev pub replay : App
 replay = with_rule (new_app (codes "replay")) tenant
+
+abbrev pub extract : App
+extract = with_rule (new_app (codes "extract")) tenant
 
 abbrev pub migrate : App
 migrate = new_app (codes "migrate")
@@ -65,8 +68,11 @@ with_audit = with_subcommand with_solo audit.top
 abbrev pub with_replay : App
 with_replay = with_subcommand with_audit replay.top
 
+abbrev pub with_extract : App
+with_extract = with_subcommand with_replay extract.top
+
 abbrev pub with_migrate : App
-with_migrate = with_subcommand with_replay migrate.top
+with_migrate = with_subcommand with_extract migrate.top
 
 -- the program with its subcommands
 abbrev pub cops : App
@@ -76,7 +82,7 @@ cops = with_subcommand with_migrate serve.top
 abbrev pub subcommand_named : List Text → Option Text
 subcommand_named words = option_map (λ (found : Text × List Row). found.0) (subcommand_of cops words)
 
--- the tenant that the words after `solo` or `replay` name
+-- the tenant that the words after `solo`, `replay` or `extract` name
 abbrev pub tenant_word : List Row → Text
 tenant_word rows = unwrap_or (first_of (codes "TENANT") rows) []
 
@@ -122,6 +128,7 @@ IsAskedBy words Run = subcommand_named words ≡ Some (codes "run")
 IsAskedBy words (Solo name) = alone_named words ≡ Some (codes "solo", name.now)
 IsAskedBy words Audit = subcommand_named words ≡ Some (codes "audit")
 IsAskedBy words (Replay name) = alone_named words ≡ Some (codes "replay", name.now)
+IsAskedBy words (Extract name) = alone_named words ≡ Some (codes "extract", name.now)
 IsAskedBy words Migrate = subcommand_named words ≡ Some (codes "migrate")
 IsAskedBy words (Serve service) = IsServedBy words service
 
@@ -133,7 +140,7 @@ is_plain (byte ∷ bytes) = not (byte == 45)
 -- the program's name and a command without options, with its tenant or its address if it has one
 abbrev pub ArePlain : List Text → Type 0
 ArePlain (program ∷ command ∷ []) = (command ≡ codes "run") ⊎ ((command ≡ codes "audit") ⊎ (command ≡ codes "migrate"))
-ArePlain (program ∷ command ∷ word ∷ []) = IsTrue (is_plain word) × ((command ≡ codes "solo") ⊎ ((command ≡ codes "replay") ⊎ (command ≡ codes "serve")))
+ArePlain (program ∷ command ∷ word ∷ []) = IsTrue (is_plain word) × ((command ≡ codes "solo") ⊎ ((command ≡ codes "replay") ⊎ ((command ≡ codes "extract") ⊎ (command ≡ codes "serve"))))
 ArePlain other = ⊥
 
 -- clap refuses the words for a reason that it has at these words

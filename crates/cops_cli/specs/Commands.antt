@@ -16,14 +16,17 @@ use Rattle.cops_script.specs.SoloRuns.{IsRefusedFor, WritesSolo, WritesSoloFront
 use Rattle.cops_script.specs.declared.solo_machine.SoloRefusal.TheVariants as solo
 use Rattle.cops_service.specs.Left.{AreLeft}
 use Rattle.cops_replay.specs.AuditRuns.{WritesAudit, WritesAuditFront}
-use Rattle.cops_replay.specs.AuditText.{audit_of}
+use Rattle.cops_replay.specs.AuditText.{audit_of, his_nodes}
 use Rattle.cops_replay.specs.MigratedText.{migration_of}
+use Rattle.cops_replay.specs.OwnParts.{RefusesPartOf, WritesPart, WritesPartFront}
 use Rattle.cops_replay.specs.ReplayText.{IsReplayOf, RefusesReplayOf, ReplaysFront}
+use Rattle.cops_replay.specs.WrittenAudits.{AllReplaySame, HaveLines, SaysSame}
 use Rattle.cops_replay.specs.declared.migrations.MigrationRefusal.TheVariants as migration
+use Rattle.cops_replay.specs.declared.refusals.PartRefusal.TheVariants as part
 use Rattle.cops_replay.specs.declared.refusals.ReplayRefusal.TheVariants as replay
 use Rattle.cops_cli.specs.CommandLine.{IsAskedBy, IsRefusedAs}
 use Rattle.cops_cli.specs.declared.command_line.Task.{Task}
-use Rattle.cops_cli.specs.declared.command_line.Task.TheVariants.{Run, Solo, Audit, Replay, Migrate, Serve}
+use Rattle.cops_cli.specs.declared.command_line.Task.TheVariants.{Run, Solo, Audit, Replay, Extract, Migrate, Serve}
 use Rattle.cops_cli.specs.declared.faults.CliFault.{CliFault}
 use Rattle.cops_cli.specs.declared.faults.CliFault.TheVariants.{BadHead, BadLine, UnknownTenant, ClockTooGreat, OutOfMemory, ReadFault, WriteFault, Torn}
 
@@ -127,6 +130,15 @@ WritesReplay name bytes old_contents new_contents = (text : List ℕ) × IsRepla
 abbrev pub replaying : List ℕ → CommandRules
 replaying name = record { does = ReadsAll (WritesReplay name); begins = WritesSomeOf (ReplaysFront name); refuses = refuses_records name }
 
+abbrev pub refuses_part : List ℕ → Streams → Streams → CliFault → Type 0
+refuses_part name old new (BadHead line) = RefusesAll (λ bytes. RefusesPartOf name bytes (part.BadConfig (record { line = line }))) old new
+refuses_part name old new UnknownTenant = RefusesAll (λ bytes. RefusesPartOf name bytes part.UnknownTenant) old new
+refuses_part name old new other = ⊥
+
+-- the part of an audit that is the tenant's own
+abbrev pub extracting : List ℕ → CommandRules
+extracting name = record { does = ReadsAll (WritesPart name); begins = WritesSomeOf (WritesPartFront name); refuses = refuses_part name }
+
 -- the audit in layout 2
 pub record WritesMigrated (bytes : List ℕ) (old_contents new_contents : Option (List ℕ)) : Type 0 where
   pub count : ℕ
@@ -147,10 +159,13 @@ refuses_line old new other = ⊥
 abbrev pub migrating : CommandRules
 migrating = record { does = ReadsAll WritesMigrated; begins = WritesSomeOf WritesMigratedFront; refuses = refuses_line }
 
--- the input begins with a head of this configuration, and these are nodes that a service of it leaves
+-- the input begins with a head of this configuration, and these are nodes that a service of it leaves; a replay of each tenant's records in their
+-- audit finds them all the same, and one of its text says so if no record's line is too long
 pub record AreServed (old_remaining : Option (List ℕ)) (config : Config) (nodes : List Shared) : Type 0 where
   pub head : IfSome old_remaining (λ bytes. (lines : List (List ℕ)) × (head_of (lines_of bytes) ≡ Whole config lines))
   pub left : AreLeft (new_nodes config).nodes nodes
+  pub replays : AllReplaySame config (his_nodes config nodes)
+  pub says_same : IfSome old_remaining (λ bytes. HaveLines config (his_nodes config nodes) → SaysSame config (his_nodes config nodes) (audit_of config nodes))
 
 -- the audit of the nodes that are left is written
 abbrev pub WritesServed : Streams → Streams → Type 0
@@ -161,11 +176,15 @@ abbrev pub WritesServedFront : Streams → Streams → Type 0
 WritesServedFront old new = Keeps old.contents new.contents
     ⊎ ((config : Config) × (nodes : List Shared) × AreServed old.remaining config nodes × AppendsFront old.contents new.contents (audit_of config nodes))
 
+-- the input begins with a head
+abbrev pub HasHead : List ℕ → Type 0
+HasHead bytes = (config : Config) × (lines : List (List ℕ)) × (head_of (lines_of bytes) ≡ Whole config lines)
+
 -- a bad head; the listener failed, before the service or at its end, or a thread could not be started; a turn of a node was never ended
 abbrev pub refuses_service : Streams → Streams → CliFault → Type 0
 refuses_service old new (BadHead line) = RefusesAll (HasBadHead line) old new
 refuses_service old new ReadFault = Keeps old.contents new.contents ⊎ WritesServed old new
-refuses_service old new Torn = Keeps old.contents new.contents
+refuses_service old new Torn = RefusesAll HasHead old new
 refuses_service old new other = ⊥
 
 -- a service for clients, and its audit
@@ -179,6 +198,7 @@ command_of Run = answering
 command_of (Solo name) = answering_alone name.now
 command_of Audit = auditing
 command_of (Replay name) = replaying name.now
+command_of (Extract name) = extracting name.now
 command_of Migrate = migrating
 command_of (Serve service) = serving
 

@@ -12,6 +12,8 @@ use Rattle.cops_script.specs.declared.solo_machine.SoloRefusal.{SoloRefusal}
 use Rattle.cops_script.specs.declared.solo_machine.SoloRefusal.TheVariants as solo
 use Rattle.cops_replay.specs.declared.migrations.MigrationRefusal.{MigrationRefusal}
 use Rattle.cops_replay.specs.declared.migrations.MigrationRefusal.TheVariants as migration
+use Rattle.cops_replay.specs.declared.refusals.PartRefusal.{PartRefusal}
+use Rattle.cops_replay.specs.declared.refusals.PartRefusal.TheVariants as part
 use Rattle.cops_replay.specs.declared.refusals.ReplayRefusal.{ReplayRefusal}
 use Rattle.cops_replay.specs.declared.refusals.ReplayRefusal.TheVariants as replay
 use Rattle.cops_cli.specs.declared.faults.CliFault.{CliFault}
@@ -38,6 +40,11 @@ abbrev pub not_replayed : ReplayRefusal → CliFault
 not_replayed (replay.BadConfig bad) = BadHead bad.line
 not_replayed replay.UnknownTenant = UnknownTenant
 not_replayed replay.ClockTooGreat = ClockTooGreat
+
+-- the fault of a refused extraction
+abbrev pub not_extracted : PartRefusal → CliFault
+not_extracted (part.BadConfig bad) = BadHead bad.line
+not_extracted part.UnknownTenant = UnknownTenant
 
 -- the fault of a refused migration
 abbrev pub not_migrated : MigrationRefusal → CliFault

@@ -4,11 +4,11 @@ ghost use Rattle.clap.specs.Matches.{found_of};
 ghost use Rattle.clap.specs.Walk.{rows_of};
 ghost use Rattle.clap.specs.Words.{app_of, fault_of, new_app, one_of, rule_of};
 ghost use Rattle.clap.specs.declared.builder.command.Command.TheViews.{out-Command};
-ghost use Rattle.cops_cli.specs.CommandLine.{ArePlain, IsAskedBy, IsRefusedAs, IsServiceIn, IsSpelledBy, address, audit, cops, flag, migrate, number, numbered_serve, replay, run, serve, solo, tenant, tenant_word, with_audit, with_migrate, with_replay, with_run, with_solo};
+ghost use Rattle.cops_cli.specs.CommandLine.{ArePlain, IsAskedBy, IsRefusedAs, IsServiceIn, IsSpelledBy, address, audit, cops, extract, flag, migrate, number, numbered_serve, replay, run, serve, solo, tenant, tenant_word, with_audit, with_extract, with_migrate, with_replay, with_run, with_solo};
 
 use crate::faults::CliFault;
 use crate::help_texts::{
-    AUDIT_HELP, COPS_HELP, MIGRATE_HELP, REPLAY_HELP, RUN_HELP, SERVE_HELP, SOLO_HELP,
+    AUDIT_HELP, COPS_HELP, EXTRACT_HELP, MIGRATE_HELP, REPLAY_HELP, RUN_HELP, SERVE_HELP, SOLO_HELP,
 };
 use clap::builder::ValueParser;
 use clap::{Arg, ArgAction, ArgMatches, Command};
@@ -35,6 +35,8 @@ pub(crate) enum Task<'a> {
     Audit,
     /// Replays one tenant's records of an audit.
     Replay(&'a str),
+    /// Extracts one tenant's part of an audit.
+    Extract(&'a str),
     /// Migrates an audit of layout 1 to layout 2.
     Migrate,
     /// Serves clients.
@@ -114,6 +116,18 @@ fn replay_command<'a>(alloc: Global) -> Result<Command<'a>, AllocError>
     Command::new(alloc, "replay")
         .about("Replays a tenant's records of the audit on standard input")
         .after_help(REPLAY_HELP)
+        .arg(tenant)
+}
+
+/// With the name of a tenant.
+fn extract_command<'a>(alloc: Global) -> Result<Command<'a>, AllocError>
+    ensures app { IfOk result (λ command. app_of command ≡ extract) }
+    ensures no_globals { IfOk result (λ command. (out-Command command).has_globals ≡ false) }
+{
+    let tenant = tenant_argument(alloc);
+    Command::new(alloc, "extract")
+        .about("Writes a tenant's part of the audit on standard input")
+        .after_help(EXTRACT_HELP)
         .arg(tenant)
 }
 
@@ -254,11 +268,19 @@ fn replay_commands<'a>(alloc: Global) -> Result<Command<'a>, AllocError>
 }
 
 /// With five.
+fn extract_commands<'a>(alloc: Global) -> Result<Command<'a>, AllocError>
+    ensures { IfOk result (λ command. app_of command ≡ with_extract) }
+{
+    let extract = extract_command(alloc)?;
+    replay_commands(alloc)?.subcommand(extract)
+}
+
+/// With six.
 fn migrate_commands<'a>(alloc: Global) -> Result<Command<'a>, AllocError>
     ensures { IfOk result (λ command. app_of command ≡ with_migrate) }
 {
     let migrate = migrate_command(alloc);
-    replay_commands(alloc)?.subcommand(migrate)
+    extract_commands(alloc)?.subcommand(migrate)
 }
 
 fn command_line<'a>(alloc: Global) -> Result<Command<'a>, AllocError>
@@ -310,6 +332,10 @@ pub(crate) fn read_words<'a, S: AsStr>(alloc: Global, words: &'a [S]) -> Result<
     if let Some(replay) = matches.subcommand_matches("replay") {
         let named = tenant_in(replay);
         return Ok(Task::Replay(named));
+    }
+    if let Some(extract) = matches.subcommand_matches("extract") {
+        let owner = tenant_in(extract);
+        return Ok(Task::Extract(owner));
     }
     if let Some(serve) = matches.subcommand_matches("serve") {
         return Ok(Task::Serve(service_in(serve)));

@@ -1,11 +1,11 @@
 //! The faults that the program ends with.
 ghost use Rattle.std.specs.Prelude.{◌≡◌};
-ghost use Rattle.cops_cli.specs.Faults.{RefusesWords, bad_head, ended_by, ended_serving_by, not_answered, not_migrated, not_replayed};
+ghost use Rattle.cops_cli.specs.Faults.{RefusesWords, bad_head, ended_by, ended_serving_by, not_answered, not_extracted, not_migrated, not_replayed};
 ghost use Rattle.cops_cli.specs.Statuses.{fault_status};
 ghost use Rattle.cops_cli.specs.declared.faults.CliFault.TheVariants.{OutOfMemory};
 
 use clap::error::ErrorKind;
-use cops_replay::{MigrationRefusal, ReplayRefusal};
+use cops_replay::{MigrationRefusal, PartRefusal, ReplayRefusal};
 use cops_script::{BadConfig, RunFault, SoloRefusal};
 use cops_types::Fault;
 use std::alloc::AllocError;
@@ -104,6 +104,20 @@ impl From<RunFault<ReplayRefusal>> for CliFault {
             RunFault::Refused(ReplayRefusal::BadConfig(bad)) => CliFault::BadHead(bad.line),
             RunFault::Refused(ReplayRefusal::UnknownTenant) => CliFault::UnknownTenant,
             RunFault::Refused(ReplayRefusal::ClockTooGreat) => CliFault::ClockTooGreat,
+            RunFault::OutOfMemory => CliFault::OutOfMemory,
+            RunFault::ReadFault => CliFault::ReadFault,
+            RunFault::WriteFault => CliFault::WriteFault,
+        }
+    }
+}
+
+impl From<RunFault<PartRefusal>> for CliFault {
+    ghost from_gives = { λ fault ended. ended ≡ ended_by not_extracted fault };
+
+    fn from(fault: RunFault<PartRefusal>) -> CliFault {
+        match fault {
+            RunFault::Refused(PartRefusal::BadConfig(bad)) => CliFault::BadHead(bad.line),
+            RunFault::Refused(PartRefusal::UnknownTenant) => CliFault::UnknownTenant,
             RunFault::OutOfMemory => CliFault::OutOfMemory,
             RunFault::ReadFault => CliFault::ReadFault,
             RunFault::WriteFault => CliFault::WriteFault,

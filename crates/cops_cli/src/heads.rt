@@ -1,5 +1,5 @@
 //! The head of standard input, and nothing behind it.
-ghost use Rattle.std.specs.Prelude.{◌≡◌};
+ghost use Rattle.std.specs.Prelude.{◌≡◌, ◌≤◌, IfOk};
 ghost use Rattle.std.specs.Io.{ReadsAtMost};
 ghost use Rattle.std.specs.Io.KnownBytes.{ReadConsumes};
 ghost use Rattle.cops_types.specs.Source.{source_reader};
@@ -34,6 +34,7 @@ impl<I: Read> Read for ByteReader<'_, I> {
     fn read(&mut self, buf: &mut [u8]) -> io::Result<usize>
         ensures bound { ReadsAtMost result buf.new }
         ensures bytes { ReadConsumes (I.remaining (source_reader self.old.source.now)) (I.remaining (source_reader self.new.source.now)) result buf.new }
+        ensures one { IfOk result (λ count. count ≤ 1) }
     {
         let most = buf.len().min(1);
         let read = self.source.read(&mut buf[..most]);

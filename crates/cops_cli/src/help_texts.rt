@@ -84,6 +84,26 @@ With status 1 a prefix of that line may have been written.
 Example:
   cops audit < demo/tenants.script | cops replay acme";
 
+pub(crate) const EXTRACT_HELP: &str =
+    "Reads an audit of layout 1 or 2 from standard input, and writes this tenant's
+part to standard output: the layout, the sizes, the tenant's line of the head,
+and its records. The part has no other tenant's name or token. A replay of it
+has the result of a replay of the whole audit.
+
+Status  Standard error              When
+0                                   all was read, and the part is written
+1       cops: E23                   out of memory
+1       cops: E26                   reading failed
+1       cops: E27                   writing failed
+2       cops: configuration line N  the head is bad; nothing is written
+2       cops: E02                   the head has no such tenant; nothing is written
+2       this, or what is wrong      --help was given, or the arguments are wrong
+
+With status 1 a prefix of the part may have been written.
+
+Example:
+  cops audit < demo/tenants.script | cops extract acme";
+
 pub(crate) const MIGRATE_HELP: &str =
     "Reads an audit of layout 1 from standard input: its head, and then its records.
 Writes it to standard output as an audit of layout 2.

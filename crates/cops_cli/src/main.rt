@@ -1,4 +1,4 @@
-//! The program `cops`. It answers a script, writes its audit, replays or migrates an audit, or serves clients.
+//! The program `cops`. It answers a script, writes its audit, replays an audit, extracts a part of it or migrates it, or serves clients.
 #![tactic(auto)]
 
 ghost use Rattle.std.specs.Prelude.{◌≡◌};

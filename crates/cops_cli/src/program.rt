@@ -1,14 +1,14 @@
 //! The program over any reader and any writer.
 ghost use Rattle.std.specs.Prelude.{◌≡◌, ◌⊎◌, map, IfErr, IsErrAnd};
 ghost use Rattle.cops_cli.specs.CommandLine.{ArePlain};
-ghost use Rattle.cops_cli.specs.Commands.{EndsTask, MayEnd, RefusesTask, answering, answering_alone, auditing, command_of, migrating, replaying, streams};
+ghost use Rattle.cops_cli.specs.Commands.{EndsTask, MayEnd, RefusesTask, answering, answering_alone, auditing, command_of, extracting, migrating, replaying, streams};
 ghost use Rattle.cops_cli.specs.Faults.{IsOfWords};
 
 use crate::command_line::{Task, read_words};
 use crate::control::Hosted;
 use crate::faults::CliFault;
 use crate::serve::serve;
-use cops_replay::{audit_text, migrate_text, replay_text};
+use cops_replay::{audit_text, extract_text, migrate_text, replay_text};
 use cops_types::{Sink, Source};
 use cops_world::{run_script, solo_script};
 use std::alloc::Global;
@@ -69,6 +69,19 @@ fn replay<R: Read, O: Write>(
     Ok(())
 }
 
+/// Extracts one tenant's part of an audit.
+fn extract<R: Read, O: Write>(
+    alloc: Global,
+    source: &mut Source<R>,
+    sink: &mut Sink<O>,
+    tenant: &str,
+) -> Result<(), CliFault>
+    ensures { MayEnd (extracting tenant.now) (streams R.remaining O.contents source.old sink.old) (streams R.remaining O.contents source.new sink.new) result }
+{
+    extract_text(alloc, source, sink, tenant.as_bytes())?;
+    Ok(())
+}
+
 /// Migrates an audit of layout 1 to layout 2.
 fn migrate<R: Read, O: Write>(
     alloc: Global,
@@ -99,6 +112,7 @@ where
         Task::Solo(tenant) => solo(alloc, source, sink, tenant),
         Task::Audit => audit(alloc, source, sink),
         Task::Replay(tenant) => replay(alloc, source, sink, tenant),
+        Task::Extract(tenant) => extract(alloc, source, sink, tenant),
         Task::Migrate => migrate(alloc, source, sink),
         Task::Serve(service) => serve(rt, alloc, &service, source, sink),
     }

@@ -1,13 +1,15 @@
 //! Serves clients, and writes the audit.
-ghost use Rattle.std.specs.Prelude.{◌≡◌, ◌⊎◌, IsErrOf, IsTrue, IfErr, IfOk, OnOk};
+ghost use Rattle.std.specs.Prelude.{◌≡◌, ◌≢◌, ◌⊎◌, ℕ, List, IsErrOf, IsTrue, IfErr, IfOk, OnOk};
 ghost use Rattle.std.specs.Io.KnownBytes.{Appends};
 ghost use Rattle.cops_types.specs.Counts.{HasRisen};
+ghost use Rattle.cops_types.specs.Head.{Whole, head_of};
 ghost use Rattle.cops_types.specs.HeadLines.{are_sizes};
 ghost use Rattle.cops_types.specs.Sink.{AppendsFront, sink_failures, sink_writer};
 ghost use Rattle.cops_types.specs.Source.{source_reader};
 ghost use Rattle.cops_node.specs.Clusters.{new_nodes};
 ghost use Rattle.cops_node.specs.Parts.{are_clocks};
-ghost use Rattle.cops_replay.specs.AuditText.{AreNodesOf, audit_of};
+ghost use Rattle.cops_replay.specs.AuditText.{AreNodesOf, audit_of, his_nodes};
+ghost use Rattle.cops_replay.specs.WrittenAudits.{AllReplaySame, HaveLines, SaysSame};
 ghost use Rattle.cops_service.specs.Left.{AreLeft};
 ghost use Rattle.cops_cli.specs.Commands.{MayEnd, serving, streams};
 
@@ -121,6 +123,7 @@ where
     requires sizes { IsTrue (are_sizes config.now) }
     requires clocks { IsTrue (are_clocks config.now) }
     ensures left { IfOk result (λ served. AreLeft (new_nodes config.now).nodes served.nodes.items) }
+    ensures threads { IfOk result (λ served. served.end ≢ ServiceEnd.NoThread) }
     ensures stopped { IfErr result (λ fault. (fault ≡ CliFault.OutOfMemory) ⊎ (fault ≡ CliFault.ReadFault) ⊎ (fault ≡ CliFault.Torn)) }
 {
     let listener = listen(rt, service.address)?;
@@ -145,6 +148,7 @@ where
 /// Says what was served. Fails if a thread couldn't be started, since nothing was served then.
 fn told_end<R: Eprint>(rt: &R, served: Served) -> Result<Served, CliFault>
     ensures same { IfOk result (λ told. told ≡ served) }
+    ensures threads { IfOk result (λ told. told.end ≢ ServiceEnd.NoThread) }
     ensures stopped { IfErr result (λ fault. fault ≡ CliFault.ReadFault) }
 {
     let Counts {
@@ -176,9 +180,16 @@ fn conclude<R: Eprint, O: Write>(
     requires nodes { AreNodesOf config.now served.now.nodes.items }
     ensures ok { OnOk result (Appends (O.contents (sink_writer sink.old)) (O.contents (sink_writer sink.new)) (audit_of config.now served.now.nodes.items)) }
     ensures front { AppendsFront (O.contents (sink_writer sink.old)) (O.contents (sink_writer sink.new)) (audit_of config.now served.now.nodes.items) }
+    ensures done { OnOk result (served.now.end ≡ ServiceEnd.Done) }
     ensures stopped { IfErr result (λ fault. (fault ≡ CliFault.OutOfMemory) ⊎ (fault ≡ CliFault.WriteFault) ⊎ (fault ≡ CliFault.ReadFault)) }
     ensures lost { IsErrOf result CliFault.ReadFault → Appends (O.contents (sink_writer sink.old)) (O.contents (sink_writer sink.new)) (audit_of config.now served.now.nodes.items) }
     ensures write_fault { IsErrOf result CliFault.WriteFault → HasRisen (sink_failures sink.old) (sink_failures sink.new) }
+
+    // A replay of each tenant's records finds them all the same; of the text too, as `write_audit`
+    // says it.
+    ensures replays { AllReplaySame config.now (his_nodes config.now served.now.nodes.items) }
+    ensures says_same { (lines rest : List (List ℕ)) → head_of lines ≡ Whole config.now rest → HaveLines config.now (his_nodes config.now served.now.nodes.items) →
+        SaysSame config.now (his_nodes config.now served.now.nodes.items) (audit_of config.now served.now.nodes.items) }
 {
     match write_audit(alloc, sink, config, served.nodes.as_slice()) {
         Ok(()) => (),

@@ -6,4 +6,4 @@ use Rattle.cops_cli.proofs.command_line.migrate_commands.Goals as goal
 pub returns : goal.returns
 returns c =
     IfOk-weaker c.subcommand.result _ _ (λ command adds. adds.shape c.migrate_command-migrate.ensures.no_globals
-    ∙ ap₂ with_subcommand c.in_ok-replay_commands.ensures (ap (λ (a : App). a.top) c.migrate_command-migrate.ensures.app)) c.subcommand.ensures
+    ∙ ap₂ with_subcommand c.in_ok-extract_commands.ensures (ap (λ (a : App). a.top) c.migrate_command-migrate.ensures.app)) c.subcommand.ensures

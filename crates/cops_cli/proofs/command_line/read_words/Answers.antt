@@ -59,14 +59,11 @@ returns-in-Some-subcommand_matches-2-clause-asked g c =
     let m = c.in_ok-matches.matches in
     let is_cops : app_of _ ≡ cops = c.in_ok-command_line.ensures in
     let found : subcommand_rows_of m ≡ subcommand_of cops texts = (c.in_ok-matches.ensures.matches (ap is_simple is_cops ∙ is_simple_cops)).1 ∙ ap (λ (a : App). subcommand_of a texts) is_cops in
-    let named : subcommand_name_of m ≡ Some (codes "serve") = search rules in
-    let rows = rows_of (found_of c.in-Some-subcommand_matches-2.serve.now) in
-    record {
-      rows = rows;
-      named = serve_is_named (subcommand_of cops texts) rows (ap (option_map (λ (p : Text × List Row). p.0)) (sym found) ∙ sym (name_in m) ∙ named)
-          (ap (option_map (λ (p : Text × List Row). p.1)) (sym found) ∙ c.in-Some-subcommand_matches-2.ensures.rows);
-      is = c.service_in.ensures;
-    }
+    let named : subcommand_name_of m ≡ Some (codes "extract") = search rules in
+    let rows = rows_of (found_of c.in-Some-subcommand_matches-2.extract.now) in
+    named_with_tenant (codes "extract") (subcommand_of cops texts) rows (ap (option_map (λ (p : Text × List Row). p.0)) (sym found) ∙ sym (name_in m) ∙ named)
+    (ap (option_map (λ (p : Text × List Row). p.1)) (sym found) ∙ c.in-Some-subcommand_matches-2.ensures.rows)
+    ∙ ap (λ (t : Text). Some (codes "extract", t)) (sym c.tenant_in-owner.ensures)
 
 pub returns-in-Some-subcommand_matches-2-clause-taken : goal.returns-in-Some-subcommand_matches-2-clause-taken
 returns-in-Some-subcommand_matches-2-clause-taken g c = subst (λ (a : App). fault_of a (map g.S.AsStr.text c.args.words.now) ≡ []) c.in_ok-command_line.ensures (c.in_ok-matches.ensures.kinds (ap is_simple_and_free c.in_ok-command_line.ensures ∙ is_free_cops))
@@ -77,8 +74,14 @@ returns-in-Some-subcommand_matches-3-clause-asked g c =
     let m = c.in_ok-matches.matches in
     let is_cops : app_of _ ≡ cops = c.in_ok-command_line.ensures in
     let found : subcommand_rows_of m ≡ subcommand_of cops texts = (c.in_ok-matches.ensures.matches (ap is_simple is_cops ∙ is_simple_cops)).1 ∙ ap (λ (a : App). subcommand_of a texts) is_cops in
-    let named : subcommand_name_of m ≡ Some (codes "migrate") = search rules in
-    ap (option_map (λ (p : Text × List Row). p.0)) (sym found) ∙ sym (name_in m) ∙ named
+    let named : subcommand_name_of m ≡ Some (codes "serve") = search rules in
+    let rows = rows_of (found_of c.in-Some-subcommand_matches-3.serve.now) in
+    record {
+      rows = rows;
+      named = serve_is_named (subcommand_of cops texts) rows (ap (option_map (λ (p : Text × List Row). p.0)) (sym found) ∙ sym (name_in m) ∙ named)
+          (ap (option_map (λ (p : Text × List Row). p.1)) (sym found) ∙ c.in-Some-subcommand_matches-3.ensures.rows);
+      is = c.service_in.ensures;
+    }
 
 pub returns-in-Some-subcommand_matches-3-clause-taken : goal.returns-in-Some-subcommand_matches-3-clause-taken
 returns-in-Some-subcommand_matches-3-clause-taken g c = subst (λ (a : App). fault_of a (map g.S.AsStr.text c.args.words.now) ≡ []) c.in_ok-command_line.ensures (c.in_ok-matches.ensures.kinds (ap is_simple_and_free c.in_ok-command_line.ensures ∙ is_free_cops))
@@ -89,11 +92,23 @@ returns-in-Some-subcommand_matches-4-clause-asked g c =
     let m = c.in_ok-matches.matches in
     let is_cops : app_of _ ≡ cops = c.in_ok-command_line.ensures in
     let found : subcommand_rows_of m ≡ subcommand_of cops texts = (c.in_ok-matches.ensures.matches (ap is_simple is_cops ∙ is_simple_cops)).1 ∙ ap (λ (a : App). subcommand_of a texts) is_cops in
-    let named : subcommand_name_of m ≡ Some (codes "audit") = search rules in
+    let named : subcommand_name_of m ≡ Some (codes "migrate") = search rules in
     ap (option_map (λ (p : Text × List Row). p.0)) (sym found) ∙ sym (name_in m) ∙ named
 
 pub returns-in-Some-subcommand_matches-4-clause-taken : goal.returns-in-Some-subcommand_matches-4-clause-taken
 returns-in-Some-subcommand_matches-4-clause-taken g c = subst (λ (a : App). fault_of a (map g.S.AsStr.text c.args.words.now) ≡ []) c.in_ok-command_line.ensures (c.in_ok-matches.ensures.kinds (ap is_simple_and_free c.in_ok-command_line.ensures ∙ is_free_cops))
+
+pub returns-in-Some-subcommand_matches-5-clause-asked : goal.returns-in-Some-subcommand_matches-5-clause-asked
+returns-in-Some-subcommand_matches-5-clause-asked g c =
+    let texts = map g.S.AsStr.text c.args.words.now in
+    let m = c.in_ok-matches.matches in
+    let is_cops : app_of _ ≡ cops = c.in_ok-command_line.ensures in
+    let found : subcommand_rows_of m ≡ subcommand_of cops texts = (c.in_ok-matches.ensures.matches (ap is_simple is_cops ∙ is_simple_cops)).1 ∙ ap (λ (a : App). subcommand_of a texts) is_cops in
+    let named : subcommand_name_of m ≡ Some (codes "audit") = search rules in
+    ap (option_map (λ (p : Text × List Row). p.0)) (sym found) ∙ sym (name_in m) ∙ named
+
+pub returns-in-Some-subcommand_matches-5-clause-taken : goal.returns-in-Some-subcommand_matches-5-clause-taken
+returns-in-Some-subcommand_matches-5-clause-taken g c = subst (λ (a : App). fault_of a (map g.S.AsStr.text c.args.words.now) ≡ []) c.in_ok-command_line.ensures (c.in_ok-matches.ensures.kinds (ap is_simple_and_free c.in_ok-command_line.ensures ∙ is_free_cops))
 
 pub returns-clause-asked : goal.returns-clause-asked
 returns-clause-asked g c =
@@ -114,8 +129,11 @@ returns-clause-asked g c =
             | inr last ↦ elim last [
               | inl replay ↦ absurd (false_is_true (c.in_default-subcommand_matches.ensures.found.1 (its ∙ replay)))
               | inr rest ↦ elim rest [
-                | inl migrate ↦ absurd (false_is_true (c.in_default-subcommand_matches-3.ensures.found.1 (its ∙ migrate)))
-                | inr serve ↦ absurd (false_is_true (c.in_default-subcommand_matches-2.ensures.found.1 (its ∙ serve)))
+                | inl extract ↦ absurd (false_is_true (c.in_default-subcommand_matches-2.ensures.found.1 (its ∙ extract)))
+                | inr least ↦ elim least [
+                  | inl migrate ↦ absurd (false_is_true (c.in_default-subcommand_matches-4.ensures.found.1 (its ∙ migrate)))
+                  | inr serve ↦ absurd (false_is_true (c.in_default-subcommand_matches-3.ensures.found.1 (its ∙ serve)))
+                ]
               ]
             ]
           ]
