@@ -1,8 +1,8 @@
 -- What the rules of an extraction come to over a whole file.
-use Rattle.std.proofs.Common.{◌≡◌, ℕ, ◌+◌, ◌<◌, ◌≤◌, Bool, true, false, ◌&&◌, nat_eq, cond, List, [], ◌∷◌, ◌++◌, length, map, inl, inr, ◌⊎◌, refl, sym, subst, ap, ◌∙◌, append_assoc, append-nil, arith}
+use Rattle.std.proofs.Common.{◌≡◌, ℕ, ◌+◌, ◌<◌, ◌≤◌, Bool, true, false, ◌&&◌, nat_eq, cond, List, [], ◌∷◌, ◌++◌, length, map, inl, inr, refl, sym, subst, ap, ◌∙◌, append_assoc, append-nil, arith}
 use Rattle.std.specs.Prelude.{Option, Some, None, IfSome, flat_map, slice_get}
 use Rattle.std.specs.Str.{bytes_eq}
-use Rattle.std.specs.Io.KnownBytes.{Appends, Keeps}
+use Rattle.std.specs.Io.KnownBytes.{Keeps}
 use Rattle.std.proofs.lemmas.Grind.{flat_map-append}
 use Rattle.std.proofs.lemmas.List.{map-append}
 use Rattle.std.proofs.lemmas.List.Elements.{filter-append}
@@ -18,7 +18,7 @@ use Rattle.cops_types.proofs.WordLemmas.{bytes_from_test}
 use Rattle.cops_script.specs.declared.line_runs.fault.RunFault.{RunFault}
 use Rattle.cops_script.specs.declared.line_runs.fault.RunFault.TheVariants as fault
 use Rattle.cops_script.specs.LineRules.{Run}
-use Rattle.cops_script.specs.LineRuns.{AnswersAll, IfRunRefused, IsWhole, StopsEarly}
+use Rattle.cops_script.specs.LineRuns.{AnswersAll, IfRunRefused, StopsEarly}
 use Rattle.cops_script.proofs.ApartTenants.{found_at, name_of, short_name}
 use Rattle.cops_script.proofs.HeadRuns.{real_lines}
 use Rattle.cops_script.proofs.KnownLemmas.{AppendsFront-more, AppendsFront-nil, input_is, known_lines, known_whole}
@@ -31,7 +31,7 @@ use Rattle.cops_replay.specs.declared.old_heads.OldHeadSoFar.{OldHeadSoFar}
 use Rattle.cops_replay.specs.declared.refusals.PartRefusal.{PartRefusal}
 use Rattle.cops_replay.specs.declared.refusals.PartRefusal.TheVariants.{BadConfig, UnknownTenant}
 use Rattle.cops_replay.specs.AuditText.{ended, layout_line}
-use Rattle.cops_replay.specs.ExtractionRules.{EndsPart, IsCutOff, IsLoneHead, IsPartHead, OldPartAnswers, OldPartRefuses, PartGoesOn, PartHeadAnswers, PartHeadRefuses, extraction_answers, extraction_answers_in, extraction_ends, extraction_refuses, extraction_refuses_end, extraction_refuses_end_in, extraction_refuses_in, extraction_rules, own_text}
+use Rattle.cops_replay.specs.ExtractionRules.{EndsPart, IsCutOff, IsPartHead, OldPartAnswers, OldPartRefuses, PartGoesOn, PartHeadAnswers, PartHeadRefuses, extraction_answers, extraction_answers_in, extraction_ends, extraction_refuses, extraction_refuses_end, extraction_refuses_end_in, extraction_refuses_in, extraction_rules}
 use Rattle.cops_replay.specs.OwnLines.{alone_lines}
 use Rattle.cops_replay.specs.OwnParts.{IsPartOf, RefusesPartBy, RefusesPartOf, WritesPart, WritesPartFront, IsPartBy, layout_lines, lone_head_lines, part_text}
 use Rattle.cops_replay.specs.ReplayParts.{seen_lines}

@@ -6,7 +6,7 @@ use Rattle.std.specs.Option.{option_and_then}
 use Rattle.std.specs.Str.{bytes_eq}
 use Rattle.cops_types.specs.declared.configs.Config.{Config}
 use Rattle.cops_types.specs.declared.configs.Tenant.{Tenant}
-use Rattle.cops_types.specs.Head.{Front, AtStart, Within, Begun, Ends, Joins, HeadReading, Whole, BadAt, head_with, is_begun, with_tenant}
+use Rattle.cops_types.specs.Head.{Front, AtStart, Within, Begun, Ends, Joins, Whole, BadAt, head_with, is_begun, with_tenant}
 use Rattle.cops_types.specs.HeadLines.{IsClusterLine, are_sizes, begin_line, cluster_line, is_tenant_to, tenant_in_to}
 use Rattle.cops_types.specs.Lines.{cut_line, lines_of}
 use Rattle.cops_types.specs.OldHead.{last_old_clock}
@@ -25,7 +25,7 @@ use Rattle.cops_replay.specs.declared.refusals.ReplayRefusal.{ReplayRefusal}
 use Rattle.cops_replay.specs.AuditText.{ended, layout_line}
 use Rattle.cops_replay.specs.OpenAudits.{with_tenants}
 use Rattle.cops_replay.specs.OwnLines.{alone_lines}
-use Rattle.cops_replay.specs.OwnParts.{IsPartOf, layout_lines, lone_head_lines, part_text}
+use Rattle.cops_replay.specs.OwnParts.{IsPartOf, layout_lines, lone_head_lines}
 use Rattle.cops_replay.specs.Replayings.{is_replayed}
 use Rattle.cops_replay.specs.ReplayParts.{HasPart, seen_lines}
 use Rattle.cops_replay.specs.ReplayRules.{front_by}

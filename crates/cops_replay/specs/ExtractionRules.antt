@@ -12,7 +12,7 @@ use Rattle.cops_replay.specs.declared.extraction_machine.PartScript.{PartScript}
 use Rattle.cops_replay.specs.declared.extraction_machine.PartStage.{PartStage}
 use Rattle.cops_replay.specs.declared.extraction_machine.PartStage.TheVariants.{OldHead, Head, Records}
 use Rattle.cops_replay.specs.declared.layouts.Layout.{Layout}
-use Rattle.cops_replay.specs.declared.layouts.Layout.TheVariants.{Today, Early, Old}
+use Rattle.cops_replay.specs.declared.layouts.Layout.TheVariants.{Today, Early}
 use Rattle.cops_replay.specs.declared.old_heads.OldHeadSoFar.{OldHeadSoFar}
 use Rattle.cops_replay.specs.declared.refusals.PartRefusal.{PartRefusal}
 use Rattle.cops_replay.specs.declared.refusals.PartRefusal.TheVariants.{BadConfig, UnknownTenant}
