@@ -157,7 +157,10 @@ fn with_keys_in_turn(rt: &impl Abort, alloc: Global) -> Store
 /// Asserts the latest clock of a slot's short and long key.
 fn assert_latest(rt: &impl Abort, store: &Store, slot: usize, short: u64, long: u64) {
     assert_eq!(rt; clock(store.latest(slot, &key(rt, b"a"))), short);
-    assert_eq!(rt; clock(store.latest(slot, &key(rt, b"a_key_of_more_bytes"))), long);
+    assert_eq!(rt;
+        clock(store.latest(slot, &key(rt, b"a_key_of_more_bytes"))),
+        long
+    );
 }
 
 #[test]
