@@ -32,6 +32,8 @@ use Rattle.cops_script.proofs.LifeLines.{done_setup, heard_placed}
 use Rattle.cops_script.proofs.LifeRuns.{AreGiven, answer_of, given_nothing, given_one}
 use Rattle.cops_script.proofs.Numbered.{ArePlaced, IsPlaced}
 use Rattle.cops_script.proofs.OpenSets.{may_be_given}
+use Rattle.cops_world.specs.SlotLives.{AreLivedAlone}
+use Rattle.cops_world.proofs.SlotLifeLemmas.{LivesOn, lives_alone, lives_one, lives_to_end}
 use Rattle.cops_world.proofs.WorldLives.{has_acted}
 
 -- ---- who says it is open
@@ -99,9 +101,10 @@ module _ {W : Type 0} (setup : W → Setup) (StandsFor : W → ℕ → SoloClust
         AreGiven setup StandsFor start first (said_heard (setup start).tenants (past ++ more) (told ++ others)) (told ++ others) new
     pub placed : (more : List HostEvent) (others : List Answer) → ArePlaced (setup now).tenants (said_heard (setup now).tenants more others) →
         ArePlaced (setup start).tenants (said_heard (setup start).tenants (past ++ more) (told ++ others))
+    pub alone : (more : List HostEvent) (others : List LifeReply) → LivesOn setup StandsFor now more others → LivesOn setup StandsFor start (past ++ more) (replies ++ others)
 
   pub so_far_nothing : IsSoFar start [] []
-  so_far_nothing = record { lives = first; told = []; each = refl; replies_are = refl; goes_on = λ more others new p. p; placed = λ more others p. p }
+  so_far_nothing = record { lives = first; told = []; each = refl; replies_are = refl; goes_on = λ more others new p. p; placed = λ more others p. p; alone = λ more others p. p }
 
   pub so_far_more : (now next : W) (past : List HostEvent) (replies : List LifeReply) (event : HostEvent) (told : LifeReply) → IsDone setup StandsFor now (said_of (setup now).tenants event) (answer_at event.slot told) next →
       IsSoFar now past replies → IsSoFar next (past ++ event ∷ []) (replies ++ told ∷ [])
@@ -125,6 +128,9 @@ module _ {W : Type 0} (setup : W → Setup) (StandsFor : W → ℕ → SoloClust
             let after = subst (λ (s : Setup). ArePlaced s.tenants (said_heard s.tenants more others)) moved placed in
             let whole = p.placed (event ∷ more) (answer ∷ others) (heard_placed (setup now).tenants said answer (said_of-placed (setup now).tenants event), after) in
             subst (λ events. Is events ((p.told ++ answer ∷ []) ++ others)) (sym (append_assoc past (event ∷ []) more)) (subst (λ answers. Is (past ++ event ∷ more) answers) (sym (append_assoc p.told (answer ∷ []) others)) whole);
+        alone = λ more others later.
+            let whole = p.alone (event ∷ more) (told ∷ others) (lives_one setup StandsFor now next event told more others done later) in
+            subst (λ events. LivesOn setup StandsFor start events ((replies ++ told ∷ []) ++ others)) (sym (append_assoc past (event ∷ []) more)) (subst (λ rs. LivesOn setup StandsFor start (past ++ event ∷ more) rs) (sym (append_assoc replies (told ∷ []) others)) whole);
       }
 
 -- the whole run, in a new world
@@ -149,3 +155,10 @@ tells_lives setup StandsFor config start now events replies some fresh p =
       answered = answered_said setup StandsFor config start (said_after_head config events p.told) p.told now some fresh given placed;
       right = λ spared. told_said setup StandsFor config start (said_after_head config events p.told) p.told now fresh given placed spared;
     }
+
+-- and of each slot
+pub slots_alone : {W : Type 0} (setup : W → Setup) (StandsFor : W → ℕ → SoloCluster → Type 0) (config : Config) (start now : W) (events : List HostEvent) (replies : List LifeReply) → 0 < config.shards →
+    IsNew setup StandsFor config start → IsSoFar setup StandsFor start (first_lives config) now events replies → AreLivedAlone config events replies
+slots_alone setup StandsFor config start now events replies some fresh p =
+    lives_alone setup StandsFor config start events replies some fresh
+    (subst (λ es. LivesOn setup StandsFor start es replies) (append-nil events) (subst (λ rs. LivesOn setup StandsFor start (events ++ []) rs) (append-nil replies) (p.alone [] [] (lives_to_end setup StandsFor now))))

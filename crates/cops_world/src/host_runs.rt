@@ -7,6 +7,7 @@ ghost use Rattle.cops_script.specs.Answers.{ToHost};
 ghost use Rattle.cops_script.specs.Doing.{IsDone, IsHosted};
 ghost use Rattle.cops_script.specs.GoodHeads.{is_good};
 ghost use Rattle.cops_world.specs.HostRuns.{IsWithinLimits, TellsLives, acts_at, admits_at, answer_at, closes_at, said_of};
+ghost use Rattle.cops_world.specs.SlotLives.{AreLivedAlone};
 ghost use Rattle.cops_world.specs.Worlds.{HasOpenCluster, open_setup};
 
 use crate::{Act, HostReply, Reply, World};
@@ -97,6 +98,7 @@ pub fn run_lives(
     requires within { AllByRecursion IsWithinLimits events.now }
     ensures length { IfOk result (λ told. length told.items ≡ length events.now) }
     ensures lives { IfOk result (λ told. TellsLives config events.now told.items) }
+    ensures alone { IfOk result (λ told. AreLivedAlone config events.now told.items) }
 {
     let mut world = World::new(alloc, config)?;
     let mut told = Vec::with_capacity(alloc, events.len())?;

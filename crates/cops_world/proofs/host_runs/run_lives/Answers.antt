@@ -5,7 +5,7 @@ use Rattle.cops_script.specs.Lives.{first_lives}
 use Rattle.cops_world.specs.declared.host_runs.HostEvent.{HostEvent}
 use Rattle.cops_world.specs.declared.host_runs.LifeReply.{LifeReply}
 use Rattle.cops_world.specs.Worlds.{HasOpenCluster, open_setup}
-use Rattle.cops_world.proofs.HostRunLemmas.{IsSoFar, so_far_more, so_far_nothing, tells_lives}
+use Rattle.cops_world.proofs.HostRunLemmas.{IsSoFar, slots_alone, so_far_more, so_far_nothing, tells_lives}
 use Rattle.cops_script.proofs.MainLemmas.{some_shard}
 use Rattle.cops_world.proofs.host_runs.run_lives.Goals as goal
 
@@ -45,4 +45,13 @@ returns-clause-lives c =
     let start = c.in_ok-world.world in
     let all : take i xs ≡ xs = take_whole i xs (let test = c.loop-event-test.false in grind (arith, nat_tests)) in
     tells_lives open_setup HasOpenCluster c.args.config start c.loop-event.world xs c.loop-event.told.items (some_shard c.args.config c.requires.good) c.in_ok-world.ensures
+    (subst (λ (past : List HostEvent). IsSoFar open_setup HasOpenCluster start (first_lives c.args.config) c.loop-event.world past c.loop-event.told.items) all c.loop-event.invariant.so_far)
+
+pub returns-clause-alone : goal.returns-clause-alone
+returns-clause-alone c =
+    let i = c.loop-event.event-index in
+    let xs = c.args.events.now in
+    let start = c.in_ok-world.world in
+    let all : take i xs ≡ xs = take_whole i xs (let test = c.loop-event-test.false in grind (arith, nat_tests)) in
+    slots_alone open_setup HasOpenCluster c.args.config start c.loop-event.world xs c.loop-event.told.items (some_shard c.args.config c.requires.good) c.in_ok-world.ensures
     (subst (λ (past : List HostEvent). IsSoFar open_setup HasOpenCluster start (first_lives c.args.config) c.loop-event.world past c.loop-event.told.items) all c.loop-event.invariant.so_far)
