@@ -1,5 +1,5 @@
 -- What cleaning one chain does to the chains of its slot.
-use Rattle.std.proofs.Common.{◌≡◌, ℕ, zero, suc, arith, ◌<◌, not, List, [], ◌∷◌, length, refl, sym, ap, ◌∙◌, subst, filter, get_or, set}
+use Rattle.std.proofs.Common.{◌≡◌, ℕ, zero, suc, arith, ◌<◌, List, [], ◌∷◌, length, refl, sym, ap, ◌∙◌, subst, get_or, set}
 use Rattle.std.specs.Prelude.{IfSome, Option, Some, None}
 use Rattle.std.specs.Map.{lookup}
 use Rattle.cops_types.specs.Key.{key_eq}
@@ -8,12 +8,12 @@ use Rattle.cops_store.specs.declared.rows.SlotKey.{SlotKey}
 use Rattle.cops_store.specs.declared.rows.Row.{Row}
 use Rattle.cops_store.specs.declared.rows.Line.{Line}
 use Rattle.cops_store.specs.Chains.{KeptChain}
-use Rattle.cops_store.specs.Lines.{AreRowLines, IsRowLine, IsRechained, IsLineTurn, OtherSlotsStay, chain_in, chains_at, chain_entries_at, linked_in, no_line, row_of, lines_from}
+use Rattle.cops_store.specs.Lines.{AreRowLines, IsRechained, IsLineTurn, OtherSlotsStay, chain_in, chains_at, chain_entries_at, linked_in, no_line, row_of, lines_from}
 use Rattle.cops_store.specs.Tables.{AreCountable, IsFreed, all_rows, chains_of, collect_chains_at, staying}
-use Rattle.cops_store.proofs.Collections.{cleaned_elsewhere, countable_chain}
+use Rattle.cops_store.proofs.Collections.{countable_chain}
 use Rattle.cops_store.proofs.Lines.{turn_rechained}
 use Rattle.cops_store.proofs.Rechained.{chains_cleaned, freed_of_all, nothing_cleaned}
-use Rattle.cops_store.proofs.Turns.{chains_before, chains_turned, distinct_here, entries_here, lines_turned, others_stay, set_same, slot_there, whole_here}
+use Rattle.cops_store.proofs.Turns.{chains_turned, distinct_here, entries_here, lines_turned, others_stay, set_same, slot_there, whole_here}
 
 get_default : (lines : List Line) (n : ℕ) → n < length lines → get_or lines n no_line ≡ get_or lines n (get_or lines n no_line)
 get_default [] n lt = refl

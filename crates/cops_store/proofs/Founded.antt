@@ -4,7 +4,6 @@ use Rattle.std.specs.Prelude.{Option, Some, None, if◌then◌else◌, is_none}
 use Rattle.std.specs.List.{list_any, fold, AllByRecursion}
 use Rattle.std.specs.Map.{lookup}
 use Rattle.std.proofs.lemmas.Bool.Decides.{nat_tests}
-use Rattle.std.proofs.lemmas.List.Folds.{list_any-append}
 use Rattle.cops_types.specs.declared.records.Record.{Record}
 use Rattle.cops_types.specs.declared.records.Dated.{Dated}
 use Rattle.cops_types.specs.Key.{key_eq}

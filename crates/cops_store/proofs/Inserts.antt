@@ -11,7 +11,7 @@ use Rattle.cops_store.specs.declared.rows.SlotKey.{SlotKey}
 use Rattle.cops_store.specs.declared.rows.Row.{Row}
 use Rattle.cops_store.specs.declared.rows.Line.{Line}
 use Rattle.cops_store.specs.Chains.{KeptChain, IsChain, Rises, is_covered, placed}
-use Rattle.cops_store.specs.Lines.{IsRowLine, IsRechained, IsLineTurn, chain_in, linked_in, row_of}
+use Rattle.cops_store.specs.Lines.{IsRechained, IsLineTurn, chain_in, linked_in, row_of}
 use Rattle.cops_store.specs.Tables.{AreFounded, AreNoted, Chains, chains_of, with_key, with_record}
 use Rattle.cops_store.proofs.Lines.{turn_rechained, turn_then}
 use Rattle.cops_store.proofs.Rechained.{chains_put, founded_covered, founded_put, noted_covered, noted_put}

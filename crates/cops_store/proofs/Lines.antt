@@ -1,5 +1,5 @@
 -- The lines of the slots in their table.
-use Rattle.std.proofs.Common.{◌≡◌, ◌≢◌, ℕ, zero, suc, ◌+◌, ◌<◌, ◌≤◌, Bool, true, false, cond, not, ◌&&◌, List, [], ◌∷◌, ◌++◌, length, map, refl, sym, ap, ◌∙◌, subst, arith, true≢false, get_or, set, sum_by, nat_eq}
+use Rattle.std.proofs.Common.{◌≡◌, ◌≢◌, ℕ, zero, suc, ◌+◌, ◌<◌, Bool, true, false, cond, not, ◌&&◌, List, [], ◌∷◌, ◌++◌, length, map, refl, sym, ap, ◌∙◌, subst, arith, true≢false, get_or, nat_eq}
 use Rattle.std.specs.Prelude.{IfSome, Option, Some, None, is_some, position, slice_get, if◌then◌else◌}
 use Rattle.std.specs.List.{AllByRecursion, IsDistinct, position_or_len}
 use Rattle.std.specs.Map.{keys_of, values_of, lookup}

@@ -1,8 +1,8 @@
 -- What a change of one row does to the chains of its slot.
-use Rattle.std.proofs.Common.{◌≡◌, ◌≢◌, ℕ, zero, suc, ◌+◌, ◌-◌, Bool, true, false, cond, not, ◌||◌, List, [], ◌∷◌, ◌++◌, length, map, refl, sym, ap, ◌∙◌, subst, arith, filter}
+use Rattle.std.proofs.Common.{◌≡◌, ℕ, ◌+◌, true, false, List, [], ◌∷◌, ◌++◌, refl, sym, ap, ◌∙◌, subst}
 use Rattle.std.specs.Prelude.{Option, Some, None, if◌then◌else◌, IsTrue, is_some}
-use Rattle.std.specs.List.{list_any, AllByRecursion, IsDistinct}
-use Rattle.std.specs.Map.{keys_of, lookup}
+use Rattle.std.specs.List.{list_any, AllByRecursion}
+use Rattle.std.specs.Map.{lookup}
 use Rattle.cops_types.specs.declared.records.Record.{Record}
 use Rattle.cops_types.specs.declared.records.Dated.{Dated}
 use Rattle.cops_types.specs.Key.{key_eq}
@@ -11,13 +11,12 @@ use Rattle.cops_store.specs.declared.table.Due.{Due}
 use Rattle.cops_store.specs.declared.rows.SlotKey.{SlotKey}
 use Rattle.cops_store.specs.declared.rows.Row.{Row}
 use Rattle.cops_store.specs.declared.rows.Line.{Line}
-use Rattle.cops_store.specs.Chains.{KeptChain, IsChain, Rises, is_covered, placed}
+use Rattle.cops_store.specs.Chains.{KeptChain, IsChain, is_covered, placed}
 use Rattle.cops_store.specs.Lines.{IsNewRow, IsRowLine, IsRechained, IsLineTurn, chain_in, linked_in, HasRecordRoom, row_of, with_chain}
-use Rattle.cops_store.specs.Tables.{AreCountable, AreFounded, AreNoted, IsFreed, all_rows, chains_of, collect_chains_at, staying, with_key, with_record}
-use Rattle.cops_store.proofs.Collections.{chains_of-changed, chains_of-kept, cleaned_elsewhere, countable_chain, freed_around, only_chain}
+use Rattle.cops_store.specs.Tables.{AreFounded, AreNoted, IsFreed, all_rows, chains_of, collect_chains_at, staying, with_key, with_record}
+use Rattle.cops_store.proofs.Collections.{chains_of-changed, chains_of-kept, cleaned_elsewhere, freed_around, only_chain}
 use Rattle.cops_store.proofs.Founded.{AreFounded-next, AreFounded-with_record, key_there}
 use Rattle.cops_store.proofs.Lines.{added_in, rechained_in, turn_rechained}
-use Rattle.cops_store.proofs.Shelves.{chain_found}
 use Rattle.cops_store.proofs.Tables.{AreNoted-covered, AreNoted-next, absent, lack_chains, no_key_here}
 
 module _ (before after : List (SlotKey × Row)) (slot : ℕ) (key : List ℕ) (old new : KeptChain) (line : Line) (h : IsRowLine (row_of before slot) line) (r : IsRechained before after slot key old new) where
@@ -45,9 +44,6 @@ module _ (before after : List (SlotKey × Row)) (slot : ℕ) (key : List ℕ) (o
   pub roomy_after : IsTrue new.room → HasRecordRoom (chain_in (row_of after slot key))
   roomy_after room = subst HasRecordRoom (sym (ap chain_in r.changed.own)) room
 
-  pub chain_is : AllByRecursion (λ (e : List ℕ × List Dated). IsChain e.0 e.1) (chains_of (linked_in (row_of before slot) line)) → IsChain key old.items
-  chain_is all = chain_found key entries old all (sym found)
-
   pub chains_put : (n : Record) → new.items ≡ placed n old.items → chains_of (linked_in (row_of after slot) line) ≡ with_record key n (chains_of (linked_in (row_of before slot) line))
   chains_put n is = ap chains_of entries_are ∙ chains_of-changed (placed n) key entries h.distinct old new found is
 
@@ -58,9 +54,6 @@ module _ (before after : List (SlotKey × Row)) (slot : ℕ) (key : List ℕ) (o
       → IsFreed freed (all_rows (chains_of (linked_in (row_of before slot) line))) (all_rows (chains_of (linked_in (row_of after slot) line)))
   freed_of_all now trans_time freed is gone = subst (λ es. IsFreed freed (all_rows (chains_of entries)) (all_rows (chains_of es))) (sym entries_are)
       (freed_around (staying now trans_time) key entries h.distinct old new found is freed gone)
-
-  pub chain_countable : AreCountable (all_rows (chains_of (linked_in (row_of before slot) line))) → AreCountable old.items
-  chain_countable = countable_chain (λ rows. rows) key entries h.distinct old old found refl
 
   -- an entry is added if something becomes stale that none notes
   pub noted_put : (due later : List Due) (n : Record) → new.items ≡ placed n old.items → is_covered n.at old.items ≡ false → later ≡ due ++ record { key = key; stale = n.at } ∷ []
@@ -109,9 +102,6 @@ module _ (before after : List (SlotKey × Row)) (slot : ℕ) (key : List ℕ) (l
       ap chains_of (added_in (row_of before slot) (row_of after slot) key a.changed.same line h a.chain a.lacked a.changed.own)
       ∙ ap (λ items. (key, items) ∷ chains_of es) a.items
       ∙ sym (ap (λ b. if b then chains_of es else (key, []) ∷ chains_of es) (no_key_here key (chains_of es) (lack_chains key es (absent key es (ap is_some (h.whole key ∙ ap chain_in a.lacked))))))
-
-  pub room_added : HasRecordRoom (chain_in (row_of after slot key))
-  room_added = subst HasRecordRoom (sym (ap chain_in a.changed.own)) a.room
 
 -- a key without a chain
 pub nothing_cleaned : (rows : List (SlotKey × Row)) (slot : ℕ) (key : List ℕ) (line : Line) (now trans_time : ℕ) → IsRowLine (row_of rows slot) line → row_of rows slot key ≡ None

@@ -1,6 +1,6 @@
 -- What the fields of a shelf show.
 use Rattle.std.proofs.Common.{◌≡◌, ◌≢◌, ℕ, suc, ◌+◌, Bool, true, false, ◌||◌, List, [], ◌∷◌, ◌++◌, length, map, refl, sym, ap, ◌∙◌, subst, true≢false, sum_by}
-use Rattle.std.specs.Prelude.{Result, Ok, Err, OnOk, is_err, Option, Some, None, if◌then◌else◌, is_some, IfSome}
+use Rattle.std.specs.Prelude.{Some, None, if◌then◌else◌, is_some}
 use Rattle.std.specs.List.{list_any, AllByRecursion, IsDistinct}
 use Rattle.std.specs.List.Sorted.{IsPermutation}
 use Rattle.std.specs.Map.{keys_of, lookup}
@@ -10,7 +10,6 @@ use Rattle.std.proofs.lemmas.List.Sums.{sum_by-cons}
 use Rattle.cops_types.specs.declared.records.Record.{Record}
 use Rattle.cops_types.specs.declared.records.Dated.{Dated}
 use Rattle.cops_store.specs.declared.usage.InUse.{InUse}
-use Rattle.cops_types.specs.declared.faults.Fault.{Fault}
 use Rattle.cops_store.specs.declared.table.Due.{Due}
 use Rattle.cops_types.specs.Key.{key_eq}
 use Rattle.cops_store.specs.Contents.{size_of}
@@ -23,7 +22,7 @@ use Rattle.cops_store.proofs.Lists.{each_append, each_weaker, each_right}
 use Rattle.cops_store.proofs.Versions.{key_eq-refl, key_eq_is, with_next}
 use Rattle.cops_store.proofs.Chains.{missing_version}
 use Rattle.cops_store.proofs.Founded.{AreFounded-with_key}
-use Rattle.cops_store.proofs.Tables.{a_key, found_by_lookup, absent, lack_before, lack_after, lack_chains, chains_of-split, Around, rows_elsewhere, around, latest_of_chain, exact_of_chain, latest_missing, exact_missing, all_rows-with_record, all_rows-with_key, IsTable-with_record, IsTable-with_key, AreNoted-with_key, chain_lacks, use_of-next}
+use Rattle.cops_store.proofs.Tables.{found_by_lookup, absent, lack_before, lack_after, lack_chains, chains_of-split, Around, rows_elsewhere, around, latest_of_chain, exact_of_chain, latest_missing, exact_missing, all_rows-with_record, all_rows-with_key, IsTable-with_record, IsTable-with_key, AreNoted-with_key, chain_lacks, use_of-next}
 
 module _ (p : List ℕ) (entries : List (List ℕ × KeptChain)) (table : IsTable (chains_of entries)) (rows : List Dated) (shown : all_rows (chains_of entries) ≡ rows)
     (recs : List Record) (removed : List Bool) (stands : AreLeft rows recs removed) where
@@ -138,16 +137,6 @@ module _ (used : InUse) (due later : List Due) (p : List ℕ) (n : Record) (chai
     where
       counts : used ≡ use_of rows
       counts = shelf.counted ∙ ap use_of shown
-
-pub refused_is : (A : Type 0) (o : Option Fault) (f : Fault) → o ≡ Some f → IfSome o (λ g. ◌≡◌ {A = Result A Fault} (Err f) (Err g))
-refused_is A o f e = subst (λ o. IfSome o (λ g. ◌≡◌ {A = Result A Fault} (Err f) (Err g))) (sym e) refl
-
-pub not_refused : (o : Option Fault) (P : Fault → Type 0) → o ≡ None → IfSome o P
-not_refused o P e = subst (λ o. IfSome o P) (sym e) tt
-
-pub OnOk-at : {A E : Type 0} (r : Result A E) (P : Type 0) → is_err r ≡ false → OnOk r P → P
-OnOk-at (Ok x) P e p = p
-OnOk-at (Err x) P e p = absurd (true≢false e)
 
 -- ---- what is not there
 lacks_around : (p : List ℕ) (v : Timestamp) (c rows : List Dated) → Around p c rows → find_version v c ≡ None → LacksVersion p v rows

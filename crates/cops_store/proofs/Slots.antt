@@ -7,12 +7,10 @@ use Rattle.std.proofs.lemmas.List.{get_or-set_same, get_or-set_other}
 use Rattle.std.proofs.lemmas.List.Elements.{filter_map-append}
 use Rattle.cops_types.specs.declared.records.Dated.{Dated}
 use Rattle.cops_types.specs.declared.records.Record.{Record}
-use Rattle.cops_types.specs.Records.{Tracked, StandsFor, ever, latest as latest_record, exact as exact_record}
-use Rattle.cops_types.specs.Version.{Timestamp}
+use Rattle.cops_types.specs.Records.{Tracked, StandsFor}
 use Rattle.cops_store.specs.Contents.{Contents, HasRoom, NoneLater, of_slot, rows_in, rows_of}
 use Rattle.cops_store.specs.Shelves.{Kept, nothing, part_from, rows_from, ready_from}
-use Rattle.cops_store.proofs.Meaning.{StandsFor-none, flags, to_left, latest_is, exact_is}
-use Rattle.cops_store.proofs.Tables.{fails, latest_missing, exact_missing}
+use Rattle.cops_store.proofs.Tables.{fails}
 use Rattle.cops_store.proofs.Versions.{Among, Among-map, Among-from_Contains, Contains-from_Among}
 
 -- ---- a part of one slot
@@ -71,16 +69,8 @@ same_default [] n d e lt = absurd (omega arith)
 same_default (k ∷ shelves) zero d e lt = refl
 same_default (k ∷ shelves) (suc n) d e lt = same_default shelves n d e (omega arith)
 
-no_shelf : (shelves : List Kept) (n : ℕ) → length shelves ≤ n → get_or shelves n nothing ≡ nothing
-no_shelf [] n le = refl
-no_shelf (k ∷ shelves) zero le = absurd (omega arith)
-no_shelf (k ∷ shelves) (suc n) le = no_shelf shelves n (omega arith)
-
 pub rows_read : (shelves : List Kept) (slot : ℕ) (s : Kept) → slot < length shelves → s ≡ get_or shelves slot s → rows_in slot (rows_from 0 shelves) ≡ s.rows
 rows_read shelves slot s lt read = rows_at slot shelves ∙ ap (λ (k : Kept). k.rows) (same_default shelves slot nothing s lt ∙ sym read)
-
-pub rows_missing : (shelves : List Kept) (slot : ℕ) → length shelves ≤ slot → rows_in slot (rows_from 0 shelves) ≡ []
-rows_missing shelves slot le = rows_at slot shelves ∙ ap (λ (k : Kept). k.rows) (no_shelf shelves slot le)
 
 -- ---- one slot is changed
 pub length-set : (shelves : List Kept) (slot : ℕ) (s : Kept) → length (set shelves slot s) ≡ length shelves
@@ -240,14 +230,3 @@ rows_past = past_rows 0
 
 pub ready_past : (shelves more : List Kept) → AreNothing more → ready_from 0 (shelves ++ more) ≡ ready_from 0 shelves
 ready_past = past_ready 0
-
--- a store with nothing stands for no records
-pub empty_stands : (shelves : List Kept) → AreNothing shelves → (slot : ℕ) → StandsFor (rows_in slot (rows_from 0 shelves)) []
-empty_stands shelves h slot = subst (λ rows. StandsFor (rows_in slot rows) []) (sym (no_rows 0 shelves h)) StandsFor-none
-
--- ---- of a slot that isn't there nothing is found
-pub latest_nowhere : (key : List ℕ) (rows : List Dated) (tracked : List Tracked) → rows ≡ [] → StandsFor rows tracked → None ≡ latest_record key tracked
-latest_nowhere key rows tracked none stands = latest_missing key [] tt tt (ever tracked) (flags tracked) (to_left [] tracked (subst (λ r. StandsFor r tracked) none stands)) ∙ latest_is key tracked
-
-pub exact_nowhere : (key : List ℕ) (version : Timestamp) (rows : List Dated) (tracked : List Tracked) → rows ≡ [] → StandsFor rows tracked → None ≡ exact_record key version tracked
-exact_nowhere key version rows tracked none stands = exact_missing key version [] tt tt (ever tracked) (flags tracked) (to_left [] tracked (subst (λ r. StandsFor r tracked) none stands)) ∙ exact_is key version tracked

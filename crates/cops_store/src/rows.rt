@@ -1,5 +1,5 @@
 //! The rows of the table that all slots share: a chain each, with its slot and key.
-ghost use Rattle.std.specs.Prelude.{◌≡◌, ◌<◌, ◌≤◌, ◌+◌, ◌∷◌, [], ℕ, List, not, filter, length, false, true, IfOk, IfSome, IsOk, IsTrue, OnOk, OnErr, None, Some};
+ghost use Rattle.std.specs.Prelude.{◌≡◌, ◌<◌, ◌≤◌, ◌+◌, ℕ, List, not, filter, false, true, IfOk, IfSome, IsOk, IsTrue, OnOk, OnErr, None, Some};
 ghost use Rattle.std.specs.List.{IsDistinct};
 ghost use Rattle.std.specs.Map.{keys_of};
 ghost use Rattle.std.specs.Option.{option_copied};
@@ -253,7 +253,7 @@ pub(crate) fn clean_at(
     row.chain.clean(now, trans_time)
 }
 
-// Removes the first row of a slot's line, and returns the rest of the line.
+// Removes the first row of a slot's line.
 fn release(rows: &mut IndexMap<SlotKey, Row, Seeds>, slot: usize, line: &mut Line)
     requires line { IsRowLine (row_of rows.old.entries slot) line.old }
     requires unique { IsDistinct same_place (keys_of rows.old.entries) }

@@ -1,8 +1,8 @@
 //! The state of one slot beside its chains.
-ghost use Rattle.std.specs.Prelude.{◌≡◌, ℕ, ◌+◌, ◌^◌, ◌<◌, ◌⊎◌, false, None, Some, Err, List, [], ◌∷◌, ◌++◌, length, IsOk, IsTrue, IfErr, OnOk, OnErr, IfSome};
+ghost use Rattle.std.specs.Prelude.{◌≡◌, ◌+◌, ◌^◌, ◌<◌, ◌⊎◌, false, None, Some, Err, List, [], ◌∷◌, ◌++◌, length, IsOk, IsTrue, IfErr, OnOk, OnErr, IfSome};
 ghost use Rattle.cops_types.specs.declared.faults.Fault.TheVariants.{OutOfMemory};
 ghost use Rattle.cops_types.specs.Records.{Tracked, StandsFor, collected as collected_records, collectable};
-ghost use Rattle.cops_store.specs.Contents.{LacksVersion, NoneLater, use_of, refusal, size_of};
+ghost use Rattle.cops_store.specs.Contents.{LacksVersion, NoneLater, refusal, size_of};
 ghost use Rattle.cops_store.specs.Lines.{chain_entries_at, chains_at, IsRoomy, OtherSlotsStay};
 ghost use Rattle.cops_store.specs.Tables.{all_rows, IsShelf};
 ghost use Rattle.cops_store.specs.Shelves.{empty_shelf};

@@ -1,4 +1,4 @@
-use Rattle.std.proofs.Common.{◌≡◌, arith, refl}
+use Rattle.std.proofs.Common.{arith, refl}
 use Rattle.cops_store.proofs.Lines.{turn_none, turn_then}
 use Rattle.cops_store.proofs.rows.clear.Goals as goal
 

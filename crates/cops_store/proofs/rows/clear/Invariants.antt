@@ -1,4 +1,4 @@
-use Rattle.std.proofs.Common.{◌≡◌, ℕ, ◌+◌}
+use Rattle.std.proofs.Common.{◌≡◌, ◌+◌}
 use Rattle.cops_store.specs.Lines.{IsLineTurn}
 use Rattle.cops_store.proofs.rows.clear.Given as goal
 

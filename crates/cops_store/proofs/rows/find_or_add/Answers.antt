@@ -1,5 +1,5 @@
-use Rattle.std.proofs.Common.{◌≡◌, ◌∙◌, arith, ap, sym, subst, refl, rules, true}
-use Rattle.std.specs.Prelude.{Some, None, is_some}
+use Rattle.std.proofs.Common.{◌≡◌, ◌∙◌, arith, ap, subst, refl, rules, true}
+use Rattle.std.specs.Prelude.{None, is_some}
 use Rattle.std.specs.List.{position_or_len}
 use Rattle.std.specs.Map.{keys_of, lookup}
 use Rattle.indexmap.proofs.CallerLemmas.{insert_entry-new}

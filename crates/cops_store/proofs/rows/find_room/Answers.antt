@@ -1,9 +1,8 @@
-use Rattle.std.proofs.Common.{◌≡◌, ◌∙◌, ◌+◌, ap, sym, refl, subst, true≢false}
-use Rattle.cops_store.specs.declared.rows.Line.{Line}
-use Rattle.cops_store.specs.Lines.{IsRowLine, IsRechained, IsLineTurn, chain_in, linked_in, HasRecordRoom, row_of}
-use Rattle.cops_store.specs.Tables.{chains_of, with_key}
+use Rattle.std.proofs.Common.{◌∙◌, ◌+◌, ap, sym, subst, true≢false}
+use Rattle.cops_store.specs.Lines.{IsLineTurn, chain_in, linked_in, HasRecordRoom, row_of}
+use Rattle.cops_store.specs.Tables.{chains_of}
 use Rattle.cops_store.proofs.Lines.{at_within, rechained_at, still_at, turn_added}
-use Rattle.cops_store.proofs.Rechained.{chains_added, found_chains, found_kept, found_roomy, found_turn, room_added, roomy_after}
+use Rattle.cops_store.proofs.Rechained.{chains_added, found_chains, found_kept, found_roomy, found_turn}
 use Rattle.cops_store.proofs.Rooms.{OnErr-any}
 use Rattle.cops_store.proofs.rows.find_room.Goals as goal
 

@@ -1,5 +1,4 @@
-use Rattle.std.proofs.Common.{◌≡◌, ◌∙◌, ap, sym}
-use Rattle.cops_store.proofs.Lines.{place, indexed_at}
+use Rattle.cops_store.proofs.Lines.{indexed_at}
 use Rattle.cops_store.proofs.rows.index_of.Goals as goal
 
 pub returns-clause-at : goal.returns-clause-at

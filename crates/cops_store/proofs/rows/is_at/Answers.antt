@@ -1,7 +1,6 @@
-use Rattle.std.proofs.Common.{◌≡◌, ◌∙◌, ap, sym}
+use Rattle.std.proofs.Common.{◌∙◌, ap, sym}
 use Rattle.std.specs.Prelude.{Some}
 use Rattle.cops_store.specs.declared.rows.SlotKey.{SlotKey}
-use Rattle.cops_store.specs.declared.rows.Row.{Row}
 use Rattle.cops_store.proofs.Lines.{place_is}
 use Rattle.cops_store.proofs.rows.is_at.Goals as goal
 

@@ -1,6 +1,4 @@
-use Rattle.std.proofs.Common.{◌≡◌, ◌∙◌, ap, sym, refl, true≢false}
-use Rattle.cops_store.specs.Chains.{KeptChain}
-use Rattle.cops_store.specs.Lines.{IsRechained, row_of}
+use Rattle.std.proofs.Common.{◌∙◌, sym, true≢false}
 use Rattle.cops_store.proofs.Lines.{rechained_at, still_at, turn_rechained}
 use Rattle.cops_store.proofs.Rechained.{chains_found, chains_kept, roomy_after, roomy_before}
 use Rattle.cops_store.proofs.Rooms.{OnErr-any}

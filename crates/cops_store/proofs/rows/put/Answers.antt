@@ -1,7 +1,7 @@
-use Rattle.std.proofs.Common.{◌≡◌, ◌∙◌, ap, sym, refl, subst}
+use Rattle.std.proofs.Common.{ap, subst}
 use Rattle.std.specs.Prelude.{IfSome, not}
 use Rattle.cops_store.specs.Chains.{KeptChain, Rises}
-use Rattle.cops_store.specs.Lines.{chain_in, HasRecordRoom, row_of}
+use Rattle.cops_store.specs.Lines.{HasRecordRoom}
 use Rattle.cops_store.proofs.Lines.{chain_at_index, rechained_at}
 use Rattle.cops_store.proofs.rows.put.Goals as goal
 

@@ -1,4 +1,4 @@
-use Rattle.std.proofs.Common.{◌≡◌, ◌∙◌, ◌+◌, ap, sym, refl, subst}
+use Rattle.std.proofs.Common.{◌∙◌, ◌+◌, ap, sym, refl, subst}
 use Rattle.cops_types.specs.declared.records.Record.{Record}
 use Rattle.cops_types.specs.Records.{ever}
 use Rattle.cops_store.specs.Lines.{chains_at}

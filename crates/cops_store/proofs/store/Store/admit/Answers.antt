@@ -1,4 +1,4 @@
-use Rattle.std.proofs.Common.{◌≡◌, ◌∙◌, ◌++◌, ap}
+use Rattle.std.proofs.Common.{◌∙◌, ◌++◌, ap}
 use Rattle.cops_store.proofs.Stores.{grown, grown_ready, grown_rows}
 use Rattle.cops_store.proofs.store.Store.admit.Goals as goal
 

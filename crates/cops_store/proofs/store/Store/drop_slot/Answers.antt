@@ -1,8 +1,8 @@
-use Rattle.std.proofs.Common.{◌≡◌, ◌∙◌, [], ap, sym, subst}
+use Rattle.std.proofs.Common.{◌∙◌, [], ap, sym, subst}
 use Rattle.cops_types.specs.Records.{StandsFor}
 use Rattle.cops_store.specs.Tables.{all_rows, chains_of, ready_in}
 use Rattle.cops_store.proofs.Meaning.{StandsFor-none}
-use Rattle.cops_store.proofs.Stores.{after_ready, after_rows, emptied, emptied_is, emptied_others, in_table, others_ready, others_rows, shelves_after, slots_stay}
+use Rattle.cops_store.proofs.Stores.{after_ready, after_rows, emptied, emptied_is, emptied_others, in_table, others_ready, others_rows, shelves_after}
 use Rattle.cops_store.proofs.store.Store.drop_slot.Goals as goal
 
 pub clear-requires : goal.clear-requires

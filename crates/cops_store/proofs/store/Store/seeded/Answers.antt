@@ -1,4 +1,4 @@
-use Rattle.std.proofs.Common.{◌≡◌, ◌∙◌, ◌++◌, [], ap}
+use Rattle.std.proofs.Common.{◌∙◌, ◌++◌, [], ap}
 use Rattle.std.specs.Prelude.{replicate}
 use Rattle.cops_store.proofs.Stores.{grown, grown_stands, no_shelves}
 use Rattle.cops_store.proofs.store.Store.seeded.Goals as goal

@@ -1,4 +1,4 @@
-use Rattle.std.proofs.Common.{◌≡◌, ◌∙◌, ◌++◌, [], ap, sym, subst}
+use Rattle.std.proofs.Common.{◌∙◌, ◌++◌, [], ap, sym, subst}
 use Rattle.std.specs.Prelude.{replicate}
 use Rattle.cops_store.specs.Lines.{AreRowLines, lines_from}
 use Rattle.cops_store.proofs.Turns.{lines_past, shown_past}

@@ -1,4 +1,4 @@
-use Rattle.std.proofs.Common.{◌≡◌, ◌∙◌, ◌<◌, ap, length, sym, subst, zero-add}
+use Rattle.std.proofs.Common.{◌∙◌, sym, zero-add}
 use Rattle.cops_store.specs.Lines.{chains_at}
 use Rattle.cops_store.proofs.Collections.{cleaned_by_none, countable_left, hit_step, miss_step}
 use Rattle.cops_store.proofs.Turns.{stay_twice, still_there, unchanged}

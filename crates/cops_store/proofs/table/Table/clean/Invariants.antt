@@ -1,4 +1,4 @@
-use Rattle.std.proofs.Common.{◌≡◌, ◌<◌, length, take}
+use Rattle.std.proofs.Common.{◌≡◌, take}
 use Rattle.cops_store.specs.Lines.{chains_at, OtherSlotsStay}
 use Rattle.cops_store.specs.Tables.{all_rows, collect_chains_by, IsFreed}
 use Rattle.cops_store.proofs.table.Table.clean.Given as goal

@@ -1,5 +1,4 @@
-use Rattle.std.proofs.Common.{◌≡◌, ◌∙◌, ap, get_or, set, sym, refl, subst}
-use Rattle.cops_store.specs.Lines.{AreRowLines, chains_at, no_line, lines_from}
+use Rattle.std.proofs.Common.{refl}
 use Rattle.cops_store.proofs.Cleans.{cleaned_chains, cleaned_freed, cleaned_lines, cleaned_others, cleaned_use, nothing_there}
 use Rattle.cops_store.proofs.table.Table.clean_at.Goals as goal
 

@@ -1,4 +1,4 @@
-use Rattle.std.proofs.Common.{◌≡◌, ◌<◌, ◌∙◌, ap, set, subst, sym}
+use Rattle.std.proofs.Common.{◌<◌, ◌∙◌, ap, set, subst, sym}
 use Rattle.cops_store.specs.Lines.{linked_from, row_of}
 use Rattle.cops_store.proofs.Turns.{line_here, lines_turned, shown_turned, slot_there}
 use Rattle.cops_store.proofs.table.Table.clear.Goals as goal

@@ -1,7 +1,4 @@
-use Rattle.std.proofs.Common.{◌≡◌, ◌<◌, ◌∙◌, ap, sym, subst, true≢false}
-use Rattle.std.specs.Prelude.{IfSome, Some}
-use Rattle.std.specs.List.{AllByRecursion}
-use Rattle.cops_store.specs.Chains.{IsChain, KeptChain, Rises}
+use Rattle.std.proofs.Common.{◌<◌, ◌∙◌, ap, sym, subst, true≢false}
 use Rattle.cops_store.specs.Lines.{chains_at, linked_in, row_of}
 use Rattle.cops_store.specs.Notes.{Notes}
 use Rattle.cops_store.specs.Tables.{AreFounded, AreNoted, chains_of, with_key}

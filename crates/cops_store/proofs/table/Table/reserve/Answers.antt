@@ -1,4 +1,4 @@
-use Rattle.std.proofs.Common.{◌≡◌, ◌<◌, ◌∙◌, ap, refl, subst, sym}
+use Rattle.std.proofs.Common.{◌<◌, ◌∙◌, ap, refl, subst, sym}
 use Rattle.cops_store.specs.Tables.{with_key}
 use Rattle.cops_store.proofs.Rooms.{OnErr-any}
 use Rattle.cops_store.proofs.Turns.{chains_before, chains_turned, distinct_here, distinct_turned, line_counted, line_here, lines_turned, others_stay, room_turned, slot_there}
