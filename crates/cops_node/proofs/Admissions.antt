@@ -12,7 +12,6 @@ use Rattle.cops_types.specs.Version.{last_clock}
 use Rattle.cops_store.specs.Contents.{Contents, rows_of}
 use Rattle.cops_outbox.specs.Queues.{Queues, queue_of}
 use Rattle.cops_node.specs.declared.Terms.{Terms}
-use Rattle.cops_model.specs.Place.{Place}
 use Rattle.cops_node.specs.declared.parts.Part.{Part}
 use Rattle.cops_node.specs.declared.Home.{Home}
 use Rattle.cops_node.specs.Parts.{AllFit, IsFresh, IsNode, IsSlotKept, IsUnused, OthersStay, StandsForTrail, no_calls, place_at, place_for, place_under, solo_in, trail_of}

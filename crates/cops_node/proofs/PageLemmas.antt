@@ -1,6 +1,6 @@
 -- The pages of an audit.
-use Rattle.std.proofs.Common.{◌≡◌, ◌≢◌, ℕ, zero, suc, ◌+◌, ◌*◌, ◌<◌, ◌≤◌, ◌⊎◌, inl, inr, Bool, true, false, List, [], ◌∷◌, ◌++◌, length, map, refl, sym, ap, ◌∙◌, subst, arith, get_or, set, append-nil, append_assoc, Bor, true≢false, Vec, Global}
-use Rattle.std.specs.Prelude.{◌-◌, ◌/◌, ◌%◌, min, slice_get, vec_len, vec_capacity, Option, Some, None, IsSome, is_some, nat_lt, replicate, Result, Ok, Err, OnOk}
+use Rattle.std.proofs.Common.{◌≡◌, ◌≢◌, ℕ, zero, suc, ◌+◌, ◌*◌, ◌<◌, ◌≤◌, inl, inr, Bool, true, false, List, [], ◌∷◌, ◌++◌, length, map, refl, sym, ap, ◌∙◌, subst, arith, get_or, set, append-nil, append_assoc, Bor, true≢false, Vec, Global}
+use Rattle.std.specs.Prelude.{◌-◌, ◌/◌, ◌%◌, slice_get, Option, Some, None, IsSome, is_some, nat_lt, replicate, Result, Ok, Err, OnOk}
 use Rattle.std.specs.Option.{option_copied}
 use Rattle.std.specs.Slice.{IsItemAt}
 use Rattle.std.proofs.lemmas.Bool.{cases_eq, cases_lt}

@@ -1,5 +1,5 @@
 -- The pages of an audit: one table for all slots. Each page of a slot is linked to the one before it.
-use Rattle.std.specs.Prelude.{◌≡◌, ◌≢◌, ◌⊎◌, ℕ, zero, suc, ◌+◌, ◌-◌, ◌<◌, ◌≤◌, List, [], ◌∷◌, ◌++◌, length, map, min, slice_index_or, Option, Some, None, vec_len, vec_capacity}
+use Rattle.std.specs.Prelude.{◌≡◌, ◌≢◌, ◌⊎◌, ℕ, zero, suc, ◌+◌, ◌-◌, ◌<◌, ◌≤◌, List, [], ◌++◌, length, min, slice_index_or, Option, Some, None, vec_len, vec_capacity}
 use Rattle.cops_model.specs.declared.calls.AuditEntry.{AuditEntry}
 use Rattle.cops_node.specs.declared.pages.Page.{Page}
 use Rattle.cops_node.specs.declared.pages.PageList.{PageList}

@@ -1,7 +1,6 @@
 //! The audit of a node: the calls of all slots, in pages of one table.
-ghost use Rattle.std.specs.Prelude.{◌≡◌, ℕ, suc, ◌+◌, ◌/◌, ◌^◌, ◌<◌, ◌≤◌, true, false, [], ◌∷◌, ◌++◌, length, nat_lt, replicate, slice_get, slice_set, Some, IsSome, IfOk, OnOk, OnErr};
+ghost use Rattle.std.specs.Prelude.{◌≡◌, ℕ, suc, ◌+◌, ◌/◌, ◌^◌, ◌<◌, ◌≤◌, true, [], ◌∷◌, ◌++◌, length, nat_lt, slice_get, slice_set, Some, IsSome, IfOk, OnOk, OnErr};
 ghost use Rattle.std.specs.Option.{option_copied};
-ghost use Rattle.slab.specs.Slab.{HasRoomFor};
 ghost use Rattle.cops_node.specs.Pages.{PAGE as SIZE, AreNumbered, IsEarlier, IsListTurn, IsPageAdded, IsPageChain, IsPageList, IsPageOf, IsRefilled, number_of_page, page_at, calls_of_page, spare_in, spare_of};
 ghost use Rattle.cops_node.specs.Parts.{no_calls, noted, trail_of};
 

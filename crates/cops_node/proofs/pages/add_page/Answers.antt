@@ -1,4 +1,4 @@
-use Rattle.std.proofs.Common.{◌≡◌, ◌+◌, ◌∙◌, ap, refl, subst, sym, List}
+use Rattle.std.proofs.Common.{◌+◌, ◌∙◌, ap, refl, subst, sym, List}
 use Rattle.std.specs.Prelude.{Option}
 use Rattle.slab.specs.Slab.{Slab}
 use Rattle.cops_node.specs.declared.pages.Page.{Page}

@@ -1,4 +1,4 @@
-use Rattle.std.proofs.Common.{◌≡◌, ◌<◌, ◌≤◌, suc, ap, arith, subst}
+use Rattle.std.proofs.Common.{suc, ap, arith, subst}
 use Rattle.cops_node.specs.Pages.{IsPageChain, PAGE, before_in, page_at}
 use Rattle.cops_node.proofs.PageLemmas.{chain_at, page_number, skipped, some_pages}
 use Rattle.cops_node.proofs.pages.earlier.Goals as goal

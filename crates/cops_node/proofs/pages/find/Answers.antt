@@ -1,4 +1,4 @@
-use Rattle.std.proofs.Common.{◌≡◌, ◌<◌, ◌≤◌, ◌∙◌, arith, subst}
+use Rattle.std.proofs.Common.{◌≡◌, ◌<◌, ◌∙◌, arith, subst}
 use Rattle.cops_node.specs.Pages.{IsPageOf, number_of_page, page_at}
 use Rattle.cops_node.proofs.PageLemmas.{number_shown, page_there}
 use Rattle.cops_node.proofs.pages.find.Goals as goal

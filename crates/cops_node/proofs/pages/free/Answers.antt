@@ -1,4 +1,4 @@
-use Rattle.std.proofs.Common.{◌≡◌, ◌+◌, ◌<◌, ap, arith, refl, subst, suc, sym}
+use Rattle.std.proofs.Common.{◌≡◌, ap, arith, refl, subst, sym}
 use Rattle.cops_node.specs.Pages.{before_in}
 use Rattle.cops_node.proofs.PageLemmas.{HasPages, none_left, others_left, pages_left, pages_there, some_pages}
 use Rattle.cops_node.proofs.pages.free.Goals as goal

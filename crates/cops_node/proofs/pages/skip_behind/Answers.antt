@@ -1,4 +1,4 @@
-use Rattle.std.proofs.Common.{◌<◌, ◌≤◌, arith}
+use Rattle.std.proofs.Common.{arith}
 use Rattle.cops_node.proofs.PageLemmas.{earlier_last, far_below, far_there, skip_is_earlier}
 use Rattle.cops_node.proofs.pages.skip_behind.Goals as goal
 

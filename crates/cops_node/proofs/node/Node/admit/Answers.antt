@@ -4,9 +4,9 @@ use Rattle.cops_model.specs.declared.calls.AuditEntry.{AuditEntry}
 use Rattle.cops_outbox.specs.Queues.{Queues}
 use Rattle.cops_node.specs.Pages.{AuditLists}
 use Rattle.cops_node.specs.declared.parts.Part.{Part}
-use Rattle.cops_node.specs.Parts.{IsNode, MOST_SLOTS, Shared, no_calls, place_at, place_for, terms_in, trail_of}
+use Rattle.cops_node.specs.Parts.{IsNode, MOST_SLOTS, Shared, place_at, place_for, trail_of}
 use Rattle.cops_node.proofs.Admissions.{HasMoreRoom, IsNode-room, none_from, node_admitted, or_right, others_admitted, place_admitted, trail_admitted}
-use Rattle.cops_node.proofs.Slots.{OnErr-any, is_some_shown, view_of}
+use Rattle.cops_node.proofs.Slots.{is_some_shown, view_of}
 use Rattle.cops_node.proofs.node.Node.admit.Goals as goal
 
 pub invariant_of-self-in_err-admit-2 : goal.invariant_of-self-in_err-admit-2

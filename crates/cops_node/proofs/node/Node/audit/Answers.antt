@@ -1,5 +1,5 @@
-use Rattle.std.proofs.Common.{◌≡◌, ◌∙◌, ap}
-use Rattle.std.specs.Prelude.{slice_get, None}
+use Rattle.std.proofs.Common.{◌∙◌, ap}
+use Rattle.std.specs.Prelude.{slice_get}
 use Rattle.cops_node.specs.Parts.{Shared, place_at, solo_of, trail_of}
 use Rattle.cops_node.proofs.Slots.{copied_none, no_part_shown, solo_trail}
 use Rattle.cops_node.proofs.node.Node.audit.Goals as goal

@@ -1,4 +1,4 @@
-use Rattle.std.proofs.Common.{◌≡◌, ◌<◌, ◌∙◌, ap, arith, length, not, sym, true, get_or, set, []}
+use Rattle.std.proofs.Common.{◌<◌, ◌∙◌, ap, arith, length, not, sym, get_or, set, []}
 use Rattle.std.specs.Prelude.{None, is_some}
 use Rattle.std.proofs.lemmas.List.{get_or-set_other, get_or-set_same}
 use Rattle.cops_node.specs.Parts.{Shared, place_at, trail_of}

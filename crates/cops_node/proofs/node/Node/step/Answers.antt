@@ -1,4 +1,4 @@
-use Rattle.std.proofs.Common.{◌≡◌, ◌<◌, ◌∙◌, ap, arith, length, sym, subst, get_or, IsTrue, set, true≢false}
+use Rattle.std.proofs.Common.{◌≡◌, ◌∙◌, ap, arith, sym, subst, get_or, IsTrue, set, true≢false}
 use Rattle.std.specs.Prelude.{None, Some, Ok}
 use Rattle.std.proofs.lemmas.List.{get_or_default}
 use Rattle.cops_node.specs.Lacking.{MayLack}

@@ -1,4 +1,4 @@
-use Rattle.std.proofs.Common.{◌≡◌, ◌∙◌, ap, set}
+use Rattle.std.proofs.Common.{◌∙◌, ap, set}
 use Rattle.cops_node.specs.Pages.{calls_to}
 use Rattle.cops_node.proofs.PageLemmas.{own_list, turned_lists, turned_trails}
 use Rattle.cops_node.proofs.pages.AuditPages.clear.Goals as goal

@@ -1,8 +1,7 @@
-use Rattle.std.proofs.Common.{◌≡◌, ◌<◌, ◌≤◌, ◌/◌, ◌%◌, ◌∙◌, ap, arith, get_or, length, List, subst, suc, sym}
+use Rattle.std.proofs.Common.{◌/◌, ◌%◌, ◌∙◌, ap, arith, List, subst, sym}
 use Rattle.std.specs.Prelude.{slice_get}
 use Rattle.cops_model.specs.declared.calls.AuditEntry.{AuditEntry}
-use Rattle.cops_node.specs.declared.pages.PageList.{PageList}
-use Rattle.cops_node.specs.Pages.{IsPageChain, IsPageList, IsPageOf, PAGE, calls_in, calls_of_page}
+use Rattle.cops_node.specs.Pages.{IsPageChain, PAGE, calls_of_page}
 use Rattle.cops_node.proofs.PageLemmas.{call_shown, found_at, found_calls, found_list, page_of_call, page_there}
 use Rattle.cops_node.proofs.pages.AuditPages.get.Goals as goal
 

@@ -1,4 +1,4 @@
-use Rattle.std.proofs.Common.{◌≡◌, ◌∙◌, ap, map}
+use Rattle.std.proofs.Common.{◌∙◌, ap, map}
 use Rattle.std.specs.Prelude.{replicate}
 use Rattle.cops_node.specs.Pages.{calls_in}
 use Rattle.cops_node.proofs.PageLemmas.{no_pages_shown}

@@ -1,5 +1,4 @@
 use Rattle.std.proofs.Common.{◌≡◌, ◌+◌, ◌<◌, ◌∙◌, ◌++◌, ◌∷◌, [], ap, refl, set, subst, sym}
-use Rattle.cops_model.specs.declared.calls.AuditEntry.{AuditEntry}
 use Rattle.cops_node.specs.declared.pages.PageList.{PageList}
 use Rattle.cops_node.specs.Pages.{IsListTurn, calls_in}
 use Rattle.cops_node.proofs.PageLemmas.{list_noted, own_calls, own_list, own_spare, spare_small, spare_some, turned_lists, turned_trails}

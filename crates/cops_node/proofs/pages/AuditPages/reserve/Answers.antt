@@ -1,6 +1,5 @@
-use Rattle.std.proofs.Common.{◌≡◌, ◌<◌, ◌≤◌, ◌/◌, ◌∙◌, ap, refl, set, subst, sym, get_or, map, arith}
-use Rattle.std.specs.Prelude.{OnOk}
-use Rattle.cops_node.specs.Pages.{IsListTurn, IsPageList, PAGE, calls_in, page_at, calls_of_page, spare_for, spare_in}
+use Rattle.std.proofs.Common.{◌≡◌, ◌<◌, ◌/◌, subst, sym, arith}
+use Rattle.cops_node.specs.Pages.{IsListTurn, PAGE, calls_in}
 use Rattle.cops_node.proofs.PageLemmas.{OnOk-map, kept_trails, last_is_full, last_there, list_added, list_widened, lt_false, lt_true, own_list, room_in_last, spare_found, spare_shown, turned_lists}
 use Rattle.cops_node.proofs.pages.AuditPages.reserve.Goals as goal
 use Rattle.cops_node.proofs.pages.AuditPages.reserve.Goals.{After-widen}
