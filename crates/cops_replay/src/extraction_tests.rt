@@ -4,8 +4,6 @@ use crate::{PartRefusal, extract_text};
 use cops_script::{BadConfig, RunFault};
 use cops_types::{Sink, Source};
 use std::alloc::Global;
-use std::io;
-use std::io::{Read, Write};
 use std::process::Abort;
 
 const GAMA: &[u8] = b"layout 2
@@ -88,41 +86,4 @@ fn an_audit_without_a_part(rt: HostRuntime) {
         PartRefusal::UnknownTenant,
     );
     assert_refused(&rt, rt.alloc(), cut, b"gama", bad);
-}
-
-/// Fails at each call.
-struct Broken;
-
-impl Read for Broken {
-    fn read(&mut self, _buf: &mut [u8]) -> io::Result<usize> {
-        Err(io::Error::from(io::ErrorKind::Other))
-    }
-}
-
-impl Write for Broken {
-    fn write(&mut self, _buf: &[u8]) -> io::Result<usize> {
-        Err(io::Error::from(io::ErrorKind::Other))
-    }
-
-    fn flush(&mut self) -> io::Result<()> {
-        Ok(())
-    }
-}
-
-#[test]
-fn an_extraction_over_broken_streams(rt: HostRuntime) {
-    let alloc = rt.alloc();
-    let mut sink = Sink::new(Vec::new(alloc));
-    let read = extract_text(alloc, &mut Source::new(Broken), &mut sink, b"gama");
-    let mut whole = Source::new(GAMA_AND_BETA);
-    let write = extract_text(alloc, &mut whole, &mut Sink::new(Broken), b"gama");
-    let told = [read, write];
-    for ended in told {
-        assert!(rt;
-            matches!(
-                ended,
-                Err(RunFault::ReadFault | RunFault::WriteFault | RunFault::OutOfMemory)
-            )
-        );
-    }
 }
