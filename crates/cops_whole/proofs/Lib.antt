@@ -16,3 +16,4 @@ pub mod Crews
 pub mod AtShards
 pub mod SeatThreads
 pub mod SmallService
+pub mod ServedBy

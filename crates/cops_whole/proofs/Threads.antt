@@ -32,7 +32,7 @@ module _ {N : Type 0} (Calls : N → NodeId → ℕ → ℕ → NodeCall → Nod
   all_both [] later old mid new first second = subst (λ n. MakesAll Calls n later new) first second
   all_both (a ∷ actors) later old mid new first second = (first.0, first.1, all_both actors later first.0 mid new first.2 second)
 
-  none : (old new : N) → new ≡ old → AreCallsOfActors Calls config old new
+  pub none : (old new : N) → new ≡ old → AreCallsOfActors Calls config old new
   none old new same = record { actors = []; behave = tt; made = same }
 
   one : (actor : SlotActor) (old new : N) → BehavesInSlot config actor → MakesTurns Calls actor.slot old (turns_of_told actor.did) new → AreCallsOfActors Calls config old new

@@ -5,3 +5,4 @@ pub mod Threads
 pub mod NoOps
 pub mod Services
 pub mod SmallService
+pub mod ServedBy

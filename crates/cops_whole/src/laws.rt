@@ -18,12 +18,14 @@ ghost use Rattle.cops_model.specs.declared.deliveries.Delivery.{Delivery};
 ghost use Rattle.cops_service.specs.Carried.{Delivers};
 ghost use Rattle.cops_service.specs.Connections.{IsDesk};
 ghost use Rattle.cops_service.specs.Conversing.{ConverseAll};
+ghost use Rattle.cops_service.specs.Crews.{AreServedBy};
 ghost use Rattle.cops_service.specs.Desks.{IsDeskCall, NodeSeat};
 ghost use Rattle.cops_service.specs.Gates.{Gates};
 ghost use Rattle.cops_service.specs.Slots.{NodeLog};
 ghost use Rattle.cops_whole.specs.Threads.{AreCallsOfActors};
 ghost use Rattle.cops_whole.specs.NoOps.{IsLogOfGates};
 ghost use Rattle.cops_whole.specs.Seats.{AddsTurns, AllRecorded, IsServedCluster, MakesAll, SlotActor, own_commands, turns_by_actor};
+ghost use Rattle.cops_whole.specs.ServedBy.{AreServedByActors};
 ghost use Rattle.cops_whole.specs.Services.{IsCallAtShard, IsCrewRun, IsLogOfService, IsServiceRun, IsTenantOfService, SeatActors, actors_numbered, past_numbers};
 ghost use Rattle.cops_whole.specs.SmallCluster.{small_actors, small_config, small_log};
 ghost use Rattle.cops_whole.specs.SmallService.{lacking_actors, lacking_history, small_gates, small_history};
@@ -152,4 +154,11 @@ pub fn crews_run_services()
 pub fn small_service_ran()
     ensures all { (gate : Origin Shared) → IsServiceRun small_config (small_gates gate) small_history 2 small_actors }
     ensures lacking { (gate : Origin Shared) → IsServiceRun small_config (small_gates gate) lacking_history 2 lacking_actors }
+{}
+
+/// Theorem: the calls of the seats that a service's threads gave back are those of actors. If each call got a ticket and no
+/// other seat made a turn, one log serves all tenants causally, and the nodes that are left represent what their acts leave.
+pub fn threads_serve_causally<M: Moments>()
+    ensures { (config : Config) (workers : ℕ) (moments : M) (nodes : List Shared) (served : AreServedBy M.Gives moments config workers nodes) → 0 < config.shards →
+        AreServedByActors M.Gives moments config workers nodes served }
 {}

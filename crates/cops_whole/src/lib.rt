@@ -9,5 +9,5 @@ pub use laws::{
     seats_make_calls_of_actors, seats_make_their_turns, seats_record_their_turns,
     services_are_served_clusters, small_cluster_is_served, small_service_ran,
     tenants_are_served_causally, tenants_of_services_are_served_causally,
-    threads_make_calls_of_actors, whole_logs_are_legal,
+    threads_make_calls_of_actors, threads_serve_causally, whole_logs_are_legal,
 };

@@ -1,0 +1,189 @@
+-- The seats that the threads of a service gave back did the calls of actors.
+use Rattle.std.proofs.Common.{◌≡◌, ◌≢◌, ℕ, zero, suc, ◌*◌, ◌<◌, true, false, not, ◌==◌, ◌&&◌, nat_lt, List, [], ◌∷◌, map, length, get_or, lt-ltb, refl, sym, ◌∙◌, ap, subst}
+use Rattle.std.specs.Prelude.{Some, slice_get}
+use Rattle.std.specs.List.{AllByRecursion}
+use Rattle.std.proofs.lemmas.Bool.Decides.{Decides-eqb}
+use Rattle.std.proofs.lemmas.Option.{get_or_from_slice_get, slice_get-get_or, slice_get_within}
+use mathlib.Core.Option.{some}
+use lib.ListN.{get_elem?}
+use Rattle.cops_types.specs.declared.configs.Config.{Config}
+use Rattle.cops_types.specs.declared.configs.Tenant.{Tenant}
+use Rattle.cops_types.specs.TenantConfig.{tenant_config}
+use Rattle.cops_types.proofs.Elements.{and_true}
+use Rattle.cops_gate.specs.History.{IsLegal, Leads, turns_at}
+use Rattle.cops_gate.specs.Seats.{HasAllOf}
+use Rattle.cops_gate.proofs.Ending.{all_joined, all_weaker}
+use Rattle.cops_gate.proofs.Keeps.{there_at}
+use Rattle.cops_model.specs.Cluster.{has_node, has_stream}
+use Rattle.cops_node.specs.Clusters.{new_shared}
+use Rattle.cops_node.specs.Parts.{Shared, IsMachineTurn}
+use Rattle.cops_service.specs.Calling.{CollectAll}
+use Rattle.cops_service.specs.Carried.{DeliverAll, carried_stream}
+use Rattle.cops_service.specs.Crews.{AreServedBy, CarriesStreams, CollectsPlaces, HasJustDone, ServesClients}
+use Rattle.cops_service.specs.Desks.{IsDeskCall, NodeSeat}
+use Rattle.cops_service.specs.Gates.{Gates, HasNoTurn, openings}
+use Rattle.cops_service.specs.Slots.{NodeLog}
+use Rattle.cops_service.proofs.Desks.{read_at}
+use Rattle.cops_history.specs.Turns.{Turn as CallTurn}
+use Rattle.cops_served.specs.Conversations.{MakesTurns, turns_of_told}
+use Rattle.cops_whole.specs.Seats.{MakesAll, SlotActor}
+use Rattle.cops_whole.specs.ServedBy.{AreServedByActors, AreTicketed, HasNoOtherTurn, ServesAllCausally}
+use Rattle.cops_whole.specs.Services.{IsCallAtShard, IsCrewRun, SeatActors, SeatDid, actors_numbered, past_numbers}
+use Rattle.cops_whole.specs.Threads.{AreCallsOfActors}
+use Rattle.cops_whole.proofs.Crews.{run_of_crew}
+use Rattle.cops_whole.proofs.Histories.{how_many, opened_at}
+use Rattle.cops_whole.proofs.SeatThreads.{carries, collected, serves}
+use Rattle.cops_whole.proofs.Services.{tenants_of_service}
+use Rattle.cops_whole.proofs.Threads.{both, none}
+
+-- ---- lists
+
+slice_there : {A : Type 0} (xs : List A) (i : ℕ) → i < length xs → (x : A) × (slice_get xs i ≡ Some x)
+slice_there xs i within = let there = there_at xs i within in (get_or xs i there.0, slice_get-get_or xs i there.0 within)
+
+get_there : {A : Type 0} (xs : List A) (i : ℕ) (x : A) → slice_get xs i ≡ Some x → get_elem? xs i ≡ some x
+get_there xs i x at =
+    let there = there_at xs i (slice_get_within xs i x at) in
+    there.1 ∙ ap some (read_at xs i there.0 there.1 ∙ get_or_from_slice_get xs i x there.0 at)
+
+module _ (config : Config) (cluster : Gates Shared) where
+  abbrev Calls : NodeSeat → NodeSeat → Type 0
+  Calls first last = AreCallsOfActors (IsCallAtShard config cluster) config first last
+
+  -- ---- what a seat did
+
+  tenant_there : (slot : ℕ) → slot < length config.tenants → (tenant : Tenant) × (slice_get config.tenants slot ≡ Some tenant)
+  tenant_there slot within = slice_there config.tenants slot within
+
+  stream_there : (dc shard to_dc : ℕ) (tenant : Tenant) → dc < config.data_centres → shard < config.shards → to_dc < config.data_centres → to_dc ≢ dc → has_stream (tenant_config config tenant) dc shard to_dc ≡ true
+  stream_there dc shard to_dc tenant dc_below shard_below to_below apart =
+      let node : has_node (tenant_config config tenant) dc shard ≡ true = and_true (nat_lt dc config.data_centres) (nat_lt shard config.shards) (lt-ltb dc config.data_centres dc_below) (lt-ltb shard config.shards shard_below) in
+      and_true (has_node (tenant_config config tenant) dc shard && nat_lt to_dc config.data_centres) (not (dc == to_dc))
+      (and_true (has_node (tenant_config config tenant) dc shard) (nat_lt to_dc config.data_centres) node (lt-ltb to_dc config.data_centres to_below)) other
+    where
+      other : not (dc == to_dc) ≡ true
+      other = elim (dc == to_dc) as (λ b. (dc == to_dc) ≡ b → not b ≡ true) [
+        | true ↦ λ same. absurd (apart (sym ((Decides-eqb dc to_dc).0 same)))
+        | false ↦ λ differ. refl
+      ] refl
+
+  all_carried : (count : ℕ) (first last : NodeSeat) → DeliverAll (IsDeskCall cluster) config count first last → Calls first last
+  all_carried zero first last same = none (IsCallAtShard config cluster) config first last same
+  all_carried (suc count) first last (between, earlier, (stream, ending, is, delivers)) =
+      let tenant = tenant_there stream.from.slot is.from.slot_exists in
+      both (IsCallAtShard config cluster) config first between last (all_carried count first between earlier)
+      (carries config cluster tenant.0 stream.from.slot (carried_stream stream) ending between last tenant.1 (stream_there stream.from.id.dc stream.from.id.shard stream.to_dc tenant.0 is.from.dc_exists is.from.shard_exists is.dc_exists is.to_another) delivers)
+
+  all_collected : (count : ℕ) (first last : NodeSeat) → CollectAll (IsDeskCall cluster) config count first last → Calls first last
+  all_collected zero first last same = none (IsCallAtShard config cluster) config first last same
+  all_collected (suc count) first last (between, place, earlier, there, (moment, reply, called)) =
+      let tenant = tenant_there place.slot there.slot_exists in
+      both (IsCallAtShard config cluster) config first between last (all_collected count first between earlier)
+      (collected config cluster tenant.0 place.slot place.id moment reply between last tenant.1 there.shard_exists called)
+
+  -- the seat did the calls of actors, after it had made no turn
+  record Acted (seat : NodeSeat) : Type 0 where
+    first : NodeSeat
+    no_turn : HasNoTurn first
+    calls : Calls first seat
+
+  acted : (Does : NodeSeat → NodeSeat → Type 0) → ((first last : NodeSeat) → Does first last → Calls first last) → (seat : NodeSeat) → HasJustDone cluster Does seat → Acted seat
+  acted Does as_calls seat done = record { first = done.first; no_turn = done.no_turn; calls = as_calls done.first seat done.does }
+
+  -- ---- its number
+
+  number_after : (slot : ℕ) (turns : List CallTurn) (old new : NodeSeat) → MakesTurns (IsCallAtShard config cluster) slot old turns new → new.number ≡ old.number
+  number_after slot [] old new same = ap (λ (s : NodeSeat). s.number) same
+  number_after slot (t ∷ turns) old new (mid, call, later) = number_after slot turns mid new later ∙ call.1.same.1
+
+  number_stays : (actors : List SlotActor) (old new : NodeSeat) → MakesAll (IsCallAtShard config cluster) old actors new → new.number ≡ old.number
+  number_stays [] old new same = ap (λ (s : NodeSeat). s.number) same
+  number_stays (a ∷ actors) old new (mid, made, later) = number_stays actors mid new later ∙ number_after a.slot (turns_of_told a.did) old mid made
+
+  -- ---- all seats
+
+  abbrev crew_of : (seats : List NodeSeat) → AllByRecursion Acted seats → List SeatActors
+  crew_of [] all = []
+  crew_of (s ∷ seats) all = record { number = s.number; actors = all.0.calls.actors } ∷ crew_of seats all.1
+
+  numbers_are : (seats : List NodeSeat) (all : AllByRecursion Acted seats) → map (λ (s : SeatActors). s.number) (crew_of seats all) ≡ map (λ (s : NodeSeat). s.number) seats
+  numbers_are [] all = refl
+  numbers_are (s ∷ seats) all = ap (λ ns. s.number ∷ ns) (numbers_are seats all.1)
+
+  all_did : (history : NodeLog) (seats : List NodeSeat) (all : AllByRecursion Acted seats) → AllByRecursion (HasAllOf history) seats → AreTicketed (crew_of seats all) →
+      AllByRecursion (λ (s : SeatActors). SeatDid config cluster history s.number s.actors) (crew_of seats all)
+  all_did history [] all seen ticketed = tt
+  all_did history (s ∷ seats) all seen ticketed = (
+    record {
+      first = all.0.first;
+      last = s;
+      number_is = sym (number_stays all.0.calls.actors all.0.first s all.0.calls.made);
+      no_turn = all.0.no_turn;
+      made = all.0.calls.made;
+      behave = all.0.calls.behave;
+      ticketed = ticketed.0;
+      all_of = seen.0;
+    },
+    all_did history seats all.1 seen.1 ticketed.1,
+  )
+
+-- ---- the service
+
+module _ {M : Type 0} (Gives : M → ℕ → M → Type 0) (moments : M) (config : Config) (workers : ℕ) (nodes : List Shared) (some_shards : 0 < config.shards) (served : AreServedBy Gives moments config workers nodes) where
+  abbrev cluster : Gates Shared
+  cluster = served.cluster
+
+  abbrev seats : List NodeSeat
+  seats = served.seen.seats
+
+  all_acted : AllByRecursion (Acted config cluster) seats
+  all_acted =
+      let crew = served.seen.crew in
+      let servers = crew.serve in
+      let by_workers : AllByRecursion (Acted config cluster) servers.workers =
+      all_weaker (HasJustDone cluster (ServesClients config cluster Gives moments)) (Acted config cluster) servers.workers
+      (acted config cluster (ServesClients config cluster Gives moments) (λ first last h. serves config cluster Gives h.0 first last moments h.1 some_shards h.2)) servers.serve.1 in
+      let by_carrier : Acted config cluster servers.carrier = acted config cluster (CarriesStreams config cluster) (λ first last h. all_carried config cluster h.0 first last h.1) servers.carrier servers.carries in
+      let by_collector : Acted config cluster crew.collector = acted config cluster (CollectsPlaces config cluster) (λ first last h. all_collected config cluster h.0 first last h.1) crew.collector crew.collects in
+      let by_servers : AllByRecursion (Acted config cluster) crew.servers =
+      subst (AllByRecursion (Acted config cluster)) (sym servers.are) (all_joined (Acted config cluster) servers.workers (servers.carrier ∷ []) by_workers (by_carrier, tt)) in
+      subst (AllByRecursion (Acted config cluster)) (sym crew.are) (all_joined (Acted config cluster) crew.servers (crew.collector ∷ []) by_servers (by_collector, tt))
+
+  abbrev all_crew : List SeatActors
+  all_crew = crew_of config cluster seats all_acted
+
+  abbrev history : NodeLog
+  history = served.log
+
+  -- what the history leaves of a node
+  left_there : (number : ℕ) (node : Shared) → number < config.data_centres * config.shards → get_elem? nodes number ≡ some node → Leads IsMachineTurn (new_shared config number) (turns_at number history) node
+  left_there number node within at = served.leaves.1 number (new_shared config number) node (opened_at config (openings cluster) served.opened number within) at
+
+  node_count : length nodes ≡ config.data_centres * config.shards
+  node_count = served.leaves.0 ∙ how_many config (openings cluster) served.opened
+
+  legal_there : (number : ℕ) → number < config.data_centres * config.shards → IsLegal IsMachineTurn (new_shared config number) (turns_at number history)
+  legal_there number within = let node = there_at nodes number (subst (λ n. number < n) (sym node_count) within) in (node.0, left_there number node.0 within node.1)
+
+  run : AreTicketed all_crew → HasNoOtherTurn history served.last all_crew → IsCrewRun config cluster history all_crew
+  run ticketed only = record {
+    gate = record { shards = served.shards; opened = served.opened; legal = legal_there };
+    did = all_did config cluster history seats all_acted (subst (λ h. AllByRecursion (HasAllOf h) seats) (sym only.seen) served.seen.all) ticketed;
+    seated = only.seated;
+  }
+
+  causally : AreTicketed all_crew → HasNoOtherTurn history served.last all_crew → ServesAllCausally config history nodes all_crew
+  causally ticketed only =
+      let service = run_of_crew config cluster history all_crew (run ticketed only) in
+      let all = tenants_of_service config cluster history (past_numbers all_crew) (actors_numbered all_crew) service some_shards in
+      record {
+        log = all.0;
+        is_log = all.1;
+        tenants = all.2;
+        left = λ slot tenant found number node at.
+            let within : number < config.data_centres * config.shards = subst (λ n. number < n) node_count (slice_get_within nodes number node at) in
+            (all.2 slot tenant found).nodes number node within (left_there number node within (get_there nodes number node at));
+      }
+
+  pub served_by_actors : AreServedByActors Gives moments config workers nodes served
+  served_by_actors = record { crew = all_crew; numbers = numbers_are config cluster seats all_acted; causally = causally }
