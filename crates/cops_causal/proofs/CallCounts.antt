@@ -6,6 +6,7 @@ use Rattle.std.specs.declared.alloc.AllocError.{AllocError}
 use Rattle.std.proofs.Math.Nat.{add-mul, mul-le-mul_right}
 use Rattle.cops_types.specs.declared.faults.Fault.{Fault}
 use Rattle.cops_types.specs.Context.{Observation}
+use Rattle.cops_types.specs.declared.request_errors.RequestError.{RequestError}
 use Rattle.cops_types.specs.TenantConfig.{TenantConfig}
 use Rattle.cops_model.specs.declared.calls.NodeReply.{NodeReply}
 use Rattle.cops_model.specs.declared.requests.Answer.{Answer}
@@ -162,19 +163,18 @@ module _ (config : TenantConfig) where
       ap length (replies-push running.log (record { moment = moment; outcome = Late }) ∙ append-nil (replies_of running.log)) ∙ (let none = is in omega arith)
 
   -- a session that goes on with its request
-  goes_on : (session : Session) (running : Running) (steps : List SteppedAt) (result : Result (Result Progress Fault) AllocError) (told : Result Progress AllocError) (after : KeptSession) (made : ℕ) (step : LogStep) →
+  goes_on : (session : Session) (running : Running) (steps : List SteppedAt) (result : Result Progress RequestError) (told : Result Progress AllocError) (after : KeptSession) (made : ℕ) (step : LogStep) →
       told_step result ≡ Ok told → GoesOnTo steps result → HasTold config session running step told after → IsLogOf config (request_of session running) (running.log ++ step ∷ []) → calls_in (stepped_to running step) ≡ calls_in running + made →
       Leaves session running steps after made
-  goes_on session running steps (Ok (Ok Working)) told after made step is goes has own counts =
+  goes_on session running steps (Ok Working) told after made step is goes has own counts =
       let shows : Ok Working ≡ told = cc in
       record { step = step; own = own; counts = counts; next_session = session_after session running step Working; same_request = refl; stands = λ first more e. ((subst (λ t. HasTold config session running step t after) (sym shows) has).stepped.stands, refl) }
-  goes_on session running steps (Ok (Ok (Restarted times))) told after made step is goes has own counts =
+  goes_on session running steps (Ok (Restarted times)) told after made step is goes has own counts =
       let shows : Ok (Restarted times) ≡ told = cc in
       record { step = step; own = own; counts = counts; next_session = session_after session running step (Restarted times); same_request = refl; stands = λ first more e. ((subst (λ t. HasTold config session running step t after) (sym shows) has).stepped.stands, refl) }
   goes_on session running [] result told after made step is goes has own counts =
       record { step = step; own = own; counts = counts; next_session = session_after session running step Working; same_request = refl; stands = λ first more e. cc }
-  goes_on session running (first ∷ steps) (Ok (Ok (Done a))) told after made step is goes has own counts = absurd goes
-  goes_on session running (first ∷ steps) (Ok (Err fault)) told after made step is goes has own counts = absurd goes
+  goes_on session running (first ∷ steps) (Ok (Done a)) told after made step is goes has own counts = absurd goes
   goes_on session running (first ∷ steps) (Err error) told after made step is goes has own counts = absurd goes
 
   -- a step of the contract

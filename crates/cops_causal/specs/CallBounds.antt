@@ -1,7 +1,6 @@
 -- How many node calls a request makes, the one that brings its answer among them.
 use Rattle.std.specs.Prelude.{◌≡◌, ℕ, ◌+◌, ◌*◌, ◌≤◌, List, [], ◌∷◌, length, Result, Ok}
-use Rattle.std.specs.declared.alloc.AllocError.{AllocError}
-use Rattle.cops_types.specs.declared.faults.Fault.{Fault}
+use Rattle.cops_types.specs.declared.request_errors.RequestError.{RequestError}
 use Rattle.cops_types.specs.TenantConfig.{TenantConfig}
 use Rattle.cops_model.specs.declared.requests.Progress.{Progress}
 use Rattle.cops_model.specs.declared.requests.Progress.TheVariants.{Working, Restarted}
@@ -25,13 +24,13 @@ MakesFewCalls config request log = IsLogOf config request log → length (replie
 -- a call of it: the timestamp that was passed, and what it returned
 pub record SteppedAt : Type 0 where
   pub moment : ℕ
-  pub result : Result (Result Progress Fault) AllocError
+  pub result : Result Progress RequestError
 
 -- the request goes on, if there are more steps
-abbrev pub GoesOnTo : List SteppedAt → Result (Result Progress Fault) AllocError → Type 0
+abbrev pub GoesOnTo : List SteppedAt → Result Progress RequestError → Type 0
 GoesOnTo [] result = Unit {0}
-GoesOnTo (next ∷ steps) (Ok (Ok Working)) = Unit {0}
-GoesOnTo (next ∷ steps) (Ok (Ok (Restarted times))) = Unit {0}
+GoesOnTo (next ∷ steps) (Ok Working) = Unit {0}
+GoesOnTo (next ∷ steps) (Ok (Restarted times)) = Unit {0}
 GoesOnTo (next ∷ steps) result = ⊥
 
 -- steps of one request, each as the contract says, with the number of calls that they make

@@ -1,9 +1,10 @@
 -- Garbage collections on all nodes.
 use Rattle.std.specs.Prelude.{◌≡◌, ℕ, ◌+◌, ◌^◌, ◌<◌, ◌≤◌, List, [], ◌∷◌, ◌++◌, map, length, sum, Some, Result, Ok, Err}
 use Rattle.std.specs.List.{flat_map, range_with_len}
-use Rattle.std.specs.declared.alloc.AllocError.{AllocError}
 use Rattle.cops_types.specs.declared.faults.Fault.{Fault}
-use Rattle.cops_types.specs.declared.faults.Fault.TheVariants.{OutOfMemory, Torn}
+use Rattle.cops_types.specs.declared.faults.Fault.TheVariants.{Torn}
+use Rattle.cops_types.specs.declared.request_errors.RequestError.{RequestError}
+use Rattle.cops_types.specs.RequestErrors.{fault_told}
 use Rattle.cops_model.specs.declared.calls.NodeCall.{NodeCall}
 use Rattle.cops_model.specs.declared.calls.NodeCall.TheVariants.{Collect}
 use Rattle.cops_model.specs.declared.calls.NodeId.{NodeId}
@@ -37,9 +38,9 @@ IsTotal start ids replies (Ok total) = (counts : List ℕ) × (length counts ≡
 IsTotal start ids replies (Err fault) = (counts : List ℕ) × (last : NodeReply) × (replies ≡ map Removed counts ++ last ∷ []) × (start + sum counts < 2 ^ 64) × StopsAt (start + sum counts) last fault
 
 -- the result for a sum; if a node ran out of memory, the fault that says so
-abbrev pub told_total : Result (Result ℕ Fault) AllocError → Result ℕ Fault
-told_total (Ok total) = total
-told_total (Err error) = Err OutOfMemory
+abbrev pub told_total : Result ℕ RequestError → Result ℕ Fault
+told_total (Ok total) = Ok total
+told_total (Err error) = Err (fault_told error)
 
 -- the nodes are collected in order, and this is the sum or the fault that ended it
 abbrev pub CollectsAll : {S : Type 0} → (S → NodeId → ℕ → ℕ → NodeCall → NodeReply → S → Type 0) → ℕ → ℕ → ℕ → List NodeId → S → S → Result ℕ Fault → Type 0

@@ -3,8 +3,7 @@ ghost use Rattle.cops_model.specs.declared.calls.NodeReply.TheVariants.{Removed}
 ghost use Rattle.cops_repl.specs.Collections.{CollectsAll, StopsAt, all_nodes, nodes_of_data_centre, told_total};
 
 use cops_node::{NodeCall, NodeId, NodeReply, Nodes};
-use cops_types::{Config, Fault};
-use std::alloc::AllocError;
+use cops_types::{Config, Fault, RequestError};
 
 /// Adds the count of a collection's reply to the sum.
 fn add_removed(total: u64, reply: &NodeReply) -> Result<u64, Fault>
@@ -29,7 +28,7 @@ fn collect_in<N: Nodes>(
     slot: u64,
     moment: u64,
     start: u64,
-) -> Result<Result<u64, Fault>, AllocError>
+) -> Result<u64, RequestError>
     requires dc { dc < (N.shape nodes.old).data_centres }
     requires shards { shards ≡ (N.shape nodes.old).shards }
     ensures collected { CollectsAll N.Answers slot moment start (nodes_of_data_centre shards dc) nodes.old nodes.new (told_total result) }
@@ -38,24 +37,20 @@ fn collect_in<N: Nodes>(
     let mut total = start;
     for shard in 0..shards {
         let reply = nodes.step(NodeId { dc, shard }, slot, moment, NodeCall::Collect)?;
-        match add_removed(total, &reply) {
-            Ok(sum) => total = sum,
-            Err(fault) => return Ok(Err(fault)),
-        }
+        total = add_removed(total, &reply)?;
     }
-    Ok(Ok(total))
+    Ok(total)
 }
 
 /// Collects for the tenant of a slot on every node, in number order, and returns the number of
 /// removed records. Fails with the first refusal, with `Torn` if a reply does not match the call or
-/// the sum exceeds the largest number, and with `AllocError` if a node runs out of memory. Earlier
-/// collections stand.
+/// the sum exceeds the largest number, or if a node runs out of memory. Earlier collections stand.
 pub fn collect_all<N: Nodes>(
     nodes: &mut N,
     config: &Config,
     slot: u64,
     moment: u64,
-) -> Result<Result<u64, Fault>, AllocError>
+) -> Result<u64, RequestError>
     requires data_centres { config.now.data_centres ≡ (N.shape nodes.old).data_centres }
     requires shards { config.now.shards ≡ (N.shape nodes.old).shards }
     ensures collected { CollectsAll N.Answers slot moment 0 (all_nodes config.now.data_centres config.now.shards) nodes.old nodes.new (told_total result) }
@@ -63,10 +58,7 @@ pub fn collect_all<N: Nodes>(
 {
     let mut total = 0;
     for dc in 0..config.data_centres {
-        match collect_in(nodes, dc, config.shards, slot, moment, total)? {
-            Ok(sum) => total = sum,
-            Err(fault) => return Ok(Err(fault)),
-        }
+        total = collect_in(nodes, dc, config.shards, slot, moment, total)?;
     }
-    Ok(Ok(total))
+    Ok(total)
 }

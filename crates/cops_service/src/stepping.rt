@@ -1,5 +1,6 @@
 //! Sessions and carriers at a desk. A step takes at most one turn of one node.
-ghost use Rattle.std.specs.Prelude.{◌≡◌, ◌<◌, ℕ, Some, None, max, false, MatchResult, OnErr, IfOk};
+ghost use Rattle.std.specs.Prelude.{◌≡◌, ◌<◌, ℕ, Some, None, max, false, MatchResult, OnErr};
+ghost use Rattle.cops_types.specs.RequestErrors.{OnOutOfMemory, OnRefusal};
 ghost use Rattle.cops_types.specs.TenantConfig.{TenantConfig};
 ghost use Rattle.cops_types.specs.declared.faults.Fault.TheVariants.{OutOfMemory};
 ghost use Rattle.cops_model.specs.declared.calls.NodeReply.{NodeReply};
@@ -17,19 +18,19 @@ use crate::desk::Desk;
 use cops_handles::Handle;
 use cops_repl::Carrier;
 use cops_session::{Running, Session};
-use cops_types::Fault;
+use cops_types::{Fault, RequestError};
 use std::alloc::AllocError;
 use std::sync::Wait;
 
 impl<R: Wait> Desk<'_, R> {
-    /// Takes a step of a session's request. The session goes on with the reply of that turn. Fails with `AllocError` if
-    /// memory runs out, at the node or for the session.
+    /// Takes a step of a session's request. The session goes on with the reply of that turn. Is refused if no such request
+    /// runs. Memory can run out at the node or for the session.
     pub fn step_session(
         &mut self,
         session: &mut Session,
         handle: Handle<Running>,
         moment: u64,
-    ) -> Result<Result<cops_session::Progress, Fault>, AllocError>
+    ) -> Result<cops_session::Progress, RequestError>
         requires data_centres { session.old.setting.data_centres ≡ (shape_in self.old.cluster.now).data_centres }
         requires shards { session.old.setting.shards ≡ (shape_in self.old.cluster.now).shards }
         ensures cluster { self.new.cluster.now ≡ self.old.cluster.now }
@@ -40,8 +41,8 @@ impl<R: Wait> Desk<'_, R> {
             config solo running (moment_at moment solo) told session.new (next config (request_of solo running) running.log (moment_at moment solo)))
             (λ fault. fault ≡ Fault.Idle) }
         ensures setting { session.new.setting ≡ session.old.setting }
-        ensures idle { IfOk result (λ told. OnErr told ((session.new ≡ session.old) × (self.new.seat.now ≡ self.old.seat.now))) }
-        ensures err { OnErr result (session.new ≡ record session.old { moment = session.new.moment; running = None }) }
+        ensures idle { OnRefusal result ((session.new ≡ session.old) × (self.new.seat.now ≡ self.old.seat.now)) }
+        ensures lack { OnOutOfMemory result (session.new ≡ record session.old { moment = session.new.moment; running = None }) }
     {
         session.step(self, handle, moment)
     }

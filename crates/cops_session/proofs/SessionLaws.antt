@@ -182,14 +182,10 @@ module _ (config : TenantConfig) (kept : KeptSession) (session : Session) (stand
 
 -- ---- answers
 
-pub is_allowed : (can : Bool) → refused_if (not can) DependenciesFull ≡ None → can ≡ true
-is_allowed true is = refl
-is_allowed false is = cc
-
--- the answer is the one refusal that remains
-pub full_told : (can : Bool) (fault : Fault) (refusal : Option Fault) → (can ≡ false → refusal ≡ Some DependenciesFull) → refused_if (not can) DependenciesFull ≡ Some fault → refusal ≡ Some fault
-full_told true fault refusal full is = cc
-full_told false fault refusal full is = full refl ∙ is
+-- the refusal that remains is that of the prepared put
+pub prepared_told : (can : Bool) (refusal told : Option Fault) → (can ≡ true → refusal ≡ None) → (can ≡ false → refusal ≡ Some DependenciesFull) → refused_if (not can) DependenciesFull ≡ told → refusal ≡ told
+prepared_told true refusal told none full is = none refl ∙ is
+prepared_told false refusal told none full is = full refl ∙ is
 
 -- what is no error is an answer
 pub answered_by : {A : Type 0} {P : A → Type 0} (Q : Fault → Type 0) (r : Result A Fault) → MatchResult r P Q → ((fault : Fault) → r ≡ Err fault → ⊥) → (a : A) × P a

@@ -3,6 +3,8 @@ use Rattle.std.specs.Prelude.{◌≡◌, ◌⊎◌, ℕ, Bool, false, ◌==◌, 
 use Rattle.std.specs.declared.alloc.AllocError.{AllocError}
 use Rattle.cops_types.specs.declared.faults.Fault.{Fault}
 use Rattle.cops_types.specs.declared.faults.Fault.TheVariants.{OutOfMemory}
+use Rattle.cops_types.specs.declared.request_errors.RequestError.{RequestError}
+use Rattle.cops_types.specs.declared.request_errors.RequestError.TheVariants.{OutOfMemory as Lacking, Refused as RefusedWith}
 use Rattle.cops_types.specs.TenantConfig.{TenantConfig}
 use Rattle.cops_model.specs.declared.calls.NodeCall.{NodeCall}
 use Rattle.cops_model.specs.declared.calls.NodeId.{NodeId}
@@ -24,10 +26,10 @@ told_shown (Ok shown) = shown
 told_shown (Err error) = Done (Refused OutOfMemory)
 
 -- the result of a step if the request runs; otherwise why no step was taken
-abbrev pub told_step : Result (Result Progress Fault) AllocError → Result (Result Progress AllocError) Fault
-told_step (Ok (Ok shown)) = Ok (Ok shown)
-told_step (Ok (Err fault)) = Err fault
-told_step (Err error) = Ok (Err error)
+abbrev pub told_step : Result Progress RequestError → Result (Result Progress AllocError) Fault
+told_step (Ok shown) = Ok (Ok shown)
+told_step (Err (RefusedWith fault)) = Err fault
+told_step (Err Lacking) = Ok (Err (record {}))
 
 -- The step shows what the definition's does; or it shows that memory ran out, which ends the request and happens only if the step needed memory.
 -- The session then represents the definition's next session
@@ -58,7 +60,7 @@ TellsNext called stays config session running moment told after Restart =
 TellsNext called stays config session running moment told after (Ended answer) = ⊥
 
 -- and that holds for whatever the state of the session represents
-abbrev pub StepsFrom : (NodeId → ℕ → NodeCall → NodeReply → Type 0) → Type 0 → KeptSession → ℕ → Result (Result Progress Fault) AllocError → KeptSession → Type 0
+abbrev pub StepsFrom : (NodeId → ℕ → NodeCall → NodeReply → Type 0) → Type 0 → KeptSession → ℕ → Result Progress RequestError → KeptSession → Type 0
 StepsFrom called stays old moment result after =
     (config : TenantConfig) (session : Session) (running : Running) → SessionStandsFor config old session → session.running ≡ Some running →
     let at = moment_at moment session in

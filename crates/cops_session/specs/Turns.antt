@@ -1,8 +1,9 @@
 -- A step of a running get transaction.
 use Rattle.std.specs.Prelude.{◌≡◌, ◌⊎◌, ℕ, false, List, [], ◌∷◌, ◌++◌, Result, Ok, Err, if◌then◌else◌}
 use Rattle.std.specs.declared.alloc.AllocError.{AllocError}
-use Rattle.cops_types.specs.declared.faults.Fault.{Fault}
 use Rattle.cops_types.specs.declared.faults.Fault.TheVariants.{OutOfMemory}
+use Rattle.cops_types.specs.declared.request_errors.RequestError.{RequestError}
+use Rattle.cops_types.specs.declared.request_errors.RequestError.TheVariants.{OutOfMemory as Lacking, Refused}
 use Rattle.cops_types.specs.Context.{Observation}
 use Rattle.cops_types.specs.TenantConfig.{TenantConfig}
 use Rattle.cops_model.specs.declared.calls.NodeCall.{NodeCall}
@@ -49,10 +50,10 @@ HasTurnedSo config request keys log step (Ok turn) = HasTurned config request ke
 HasTurnedSo config request keys log step (Err error) = HasLacked config request keys log step
 
 -- the outcome of a step at a timestamp in a transaction that stays in place
-abbrev pub turned_in_place : {A : Type 0} → ℕ → Reading → Result (Result A Fault) AllocError → Result ReadStep AllocError
-turned_in_place moment reading (Ok (Ok added)) = Ok (record { moment = moment; came = Working reading })
-turned_in_place moment reading (Ok (Err fault)) = Ok (record { moment = moment; came = Failed fault })
-turned_in_place moment reading (Err error) = Err error
+abbrev pub turned_in_place : {A : Type 0} → ℕ → Reading → Result A RequestError → Result ReadStep AllocError
+turned_in_place moment reading (Ok added) = Ok (record { moment = moment; came = Working reading })
+turned_in_place moment reading (Err (Refused fault)) = Ok (record { moment = moment; came = Failed fault })
+turned_in_place moment reading (Err Lacking) = Err (record {})
 
 -- the step does what comes next
 abbrev pub TurnsNext : (NodeId → NodeCall → NodeReply → Type 0) → Type 0 → TenantConfig → Request → List (List ℕ) → List LogStep → ℕ → Result ReadStep AllocError → Next Answer → Type 0

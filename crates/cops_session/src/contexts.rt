@@ -1,36 +1,34 @@
 //! The contexts of a session, by their handles.
 ghost use Rattle.std.specs.Prelude.{◌≡◌, [], ◌∷◌, List, not, IfOk, OnOk, OnErr};
+ghost use Rattle.cops_types.specs.declared.faults.Fault.TheVariants.{DependenciesFull};
 ghost use Rattle.cops_types.specs.Context.{Put, all_of, near_of, observations_of, can_put, can_observe};
 ghost use Rattle.cops_types.specs.Refusal.{refused_if};
+ghost use Rattle.cops_types.specs.RequestErrors.{told_refusal};
 ghost use Rattle.cops_context.specs.Lists.{AnswersWithin};
 ghost use Rattle.cops_session.specs.Kept.{HasRoomInContext, IsOpen};
-ghost use Rattle.cops_session.specs.Refusals.{told_refusal};
 ghost use Rattle.cops_model.specs.Session.{OpenContext, context_extended};
 ghost use Rattle.cops_session.specs.SessionStands.{ContextsStandFor, obs_in};
 
 use crate::kinds::Contexts;
 use cops_handles::{Handle, Table};
-use cops_types::{Deps, Fault, Key, Near, Pair, Read};
-use std::alloc::AllocError;
+use cops_types::{Deps, Key, Near, Pair, Read, RequestError};
 
 /// Returns the two lists that a put of the key sends, and reserves room in the context for that
-/// put. Fails with a `Fault` if the put exceeds the limit, and otherwise with `AllocError` if
-/// memory runs out.
+/// put. Is refused if the put exceeds the limit. Memory can run out only otherwise.
 pub(crate) fn prepare_put(
     contexts: &mut Table<Contexts>,
     handle: Handle<Contexts>,
     key: &Key,
     limit: u64,
-) -> Result<Result<(Deps, Near), Fault>, AllocError>
+) -> Result<(Deps, Near), RequestError>
     requires { IsOpen handle contexts.old.rows }
-    ensures lists { IfOk result (λ told. IfOk told (λ lists. (opens : List OpenContext) → ContextsStandFor contexts.old.rows opens →
-        (lists.0 ≡ all_of (obs_in handle opens)) × (lists.1 ≡ near_of (obs_in handle opens)))) }
-    ensures stands { IfOk result (λ told. OnOk told ((opens : List OpenContext) → ContextsStandFor contexts.old.rows opens → ContextsStandFor contexts.new.rows opens)) }
-    ensures room { IfOk result (λ told. OnOk told (HasRoomInContext handle key.now contexts.new.rows)) }
+    ensures lists { IfOk result (λ lists. (opens : List OpenContext) → ContextsStandFor contexts.old.rows opens →
+        (lists.0 ≡ all_of (obs_in handle opens)) × (lists.1 ≡ near_of (obs_in handle opens))) }
+    ensures stands { OnOk result ((opens : List OpenContext) → ContextsStandFor contexts.old.rows opens → ContextsStandFor contexts.new.rows opens) }
+    ensures room { OnOk result (HasRoomInContext handle key.now contexts.new.rows) }
     ensures told { (opens : List OpenContext) → ContextsStandFor contexts.old.rows opens →
-        refused_if (not (can_put limit (obs_in handle opens) key.now)) Fault.DependenciesFull ≡ told_refusal result }
+        refused_if (not (can_put limit (obs_in handle opens) key.now)) DependenciesFull ≡ told_refusal result }
     ensures numbers { contexts.new ≡ record contexts.old { rows = contexts.new.rows } }
-    ensures refused { IfOk result (λ told. OnErr told (contexts.new ≡ contexts.old)) }
     ensures err { OnErr result (contexts.new ≡ contexts.old) }
 {
     contexts.row_mut(handle).put_args(key, limit)
@@ -46,21 +44,20 @@ pub(crate) fn see_put(contexts: &mut Table<Contexts>, handle: Handle<Contexts>, 
     contexts.row_mut(handle).after_put(pair);
 }
 
-/// Adds reads to the context, in order: all of them or none. Fails with `AllocError` if memory runs
-/// out.
+/// Adds reads to the context, in order: all of them or none. Is refused if a list would exceed the
+/// limit.
 pub(crate) fn see_reads(
     contexts: &mut Table<Contexts>,
     handle: Handle<Contexts>,
     reads: &[Read],
     limit: u64,
-) -> Result<Result<(), Fault>, AllocError>
+) -> Result<(), RequestError>
     requires { IsOpen handle contexts.old.rows }
-    ensures stands { IfOk result (λ told. OnOk told ((opens : List OpenContext) → ContextsStandFor contexts.old.rows opens →
-        ContextsStandFor contexts.new.rows (context_extended handle (observations_of reads.now) opens))) }
+    ensures stands { OnOk result ((opens : List OpenContext) → ContextsStandFor contexts.old.rows opens →
+        ContextsStandFor contexts.new.rows (context_extended handle (observations_of reads.now) opens)) }
     ensures told { (opens : List OpenContext) → ContextsStandFor contexts.old.rows opens →
-        IfOk result (λ told. AnswersWithin (can_observe limit (obs_in handle opens) (observations_of reads.now)) told) }
+        AnswersWithin (can_observe limit (obs_in handle opens) (observations_of reads.now)) result }
     ensures numbers { contexts.new ≡ record contexts.old { rows = contexts.new.rows } }
-    ensures refused { IfOk result (λ told. OnErr told (contexts.new ≡ contexts.old)) }
     ensures err { OnErr result (contexts.new ≡ contexts.old) }
 {
     contexts.row_mut(handle).observe_all(reads, limit)

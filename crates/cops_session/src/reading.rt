@@ -15,7 +15,7 @@ use crate::ongoing::{Reading, Round};
 use crate::rounds::{AfterSecond, FirstRound, SecondRound};
 use crate::settings::Setting;
 use cops_node::Nodes;
-use cops_types::{Fault, Reads};
+use cops_types::{Fault, Reads, RequestError};
 use std::alloc::AllocError;
 
 /// The outcome of a step of a get transaction with enough memory.
@@ -129,13 +129,13 @@ impl Reading {
 }
 
 /// Takes a step that is a read of the first round, in time, and that another read follows. The read
-/// joins the round in place. Fails with `AllocError` if the node runs out of memory.
+/// joins the round in place. Fails with the reply's fault, or if the node runs out of memory.
 pub(crate) fn read_next<N: Nodes>(
     nodes: &mut N,
     setting: Setting,
     reading: &mut Reading,
     moment: u64,
-) -> Result<Result<(), Fault>, AllocError>
+) -> Result<(), RequestError>
     requires among { IsAmong (N.shape nodes.old) setting }
     requires reads_on { GetReadsOn setting.trans_time moment reading.old }
     ensures turned { TurnsFrom (λ id call reply. N.Answers nodes.old id setting.slot moment call reply nodes.new) (nodes.new ≡ nodes.old)
@@ -145,14 +145,11 @@ pub(crate) fn read_next<N: Nodes>(
 {
     let started = Some(reading.start.unwrap_or(moment));
     match &mut reading.round {
-        Round::First(round) => match ask_next(nodes, round, setting, moment) {
-            Ok(Ok(())) => {
-                reading.start = started;
-                Ok(Ok(()))
-            }
-            Ok(Err(fault)) => Ok(Err(fault)),
-            Err(error) => Err(error),
-        },
+        Round::First(round) => {
+            ask_next(nodes, round, setting, moment)?;
+            reading.start = started;
+            Ok(())
+        }
         Round::Second(_) => unreachable!(),
     }
 }

@@ -1,6 +1,7 @@
 ghost use Rattle.std.specs.Prelude.{◌≡◌, ◌⊎◌, ◌<◌, ◌+◌, ◌-◌, ◌^◌, ℕ, List, Option, [], false, length, max, Some, None, IfOk, IsTrue, OnOk, OnErr, MatchResult, slice_get};
 ghost use Rattle.std.specs.Option.{option_map};
 ghost use Rattle.cops_types.specs.Refusal.{refused_if};
+ghost use Rattle.cops_types.specs.RequestErrors.{OnOutOfMemory, OnRefusal, told_refusal};
 ghost use Rattle.cops_types.specs.TenantConfig.{TenantConfig, tenant_config};
 ghost use Rattle.cops_model.specs.Session.{is_spent};
 ghost use Rattle.cops_model.specs.declared.calls.NodeCall.{NodeCall};
@@ -28,7 +29,7 @@ use cops_context::Context;
 use cops_handles::{Handle, Table};
 use cops_model::ByteSlices;
 use cops_node::{NodeReply, Nodes};
-use cops_types::{Config, Fault, Key, Reads, Tenant, Value};
+use cops_types::{Config, Fault, Key, Reads, RequestError, Tenant, Value};
 use std::alloc::{AllocError, Global};
 use std::marker::Model;
 
@@ -73,7 +74,6 @@ impl Session {
     ghost use Rattle.cops_session.specs.Reading.{GetReadsFirst, ReadsFirst, ReadsOn};
     ghost use Rattle.cops_session.specs.Asking.{IsWantedIn};
     ghost use Rattle.cops_session.specs.Rounds.{FirstReads};
-    ghost use Rattle.cops_session.specs.Refusals.{told_refusal};
     ghost use Rattle.cops_session.specs.Stepping.{StepsFrom, TellsNext, runs, told_step};
     ghost use Rattle.cops_session.specs.Writing.{told_answer};
 
@@ -157,22 +157,20 @@ impl Session {
         }
     }
 
-    /// Opens an empty context. Fails with a `Fault` if too many are open or their numbers are
-    /// exhausted, and with `AllocError` if memory runs out.
-    pub fn create_context(&mut self) -> Result<Result<Handle<Contexts>, Fault>, AllocError>
+    /// Opens an empty context. Is refused if too many are open or their numbers are exhausted.
+    pub fn create_context(&mut self) -> Result<Handle<Contexts>, RequestError>
         ensures created { (config : TenantConfig) (session : SoloSession) → SessionStandsFor config self.old session →
-            IfOk result (λ told. IfOk told (λ handle. (handle ≡ session.next_context) × SessionStandsFor config self.new (context_created session))) }
+            IfOk result (λ handle. (handle ≡ session.next_context) × SessionStandsFor config self.new (context_created session)) }
         ensures told { (config : TenantConfig) (session : SoloSession) → SessionStandsFor config self.old session → create_refusal config session ≡ told_refusal result }
         ensures setting { self.new.setting ≡ self.old.setting }
-        ensures refused { IfOk result (λ told. OnErr told (self.new ≡ self.old)) }
         ensures err { OnErr result (self.new ≡ self.old) }
     {
         if self.running.is_some() {
-            return Ok(Err(Fault::Busy));
+            return Err(RequestError::Refused(Fault::Busy));
         }
-        match self.contexts.open(Context::new(self.alloc))? {
-            Ok(handle) => Ok(Ok(handle)),
-            Err(back) => Ok(Err(back.fault)),
+        match self.contexts.open(Context::new(self.alloc)) {
+            Ok(handle) => Ok(handle),
+            Err(back) => Err(back.error),
         }
     }
 
@@ -254,90 +252,84 @@ impl Session {
         }
     }
 
-    /// Begins a put of a value under a key, which then takes one step. Fails with a `Fault` if the
-    /// definition refuses it, and with `AllocError` if memory runs out for its lists.
+    /// Begins a put of a value under a key, which then takes one step. Is refused if the definition
+    /// refuses it. Memory can run out for its lists.
     pub fn begin_put(
         &mut self,
         handle: Handle<Contexts>,
         key: Key,
         value: Value,
-    ) -> Result<Result<Handle<Running>, Fault>, AllocError>
+    ) -> Result<Handle<Running>, RequestError>
         ensures begun { (config : TenantConfig) (session : SoloSession) → SessionStandsFor config self.old session →
-            IfOk result (λ told. IfOk told (λ number. (number ≡ session.next_request) × SessionStandsFor config self.new (request_begun handle (Write key value) session))) }
+            IfOk result (λ number. (number ≡ session.next_request) × SessionStandsFor config self.new (request_begun handle (Write key value) session)) }
         ensures told { (config : TenantConfig) (session : SoloSession) → SessionStandsFor config self.old session → session_put_refusal config handle key session ≡ told_refusal result }
         ensures setting { self.new.setting ≡ self.old.setting }
-        ensures refused { IfOk result (λ told. OnErr told (self.new ≡ self.old)) }
         ensures err { OnErr result (self.new ≡ self.old) }
     {
         let same = handle;
         let again = handle;
         if self.running.is_some() {
-            return Ok(Err(Fault::Busy));
+            return Err(RequestError::Refused(Fault::Busy));
         }
         let seen = match self.contexts.get(handle) {
             Ok(seen) => seen,
-            Err(fault) => return Ok(Err(fault)),
+            Err(fault) => return Err(RequestError::Refused(fault)),
         };
         // `prepare_put` checks the limit, unless request numbers are exhausted.
         if self.next_request == u64::MAX {
             if seen.can_put(&key, self.setting.deps) {
-                return Ok(Err(Fault::IdsSpent));
+                return Err(RequestError::Refused(Fault::IdsSpent));
             }
-            return Ok(Err(Fault::DependenciesFull));
+            return Err(RequestError::Refused(Fault::DependenciesFull));
         }
-        match prepare_put(&mut self.contexts, same, &key, self.setting.deps)? {
-            Ok((deps, near)) => {
-                let writing = PendingPut {
-                    key,
-                    value,
-                    deps,
-                    near,
-                };
-                Ok(Ok(self.begin(again, Work::Put(writing))))
-            }
-            Err(fault) => Ok(Err(fault)),
-        }
+        let (deps, near) = prepare_put(&mut self.contexts, same, &key, self.setting.deps)?;
+        let writing = PendingPut {
+            key,
+            value,
+            deps,
+            near,
+        };
+        Ok(self.begin(again, Work::Put(writing)))
     }
 
-    /// Begins a get transaction over keys. Fails with a `Fault` if the definition refuses it, and
-    /// with `AllocError` if memory runs out for its first round.
+    /// Begins a get transaction over keys. Is refused if the definition refuses it. Memory can run
+    /// out for its first round.
     pub fn begin_get_trans(
         &mut self,
         handle: Handle<Contexts>,
         keys: &[Key],
-    ) -> Result<Result<Handle<Running>, Fault>, AllocError>
+    ) -> Result<Handle<Running>, RequestError>
         ensures begun { (config : TenantConfig) (session : SoloSession) → SessionStandsFor config self.old session →
-            IfOk result (λ told. IfOk told (λ number. (number ≡ session.next_request) × SessionStandsFor config self.new (request_begun handle (Fetch keys.now) session))) }
+            IfOk result (λ number. (number ≡ session.next_request) × SessionStandsFor config self.new (request_begun handle (Fetch keys.now) session)) }
         ensures told { (config : TenantConfig) (session : SoloSession) → SessionStandsFor config self.old session → get_refusal config handle keys.now session ≡ told_refusal result }
         ensures setting { self.new.setting ≡ self.old.setting }
-        ensures refused { IfOk result (λ told. OnErr told (self.new ≡ self.old)) }
         ensures err { OnErr result (self.new ≡ self.old) }
     {
         let same = handle;
         if keys.is_empty() {
-            return Ok(Err(Fault::Syntax));
+            return Err(RequestError::Refused(Fault::Syntax));
         }
         if self.running.is_some() {
-            return Ok(Err(Fault::Busy));
+            return Err(RequestError::Refused(Fault::Busy));
         }
         if let Err(fault) = self.contexts.get(handle) {
-            return Ok(Err(fault));
+            return Err(RequestError::Refused(fault));
         }
         if keys.len() > 32 {
-            return Ok(Err(Fault::TooManyKeys));
+            return Err(RequestError::Refused(Fault::TooManyKeys));
         }
         if has_repeats(keys) {
-            return Ok(Err(Fault::RepeatedKey));
+            return Err(RequestError::Refused(Fault::RepeatedKey));
         }
         if self.next_request == u64::MAX {
-            return Ok(Err(Fault::IdsSpent));
+            return Err(RequestError::Refused(Fault::IdsSpent));
         }
         let reading = Reading {
             restarts: 0,
             start: None,
             round: Round::First(FirstRound::begin(self.alloc, keys)?),
         };
-        Ok(Ok(self.begin(same, Work::Get(reading))))
+        Ok(self.begin(same, Work::Get(reading)))
     }
 
     /// Runs a request, under the next number.
@@ -359,15 +351,15 @@ impl Session {
         Handle::of_number(number)
     }
 
-    /// Takes a step of the running request, at the greatest timestamp so far. Fails with a `Fault`
-    /// if no such request runs, and with `AllocError` if the node runs out of memory, or if memory
-    /// runs out for the reads of a round; the request has then ended.
+    /// Takes a step of the running request, at the greatest timestamp so far. Is refused if no such
+    /// request runs. Memory can run out at the node, or for the reads of a round; the request has
+    /// then ended.
     pub fn step<N: Nodes>(
         &mut self,
         nodes: &mut N,
         handle: Handle<Running>,
         moment: u64,
-    ) -> Result<Result<Progress, Fault>, AllocError>
+    ) -> Result<Progress, RequestError>
         requires data_centres { self.old.setting.data_centres ≡ (N.shape nodes.old).data_centres }
         requires shards { self.old.setting.shards ≡ (N.shape nodes.old).shards }
         ensures stepped { (config : TenantConfig) (session : SoloSession) → SessionStandsFor config self.old session → MatchResult (told_step result)
@@ -379,12 +371,12 @@ impl Session {
             ⊎ ((id : NodeId) × (at : ℕ) × (call : NodeCall) × (reply : NodeReply) × N.Answers nodes.old id self.old.setting.slot at call reply nodes.new) }
         ensures shape { N.shape nodes.new ≡ N.shape nodes.old }
         ensures setting { self.new.setting ≡ self.old.setting }
-        ensures idle { IfOk result (λ told. OnErr told (self.new ≡ self.old)) }
-        ensures idle_nodes { IfOk result (λ told. OnErr told (nodes.new ≡ nodes.old)) }
-        ensures err { OnErr result (self.new ≡ record self.old { moment = self.new.moment; running = None }) }
+        ensures idle { OnRefusal result (self.new ≡ self.old) }
+        ensures idle_nodes { OnRefusal result (nodes.new ≡ nodes.old) }
+        ensures lack { OnOutOfMemory result (self.new ≡ record self.old { moment = self.new.moment; running = None }) }
     {
         if !self.runs(handle) {
-            return Ok(Err(Fault::Idle));
+            return Err(RequestError::Refused(Fault::Idle));
         }
         if self.reads_first(moment) {
             if self.has_more() {
@@ -404,7 +396,7 @@ impl Session {
                     Work::Get(reading) => self.get(nodes, number, context, reading, moment),
                 }
             }
-            None => Ok(Err(Fault::Idle)),
+            None => Err(RequestError::Refused(Fault::Idle)),
         }
     }
 
@@ -450,18 +442,14 @@ impl Session {
     /// Takes a step that is a read of a first round, in time, and that another read follows. The
     /// transaction changes in place: it is large, and most steps of transactions are of this kind.
     /// The answer is that of `step`, which passes it on in place.
-    fn read_on<N: Nodes>(
-        &mut self,
-        nodes: &mut N,
-        moment: u64,
-    ) -> Result<Result<Progress, Fault>, AllocError>
+    fn read_on<N: Nodes>(&mut self, nodes: &mut N, moment: u64) -> Result<Progress, RequestError>
         requires data_centres { self.old.setting.data_centres ≡ (N.shape nodes.old).data_centres }
         requires shards { self.old.setting.shards ≡ (N.shape nodes.old).shards }
         requires reads_on { ReadsOn self.old.setting.trans_time (max self.old.moment moment) self.old.running }
         ensures stepped { StepsFrom (λ id at call reply. N.Answers nodes.old id self.old.setting.slot at call reply nodes.new) (nodes.new ≡ nodes.old)
             self.old moment result self.new }
-        ensures taken { IfOk result (λ told. OnErr told ⊥) }
-        ensures err { OnErr result (self.new ≡ record self.old { moment = self.new.moment; running = None }) }
+        ensures taken { OnRefusal result ⊥ }
+        ensures lack { OnOutOfMemory result (self.new ≡ record self.old { moment = self.new.moment; running = None }) }
         ensures once { (id : NodeId) × (at : ℕ) × (call : NodeCall) × (reply : NodeReply) × N.Answers nodes.old id self.old.setting.slot at call reply nodes.new }
         ensures shape { N.shape nodes.new ≡ N.shape nodes.old }
         ensures setting { self.new.setting ≡ self.old.setting }
@@ -472,14 +460,15 @@ impl Session {
             Some(ongoing) => match &mut ongoing.work {
                 Work::Get(reading) => {
                     match read_next(nodes, self.setting, reading, now) {
-                        Ok(Ok(())) => Ok(Ok(Progress::Working)),
-                        Ok(Err(fault)) => {
-                            self.end();
-                            Ok(Ok(Progress::Done(Answer::Refused(fault))))
-                        }
+                        Ok(()) => Ok(Progress::Working),
                         Err(error) => {
                             self.end();
-                            Err(error)
+                            match error {
+                                RequestError::Refused(fault) => {
+                                    Ok(Progress::Done(Answer::Refused(fault)))
+                                }
+                                RequestError::OutOfMemory => Err(RequestError::OutOfMemory),
+                            }
                         }
                     }
                 }
@@ -492,18 +481,14 @@ impl Session {
     /// Takes a step that is a read of a first round, in time. The transaction stays in place during
     /// the call; only its lists are taken out then, and most steps of this kind end it. The answer
     /// is that of `step`.
-    fn read_first<N: Nodes>(
-        &mut self,
-        nodes: &mut N,
-        moment: u64,
-    ) -> Result<Result<Progress, Fault>, AllocError>
+    fn read_first<N: Nodes>(&mut self, nodes: &mut N, moment: u64) -> Result<Progress, RequestError>
         requires data_centres { self.old.setting.data_centres ≡ (N.shape nodes.old).data_centres }
         requires shards { self.old.setting.shards ≡ (N.shape nodes.old).shards }
         requires reads_first { ReadsFirst self.old.setting.trans_time (max self.old.moment moment) self.old.running }
         ensures stepped { StepsFrom (λ id at call reply. N.Answers nodes.old id self.old.setting.slot at call reply nodes.new) (nodes.new ≡ nodes.old)
             self.old moment result self.new }
-        ensures taken { IfOk result (λ told. OnErr told ⊥) }
-        ensures err { OnErr result (self.new ≡ record self.old { moment = self.new.moment; running = None }) }
+        ensures taken { OnRefusal result ⊥ }
+        ensures lack { OnOutOfMemory result (self.new ≡ record self.old { moment = self.new.moment; running = None }) }
         ensures once { (id : NodeId) × (at : ℕ) × (call : NodeCall) × (reply : NodeReply) × N.Answers nodes.old id self.old.setting.slot at call reply nodes.new }
         ensures shape { N.shape nodes.new ≡ N.shape nodes.old }
         ensures setting { self.new.setting ≡ self.old.setting }
@@ -534,21 +519,18 @@ impl Session {
             Ok(FirstAnswer::Went(AfterFirst::More(round))) => {
                 let started = start.unwrap_or(now);
                 self.go_on(number, context, restarts, started, Round::First(round));
-                Ok(Ok(Progress::Working))
+                Ok(Progress::Working)
             }
             Ok(FirstAnswer::Went(AfterFirst::Second(round))) => {
                 let started = start.unwrap_or(now);
                 self.go_on(number, context, restarts, started, Round::Second(round));
-                Ok(Ok(Progress::Working))
+                Ok(Progress::Working)
             }
-            Ok(FirstAnswer::Went(AfterFirst::Complete(reads))) => match self.values(
-                context, reads,
-            ) {
-                Ok(answer) => Ok(Ok(Progress::Done(answer))),
-                Err(error) => Err(error),
-            },
-            Ok(FirstAnswer::Failed(fault)) => Ok(Ok(Progress::Done(Answer::Refused(fault)))),
-            Err(error) => Err(error),
+            Ok(FirstAnswer::Went(AfterFirst::Complete(reads))) => {
+                Ok(Progress::Done(self.values(context, reads)?))
+            }
+            Ok(FirstAnswer::Failed(fault)) => Ok(Progress::Done(Answer::Refused(fault))),
+            Err(error) => Err(RequestError::from(error)),
         }
     }
 
@@ -615,28 +597,28 @@ impl Session {
         context: Handle<Contexts>,
         writing: PendingPut,
         moment: u64,
-    ) -> Result<Result<Progress, Fault>, AllocError>
+    ) -> Result<Progress, RequestError>
         requires data_centres { self.old.setting.data_centres ≡ (N.shape nodes.old).data_centres }
         requires shards { self.old.setting.shards ≡ (N.shape nodes.old).shards }
         requires idle { self.old.running ≡ None }
         requires ready { HasRoomInContext context writing.key self.old.contexts.rows }
         ensures stepped { (number : ℕ) → StepsFrom (λ id at call reply. N.Answers nodes.old id self.old.setting.slot at call reply nodes.new) (nodes.new ≡ nodes.old)
             (record self.old { running = Some (record { number = number; context = context; work = work.Put writing }) }) moment result self.new }
-        ensures taken { IfOk result (λ told. OnErr told ⊥) }
-        ensures err { OnErr result (self.new ≡ record self.old { moment = self.new.moment; running = None }) }
+        ensures taken { OnRefusal result ⊥ }
+        ensures lack { OnOutOfMemory result (self.new ≡ record self.old { moment = self.new.moment; running = None }) }
         ensures once { (id : NodeId) × (at : ℕ) × (call : NodeCall) × (reply : NodeReply) × N.Answers nodes.old id self.old.setting.slot at call reply nodes.new }
         ensures shape { N.shape nodes.new ≡ N.shape nodes.old }
         ensures setting { self.new.setting ≡ self.old.setting }
     {
         self.moment = self.moment.max(moment);
         match write_step(nodes, self.setting, writing, self.moment) {
-            Ok(Ok(pair)) => {
+            Ok(pair) => {
                 let stored = pair;
                 see_put(&mut self.contexts, context, pair);
-                Ok(Ok(Progress::Done(Answer::Stored(stored))))
+                Ok(Progress::Done(Answer::Stored(stored)))
             }
-            Ok(Err(fault)) => Ok(Ok(Progress::Done(Answer::Refused(fault)))),
-            Err(error) => Err(error),
+            Err(RequestError::Refused(fault)) => Ok(Progress::Done(Answer::Refused(fault))),
+            Err(RequestError::OutOfMemory) => Err(RequestError::OutOfMemory),
         }
     }
 
@@ -650,7 +632,7 @@ impl Session {
         context: Handle<Contexts>,
         reading: Reading,
         moment: u64,
-    ) -> Result<Result<Progress, Fault>, AllocError>
+    ) -> Result<Progress, RequestError>
         requires data_centres { self.old.setting.data_centres ≡ (N.shape nodes.old).data_centres }
         requires shards { self.old.setting.shards ≡ (N.shape nodes.old).shards }
         requires idle { self.old.running ≡ None }
@@ -658,8 +640,8 @@ impl Session {
         requires ready { IsOpen context self.old.contexts.rows }
         ensures stepped { StepsFrom (λ id at call reply. N.Answers nodes.old id self.old.setting.slot at call reply nodes.new) (nodes.new ≡ nodes.old)
             (record self.old { running = Some (record { number = number; context = context; work = work.Get reading }) }) moment result self.new }
-        ensures taken { IfOk result (λ told. OnErr told ⊥) }
-        ensures err { OnErr result (self.new ≡ record self.old { moment = self.new.moment; running = None }) }
+        ensures taken { OnRefusal result ⊥ }
+        ensures lack { OnOutOfMemory result (self.new ≡ record self.old { moment = self.new.moment; running = None }) }
         ensures once { (nodes.new ≡ nodes.old)
             ⊎ ((id : NodeId) × (at : ℕ) × (call : NodeCall) × (reply : NodeReply) × N.Answers nodes.old id self.old.setting.slot at call reply nodes.new) }
         ensures shape { N.shape nodes.new ≡ N.shape nodes.old }
@@ -676,7 +658,7 @@ impl Session {
                             context,
                             work: Work::Get(reading),
                         });
-                        Ok(Ok(Progress::Working))
+                        Ok(Progress::Working)
                     }
                     Came::Restarted(reading) => {
                         let times = reading.restarts;
@@ -685,18 +667,15 @@ impl Session {
                             context,
                             work: Work::Get(reading),
                         });
-                        Ok(Ok(Progress::Restarted(times)))
+                        Ok(Progress::Restarted(times))
                     }
-                    Came::Complete(reads) => match self.values(context, reads) {
-                        Ok(answer) => Ok(Ok(Progress::Done(answer))),
-                        Err(error) => Err(error),
-                    },
-                    Came::Failed(fault) => Ok(Ok(Progress::Done(Answer::Refused(fault)))),
+                    Came::Complete(reads) => Ok(Progress::Done(self.values(context, reads)?)),
+                    Came::Failed(fault) => Ok(Progress::Done(Answer::Refused(fault))),
                 }
             }
             Err(error) => {
                 self.moment = now;
-                Err(error)
+                Err(RequestError::from(error))
             }
         }
     }
@@ -720,9 +699,9 @@ impl Session {
             reads.as_slice(),
             self.setting.deps,
         ) {
-            Ok(Ok(())) => Ok(Answer::Values(reads)),
-            Ok(Err(fault)) => Ok(Answer::Refused(fault)),
-            Err(error) => Err(error),
+            Ok(()) => Ok(Answer::Values(reads)),
+            Err(RequestError::Refused(fault)) => Ok(Answer::Refused(fault)),
+            Err(RequestError::OutOfMemory) => Err(AllocError),
         }
     }
 }

@@ -1,4 +1,4 @@
-ghost use Rattle.std.specs.Prelude.{◌≡◌, ◌<◌, Ok};
+ghost use Rattle.std.specs.Prelude.{◌≡◌, ◌<◌};
 ghost use Rattle.cops_types.specs.Key.{shard_of};
 ghost use Rattle.cops_model.specs.declared.calls.NodeCall.TheVariants.{Put};
 ghost use Rattle.cops_model.specs.declared.calls.NodeReply.{NodeReply};
@@ -9,46 +9,43 @@ ghost use Rattle.cops_session.specs.Writing.{answer_to_put, told_put};
 use crate::ongoing::PendingPut;
 use crate::settings::Setting;
 use cops_node::{NodeCall, NodeId, NodeReply, Nodes};
-use cops_types::{Fault, Key, Pair};
+use cops_types::{Fault, Key, Pair, RequestError};
 use std::alloc::AllocError;
 
 /// Returns the pair that a put of the key stored, from the node's reply, or why it was refused.
 #[inline(always)]
-fn stored_by(key: Key, reply: &NodeReply) -> Result<Pair, Fault>
-    ensures { told_put (Ok result) ≡ answer_to_put key reply.now }
+fn stored_by(key: Key, reply: &NodeReply) -> Result<Pair, RequestError>
+    ensures { told_put result ≡ answer_to_put key reply.now }
 {
     match reply {
         NodeReply::Stored(version) => Ok(Pair {
             key,
             version: *version,
         }),
-        NodeReply::Refused(fault) => Err(*fault),
-        _ => Err(Fault::Torn),
+        NodeReply::Refused(fault) => Err(RequestError::Refused(*fault)),
+        _ => Err(RequestError::Refused(Fault::Torn)),
     }
 }
 
 /// Does the same for the node's result, which may be that memory ran out.
 #[inline(always)]
-fn stored_told(
-    key: Key,
-    answered: &Result<NodeReply, AllocError>,
-) -> Result<Result<Pair, Fault>, AllocError>
+fn stored_told(key: Key, answered: &Result<NodeReply, AllocError>) -> Result<Pair, RequestError>
     ensures { told_put result ≡ answer_to_put key (told_reply answered.now) }
 {
     match answered {
-        Ok(reply) => Ok(stored_by(key, reply)),
-        Err(error) => Err(*error),
+        Ok(reply) => stored_by(key, reply),
+        Err(error) => Err(RequestError::from(*error)),
     }
 }
 
 /// Takes the one step of a put: one call, at the node of the data centre that stores the key. Fails
-/// with `AllocError` if the node runs out of memory.
+/// with the reply's fault, or if the node runs out of memory.
 pub(crate) fn write_step<N: Nodes>(
     nodes: &mut N,
     setting: Setting,
     writing: PendingPut,
     moment: u64,
-) -> Result<Result<Pair, Fault>, AllocError>
+) -> Result<Pair, RequestError>
     requires among { IsAmong (N.shape nodes.old) setting }
     ensures called { (reply : NodeReply)
         × N.Answers nodes.old (record { dc = setting.dc; shard = shard_of writing.key setting.shards }) setting.slot moment (Put writing.key writing.value writing.deps writing.near) reply nodes.new

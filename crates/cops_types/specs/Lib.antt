@@ -31,6 +31,7 @@ pub mod Placed
 pub mod Reads
 pub mod Records
 pub mod Refusal
+pub mod RequestErrors
 pub mod Same
 pub mod Search
 pub mod Seeds

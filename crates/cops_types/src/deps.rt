@@ -2,16 +2,18 @@ ghost use Rattle.std.specs.Arc.{arc_value};
 ghost use Rattle.std.specs.Prelude.{◌≡◌, ◌<◌, ◌≤◌, [], ◌∷◌, length, slice_index_or, IfOk, IfSome, IsTrue, OnOk, OnErr, ◌↔◌};
 ghost use Rattle.cops_types.specs.Pairs.{holds, pairs_eq, version_of, joined, is_over, greatest_clock as greatest_clock_of};
 ghost use Rattle.cops_types.specs.Same.{same_pairs, same_equivalence};
-ghost use Rattle.cops_types.specs.Refusal.{IsAnswer, refused_if};
+ghost use Rattle.cops_types.specs.declared.faults.Fault.TheVariants.{DependenciesFull};
+ghost use Rattle.cops_types.specs.Refusal.{refused_if};
+ghost use Rattle.cops_types.specs.RequestErrors.{AnswersUnless};
 ghost use Rattle.cops_types.specs.Version.{last_clock};
 ghost use Rattle.std.specs.Cmp.{partial_equiv_from_equiv};
 
-use crate::faults::Fault;
 use crate::growing_pairs::GrowingPairs;
 use crate::keys::Key;
 use crate::packed::{PackedPairs, ShortPair};
 use crate::pairs::Pair;
 use crate::records::KeptParts;
+use crate::request_errors::RequestError;
 use crate::versions::Version;
 use std::alloc::{AllocError, Global};
 use std::marker::Model;
@@ -269,11 +271,11 @@ impl Deps {
         }
     }
 
-    /// Adds a pair and keeps the greatest version of each key. Fails with a `Fault` if the list
-    /// would exceed `limit`, or if memory runs out.
-    pub fn add(&mut self, pair: Pair, limit: u64) -> Result<(), Fault>
+    /// Adds a pair and keeps the greatest version of each key. Is refused if the list would exceed
+    /// `limit`.
+    pub fn add(&mut self, pair: Pair, limit: u64) -> Result<(), RequestError>
         ensures ok { OnOk result (self.new ≡ joined self.old (pair ∷ [])) }
-        ensures refused { IsAnswer (refused_if (is_over limit (joined self.old (pair ∷ []))) Fault.DependenciesFull) result }
+        ensures refused { AnswersUnless (refused_if (is_over limit (joined self.old (pair ∷ []))) DependenciesFull) result }
         ensures err { OnErr result (self.new ≡ self.old) }
     {
         let alloc = self.packed().allocator();
@@ -283,11 +285,11 @@ impl Deps {
         Ok(())
     }
 
-    /// Adds all pairs of another list and keeps the greatest version of each key. Fails with a
-    /// `Fault` if the list would exceed `limit`, or if memory runs out.
-    pub fn join(&mut self, other: &Deps, limit: u64) -> Result<(), Fault>
+    /// Adds all pairs of another list and keeps the greatest version of each key. Is refused if the
+    /// list would exceed `limit`.
+    pub fn join(&mut self, other: &Deps, limit: u64) -> Result<(), RequestError>
         ensures ok { OnOk result (self.new ≡ joined self.old other.now) }
-        ensures refused { IsAnswer (refused_if (is_over limit (joined self.old other.now)) Fault.DependenciesFull) result }
+        ensures refused { AnswersUnless (refused_if (is_over limit (joined self.old other.now)) DependenciesFull) result }
         ensures err { OnErr result (self.new ≡ self.old) }
     {
         let alloc = self.packed().allocator();

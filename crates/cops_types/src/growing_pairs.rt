@@ -6,7 +6,8 @@ ghost use Rattle.std.specs.declared.cmp.Ordering.TheVariants.{Less, Equal, Great
 ghost use Rattle.cops_types.specs.Growing.{HasRoomFor, HasRoomForOne, Takes};
 ghost use Rattle.cops_types.specs.Key.{key_cmp};
 ghost use Rattle.cops_types.specs.Pairs.{IsDeps, IsNear, pair_cmp, has_key, holds, joined, is_over, without_held};
-ghost use Rattle.cops_types.specs.Refusal.{IsAnswer, refused_if};
+ghost use Rattle.cops_types.specs.Refusal.{refused_if};
+ghost use Rattle.cops_types.specs.RequestErrors.{AnswersUnless};
 ghost use Rattle.cops_types.specs.Search.{add_item};
 
 use crate::deps::OwnedDeps;
@@ -15,6 +16,7 @@ use crate::keys::Key;
 use crate::packed::{PackedPairs, ShortPair};
 use crate::pair_lists;
 use crate::pairs::Pair;
+use crate::request_errors::RequestError;
 use crate::versions::Version;
 use std::alloc::{AllocError, Global};
 use std::marker::Model;
@@ -313,16 +315,16 @@ impl GrowingPairs {
     }
 
     /// Adds a pair to the greatest version of each key, unless the list would exceed the limit.
-    pub(crate) fn put_within(&mut self, pair: &Pair, limit: u64) -> Result<(), Fault>
+    pub(crate) fn put_within(&mut self, pair: &Pair, limit: u64) -> Result<(), RequestError>
         requires { IsDeps self.old.pairs }
         ensures ok { OnOk result (self.new.pairs ≡ joined self.old.pairs (pair.now ∷ [])) }
         ensures in_order { IsDeps self.new.pairs }
-        ensures refused { IsAnswer (refused_if (is_over limit (joined self.old.pairs (pair.now ∷ []))) Fault.DependenciesFull) result }
+        ensures refused { AnswersUnless (refused_if (is_over limit (joined self.old.pairs (pair.now ∷ []))) Fault.DependenciesFull) result }
     {
         self.reserve_for(&pair.key)?;
         let _ = self.put_reserved(pair);
         if limit < self.len() as u64 {
-            return Err(Fault::DependenciesFull);
+            return Err(RequestError::Refused(Fault::DependenciesFull));
         }
         Ok(())
     }
@@ -438,17 +440,17 @@ impl GrowingPairs {
 
     /// Joins packed pairs and keeps the greatest version of each key, unless the list would exceed
     /// the limit.
-    pub(crate) fn join(&mut self, more: &PackedPairs, limit: u64) -> Result<(), Fault>
+    pub(crate) fn join(&mut self, more: &PackedPairs, limit: u64) -> Result<(), RequestError>
         requires pairs { IsDeps self.old.pairs }
         requires more { IsDeps more.now }
         ensures ok { OnOk result (self.new.pairs ≡ joined self.old.pairs more.now) }
         ensures in_order { IsDeps self.new.pairs }
-        ensures refused { IsAnswer (refused_if (is_over limit (joined self.old.pairs more.now)) Fault.DependenciesFull) result }
+        ensures refused { AnswersUnless (refused_if (is_over limit (joined self.old.pairs more.now)) Fault.DependenciesFull) result }
         ensures err { OnErr result (self.new ≡ self.old) }
     {
         let list = self.joined_with(more)?;
         if limit < list.len() as u64 {
-            return Err(Fault::DependenciesFull);
+            return Err(RequestError::Refused(Fault::DependenciesFull));
         }
         *self = list;
         Ok(())
@@ -491,23 +493,23 @@ impl GrowingPairs {
     }
 
     /// Adds a pair to pairs without duplicates, unless the list would exceed the limit.
-    pub(crate) fn put_near(&mut self, pair: &Pair, limit: u64) -> Result<(), Fault>
+    pub(crate) fn put_near(&mut self, pair: &Pair, limit: u64) -> Result<(), RequestError>
         requires { IsNear self.old.pairs }
         ensures ok { OnOk result (self.new.pairs ≡ add_item pair_cmp pair.now self.old.pairs) }
         ensures in_order { IsNear self.new.pairs }
-        ensures refused { IsAnswer (refused_if (is_over limit (add_item pair_cmp pair.now self.old.pairs)) Fault.DependenciesFull) result }
+        ensures refused { AnswersUnless (refused_if (is_over limit (add_item pair_cmp pair.now self.old.pairs)) Fault.DependenciesFull) result }
         ensures err { OnErr result (self.new ≡ self.old) }
     {
         let len = self.len() as u64;
         match self.place_of_pair(pair) {
             Ok(_) => {
                 if limit < len {
-                    return Err(Fault::DependenciesFull);
+                    return Err(RequestError::Refused(Fault::DependenciesFull));
                 }
             }
             Err(place) => {
                 if limit <= len {
-                    return Err(Fault::DependenciesFull);
+                    return Err(RequestError::Refused(Fault::DependenciesFull));
                 }
                 self.insert_near(place, pair)?;
             }

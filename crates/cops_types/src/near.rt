@@ -2,15 +2,17 @@ ghost use Rattle.std.specs.Arc.{arc_value};
 ghost use Rattle.std.specs.Prelude.{◌≡◌, ◌<◌, [], length, slice_index_or, IfOk, IsTrue, OnOk, OnErr, ◌↔◌};
 ghost use Rattle.cops_types.specs.Pairs.{pair_cmp, pairs_eq, is_over};
 ghost use Rattle.cops_types.specs.Same.{same_pairs, same_equivalence};
-ghost use Rattle.cops_types.specs.Refusal.{IsAnswer, refused_if};
+ghost use Rattle.cops_types.specs.declared.faults.Fault.TheVariants.{DependenciesFull};
+ghost use Rattle.cops_types.specs.Refusal.{refused_if};
+ghost use Rattle.cops_types.specs.RequestErrors.{AnswersUnless};
 ghost use Rattle.cops_types.specs.Search.{add_item};
 ghost use Rattle.std.specs.Cmp.{partial_equiv_from_equiv};
 
-use crate::faults::Fault;
 use crate::growing_pairs::GrowingPairs;
 use crate::packed::PackedPairs;
 use crate::pairs::Pair;
 use crate::records::KeptParts;
+use crate::request_errors::RequestError;
 use std::alloc::{AllocError, Global};
 use std::marker::Model;
 use std::sync::Arc;
@@ -215,11 +217,10 @@ impl Near {
         }
     }
 
-    /// Adds a pair, unless it is there already. Fails with a `Fault` if the list would exceed
-    /// `limit`, or if memory runs out.
-    pub fn add(&mut self, pair: Pair, limit: u64) -> Result<(), Fault>
+    /// Adds a pair, unless it is there already. Is refused if the list would exceed `limit`.
+    pub fn add(&mut self, pair: Pair, limit: u64) -> Result<(), RequestError>
         ensures ok { OnOk result (self.new ≡ add_item pair_cmp pair self.old) }
-        ensures refused { IsAnswer (refused_if (is_over limit (add_item pair_cmp pair self.old)) Fault.DependenciesFull) result }
+        ensures refused { AnswersUnless (refused_if (is_over limit (add_item pair_cmp pair self.old)) DependenciesFull) result }
         ensures err { OnErr result (self.new ≡ self.old) }
     {
         let alloc = self.packed().allocator();

@@ -2,15 +2,17 @@ ghost use Rattle.std.specs.Prelude.{◌≡◌, ◌<◌, ◌≤◌, [], ◌∷◌
 ghost use Rattle.std.specs.List.{list_any};
 ghost use Rattle.cops_types.specs.Growing.{HasRoomForOne};
 ghost use Rattle.cops_types.specs.Pairs.{IsNear, holds, pair_cmp, is_over, without_held};
-ghost use Rattle.cops_types.specs.Refusal.{IsAnswer, refused_if};
+ghost use Rattle.cops_types.specs.declared.faults.Fault.TheVariants.{DependenciesFull};
+ghost use Rattle.cops_types.specs.Refusal.{refused_if};
+ghost use Rattle.cops_types.specs.RequestErrors.{AnswersUnless};
 ghost use Rattle.cops_types.specs.Search.{add_item};
 
 use crate::deps::OwnedDeps;
-use crate::faults::Fault;
 use crate::growing_pairs::GrowingPairs;
 use crate::keys::Key;
 use crate::near::Near;
 use crate::pairs::Pair;
+use crate::request_errors::RequestError;
 use std::alloc::{AllocError, Global};
 use std::marker::Model;
 
@@ -97,11 +99,10 @@ impl NearBuilder {
         self.pairs.set_only(&pair);
     }
 
-    /// Adds a pair, unless it is there already. Fails with a `Fault` if the list would exceed
-    /// `limit`, or if memory runs out.
-    pub fn add(&mut self, pair: Pair, limit: u64) -> Result<(), Fault>
+    /// Adds a pair, unless it is there already. Is refused if the list would exceed `limit`.
+    pub fn add(&mut self, pair: Pair, limit: u64) -> Result<(), RequestError>
         ensures ok { OnOk result (self.new.pairs ≡ add_item pair_cmp pair self.old.pairs) }
-        ensures refused { IsAnswer (refused_if (is_over limit (add_item pair_cmp pair self.old.pairs)) Fault.DependenciesFull) result }
+        ensures refused { AnswersUnless (refused_if (is_over limit (add_item pair_cmp pair self.old.pairs)) DependenciesFull) result }
         ensures err { OnErr result (self.new ≡ self.old) }
     {
         self.pairs.put_near(&pair, limit)

@@ -6,6 +6,7 @@ use Rattle.std.proofs.lemmas.List.{nil_from_length}
 use Rattle.std.proofs.lemmas.Bool.Decides.{nat_tests}
 use Rattle.cops_types.specs.declared.faults.Fault.{Fault}
 use Rattle.cops_types.specs.declared.faults.Fault.TheVariants.{BadKey, Syntax}
+use Rattle.cops_types.specs.declared.request_errors.RequestError.TheVariants.{Refused}
 use Rattle.cops_types.specs.Key.{is_key}
 use Rattle.cops_wire.specs.declared.messages.Message.{Message}
 use Rattle.cops_wire.specs.declared.messages.Message.TheVariants.{GetTrans}
@@ -53,15 +54,15 @@ front_of front None all e = cc
 -- ---- keys
 
 -- no keys are read
-pub no_keys : (lists : List (List ℕ)) (count : ℕ) (read : Reader (List ℕ)) (bytes : List ℕ) → count ≡ 0 → all_at read count bytes ≡ Some (lists, []) → (keys : List (List ℕ)) → AreKeysOf lists (Ok (Err Syntax)) keys
+pub no_keys : (lists : List (List ℕ)) (count : ℕ) (read : Reader (List ℕ)) (bytes : List ℕ) → count ≡ 0 → all_at read count bytes ≡ Some (lists, []) → (keys : List (List ℕ)) → AreKeysOf lists (Err (Refused Syntax)) keys
 unfolding all_at
 no_keys lists count read bytes e is keys =
     let none : lists ≡ [] = sym (ap (λ p. p.0) (some_same {A = List (List ℕ) × List ℕ} ([], bytes) (lists, []) (subst (λ n. all_at read n bytes ≡ Some (lists, [])) e is))) in
-    subst (λ l. AreKeysOf l (Ok (Err Syntax)) keys) (sym none) (record { same = tt; told_is = refl })
+    subst (λ l. AreKeysOf l (Err (Refused Syntax)) keys) (sym none) (record { same = tt; told_is = refl })
 
 -- one is no key
 pub bad_key : (read : Reader (List ℕ)) (front : List (List ℕ)) (count i : ℕ) (bytes : List ℕ) (part after : List ℕ) (lists : List (List ℕ)) → i < count → read bytes ≡ Some (part, after)
-    → with_front front (all_at read (count - i) bytes) ≡ Some (lists, []) → is_key part ≡ false → (keys : List (List ℕ)) → AreKeysOf lists (Ok (Err BadKey)) keys
+    → with_front front (all_at read (count - i) bytes) ≡ Some (lists, []) → is_key part ≡ false → (keys : List (List ℕ)) → AreKeysOf lists (Err (Refused BadKey)) keys
 bad_key read front count i bytes part after lists lt e so_far bad keys =
     let f = front_of (front ++ part ∷ []) (all_at read (count - (i + 1)) after) (lists, []) (goes_on read front count i bytes part after (Some (lists, [])) lt e so_far) in
     let some : nat_lt (length lists) 1 ≡ false = ap (λ l. nat_lt (length l) 1) f.1 ∙ some_length front f.0 part in
@@ -70,10 +71,10 @@ bad_key read front count i bytes part after lists lt e so_far bad keys =
 
 -- that is how it is refused
 pub refused_key : (read : Reader (List ℕ)) (front : List (List ℕ)) (count i : ℕ) (bytes : List ℕ) (part after : List ℕ) (lists : List (List ℕ)) (fault : Fault) → i < count → read bytes ≡ Some (part, after)
-    → with_front front (all_at read (count - i) bytes) ≡ Some (lists, []) → Err fault ≡ cond (is_key part) (Ok part) (Err BadKey) → (keys : List (List ℕ)) → AreKeysOf lists (Ok (Err fault)) keys
+    → with_front front (all_at read (count - i) bytes) ≡ Some (lists, []) → Err fault ≡ cond (is_key part) (Ok part) (Err BadKey) → (keys : List (List ℕ)) → AreKeysOf lists (Err (Refused fault)) keys
 refused_key read front count i bytes part after lists fault lt e so_far refused keys =
     let so = by_test (is_key part) refused in
-    subst (λ f. AreKeysOf lists (Ok (Err f)) keys) (sym so.1) (bad_key read front count i bytes part after lists lt e so_far so.0 keys)
+    subst (λ f. AreKeysOf lists (Err (Refused f)) keys) (sym so.1) (bad_key read front count i bytes part after lists lt e so_far so.0 keys)
   where
     by_test : (b : Bool) → Err fault ≡ cond b (Ok part) (Err BadKey) → (b ≡ false) × (fault ≡ BadKey)
     by_test true e = cc
@@ -92,9 +93,9 @@ part_there read front count i bytes lists lt e so_far =
     none_some x e = cc
 
 -- of lists that are all keys
-pub keys_made : (keys lists : List (List ℕ)) → keys ≡ lists → 0 < length keys → list_all is_key keys ≡ true → AreKeysOf lists (Ok (Ok tt)) keys
+pub keys_made : (keys lists : List (List ℕ)) → keys ≡ lists → 0 < length keys → list_all is_key keys ≡ true → AreKeysOf lists (Ok tt) keys
 keys_made keys lists same some all =
-    subst (λ l. AreKeysOf l (Ok (Ok tt)) keys) same (
+    subst (λ l. AreKeysOf l (Ok tt) keys) same (
     let few : nat_lt (length keys) 1 ≡ false = by_length keys some in
     record { same = refl; told_is = rw (few, all) refl })
   where
@@ -104,7 +105,7 @@ keys_made keys lists same some all =
 
 -- all are keys
 pub all_keys : (read : Reader (List ℕ)) (keys : List (List ℕ)) (count i : ℕ) (bytes : List ℕ) (lists : List (List ℕ)) → count ≤ i → 0 < length keys
-    → with_front keys (all_at read (count - i) bytes) ≡ Some (lists, []) → list_all is_key keys ≡ true → AreKeysOf lists (Ok (Ok tt)) keys
+    → with_front keys (all_at read (count - i) bytes) ≡ Some (lists, []) → list_all is_key keys ≡ true → AreKeysOf lists (Ok tt) keys
 all_keys read keys count i bytes lists le some so_far all =
     let same : keys ≡ lists = sym (ap (λ p. p.0) (some_same {A = List (List ℕ) × List ℕ} (lists, []) (keys, bytes) (is_done read keys count i bytes (Some (lists, [])) le so_far))) in
     keys_made keys lists same some all

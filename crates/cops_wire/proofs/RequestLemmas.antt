@@ -1,11 +1,16 @@
 -- Requests that were begun or refused are answered as the definition says.
 use Rattle.std.proofs.Common.{◌≡◌, ℕ, ◌≤◌, Bool, true, false, cond, List, [], ◌∷◌, length, inl, inr, refl, sym, ap, subst, ◌∙◌, arith}
-use Rattle.std.specs.Prelude.{Option, Some, None, Result, Ok, Err, IfOk, OnErr, OnOk, not, nat_lt}
-use Rattle.std.specs.declared.alloc.AllocError.{AllocError}
+use Rattle.std.specs.Prelude.{Option, Some, None, Result, Ok, Err, OnErr, OnOk, not, nat_lt}
 use Rattle.std.specs.Option.{option_or}
 use Rattle.std.proofs.lemmas.Bool.Decides.{nat_tests}
 use Rattle.cops_types.specs.declared.faults.Fault.{Fault}
-use Rattle.cops_types.specs.declared.faults.Fault.TheVariants.{Busy, IdsSpent, NoContext, OutOfMemory, RepeatedKey, Syntax, TooManyKeys}
+use Rattle.cops_types.specs.declared.faults.Fault.TheVariants.{BadKey, Busy, IdsSpent, NoContext, OutOfMemory, RepeatedKey, Syntax, TooManyKeys, ValueTooLong}
+use Rattle.cops_types.specs.declared.request_errors.RequestError.{RequestError}
+use Rattle.cops_types.specs.declared.request_errors.RequestError.TheVariants.{OutOfMemory as Lacking, Refused as RefusedWith}
+use Rattle.cops_types.specs.Key.{is_key}
+use Rattle.cops_types.specs.Refusal.{refused_if}
+use Rattle.cops_types.specs.RequestErrors.{AnswersUnless, refusal_in}
+use Rattle.cops_types.specs.Value.{is_too_long}
 use Rattle.cops_types.specs.Search.{first_refusal}
 use Rattle.cops_types.specs.TenantConfig.{TenantConfig}
 use Rattle.cops_model.specs.declared.calls.NodeCall.{NodeCall}
@@ -13,12 +18,11 @@ use Rattle.cops_model.specs.declared.calls.NodeId.{NodeId}
 use Rattle.cops_model.specs.declared.calls.NodeReply.{NodeReply}
 use Rattle.cops_session.specs.Kept.{KeptSession}
 use Rattle.cops_model.specs.Request.{Action}
-use Rattle.cops_model.specs.Session.{Session, has_repeats, is_busy, is_open, request_begun, is_spent}
-use Rattle.cops_session.specs.Refusals.{told_refusal}
+use Rattle.cops_model.specs.Session.{Session, has_repeats, is_busy, is_open, request_begun, is_spent, session_put_refusal}
 use Rattle.cops_session.specs.SessionStands.{SessionStandsFor}
 use Rattle.cops_wire.specs.declared.messages.Message.{Message}
 use Rattle.cops_wire.specs.declared.messages.Message.TheVariants.{Refused}
-use Rattle.cops_wire.specs.Requests.{Answers, AnswersSo, Backend, Becomes, Ends, HasAnswered, HasFewRestarts, Runs, UnlessRefused, backend, message_of_answer, number_in, reading_refusal}
+use Rattle.cops_wire.specs.Requests.{Answers, AnswersSo, Backend, Becomes, Ends, HasAnswered, HasFewRestarts, Runs, UnlessRefused, backend, message_of_answer, naming_refusal, number_in, reading_refusal, writing_refusal}
 use Rattle.cops_wire.specs.Running.{HasFewKeys, HasRun, IsRequestDone, IsTold}
 
 -- ---- refusals
@@ -50,6 +54,28 @@ few_read config handle keys session none =
     by_count false false true d is e = cc
     by_count false false false true is e = cc
     by_count false false false false is e = grind (arith, nat_tests)
+
+-- what refuses a put of a good key and a good value is what the session says
+pub put_told : (config : TenantConfig) (handle key value : List ℕ) (session : Session) (context : ℕ) (own : List ℕ) (error : RequestError) → Ok own ≡ cond (is_key key) (Ok key) (Err BadKey) → refused_if (is_too_long value) ValueTooLong ≡ None
+    → naming_refusal handle session ≡ None → context ≡ number_in handle → session_put_refusal config context own session ≡ refusal_in error → AnswersUnless {A = Unit} (writing_refusal config handle key value session) (Err error)
+put_told config handle key value session context own error made short named context_is told = by_error error (refusal ∙ told)
+  where
+    good : is_key key ≡ true
+    good = ok_if (is_key key) own key BadKey made
+
+    same : own ≡ key
+    same = ok_same (is_key key) own key BadKey made
+
+    fits : (b : Bool) → refused_if b ValueTooLong ≡ None → b ≡ false
+    fits true is = cc
+    fits false is = refl
+
+    refusal : writing_refusal config handle key value session ≡ session_put_refusal config context own session
+    refusal = λ i. option_or (first_refusal ((not (good i), BadKey) ∷ (fits (is_too_long value) short i, ValueTooLong) ∷ [])) (option_or (named i) (session_put_refusal config (sym context_is i) (sym same i) session))
+
+    by_error : (error : RequestError) → writing_refusal config handle key value session ≡ refusal_in error → AnswersUnless {A = Unit} (writing_refusal config handle key value session) (Err error)
+    by_error (RefusedWith fault) is = is
+    by_error Lacking is = tt
 
 -- ---- answers
 
@@ -91,15 +117,14 @@ module _ {N M : Type 0} (Calls : N → NodeId → ℕ → ℕ → NodeCall → N
       → UnlessRefused Calls GivesMoment config slot (refusal config old.session) old reply new (Runs Calls GivesMoment config slot old context action reply new)
       → AnswersSo Calls GivesMoment config slot old request reply new)
       → ((config : TenantConfig) (session : Session) → refusal config session ≡ None → HasFewKeys action)
-      → (old mid : KeptSession) (new : Backend KeptSession N M) (nodes : N) (moments : M) (begun : Result (Result Unit Fault) AllocError) (IsPut : Message → Type 0)
+      → (old mid : KeptSession) (new : Backend KeptSession N M) (nodes : N) (moments : M) (begun : Result Unit RequestError) (IsPut : Message → Type 0)
       → mid.setting ≡ old.setting → new.session.setting ≡ mid.setting
-      → ((config : TenantConfig) (session : Session) → SessionStandsFor config old session → OnOk begun (refusal config session ≡ told_refusal begun))
-      → ((config : TenantConfig) (session : Session) → SessionStandsFor config old session → IfOk begun (λ told. OnOk told (SessionStandsFor config mid (request_begun context action session))))
-      → IfOk begun (λ told. OnErr told (mid ≡ old))
+      → ((config : TenantConfig) (session : Session) → SessionStandsFor config old session → AnswersUnless (refusal config session) begun)
+      → ((config : TenantConfig) (session : Session) → SessionStandsFor config old session → OnOk begun (SessionStandsFor config mid (request_begun context action session)))
       → OnErr begun (mid ≡ old)
       → HasRun Calls GivesMoment (backend mid nodes moments) begun new IsPut
       → (reply : Message) × HasAnswered Calls GivesMoment (backend old nodes moments) request reply new × IsPut reply
-  answered_by_steps request refusal context action so few old mid new nodes moments (Ok (Ok done)) IsPut same later told begins refused err ran =
+  answered_by_steps request refusal context action so few old mid new nodes moments (Ok done) IsPut same later told begins err ran =
       (message_of_answer ran.0, record { setting = later ∙ same; answers = answers }, ran.1)
     where
       answers : (config : TenantConfig) (session : Session) → HasFewRestarts config → SessionStandsFor config old session → (after : Session) × SessionStandsFor config new.session after
@@ -116,11 +141,11 @@ module _ {N M : Type 0} (Calls : N → NodeId → ℕ → ℕ → NodeCall → N
                 (subst (λ o. UnlessRefused Calls GivesMoment config old.setting.slot o (backend session nodes moments) (message_of_answer ran.0) (backend ended.after new.nodes new.moments)
                 (Runs Calls GivesMoment config old.setting.slot (backend session nodes moments) context action (message_of_answer ran.0) (backend ended.after new.nodes new.moments))) (sym none) (ran.0, refl, ends))),
           )
-  answered_by_steps request refusal context action so few old mid new nodes moments (Ok (Err fault)) IsPut same later told begins refused err ran =
+  answered_by_steps request refusal context action so few old mid new nodes moments (Err (RefusedWith fault)) IsPut same later told begins err ran =
       (Refused fault, record { setting = ap (λ (b : Backend KeptSession N M). b.session.setting) ran.1 ∙ same; answers = answers }, ran.0)
     where
       stays : new ≡ backend old nodes moments
-      stays = ran.1 ∙ ap (λ (k : KeptSession). backend k nodes moments) refused
+      stays = ran.1 ∙ ap (λ (k : KeptSession). backend k nodes moments) err
 
       answers : (config : TenantConfig) (session : Session) → HasFewRestarts config → SessionStandsFor config old session → (after : Session) × SessionStandsFor config new.session after
           × Answers Calls GivesMoment config old.setting.slot (backend session nodes moments) request (Refused fault) (backend after new.nodes new.moments)
@@ -132,7 +157,7 @@ module _ {N M : Type 0} (Calls : N → NodeId → ℕ → ℕ → NodeCall → N
                 (subst (λ o. UnlessRefused Calls GivesMoment config old.setting.slot o (backend session nodes moments) (Refused fault) (backend session new.nodes new.moments)
                 (Runs Calls GivesMoment config old.setting.slot (backend session nodes moments) context action (Refused fault) (backend session new.nodes new.moments))) (sym (told config session stands)) (refl, same_backend))),
           )
-  answered_by_steps request refusal context action so few old mid new nodes moments (Err error) IsPut same later told begins refused err ran = (
+  answered_by_steps request refusal context action so few old mid new nodes moments (Err Lacking) IsPut same later told begins err ran = (
     Refused OutOfMemory,
     subst (λ b. HasAnswered Calls GivesMoment (backend old nodes moments) request (Refused OutOfMemory) b) (sym ran.1) (answered_by_lack request old mid nodes moments err),
     ran.0,

@@ -1,10 +1,12 @@
 -- The steps of a session that is kept, for each session of the definition that it stands for.
-use Rattle.std.specs.Prelude.{◌≡◌, ◌≤◌, ◌++◌, ℕ, nat_lt, not, length, List, [], ◌∷◌, Option, Some, None, Result, Ok, Err, IfOk, OnOk, OnErr}
+use Rattle.std.specs.Prelude.{◌≡◌, ◌≤◌, ◌++◌, ℕ, nat_lt, not, length, List, [], ◌∷◌, Option, Some, None, Result, Ok, Err, OnOk, OnErr}
 use Rattle.std.specs.List.{list_all}
 use Rattle.std.specs.declared.alloc.AllocError.{AllocError}
 use Rattle.cops_types.specs.declared.faults.Fault.{Fault}
-use Rattle.cops_types.specs.declared.faults.Fault.TheVariants.{BadKey, OutOfMemory, Syntax}
+use Rattle.cops_types.specs.declared.faults.Fault.TheVariants.{BadKey, Syntax}
+use Rattle.cops_types.specs.declared.request_errors.RequestError.{RequestError}
 use Rattle.cops_types.specs.Key.{is_key}
+use Rattle.cops_types.specs.RequestErrors.{AnswersUnless, fault_told}
 use Rattle.cops_types.specs.Search.{first_refusal}
 use Rattle.cops_types.specs.TenantConfig.{TenantConfig}
 use Rattle.cops_model.specs.declared.calls.NodeCall.{NodeCall}
@@ -16,7 +18,6 @@ use Rattle.cops_model.specs.declared.requests.Progress.{Progress}
 use Rattle.cops_session.specs.Kept.{KeptSession}
 use Rattle.cops_model.specs.Request.{Action, Write, Fetch}
 use Rattle.cops_model.specs.Session.{Running, Session}
-use Rattle.cops_session.specs.Refusals.{told_refusal}
 use Rattle.cops_session.specs.SessionStands.{SessionStandsFor}
 use Rattle.cops_wire.specs.declared.messages.Message.{Message}
 use Rattle.cops_wire.specs.declared.messages.Message.TheVariants.{Refused}
@@ -60,23 +61,22 @@ pub record IsRequestDone (config : TenantConfig) (refusal : Option Fault) (old t
   pub stands : SessionStandsFor config kept after
   pub told_is : IsTold refusal old then_be told after reply
 
--- the keys were made of these lists, unless there are none or one is no key; or there was no memory
-pub record AreKeysOf (lists : List (List ℕ)) (made : Result (Result Unit Fault) AllocError) (keys : List (List ℕ)) : Type 0 where
-  pub same : IfOk made (λ told. OnOk told (keys ≡ lists))
-  pub told_is : OnOk made (first_refusal ((nat_lt (length lists) 1, Syntax) ∷ (not (list_all is_key lists), BadKey) ∷ []) ≡ told_refusal made)
+-- the keys were made of these lists, unless there are none or one is no key; or memory ran out
+pub record AreKeysOf (lists : List (List ℕ)) (made : Result Unit RequestError) (keys : List (List ℕ)) : Type 0 where
+  pub same : OnOk made (keys ≡ lists)
+  pub told_is : AnswersUnless (first_refusal ((nat_lt (length lists) 1, Syntax) ∷ (not (list_all is_key lists), BadKey) ∷ [])) made
 
 -- the frame of a reply was put at the end, or nothing if memory ran out
 abbrev pub PutsFrame : Result Unit AllocError → List ℕ → List ℕ → Message → Type 0
 PutsFrame result old new reply = OnOk result (new ≡ old ++ spelling reply) × OnErr result (new ≡ old)
 
--- What was begun ran to its answer, from whatever the kept session stood for; what was refused, or lacked memory, changed nothing.
-abbrev pub HasRun : {N M : Type 0} → (N → NodeId → ℕ → ℕ → NodeCall → NodeReply → N → Type 0) → (M → ℕ → M → Type 0) → Backend KeptSession N M → Result (Result Unit Fault) AllocError → Backend KeptSession N M → (Message → Type 0) → Type 0
-HasRun Calls GivesMoment old (Ok (Ok begun)) new IsPut =
+-- What was begun ran to its answer, from whatever the kept session stood for; what failed changed nothing.
+abbrev pub HasRun : {N M : Type 0} → (N → NodeId → ℕ → ℕ → NodeCall → NodeReply → N → Type 0) → (M → ℕ → M → Type 0) → Backend KeptSession N M → Result Unit RequestError → Backend KeptSession N M → (Message → Type 0) → Type 0
+HasRun Calls GivesMoment old (Ok begun) new IsPut =
     (answer : Answer) × IsPut (message_of_answer answer)
     × ((config : TenantConfig) (session : Session) (running : Running) → HasFewRestarts config → SessionStandsFor config old.session session → session.running ≡ Some running → running.log ≡ [] → HasFewKeys running.action →
     HasEnded Calls GivesMoment config old.session.setting.slot (backend session old.nodes old.moments) new.session new.nodes new.moments answer)
-HasRun Calls GivesMoment old (Ok (Err fault)) new IsPut = IsPut (Refused fault) × (new ≡ old)
-HasRun Calls GivesMoment old (Err error) new IsPut = IsPut (Refused OutOfMemory) × (new ≡ old)
+HasRun Calls GivesMoment old (Err error) new IsPut = IsPut (Refused (fault_told error)) × (new ≡ old)
 
 -- the reply that gives the answer was put at the end if there is one; otherwise nothing was
 abbrev pub PutsAnswer : Option (Result Unit AllocError) → List ℕ → List ℕ → Option Answer → Type 0

@@ -1,11 +1,11 @@
 //! The requests of a client, as its session answers them.
-ghost use Rattle.std.specs.Prelude.{◌≡◌, ℕ, List, [], Some, None, true, IsTrue, OnOk, OnErr, IfOk, MatchResult, not, ◌++◌};
+ghost use Rattle.std.specs.Prelude.{◌≡◌, ℕ, List, [], Some, None, true, IsTrue, OnOk, OnErr, IfOk, MatchResult};
 ghost use Rattle.cops_types.specs.Key.{is_key};
+ghost use Rattle.cops_types.specs.RequestErrors.{AnswersUnless, OnOutOfMemory};
 ghost use Rattle.cops_types.specs.TenantConfig.{TenantConfig};
 ghost use Rattle.cops_session.specs.Kept.{IsOfSizes};
 ghost use Rattle.cops_model.specs.Request.{Write, Fetch};
 ghost use Rattle.cops_model.specs.Session.{Session as SoloSession, context_created, context_deleted, create_refusal, request_begun};
-ghost use Rattle.cops_session.specs.Refusals.{told_refusal};
 ghost use Rattle.cops_session.specs.SessionStands.{SessionStandsFor};
 ghost use Rattle.cops_wire.specs.declared.messages.Message.{Message};
 ghost use Rattle.cops_wire.specs.Fitting.{CanBeWritten};
@@ -21,11 +21,11 @@ use crate::messages::Message;
 use crate::moments::Moments;
 use crate::reading::Unseen;
 use crate::steps::finish;
-use crate::writing::{encode, push_lack, push_refusal};
+use crate::writing::{encode, push_failure};
 use cops_handles::Handle;
 use cops_node::Nodes;
 use cops_session::{Contexts, Session};
-use cops_types::{ByteLists, Fault, Key, Value};
+use cops_types::{ByteLists, Fault, Key, RequestError, Value};
 use std::alloc::{AllocError, Global};
 
 /// The context that a handle names, while no request runs.
@@ -49,9 +49,10 @@ fn create(session: &mut Session) -> Result<Message, AllocError>
     ensures allowed { (config : TenantConfig) (solo : SoloSession) → SessionStandsFor config session.old solo → OnErr result (create_refusal config solo ≡ None) }
     ensures err { OnErr result (session.new ≡ session.old) }
 {
-    match session.create_context()? {
+    match session.create_context() {
         Ok(context) => Ok(Message::Created(context.to_wire())),
-        Err(fault) => Ok(Message::Refused(fault)),
+        Err(RequestError::Refused(fault)) => Ok(Message::Refused(fault)),
+        Err(RequestError::OutOfMemory) => Err(AllocError),
     }
 }
 
@@ -81,124 +82,94 @@ fn delete(session: &mut Session, handle: &[u8; 9]) -> Message
     }
 }
 
-/// Begins a put. Fails with `AllocError` if memory runs out.
+/// Begins a put.
 fn begin_put(
     alloc: Global,
     session: &mut Session,
     handle: &[u8; 9],
     key: &[u8],
     value: &[u8],
-) -> Result<Result<(), Fault>, AllocError>
+) -> Result<(), RequestError>
     ensures begun { (config : TenantConfig) (solo : SoloSession) → SessionStandsFor config session.old solo →
-        IfOk result (λ told. OnOk told (SessionStandsFor config session.new (request_begun (number_in handle.now) (Write key.now value.now) solo))) }
+        OnOk result (SessionStandsFor config session.new (request_begun (number_in handle.now) (Write key.now value.now) solo)) }
     ensures told { (config : TenantConfig) (solo : SoloSession) → SessionStandsFor config session.old solo →
-        OnOk result (writing_refusal config handle.now key.now value.now solo ≡ told_refusal result) }
-    ensures allowed { OnErr result (is_key key.now ≡ true) }
+        AnswersUnless (writing_refusal config handle.now key.now value.now solo) result }
+    ensures allowed { OnOutOfMemory result (is_key key.now ≡ true) }
     ensures setting { session.new.setting ≡ session.old.setting }
-    ensures refused { IfOk result (λ told. OnErr told (session.new ≡ session.old)) }
     ensures err { OnErr result (session.new ≡ session.old) }
 {
-    let key = match Key::new(key) {
-        Ok(key) => key,
-        Err(fault) => return Ok(Err(fault)),
-    };
-    let value = match Value::new(alloc, value) {
-        Ok(value) => value,
-        Err(Fault::OutOfMemory) => return Err(AllocError),
-        Err(fault) => return Ok(Err(fault)),
-    };
-    let context = match context_of(session, handle) {
-        Ok(context) => context,
-        Err(fault) => return Ok(Err(fault)),
-    };
-    match session.begin_put(context, key, value)? {
-        Ok(_) => Ok(Ok(())),
-        Err(fault) => Ok(Err(fault)),
-    }
+    let key = Key::new(key)?;
+    let value = Value::new(alloc, value)?;
+    let context = context_of(session, handle)?;
+    session.begin_put(context, key, value)?;
+    Ok(())
 }
 
 /// Makes keys of these lists, if each is one and there are some.
 ///
-/// They replace the earlier ones in the same room. Fails with `AllocError` if memory runs out.
-fn take_keys(keys: &mut Vec<Key>, lists: &ByteLists) -> Result<Result<(), Fault>, AllocError>
+/// They replace the earlier ones in the same room.
+fn take_keys(keys: &mut Vec<Key>, lists: &ByteLists) -> Result<(), RequestError>
     ensures { AreKeysOf lists.now result keys.new.items }
 {
     let lists = lists.as_slice();
     if lists.is_empty() {
-        return Ok(Err(Fault::Syntax));
+        return Err(RequestError::Refused(Fault::Syntax));
     }
     keys.clear();
     for list in lists {
-        match Key::new(list.as_slice()) {
-            Ok(key) => keys.push(key)?,
-            Err(fault) => return Ok(Err(fault)),
-        }
+        let key = Key::new(list.as_slice())?;
+        keys.push(key)?;
     }
-    Ok(Ok(()))
+    Ok(())
 }
 
 /// Makes keys of those that lie behind one another, if each is one and there are some.
 ///
-/// They replace the earlier ones in the same room. Fails with `AllocError` if memory runs out.
-fn take_keys_at(
-    keys: &mut Vec<Key>,
-    count: u8,
-    bytes: &[u8],
-) -> Result<Result<(), Fault>, AllocError>
+/// They replace the earlier ones in the same room.
+fn take_keys_at(keys: &mut Vec<Key>, count: u8, bytes: &[u8]) -> Result<(), RequestError>
     ensures { (lists : List (List ℕ)) → all_at (text_at 1) count bytes.now ≡ Some (lists, []) → AreKeysOf lists result keys.new.items }
 {
     if count == 0 {
-        return Ok(Err(Fault::Syntax));
+        return Err(RequestError::Refused(Fault::Syntax));
     }
     keys.clear();
     let mut unseen = Unseen::of(bytes);
     for _ in 0..count {
         let Some(bytes) = unseen.next_key() else {
-            return Ok(Err(Fault::Syntax));
+            return Err(RequestError::Refused(Fault::Syntax));
         };
-        match Key::new(bytes) {
-            Ok(key) => keys.push(key)?,
-            Err(fault) => return Ok(Err(fault)),
-        }
+        let key = Key::new(bytes)?;
+        keys.push(key)?;
     }
-    Ok(Ok(()))
+    Ok(())
 }
 
-/// Begins a get transaction of keys that were made of its lists. That there was no memory, for them or for what is begun, is the
-/// error.
+/// Begins a get transaction of keys that were made of its lists, unless that failed.
 fn begin_get(
     session: &mut Session,
     handle: &[u8; 9],
-    made: Result<Result<(), Fault>, AllocError>,
+    made: Result<(), RequestError>,
     keys: &[Key],
-) -> Result<Result<(), Fault>, AllocError>
+) -> Result<(), RequestError>
     ensures begun { (lists : List (List ℕ)) → AreKeysOf lists made keys.now → (config : TenantConfig) (solo : SoloSession) → SessionStandsFor config session.old solo →
-        IfOk result (λ told. OnOk told (SessionStandsFor config session.new (request_begun (number_in handle.now) (Fetch lists) solo))) }
+        OnOk result (SessionStandsFor config session.new (request_begun (number_in handle.now) (Fetch lists) solo)) }
     ensures told { (lists : List (List ℕ)) → AreKeysOf lists made keys.now → (config : TenantConfig) (solo : SoloSession) → SessionStandsFor config session.old solo →
-        OnOk result (reading_refusal config handle.now lists solo ≡ told_refusal result) }
+        AnswersUnless (reading_refusal config handle.now lists solo) result }
     ensures setting { session.new.setting ≡ session.old.setting }
-    ensures refused { IfOk result (λ told. OnErr told (session.new ≡ session.old)) }
     ensures err { OnErr result (session.new ≡ session.old) }
 {
-    if let Err(fault) = made? {
-        return Ok(Err(fault));
-    }
-    let context = match context_of(session, handle) {
-        Ok(context) => context,
-        Err(fault) => return Ok(Err(fault)),
-    };
-    match session.begin_get_trans(context, keys)? {
-        Ok(_) => Ok(Ok(())),
-        Err(fault) => Ok(Err(fault)),
-    }
+    made?;
+    let context = context_of(session, handle)?;
+    session.begin_get_trans(context, keys)?;
+    Ok(())
 }
 
-/// Takes the steps of a request that was begun, and puts its reply, or that it was refused or lacked memory, at the end.
+/// Takes the steps of a request that was begun, and appends its reply, or why it was not begun.
 fn run<N: Nodes, M: Moments>(
     session: &mut Session,
     nodes: &mut N,
     moments: &mut M,
-    begun: Result<Result<(), Fault>, AllocError>,
+    begun: Result<(), RequestError>,
     out: &mut Vec<u8>,
 ) -> Result<(), AllocError>
     requires fits { IsOfSizes (N.shape nodes.old).data_centres (N.shape nodes.old).shards session.old.setting }
@@ -207,9 +178,8 @@ fn run<N: Nodes, M: Moments>(
     ensures shape { N.shape nodes.new ≡ N.shape nodes.old }
 {
     match begun {
-        Ok(Ok(())) => finish(session, nodes, moments, out),
-        Ok(Err(fault)) => push_refusal(out, fault),
-        Err(error) => push_lack(out, error),
+        Ok(()) => finish(session, nodes, moments, out),
+        Err(error) => push_failure(out, error),
     }
 }
 
@@ -241,7 +211,7 @@ fn answer_get<N: Nodes, M: Moments>(
     nodes: &mut N,
     moments: &mut M,
     handle: &[u8; 9],
-    made: Result<Result<(), Fault>, AllocError>,
+    made: Result<(), RequestError>,
     keys: &[Key],
     out: &mut Vec<u8>,
 ) -> Result<(), AllocError>
@@ -300,7 +270,7 @@ pub(crate) fn answer<N: Nodes, M: Moments>(
     match request {
         Message::CreateContext => match create(session) {
             Ok(reply) => encode(&reply, out),
-            Err(error) => push_lack(out, error),
+            Err(error) => push_failure(out, RequestError::from(error)),
         },
         Message::DeleteContext(handle) => encode(&delete(session, handle), out),
         Message::Put(handle, key, value) => answer_put(

@@ -10,7 +10,7 @@ ghost use Rattle.cops_wire.specs.Running.{HasEnded, HasStepped, HasFewKeys, Puts
 
 use crate::moments::Moments;
 use crate::replies::push_reply;
-use crate::writing::{push_lack, push_refusal};
+use crate::writing::{push_failure, push_refusal};
 use cops_node::Nodes;
 use cops_session::{Progress, Session};
 use cops_types::Fault;
@@ -38,15 +38,12 @@ fn step_once<N: Nodes, M: Moments>(
     };
     let stepped = session.step(nodes, request, moment);
     match &stepped {
-        Ok(told) => match told {
-            Ok(shown) => match shown {
-                Progress::Done(answer) => Some(push_reply(out, answer)),
-                Progress::Working => None,
-                Progress::Restarted(_) => None,
-            },
-            Err(fault) => Some(push_refusal(out, *fault)),
+        Ok(shown) => match shown {
+            Progress::Done(answer) => Some(push_reply(out, answer)),
+            Progress::Working => None,
+            Progress::Restarted(_) => None,
         },
-        Err(error) => Some(push_lack(out, *error)),
+        Err(error) => Some(push_failure(out, *error)),
     }
 }
 

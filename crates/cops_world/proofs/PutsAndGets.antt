@@ -1,5 +1,5 @@
 -- Puts and gets whose keys and values are some, and those that are refused for them.
-use Rattle.std.proofs.Common.{◌≡◌, ◌⊎◌, inl, inr, ℕ, Bool, true, false, not, cond, ◌&&◌, List, [], ◌∷◌, ◌++◌, length, refl, sym, subst, ap, ◌∙◌, append_assoc, append-nil, true≢false, arith}
+use Rattle.std.proofs.Common.{◌≡◌, ℕ, Bool, true, false, not, cond, ◌&&◌, List, [], ◌∷◌, ◌++◌, length, refl, sym, subst, ap, ◌∙◌, append_assoc, append-nil, true≢false, arith}
 use Rattle.std.specs.Prelude.{◌≢◌, IfOk, Some, None, Result, Ok, Err, nat_lt}
 use Rattle.std.specs.declared.alloc.AllocError.{AllocError}
 use Rattle.std.specs.List.{list_all}
@@ -7,9 +7,12 @@ use Rattle.std.proofs.lemmas.List.Folds.{list_all-append}
 use Rattle.std.proofs.lemmas.Bool.{leb-false, lt-leb, lt-ltb, ltb-true}
 use Rattle.std.proofs.lemmas.Bool.Decides.{nat_tests}
 use Rattle.cops_types.specs.declared.faults.Fault.{Fault}
-use Rattle.cops_types.specs.declared.faults.Fault.TheVariants.{Syntax, BadKey, ValueTooLong, OutOfMemory}
+use Rattle.cops_types.specs.declared.faults.Fault.TheVariants.{Syntax, BadKey, ValueTooLong}
+use Rattle.cops_types.specs.declared.request_errors.RequestError.{RequestError}
+use Rattle.cops_types.specs.declared.request_errors.RequestError.TheVariants.{OutOfMemory as Lacking, Refused as RefusedWith}
 use Rattle.cops_types.specs.Key.{is_key}
 use Rattle.cops_types.specs.Refusal.{refused_if}
+use Rattle.cops_types.specs.RequestErrors.{AnswersUnless, fault_told}
 use Rattle.cops_types.specs.Search.{first_refusal}
 use Rattle.cops_types.specs.Value.{is_value, is_too_long}
 use Rattle.cops_types.specs.Words.{no_words}
@@ -104,12 +107,12 @@ module _ (old : World) (slot : ℕ) (name : List ℕ) (number : ℕ) (key value 
           (λ cluster stands. (λ i. put_if (good i) (too_long value true e i) cluster) ∙ ap (λ f. reply_with (Refused f) cluster) cc)
       by false e h = cc
 
-  -- what a value was refused with is told, or was that memory was refused
-  pub no_value_moves : (fault : Fault) (answered : Result Reply AllocError) → is_key key ≡ true → (fault ≡ OutOfMemory) ⊎ (refused_if (is_too_long value) ValueTooLong ≡ Some fault) →
-      IfOk answered (λ reply. reply ≡ Refused fault) → IfOk answered (λ _. fault ≢ OutOfMemory) → Moves AnyReply (λ config. cluster_step config (acts.Put name number key value)) old slot answered old
-  no_value_moves fault (Ok reply) good (inl lack) is spared = absurd (spared lack)
-  no_value_moves fault (Ok reply) good (inr refused) is spared = subst (λ r. Moves AnyReply (λ config. cluster_step config (acts.Put name number key value)) old slot (Ok r) old) (sym is) (bad_value_moves fault good refused)
-  no_value_moves fault (Err error) good refused is spared = lack_moves AnyReply (λ config. cluster_step config (acts.Put name number key value)) old slot error old refl
+  -- the reply is why a value was refused, unless memory ran out
+  pub no_value_moves : (error : RequestError) (answered : Result Reply AllocError) → is_key key ≡ true → AnswersUnless {A = List ℕ} (refused_if (is_too_long value) ValueTooLong) (Err error) →
+      IfOk answered (λ reply. reply ≡ Refused (fault_told error)) → IfOk answered (λ _. error ≢ Lacking) → Moves AnyReply (λ config. cluster_step config (acts.Put name number key value)) old slot answered old
+  no_value_moves (RefusedWith fault) (Ok reply) good refused is spared = subst (λ r. Moves AnyReply (λ config. cluster_step config (acts.Put name number key value)) old slot (Ok r) old) (sym is) (bad_value_moves fault good refused)
+  no_value_moves Lacking (Ok reply) good refused is spared = absurd (spared refl)
+  no_value_moves error (Err lack) good refused is spared = lack_moves AnyReply (λ config. cluster_step config (acts.Put name number key value)) old slot lack old refl
 
   pub put_moves : is_key key ≡ true → is_value value ≡ true → (answered : Result Reply AllocError) (new : World) → Moves AnyReply (λ config. deed_step config name (deeds.Put number key value)) old slot answered new →
       Moves AnyReply (λ config. cluster_step config (acts.Put name number key value)) old slot answered new

@@ -26,7 +26,7 @@ use cops_handles::Handle;
 use cops_node::Nodes;
 use cops_repl::{Carrier, Delivery, Progress as Carrying};
 use cops_session::{Answer, Progress, Session};
-use cops_types::{Deps, Fault, Key, Name, Near, Value};
+use cops_types::{Deps, Fault, Key, Name, Near, RequestError, Value};
 use std::alloc::{AllocError, Global};
 use std::marker::Model;
 
@@ -97,9 +97,9 @@ fn create(session: &mut Session) -> Result<Reply, AllocError>
     ensures lack { IsTrue (is_out_of_memory (told_act result)) → session.new ≡ session.old }
 {
     match session.create_context() {
-        Ok(Ok(handle)) => Ok(Reply::Created(handle.number())),
-        Ok(Err(fault)) => Ok(Reply::Refused(fault)),
-        Err(error) => Err(error),
+        Ok(handle) => Ok(Reply::Created(handle.number())),
+        Err(RequestError::Refused(fault)) => Ok(Reply::Refused(fault)),
+        Err(RequestError::OutOfMemory) => Err(AllocError),
     }
 }
 
@@ -128,9 +128,9 @@ fn begin_put(
     ensures lack { IsTrue (is_out_of_memory (told_act result)) → session.new ≡ session.old }
 {
     match session.begin_put(Handle::of_number(number), key, value) {
-        Ok(Ok(_)) => Ok(Reply::Started),
-        Ok(Err(fault)) => Ok(Reply::Refused(fault)),
-        Err(error) => Err(error),
+        Ok(_) => Ok(Reply::Started),
+        Err(RequestError::Refused(fault)) => Ok(Reply::Refused(fault)),
+        Err(RequestError::OutOfMemory) => Err(AllocError),
     }
 }
 
@@ -142,9 +142,9 @@ fn begin_get(session: &mut Session, number: u64, keys: &Keys) -> Result<Reply, A
     ensures lack { IsTrue (is_out_of_memory (told_act result)) → session.new ≡ session.old }
 {
     match session.begin_get_trans(Handle::of_number(number), keys.as_slice()) {
-        Ok(Ok(_)) => Ok(Reply::Started),
-        Ok(Err(fault)) => Ok(Reply::Refused(fault)),
-        Err(error) => Err(error),
+        Ok(_) => Ok(Reply::Started),
+        Err(RequestError::Refused(fault)) => Ok(Reply::Refused(fault)),
+        Err(RequestError::OutOfMemory) => Err(AllocError),
     }
 }
 
@@ -244,9 +244,9 @@ fn step_session<N: Nodes>(
 {
     match session.running() {
         Some(handle) => match session.step(nodes, handle, moment) {
-            Ok(Ok(progress)) => Ok(reply_of_progress(progress)),
-            Ok(Err(fault)) => Ok(Reply::Refused(fault)),
-            Err(error) => Err(error),
+            Ok(progress) => Ok(reply_of_progress(progress)),
+            Err(RequestError::Refused(fault)) => Ok(Reply::Refused(fault)),
+            Err(RequestError::OutOfMemory) => Err(AllocError),
         },
         None => Ok(Reply::Refused(Fault::Idle)),
     }

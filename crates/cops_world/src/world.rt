@@ -9,7 +9,9 @@ ghost use Rattle.cops_repl.specs.Stands.{RunsIn};
 ghost use Rattle.cops_types.specs.HeadLines.{is_tenant};
 ghost use Rattle.cops_types.specs.Key.{is_key, key_eq};
 ghost use Rattle.cops_types.specs.OpenSlots.{admission_refusal, open_at};
+ghost use Rattle.cops_types.specs.RequestErrors.{IfRefusal, OnRefusal, fault_told};
 ghost use Rattle.cops_types.specs.declared.faults.Fault.TheVariants.{BadKey, OutOfMemory, UnknownTenant};
+ghost use Rattle.cops_types.specs.declared.request_errors.RequestError.TheVariants.{OutOfMemory as Lacking};
 ghost use Rattle.std.specs.List.{AllByRecursion, list_all};
 ghost use Rattle.std.specs.Option.{option_copied};
 ghost use Rattle.cops_model.specs.Cluster.{Actor as Solo, SoloCluster, actor_step, actor_steps, cluster_step, goes_on, has_node, has_stream, most_steps, reply_of_collect};
@@ -37,7 +39,7 @@ use cops_node::{AuditRow, Cluster0, Node, NodeCall, NodeId, NodeReply, Nodes};
 use cops_repl::Carrier;
 use cops_script::Tenancy;
 use cops_session::Session;
-use cops_types::{Config, Fault, Key, Name, OpenTenants, Seeds, Tenant, Value};
+use cops_types::{Config, Fault, Key, Name, OpenTenants, RequestError, Seeds, Tenant, Value};
 use std::alloc::{AllocError, Global};
 use std::marker::Model;
 use std::mem;
@@ -73,22 +75,19 @@ impl Model for World {
 }
 
 /// Parses the keys, if each is one.
-fn keys_of(alloc: Global, slices: &ByteSlices) -> Result<Result<Keys, Fault>, AllocError>
-    ensures keys { IfOk result (λ told. IfOk told (λ keys. keys ≡ slices.now)) }
-    ensures good { IfOk result (λ told. OnOk told (list_all is_key slices.now ≡ true)) }
-    ensures bad { IfOk result (λ told. OnErr told (list_all is_key slices.now ≡ false)) }
-    ensures fault { IfOk result (λ told. IfErr told (λ fault. fault ≡ BadKey)) }
+fn keys_of(alloc: Global, slices: &ByteSlices) -> Result<Keys, RequestError>
+    ensures keys { IfOk result (λ keys. keys ≡ slices.now) }
+    ensures good { OnOk result (list_all is_key slices.now ≡ true) }
+    ensures bad { OnRefusal result (list_all is_key slices.now ≡ false) }
+    ensures fault { IfRefusal result (λ fault. fault ≡ BadKey) }
 {
     let mut keys = Vec::new(alloc);
     let mut left = slices.again();
     while let Some(slice) = left.next_slice() {
-        let key = match Key::new(slice) {
-            Ok(key) => key,
-            Err(fault) => return Ok(Err(fault)),
-        };
+        let key = Key::new(slice)?;
         keys.push(key)?;
     }
-    Ok(Ok(Keys::of(keys)))
+    Ok(Keys::of(keys))
 }
 
 /// Returns whether each of the slices is a key.
@@ -104,15 +103,15 @@ fn are_keys(slices: &ByteSlices) -> bool
     true
 }
 
-/// The answer to an act that is refused with this fault, which may be that memory ran out.
-fn refused_with(fault: Fault) -> Result<Reply, AllocError>
-    ensures reply { IfOk result (λ reply. reply ≡ Refused fault) }
-    ensures spared { IfOk result (λ _. fault ≢ OutOfMemory) }
-    ensures err { OnErr result (fault ≡ OutOfMemory) }
+/// The answer to an act that failed.
+fn refused_with(error: RequestError) -> Result<Reply, AllocError>
+    ensures reply { IfOk result (λ reply. reply ≡ Refused (fault_told error)) }
+    ensures spared { IfOk result (λ _. error ≢ Lacking) }
+    ensures err { OnErr result (error ≡ Lacking) }
 {
-    match fault {
-        Fault::OutOfMemory => Err(AllocError),
-        _ => Ok(Reply::Refused(fault)),
+    match error {
+        RequestError::Refused(fault) => Ok(Reply::Refused(fault)),
+        RequestError::OutOfMemory => Err(AllocError),
     }
 }
 
@@ -469,9 +468,9 @@ impl World {
         };
         match Value::new(self.alloc, value.as_slice()) {
             Ok(value) => self.ask(slot, name, Deed::Put(number, key, value)),
-            Err(fault) => match self.put_refusal(slot, name, number, &key, value) {
+            Err(error) => match self.put_refusal(slot, name, number, &key, value) {
                 Some(refusal) => Ok(Reply::Refused(refusal)),
-                None => refused_with(fault),
+                None => refused_with(error),
             },
         }
     }
@@ -506,11 +505,11 @@ impl World {
             return Ok(Reply::Refused(Fault::Syntax));
         }
         match keys_of(self.alloc, keys) {
-            Ok(Ok(keys)) => self.ask(slot, name, Deed::Get(number, keys)),
-            Ok(Err(fault)) => Ok(Reply::Refused(fault)),
+            Ok(keys) => self.ask(slot, name, Deed::Get(number, keys)),
+            Err(RequestError::Refused(fault)) => Ok(Reply::Refused(fault)),
             Err(error) => match self.get_refusal(slot, name, number, keys) {
                 Some(fault) => Ok(Reply::Refused(fault)),
-                None => Err(error),
+                None => refused_with(error),
             },
         }
     }

@@ -1,5 +1,7 @@
 //! Keys, values and entries of few words, made again if memory runs out once.
-use cops_types::{Deps, Entry, EntryParts, Fault, Found, FoundParts, Key, Near, Value, Version};
+use cops_types::{
+    Deps, Entry, EntryParts, Found, FoundParts, Key, Near, RequestError, Value, Version,
+};
 use std::alloc::Global;
 use std::process::Abort;
 
@@ -33,8 +35,8 @@ pub(crate) fn bare_found(rt: &impl Abort, alloc: Global, version: Version) -> Fo
 pub(crate) fn value(rt: &impl Abort, alloc: Global) -> Value {
     match Value::new(alloc, b"10") {
         Ok(value) => value,
-        Err(fault) => {
-            assert!(rt; fault == Fault::OutOfMemory);
+        Err(error) => {
+            assert!(rt; error == RequestError::OutOfMemory);
             Value::new(alloc, b"10").expect(rt, "a value")
         }
     }

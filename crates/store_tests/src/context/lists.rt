@@ -1,6 +1,6 @@
 use crate::pairs::{assert_deps, assert_near, deps, pair};
 use cops_context::Context;
-use cops_types::{Deps, DepsBuilder, Fault, NearBuilder, Pair};
+use cops_types::{Deps, DepsBuilder, Fault, NearBuilder, Pair, RequestError};
 use std::alloc::Global;
 use std::process::Abort;
 
@@ -24,15 +24,13 @@ pub(crate) fn long(rt: &impl Abort) -> Pair {
 /// Sees y, which depends on x.
 fn observe_y(rt: &impl Abort, alloc: Global, context: &mut Context) {
     let on_x = deps(rt, alloc, &[x(rt)]);
-    let told = context.observe(y(rt), &on_x, 20).expect(rt, "memory");
-    told.expect(rt, "room");
+    context.observe(y(rt), &on_x, 20).expect(rt, "room");
 }
 
 /// Sees x, which depends on nothing.
 fn observe_x(rt: &impl Abort, alloc: Global, context: &mut Context) {
     let none = Deps::empty(alloc);
-    let told = context.observe(x(rt), &none, 20).expect(rt, "memory");
-    told.expect(rt, "room");
+    context.observe(x(rt), &none, 20).expect(rt, "room");
 }
 
 /// Dependencies that grow are these.
@@ -61,8 +59,7 @@ pub(crate) fn assert_lists(rt: &impl Abort, context: &Context, all: &[Pair], nea
 fn assert_put(rt: &impl Abort, alloc: Global, context: &mut Context) {
     let put = z(rt);
     let key = put.key;
-    let told = context.put_args(&key, 20).expect(rt, "memory");
-    let (deps, near) = told.expect(rt, "room");
+    let (deps, near) = context.put_args(&key, 20).expect(rt, "room");
     assert_deps(rt, &deps, &[x(rt), y(rt)]);
     assert_near(rt, &near, &[y(rt)]);
     context.after_put(put);
@@ -90,8 +87,7 @@ fn a_long_key_is_seen_beside_short_ones(rt: HostRuntime) {
     let mut context = Context::new(rt.alloc());
     observe_y(&rt, rt.alloc(), &mut context);
     let on_long = deps(&rt, rt.alloc(), &[long(&rt)]);
-    let told = context.observe(z(&rt), &on_long, 20).expect(&rt, "memory");
-    told.expect(&rt, "room");
+    context.observe(z(&rt), &on_long, 20).expect(&rt, "room");
     assert_lists(
         &rt,
         &context,
@@ -106,10 +102,10 @@ fn a_long_key_is_put_after_short_ones(rt: HostRuntime) {
     let key = put.key;
     let mut context = Context::new(rt.alloc());
     observe_y(&rt, rt.alloc(), &mut context);
-    let told = context.put_args(&key, 20).expect(&rt, "memory");
-    let is_ready = told.is_ok();
-    assert!(rt; is_ready);
-    context.after_put(put);
+    match context.put_args(&key, 20) {
+        Ok(_) => context.after_put(put),
+        Err(_) => panic!(rt; "room"),
+    }
     assert_lists(&rt, &context, &[long(&rt), x(&rt), y(&rt)], &[long(&rt)]);
 }
 
@@ -117,7 +113,7 @@ fn a_long_key_is_put_after_short_ones(rt: HostRuntime) {
 fn a_put_past_the_limit_is_told_as_full(rt: HostRuntime) {
     let mut context = Context::new(rt.alloc());
     observe_y(&rt, rt.alloc(), &mut context);
-    let told = context.put_args(&z(&rt).key, 2).expect(&rt, "memory");
-    assert!(rt; matches!(told, Err(Fault::DependenciesFull)));
+    let refused = context.put_args(&z(&rt).key, 2);
+    assert!(rt; matches!(refused, Err(RequestError::Refused(Fault::DependenciesFull))));
     assert_lists(&rt, &context, &[x(&rt), y(&rt)], &[y(&rt)]);
 }

@@ -4,7 +4,7 @@
 use super::lists::{assert_lists, long, x, y, z};
 use crate::entries::bare_found;
 use cops_context::Context;
-use cops_types::{Deps, Pair, Read};
+use cops_types::{Deps, Pair, Read, RequestError};
 use std::alloc::Global;
 use std::process::Abort;
 
@@ -27,11 +27,13 @@ fn refused_memory_leaves_a_new_context(rt: HostRuntime) {
     let on_x = deps_on_x(&rt, alloc);
     let mut context = Context::new(alloc);
     match context.observe(y(&rt), &on_x, 20) {
-        Ok(told) => told.expect(&rt, "room"),
-        Err(_) => {
+        Ok(()) => {}
+        Err(error) => {
+            assert!(&rt; error == RequestError::OutOfMemory);
             assert_lists(&rt, &context, &[], &[]);
-            let again = context.observe(y(&rt), &on_x, 20).expect(&rt, "memory");
-            again.expect(&rt, "room");
+            context
+                .observe(y(&rt), &on_x, 20)
+                .expect(&rt, "a second try");
         }
     }
     assert_lists(&rt, &context, &[x(&rt), y(&rt)], &[y(&rt)]);
@@ -47,11 +49,11 @@ fn observe(
     near: &[Pair],
 ) {
     match context.observe(*pair, deps, 20) {
-        Ok(told) => told.expect(rt, "room"),
-        Err(_) => {
+        Ok(()) => {}
+        Err(error) => {
+            assert!(rt; error == RequestError::OutOfMemory);
             assert_lists(rt, context, all, near);
-            let again = context.observe(*pair, deps, 20).expect(rt, "a second try");
-            again.expect(rt, "room");
+            context.observe(*pair, deps, 20).expect(rt, "a second try");
         }
     }
 }
@@ -84,14 +86,14 @@ fn refused_memory_keeps_what_a_put_would_send(rt: HostRuntime) {
         &[],
         &[],
     );
-    let told = match context.put_args(&key, 20) {
-        Ok(told) => told,
-        Err(_) => {
+    let (deps, _near) = match context.put_args(&key, 20) {
+        Ok(lists) => lists,
+        Err(error) => {
+            assert!(&rt; error == RequestError::OutOfMemory);
             assert_lists(&rt, &context, &[x(&rt)], &[x(&rt)]);
             context.put_args(&key, 20).expect(&rt, "a second try")
         }
     };
-    let (deps, _near) = told.expect(&rt, "room");
     assert_eq!(rt; deps.len(), 1);
 }
 
@@ -101,14 +103,22 @@ fn refused_memory_observes_no_half(rt: HostRuntime) {
     let reads = [read(&rt, alloc, x(&rt)), read(&rt, alloc, y(&rt))];
     let mut context = Context::new(alloc);
     match context.observe_all(&reads, 20) {
-        Ok(told) => told.expect(&rt, "room"),
-        Err(_) => {
+        Ok(()) => {}
+        Err(error) => {
+            assert!(&rt; error == RequestError::OutOfMemory);
             assert_lists(&rt, &context, &[], &[]);
-            let again = context.observe_all(&reads, 20).expect(&rt, "memory");
-            again.expect(&rt, "room");
+            context.observe_all(&reads, 20).expect(&rt, "a second try");
         }
     }
     assert_lists(&rt, &context, &[x(&rt), y(&rt)], &[x(&rt), y(&rt)]);
+}
+
+/// Puts the pair, with memory.
+fn put_again(rt: &impl Abort, context: &mut Context, put: Pair) {
+    match context.put_args(&put.key, 20) {
+        Ok(_) => context.after_put(put),
+        Err(_) => panic!(rt; "a second try"),
+    }
 }
 
 #[test]
@@ -116,16 +126,14 @@ fn refused_memory_sends_no_put(rt: HostRuntime) {
     let put = z(&rt);
     let key = put.key;
     let mut context = Context::new(rt.alloc());
-    let told = match context.put_args(&key, 20) {
-        Ok(told) => told,
-        Err(_) => {
+    match context.put_args(&key, 20) {
+        Ok(_) => context.after_put(put),
+        Err(error) => {
+            assert!(&rt; error == RequestError::OutOfMemory);
             assert_lists(&rt, &context, &[], &[]);
-            context.put_args(&key, 20).expect(&rt, "a second try")
+            put_again(&rt, &mut context, put);
         }
-    };
-    let is_ready = told.is_ok();
-    assert!(rt; is_ready);
-    context.after_put(put);
+    }
     assert_lists(&rt, &context, &[z(&rt)], &[z(&rt)]);
 }
 
@@ -142,8 +150,11 @@ fn refused_memory_turns_no_list_full(rt: HostRuntime) {
         &[],
     );
     match context.put_args(&key, 20) {
-        Ok(told) => assert!(rt; told.is_ok()),
-        Err(_) => assert_lists(&rt, &context, &[x(&rt)], &[x(&rt)]),
+        Ok(_) => {}
+        Err(error) => {
+            assert!(&rt; error == RequestError::OutOfMemory);
+            assert_lists(&rt, &context, &[x(&rt)], &[x(&rt)]);
+        }
     }
     observe(
         &rt,

@@ -1,5 +1,5 @@
 use cops_handles::{Handle, Kind, Table};
-use cops_types::Fault;
+use cops_types::{Fault, RequestError};
 use std::process::Abort;
 
 struct Numbers;
@@ -25,17 +25,17 @@ impl Kind for Others {
 #[test]
 fn numbers_are_issued_once(rt: HostRuntime) {
     let mut table: Table<Numbers> = Table::starting_at(rt.alloc(), 1, 1);
-    match table.open(7).expect(&rt, "memory") {
+    match table.open(7) {
         Ok(first) => {
             assert_eq!(rt; first.number(), 1);
             assert!(rt;
-                matches!(table.open(8), Ok(Err(back)) if back.row == 8 && matches!(back.fault, Fault::TooManyContexts))
+                matches!(table.open(8), Err(back) if back.row == 8 && matches!(back.error, RequestError::Refused(Fault::TooManyContexts)))
             );
             assert!(rt; matches!(table.get(first), Ok(7)));
             assert!(rt; matches!(table.replace(first, 9), Ok(7)));
             assert!(rt; matches!(table.close(first), Ok(9)));
             assert!(rt; matches!(table.get(first), Err(Fault::NoContext)));
-            assert!(rt; matches!(table.open(3), Ok(Ok(second)) if second.number() == 2));
+            assert!(rt; matches!(table.open(3), Ok(second) if second.number() == 2));
         }
         Err(_) => assert!(rt; false),
     }
@@ -44,9 +44,9 @@ fn numbers_are_issued_once(rt: HostRuntime) {
 #[test]
 fn the_last_number(rt: HostRuntime) {
     let mut table: Table<Numbers> = Table::starting_at(rt.alloc(), 18446744073709551614, 4);
-    assert!(rt; matches!(table.open(7), Ok(Ok(last)) if last.number() == 18446744073709551614));
+    assert!(rt; matches!(table.open(7), Ok(last) if last.number() == 18446744073709551614));
     assert!(rt;
-        matches!(table.open(8), Ok(Err(back)) if back.row == 8 && matches!(back.fault, Fault::IdsSpent))
+        matches!(table.open(8), Err(back) if back.row == 8 && matches!(back.error, RequestError::Refused(Fault::IdsSpent)))
     );
 }
 
@@ -65,20 +65,21 @@ fn on_the_wire(rt: HostRuntime) {
 /// Opens a row, again if memory ran out: the row was then returned, and the table was as before.
 fn insist(rt: &impl Abort, table: &mut Table<Numbers>, row: u8, number: u64) {
     let before = table.len();
-    let told = match table.open(row) {
-        Ok(told) => told,
+    let opened = match table.open(row) {
         Err(back) => {
-            assert_eq!(rt; back.value, row);
+            assert_eq!(rt; back.error, RequestError::OutOfMemory);
+            assert_eq!(rt; back.row, row);
             assert_eq!(rt; table.len(), before);
-            table.open(row).expect(rt, "memory")
+            table.open(row)
         }
+        opened => opened,
     };
-    match told {
+    match opened {
         Ok(handle) => {
             assert_eq!(rt; handle.number(), number);
             assert!(rt; matches!(table.get(handle), Ok(kept) if *kept == row));
         }
-        Err(_) => panic!(rt; "room"),
+        Err(_) => panic!(rt; "a second try"),
     }
 }
 
@@ -90,5 +91,5 @@ fn refused_memory_hands_the_row_back(rt: HostRuntime) {
         insist(&rt, &mut table, row, u64::from(row));
     }
     assert_eq!(rt; table.len(), 40);
-    assert!(rt; matches!(table.open(41), Ok(Err(back)) if back.row == 41));
+    assert!(rt; matches!(table.open(41), Err(back) if back.row == 41));
 }

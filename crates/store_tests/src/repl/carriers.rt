@@ -5,7 +5,7 @@ use crate::entries::value;
 use crate::pairs::{near, pair};
 use cops_node::{NodeCall, NodeId, NodeReply, Nodes};
 use cops_repl::{Carrier, Delivery, Progress, collect_all};
-use cops_types::{Config, Deps, Entry, EntryParts, Fault, Pair, Tenants, Version};
+use cops_types::{Config, Deps, Entry, EntryParts, Fault, Pair, RequestError, Tenants, Version};
 use std::alloc::{AllocError, Global};
 use std::process::Abort;
 
@@ -204,8 +204,8 @@ fn what_each_node_removes_is_counted(rt: HostRuntime) {
     let config = config(rt.alloc());
     let counts = removed(&rt, rt.alloc(), &[1, 0, 2, 0, 0, 0, 0, 0]);
     let mut nodes = nodes_with(rt.alloc(), counts);
-    assert!(rt; matches!(collect_all(&mut nodes, &config, 0, 5101), Ok(Ok(3))));
-    assert!(rt; matches!(collect_all(&mut nodes, &config, 0, 5101), Ok(Ok(0))));
+    assert!(rt; matches!(collect_all(&mut nodes, &config, 0, 5101), Ok(3)));
+    assert!(rt; matches!(collect_all(&mut nodes, &config, 0, 5101), Ok(0)));
     assert_eq!(rt; nodes.asked.len(), 8);
 }
 
@@ -215,9 +215,8 @@ fn refused_memory_ends_a_collection(rt: HostRuntime) {
     let config = config(rt.alloc());
     let counts = removed(&rt, rt.alloc(), &[1, 0, 2, 0]);
     let mut nodes = nodes_with(rt.alloc(), counts);
-    if let Ok(total) = collect_all(&mut nodes, &config, 0, 5101) {
-        assert!(rt; matches!(total, Ok(3)));
-    }
+    let total = collect_all(&mut nodes, &config, 0, 5101);
+    assert!(rt; matches!(total, Ok(3) | Err(RequestError::OutOfMemory)));
 }
 
 // The carrier allocates nothing itself. If the node runs out of memory, that is the error, and the

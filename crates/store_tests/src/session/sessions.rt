@@ -7,7 +7,7 @@ use crate::one_tenant::{self, one_node};
 use cops_handles::Handle;
 use cops_node::{NodeCall, NodeId, NodeReply, Nodes};
 use cops_session::{Answer, Contexts, Progress, Running, Session};
-use cops_types::{Deps, Fault, Found, FoundParts, Key, Pair, Version};
+use cops_types::{Deps, Fault, Found, FoundParts, Key, Pair, RequestError, Version};
 use std::alloc::{AllocError, Global};
 use std::process::Abort;
 
@@ -51,10 +51,10 @@ pub(crate) fn context(rt: &impl Abort, session: &mut Session) -> Handle<Contexts
     ensures { IsOfSizes 1 1 session.new.setting }
 {
     match session.create_context() {
-        Ok(created) => created.expect(rt, "a context"),
-        Err(_) => {
-            let again = session.create_context().expect(rt, "memory");
-            again.expect(rt, "a context")
+        Ok(created) => created,
+        Err(error) => {
+            assert!(rt; error == RequestError::OutOfMemory);
+            session.create_context().expect(rt, "a second try")
         }
     }
 }
@@ -71,10 +71,11 @@ pub(crate) fn put(
     ensures { IsOfSizes 1 1 session.new.setting }
 {
     match session.begin_put(context, key(rt, bytes), value(rt, alloc)) {
-        Ok(begun) => begun.expect(rt, "a put"),
-        Err(_) => {
+        Ok(begun) => begun,
+        Err(error) => {
+            assert!(rt; error == RequestError::OutOfMemory);
             let again = session.begin_put(context, key(rt, bytes), value(rt, alloc));
-            again.expect(rt, "memory").expect(rt, "a put")
+            again.expect(rt, "a second try")
         }
     }
 }
@@ -90,10 +91,11 @@ pub(crate) fn get(
     ensures { IsOfSizes 1 1 session.new.setting }
 {
     match session.begin_get_trans(context, keys) {
-        Ok(begun) => begun.expect(rt, "a get"),
-        Err(_) => {
-            let again = session.begin_get_trans(context, keys).expect(rt, "memory");
-            again.expect(rt, "a get")
+        Ok(begun) => begun,
+        Err(error) => {
+            assert!(rt; error == RequestError::OutOfMemory);
+            let again = session.begin_get_trans(context, keys);
+            again.expect(rt, "a second try")
         }
     }
 }
@@ -105,18 +107,20 @@ pub(crate) fn try_step(
     handle: Handle<Running>,
     moment: u64,
     reply: NodeReply,
-) -> Result<Progress, AllocError>
+) -> Result<Progress, RequestError>
     requires { IsOfSizes 1 1 session.old.setting }
     ensures { IsOfSizes 1 1 session.new.setting }
 {
     let mut nodes = Once { reply: Some(reply) };
     match session.step(&mut nodes, handle, moment) {
-        Ok(Ok(shown)) => {
+        Ok(shown) => {
             assert!(rt; nodes.reply.is_none());
             Ok(shown)
         }
-        Ok(Err(_)) => panic!(rt; "the request runs"),
-        Err(error) => Err(error),
+        Err(error) => {
+            assert!(rt; error == RequestError::OutOfMemory);
+            Err(error)
+        }
     }
 }
 
@@ -140,7 +144,12 @@ fn assert_idle(rt: &impl Abort, session: &mut Session, handle: Handle<Running>)
     ensures { IsOfSizes 1 1 session.new.setting }
 {
     let mut nodes = Once { reply: None };
-    assert!(rt; matches!(session.step(&mut nodes, handle, 0), Ok(Err(Fault::Idle))));
+    assert!(rt;
+        matches!(
+            session.step(&mut nodes, handle, 0),
+            Err(RequestError::Refused(Fault::Idle))
+        )
+    );
 }
 
 pub(crate) fn found(rt: &impl Abort, alloc: Global, version: Version, deps: Deps) -> NodeReply {
@@ -262,7 +271,7 @@ fn assert_no_get(
     fault: Fault,
 ) {
     match session.begin_get_trans(handle, keys) {
-        Ok(Err(given)) => assert_eq!(rt; given, fault),
+        Err(error) => assert_eq!(rt; error, RequestError::Refused(fault)),
         _ => panic!(rt; "a refusal"),
     }
 }
@@ -276,7 +285,7 @@ fn assert_no_put(
     fault: Fault,
 ) {
     match session.begin_put(handle, key(rt, b"y"), value(rt, alloc)) {
-        Ok(Err(given)) => assert_eq!(rt; given, fault),
+        Err(error) => assert_eq!(rt; error, RequestError::Refused(fault)),
         _ => panic!(rt; "a refusal"),
     }
 }
@@ -286,7 +295,12 @@ fn the_last_context(rt: HostRuntime) {
     let mut session = session(&rt, rt.alloc(), 18446744073709551614);
     let handle = context(&rt, &mut session);
     assert_eq!(rt; handle.number(), 18446744073709551614);
-    assert!(rt; matches!(session.create_context(), Ok(Err(Fault::IdsSpent))));
+    assert!(rt;
+        matches!(
+            session.create_context(),
+            Err(RequestError::Refused(Fault::IdsSpent))
+        )
+    );
 }
 
 #[test]

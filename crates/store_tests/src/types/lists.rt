@@ -1,5 +1,5 @@
 use crate::pairs::{assert_deps, assert_near, deps, near, pair};
-use cops_types::{Deps, Entry, EntryParts, Fault, NearBuilder, Value, Version};
+use cops_types::{Deps, Entry, EntryParts, Fault, NearBuilder, RequestError, Value, Version};
 use std::alloc::Global;
 use std::process::Abort;
 use std::thread;
@@ -24,7 +24,12 @@ fn a_join_over_the_limit_changes_nothing(rt: HostRuntime) {
     let x = pair(&rt, b"x", 1, 0);
     let more = newer_x_and_y(&rt, rt.alloc());
     let mut list = deps(&rt, rt.alloc(), &[x]);
-    assert!(rt; matches!(list.join(&more, 1), Err(Fault::DependenciesFull)));
+    assert!(rt;
+        matches!(
+            list.join(&more, 1),
+            Err(RequestError::Refused(Fault::DependenciesFull))
+        )
+    );
     assert_deps(&rt, &list, &[x]);
 }
 
@@ -64,7 +69,7 @@ fn nearest_pairs_have_a_limit(rt: HostRuntime) {
     near.add(pair(&rt, b"x", 1, 0), 2)
         .expect(&rt, "the pair is there");
     let refused = near.add(pair(&rt, b"y", 1, 0), 2);
-    assert!(rt; matches!(refused, Err(Fault::DependenciesFull)));
+    assert!(rt; matches!(refused, Err(RequestError::Refused(Fault::DependenciesFull))));
     assert!(rt; near.len() == 2);
 }
 

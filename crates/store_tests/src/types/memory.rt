@@ -2,7 +2,7 @@
 //! is answered. Run with the Nth allocation failing, for each N.
 use crate::entries::{bare_found, entry, value};
 use crate::pairs::{assert_deps, assert_near, pair};
-use cops_types::{Deps, Fault, Near, Pair, Version};
+use cops_types::{Deps, Near, Pair, RequestError, Version};
 use std::alloc::Global;
 use std::process::Abort;
 
@@ -20,8 +20,8 @@ fn long(rt: &impl Abort) -> Pair {
 
 /// Adds a pair to a list of these, again if memory ran out.
 fn add(rt: &impl Abort, list: &mut Deps, pair: &Pair, before: &[Pair]) {
-    if let Err(fault) = list.add(*pair, LIMIT) {
-        assert_eq!(rt; fault, Fault::OutOfMemory);
+    if let Err(error) = list.add(*pair, LIMIT) {
+        assert!(rt; error == RequestError::OutOfMemory);
         assert_deps(rt, list, before);
         list.add(*pair, LIMIT).expect(rt, "a second try");
     }
@@ -29,8 +29,8 @@ fn add(rt: &impl Abort, list: &mut Deps, pair: &Pair, before: &[Pair]) {
 
 /// Adds a pair to a list of nearest ones, again if memory ran out.
 fn add_near(rt: &impl Abort, list: &mut Near, pair: &Pair, before: &[Pair]) {
-    if let Err(fault) = list.add(*pair, LIMIT) {
-        assert_eq!(rt; fault, Fault::OutOfMemory);
+    if let Err(error) = list.add(*pair, LIMIT) {
+        assert!(rt; error == RequestError::OutOfMemory);
         assert_near(rt, list, before);
         list.add(*pair, LIMIT).expect(rt, "a second try");
     }
@@ -72,8 +72,8 @@ fn refused_memory_joins_no_dependencies(rt: HostRuntime) {
     let mut other = Deps::empty(rt.alloc());
     add(&rt, &mut list, &x(&rt), &[]);
     add(&rt, &mut other, &long(&rt), &[]);
-    if let Err(fault) = list.join(&other, LIMIT) {
-        assert_eq!(rt; fault, Fault::OutOfMemory);
+    if let Err(error) = list.join(&other, LIMIT) {
+        assert!(rt; error == RequestError::OutOfMemory);
         assert_deps(&rt, &list, &[x(&rt)]);
         list.join(&other, LIMIT).expect(&rt, "a second try");
     }

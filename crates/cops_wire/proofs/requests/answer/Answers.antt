@@ -24,7 +24,7 @@ pub returns-in-Err-clause-answered : goal.returns-in-Err-clause-answered
 returns-in-Err-clause-answered g c = (
   Refused OutOfMemory,
   answered_by_lack (KeepsShape g.N.Nodes.shape g.N.Nodes.Answers) g.M.Moments.Gives c.args.request.now c.args.session.now c.create.new.session c.args.nodes.now c.args.moments.now c.in-Err.ensures.err,
-  (c.push_lack.ensures.ok, c.push_lack.ensures.err),
+  (rw c.from.ensures at c.push_failure.ensures.ok, c.push_failure.ensures.err),
 )
 
 pub returns-in-DeleteContext-clause-answered : goal.returns-in-DeleteContext-clause-answered

@@ -10,4 +10,4 @@ returns-clause-answered g c = λ lists are.
     let handle = c.args.handle.now in
     answered_by_steps (KeepsShape g.N.Nodes.shape g.N.Nodes.Answers) g.M.Moments.Gives (GetTrans handle lists) (λ config session. reading_refusal config handle lists session) (number_in handle) (Fetch lists)
     (λ config slot old new reply so. so) (λ config session none. few_read config handle lists session none) c.args.session.now c.begin_get-begun.new.session (backend c.run.new.session c.run.new.nodes c.run.new.moments) c.args.nodes.now c.args.moments.now
-    c.begin_get-begun.result (PutsFrame c.run.result c.args.out.now.items c.run.new.out.items) c.begin_get-begun.ensures.setting c.run.ensures.setting (c.begin_get-begun.ensures.told lists are) (c.begin_get-begun.ensures.begun lists are) c.begin_get-begun.ensures.refused c.begin_get-begun.ensures.err c.run.ensures.ran
+    c.begin_get-begun.result (PutsFrame c.run.result c.args.out.now.items c.run.new.out.items) c.begin_get-begun.ensures.setting c.run.ensures.setting (c.begin_get-begun.ensures.told lists are) (c.begin_get-begun.ensures.begun lists are) c.begin_get-begun.ensures.err c.run.ensures.ran

@@ -12,4 +12,4 @@ returns-clause-answered g c =
     let value = c.args.value.now in
     answered_by_steps (KeepsShape g.N.Nodes.shape g.N.Nodes.Answers) g.M.Moments.Gives (Put handle key value) (λ config session. writing_refusal config handle key value session) (number_in handle) (Write key value)
     (λ config slot old new reply so. so) (λ config session none. tt) c.args.session.now c.begin_put-begun.new.session (backend c.run.new.session c.run.new.nodes c.run.new.moments) c.args.nodes.now c.args.moments.now
-    c.begin_put-begun.result (PutsFrame c.run.result c.args.out.now.items c.run.new.out.items) c.begin_put-begun.ensures.setting c.run.ensures.setting c.begin_put-begun.ensures.told c.begin_put-begun.ensures.begun c.begin_put-begun.ensures.refused c.begin_put-begun.ensures.err c.run.ensures.ran
+    c.begin_put-begun.result (PutsFrame c.run.result c.args.out.now.items c.run.new.out.items) c.begin_put-begun.ensures.setting c.run.ensures.setting c.begin_put-begun.ensures.told c.begin_put-begun.ensures.begun c.begin_put-begun.ensures.err c.run.ensures.ran

@@ -72,4 +72,4 @@ returns-in_err-begin-clause-told c = λ config session stand.
     let row = answered_by _ c.get.result c.get.ensures c.in_default.not-Err in
     let few : nat_lt 32 (length c.args.keys.now) ≡ false = let h = c.if-keys-gt32.false in grind (arith, nat_tests) in
     let lack = err_from_is_err_and c.from_residual.result c.from_residual.ensures.1 in
-    rw lack.1 (get_refusal-open config _ session stands c.args.handle c.args.keys.now row.0.now false false false some idle row.1 few (sym c.has_repeats.ensures ∙ c.if-has_repeats.false) (let spare = c.if-self.false in grind (arith, nat_tests)))
+    rw (lack.1, lack.2) (get_refusal-open config _ session stands c.args.handle c.args.keys.now row.0.now false false false some idle row.1 few (sym c.has_repeats.ensures ∙ c.if-has_repeats.false) (let spare = c.if-self.false in grind (arith, nat_tests)))

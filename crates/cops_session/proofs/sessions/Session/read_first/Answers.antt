@@ -1,5 +1,6 @@
 use Rattle.std.proofs.Common.{◌≡◌, ◌∙◌, sym, refl}
 use Rattle.std.specs.Prelude.{Some, Ok, Err, unwrap_or}
+use Rattle.std.proofs.lemmas.Result.{err_from_is_err_and}
 use Rattle.cops_model.specs.declared.requests.Answer.TheVariants as answer
 use Rattle.cops_model.specs.declared.requests.Progress.TheVariants.{Working, Done}
 use Rattle.cops_node.specs.ToldReplies.{told_reply}
@@ -48,8 +49,8 @@ returns-in-Ok-Went-Second-clause-stepped g c = λ config session running stand i
     (rw (c.in-Ok-Went-Second.field-0-is, c.in-Ok-Went-Second.field-0-0-is) at c.in-Ok-Went-Second.ensures)
     (λ stands keys step timed same number action has. works config kept c.go_on-in-Ok-Went-Second.new.self session running ongoing.number ongoing.context reading next_reading turn keys step stands refl c.go_on-in-Ok-Went-Second.ensures same number action has)
 
-pub returns-in-Ok-clause-stepped : goal.returns-in-Ok-clause-stepped
-returns-in-Ok-clause-stepped g c = λ config session running stand is.
+pub returns-in_ok-values-in-Ok-Went-Complete-clause-stepped : goal.returns-in_ok-values-in-Ok-Went-Complete-clause-stepped
+returns-in_ok-values-in-Ok-Went-Complete-clause-stepped g c = λ config session running stand is.
     let inside = c.self.inside in
     let kept : KeptSession = record { setting = inside.setting; moment = inside.moment; contexts = inside.contexts; next_request = inside.next_request; running = inside.running } in
     let ongoing = c.in-Some.ongoing in
@@ -61,13 +62,13 @@ returns-in-Ok-clause-stepped g c = λ config session running stand is.
     let kept_after : KeptSession = c.values.new.self in
     taken_steps config kept kept_after session running ongoing old c.in-First.round _ c.self.view_is
     (λ slot t id call reply. g.N.Nodes.Answers c.args.nodes.now id slot t call reply nodes) (nodes ≡ c.args.nodes.now) c.args.moment now (unwrap_or old.start now) (told_reply c.ask_latest-answered.result)
-    (Ok (asked.Went (after.Complete c.in-Ok-Went-Complete.reads))) (Ok (Done c.in-Ok.answer)) (sym c.take.ensures.value ∙ c.in-Some.is) c.in-Get.is c.in-First.is stand is c.max-now.ensures refl c.requires.reads_first c.ask_latest-answered.ensures.called
+    (Ok (asked.Went (after.Complete c.in-Ok-Went-Complete.reads))) (Ok (Done c.in_ok-values-in-Ok-Went-Complete.field-0)) (sym c.take.ensures.value ∙ c.in-Some.is) c.in-Get.is c.in-First.is stand is c.max-now.ensures refl c.requires.reads_first c.ask_latest-answered.ensures.called
     (rw (c.in-Ok-Went-Complete.field-0-is, c.in-Ok-Went-Complete.field-0-0-is) at c.in-Ok-Went-Complete.ensures)
-    (λ stands keys step timed same number action has. completes config kept kept_after session running ongoing.number ongoing.context reading turn c.in-Ok-Went-Complete.reads c.in-Ok.answer keys step stands refl
-    (c.in-Ok.ensures.answer session.contexts stands.contexts_are) (c.in-Ok.ensures.stands session.contexts stands.contexts_are) (c.in-Ok.ensures.others ∙ (λ i. record { setting = inside.setting; moment = now; contexts = record inside.contexts { rows = kept_after.contexts.rows }; next_request = inside.next_request; running = c.take.ensures.after i })) same action has)
+    (λ stands keys step timed same number action has. completes config kept kept_after session running ongoing.number ongoing.context reading turn c.in-Ok-Went-Complete.reads c.in_ok-values-in-Ok-Went-Complete.field-0 keys step stands refl
+    (c.in_ok-values-in-Ok-Went-Complete.ensures.answer session.contexts stands.contexts_are) (c.in_ok-values-in-Ok-Went-Complete.ensures.stands session.contexts stands.contexts_are) (c.in_ok-values-in-Ok-Went-Complete.ensures.others ∙ (λ i. record { setting = inside.setting; moment = now; contexts = record inside.contexts { rows = kept_after.contexts.rows }; next_request = inside.next_request; running = c.take.ensures.after i })) same action has)
 
-pub returns-in-Err-values-clause-stepped : goal.returns-in-Err-values-clause-stepped
-returns-in-Err-values-clause-stepped g c = λ config session running stand is.
+pub returns-in_err-values-in-Ok-Went-Complete-clause-stepped : goal.returns-in_err-values-in-Ok-Went-Complete-clause-stepped
+returns-in_err-values-in-Ok-Went-Complete-clause-stepped g c = λ config session running stand is.
     let inside = c.self.inside in
     let kept : KeptSession = record { setting = inside.setting; moment = inside.moment; contexts = inside.contexts; next_request = inside.next_request; running = inside.running } in
     let ongoing = c.in-Some.ongoing in
@@ -77,11 +78,12 @@ returns-in-Err-values-clause-stepped g c = λ config session running stand is.
     let reading : Reading = record { restarts = old.restarts; start = old.start; round = First c.in-First.round } in
     let turn : ReadStep = record { moment = now; came = came.Complete c.in-Ok-Went-Complete.reads } in
     let kept_after : KeptSession = c.values.new.self in
-    taken_steps config kept kept_after session running ongoing old c.in-First.round _ c.self.view_is
+    let failed = err_from_is_err_and c.from_residual.result c.from_residual.ensures.1 in
+    rw (failed.1, failed.2) (taken_steps config kept kept_after session running ongoing old c.in-First.round _ c.self.view_is
     (λ slot t id call reply. g.N.Nodes.Answers c.args.nodes.now id slot t call reply nodes) (nodes ≡ c.args.nodes.now) c.args.moment now (unwrap_or old.start now) (told_reply c.ask_latest-answered.result)
-    (Ok (asked.Went (after.Complete c.in-Ok-Went-Complete.reads))) (Err c.in-Err-values.error) (sym c.take.ensures.value ∙ c.in-Some.is) c.in-Get.is c.in-First.is stand is c.max-now.ensures refl c.requires.reads_first c.ask_latest-answered.ensures.called
+    (Ok (asked.Went (after.Complete c.in-Ok-Went-Complete.reads))) (Err (record {})) (sym c.take.ensures.value ∙ c.in-Some.is) c.in-Get.is c.in-First.is stand is c.max-now.ensures refl c.requires.reads_first c.ask_latest-answered.ensures.called
     (rw (c.in-Ok-Went-Complete.field-0-is, c.in-Ok-Went-Complete.field-0-0-is) at c.in-Ok-Went-Complete.ensures)
-    (λ stands keys step timed same number action has. lacks_reads config kept kept_after session running ongoing.number ongoing.context reading c.in-Err-values.error turn c.in-Ok-Went-Complete.reads keys step stands refl (c.in-Err-values.ensures.err ∙ (λ i. record { setting = inside.setting; moment = now; contexts = inside.contexts; next_request = inside.next_request; running = c.take.ensures.after i })) action has)
+    (λ stands keys step timed same number action has. lacks_reads config kept kept_after session running ongoing.number ongoing.context reading (record {}) turn c.in-Ok-Went-Complete.reads keys step stands refl (c.in_err-values-in-Ok-Went-Complete.ensures.err ∙ (λ i. record { setting = inside.setting; moment = now; contexts = inside.contexts; next_request = inside.next_request; running = c.take.ensures.after i })) action has))
 
 pub returns-in-Ok-Failed-clause-stepped : goal.returns-in-Ok-Failed-clause-stepped
 returns-in-Ok-Failed-clause-stepped g c = λ config session running stand is.
@@ -110,8 +112,8 @@ returns-in-Err-clause-stepped g c = λ config session running stand is.
     let nodes = c.ask_latest-answered.new.nodes in
     let reading : Reading = record { restarts = old.restarts; start = old.start; round = First c.in-First.round } in
     let kept_after : KeptSession = record { setting = inside.setting; moment = now; contexts = inside.contexts; next_request = inside.next_request; running = c.take.new.self } in
-    taken_steps config kept kept_after session running ongoing old c.in-First.round _ c.self.view_is
+    rw c.from.ensures (taken_steps config kept kept_after session running ongoing old c.in-First.round _ c.self.view_is
     (λ slot t id call reply. g.N.Nodes.Answers c.args.nodes.now id slot t call reply nodes) (nodes ≡ c.args.nodes.now) c.args.moment now (unwrap_or old.start now) (told_reply c.ask_latest-answered.result)
-    (Err c.in-Err.error) (Err c.in-Err.error) (sym c.take.ensures.value ∙ c.in-Some.is) c.in-Get.is c.in-First.is stand is c.max-now.ensures refl c.requires.reads_first c.ask_latest-answered.ensures.called
+    (Err c.in-Err.error) (Err (record {})) (sym c.take.ensures.value ∙ c.in-Some.is) c.in-Get.is c.in-First.is stand is c.max-now.ensures refl c.requires.reads_first c.ask_latest-answered.ensures.called
     c.in-Err.ensures
-    (λ stands keys step timed same number action has. lacks config kept kept_after session running ongoing.number ongoing.context reading c.in-Err.error now keys step stands (λ i. record { setting = inside.setting; moment = now; contexts = inside.contexts; next_request = inside.next_request; running = c.take.ensures.after i }) timed action has)
+    (λ stands keys step timed same number action has. lacks config kept kept_after session running ongoing.number ongoing.context reading (record {}) now keys step stands (λ i. record { setting = inside.setting; moment = now; contexts = inside.contexts; next_request = inside.next_request; running = c.take.ensures.after i }) timed action has))

@@ -1,4 +1,4 @@
-use Rattle.std.proofs.Common.{◌≡◌, ◌<◌, ◌≤◌, ◌+◌, ℕ, true, false, List, length, insert, ◌∙◌, ap, sym, inr, arith}
+use Rattle.std.proofs.Common.{◌≡◌, ◌<◌, ◌≤◌, ◌+◌, ℕ, true, false, List, length, insert, ◌∙◌, ap, sym, arith}
 use Rattle.std.specs.Prelude.{Some, None}
 use Rattle.std.proofs.lemmas.Bool.Decides.{nat_tests}
 use Rattle.std.proofs.lemmas.List.Edits.{length-insert}
@@ -31,7 +31,7 @@ pub returns-then-limit-len-clause-refused : goal.returns-then-limit-len-clause-r
 returns-then-limit-len-clause-refused c =
     let found = c.in-Ok.ensures in
     let same = add_item-found c.args.self.now.pairs _ c.args.pair.now c.requires found.within found.place in
-    inr (over c.args.limit c.args.self.now.pairs _ same (omega (arith, c.if-limit-len.true, c.len-len.ensures)))
+    over c.args.limit c.args.self.now.pairs _ same (omega (arith, c.if-limit-len.true, c.len-len.ensures))
 
 pub returns-else-limit-len-clause-refused : goal.returns-else-limit-len-clause-refused
 returns-else-limit-len-clause-refused c =
@@ -62,4 +62,4 @@ returns-then-limit-len-2-clause-refused c =
     let longer = insert pairs c.in-Err.place c.args.pair.now in
     let same : longer ≡ add_item pair_cmp c.args.pair.now pairs = sym (add_item_at pair_cmp_total pairs c.in-Err.place c.args.pair.now found.within found.place.0 found.place.1) in
     let one_more : length longer ≡ length pairs + 1 = length-insert pairs c.in-Err.place c.args.pair.now found.within in
-    inr (over c.args.limit longer _ same (omega (arith, one_more, c.if-limit-len-2.true, c.len-len.ensures)))
+    over c.args.limit longer _ same (omega (arith, one_more, c.if-limit-len-2.true, c.len-len.ensures))
