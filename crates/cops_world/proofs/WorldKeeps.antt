@@ -4,9 +4,6 @@ use Rattle.std.specs.Prelude.{OnErr, OnOk, Option, Some, None, Result, Ok, Err, 
 use Rattle.std.specs.declared.alloc.AllocError.{AllocError}
 use Rattle.std.specs.Option.{option_map}
 use Rattle.std.specs.List.{AllByRecursion, list_all, range_with_len}
-use Rattle.std.specs.Map.{lookup}
-use Rattle.std.proofs.lemmas.List.{length-replicate}
-use Rattle.cops_types.specs.Key.{key_eq}
 use Rattle.cops_types.specs.HeadLines.{are_sizes, is_tenant, most_tenants}
 use Rattle.cops_types.specs.OpenSlots.{begun_with, open_at}
 use Rattle.cops_script.specs.GoodHeads.{is_good}
@@ -29,7 +26,7 @@ use Rattle.cops_world.specs.declared.actors.Actor.{Actor as Kept}
 use Rattle.cops_world.specs.declared.actors.ActorId.{ActorId}
 use Rattle.cops_world.specs.Actors.{AreSame}
 use Rattle.cops_world.specs.ActorsStand.{ActorStandsFor, RunsAt, actor_ended}
-use Rattle.cops_world.specs.ActorTables.{Places, PutsBack, Table, actor_at, count_at, same_actor, table_of}
+use Rattle.cops_world.specs.ActorTables.{Places, PutsBack, Table, actor_at, count_at, same_actor}
 use Rattle.cops_world.specs.Worlds.{AreSitesIn, HasOpenCluster, IsLeft, IsSiteIn, IsKeptWorld, IsWorld, KeptWorld, world_of}
 use Rattle.cops_script.specs.Sizes.{HasSizes}
 use Rattle.cops_world.proofs.ActorTableLemmas.{same_actor-is, same_actor-refl}
@@ -62,7 +59,7 @@ below_in [] slot there = absurd (true≢false (sym there))
 below_in (o ∷ tenants) zero there = omega arith
 below_in (o ∷ tenants) (suc slot) there = let rest = below_in tenants slot there in omega (arith, rest)
 
-pub below_tables : (kept : KeptWorld) → IsKeptWorld kept → (slot : ℕ) → IsTrue (is_open_at kept.setup slot) → slot < length kept.tables
+pub below_tables : (kept : KeptWorld) → IsKeptWorld kept → (slot : ℕ) → IsTrue (is_open_at kept.setup slot) → slot < kept.table.slots
 below_tables kept is slot there = subst (λ n. slot < n) (sym is.tabled) (below_in kept.setup.tenants slot there)
 
 -- ---- the actors
@@ -111,13 +108,13 @@ left_table old mid new id after over is puts leaves q =
     twice false = refl
 
 -- how many actors there are then: as many, or one less
-pub counts_back : (old new : List Table) (id : ActorId) (after : Kept) (over : Bool) → over ≡ false → PutsBack old id after new → CountsAfter over (count_at old) id.slot (count_at new)
+pub counts_back : (old new : Table) (id : ActorId) (after : Kept) (over : Bool) → over ≡ false → PutsBack old id after new → CountsAfter over (count_at old) id.slot (count_at new)
 counts_back old new id after over goes_on back = record { own = none_less ∙ back.1; others = back.0.others }
   where
     none_less : count_at new id.slot + cond over 1 0 ≡ count_at new id.slot
     none_less = ap (λ b. count_at new id.slot + cond b 1 0) goes_on ∙ omega arith
 
-pub counts_left : (old mid new : List Table) (id : ActorId) (after : Kept) (over : Bool) → over ≡ true → PutsBack old id after mid → Places mid id None new → count_at new id.slot + 1 ≡ count_at mid id.slot →
+pub counts_left : (old mid new : Table) (id : ActorId) (after : Kept) (over : Bool) → over ≡ true → PutsBack old id after mid → Places mid id None new → count_at new id.slot + 1 ≡ count_at mid id.slot →
     CountsAfter over (count_at old) id.slot (count_at new)
 counts_left old mid new id after over is back out less = record {
   own = ap (λ b. count_at new id.slot + cond b 1 0) is ∙ less ∙ back.1;
@@ -125,38 +122,38 @@ counts_left old mid new id after over is back out less = record {
 }
 
 -- it is the one that is there
-pub put_back : (old new : List Table) (id : ActorId) (after : Kept) → PutsBack old id after new → actor_at new id ≡ Some after
+pub put_back : (old new : Table) (id : ActorId) (after : Kept) → PutsBack old id after new → actor_at new id ≡ Some after
 put_back old new id after back = back.0.at id ∙ ap (λ b. cond b (Some after) (actor_at old id)) (same_actor-refl id)
 
 -- what a step leaves once its actor was taken out, where it has ended
 pub record HasLeft (old : KeptWorld) (id : ActorId) (after : Kept) (nodes : Cluster) (left : KeptWorld) : Type 0 where
   pub setup : left.setup ≡ old.setup
   pub nodes_are : left.nodes ≡ nodes
-  pub table : (q : ActorId) → actor_at left.tables q ≡ table_after (actor_ended after) (actor_at old.tables) id after q
-  pub counts : CountsAfter (actor_ended after) (count_at old.tables) id.slot (count_at left.tables)
+  pub table : (q : ActorId) → actor_at left.table q ≡ table_after (actor_ended after) (actor_at old.table) id after q
+  pub counts : CountsAfter (actor_ended after) (count_at old.table) id.slot (count_at left.table)
 
-pub has_left : (old : KeptWorld) (id : ActorId) (after : Kept) (mid : List Table) (nodes : Cluster) (left : KeptWorld) → PutsBack old.tables id after mid → IsLeft id (record old { nodes = nodes; tables = mid }) left → HasLeft old id after nodes left
-has_left old id after mid nodes left back is_left = elim (is_left after (put_back old.tables mid id after back)) [
+pub has_left : (old : KeptWorld) (id : ActorId) (after : Kept) (mid : Table) (nodes : Cluster) (left : KeptWorld) → PutsBack old.table id after mid → IsLeft id (record old { nodes = nodes; table = mid }) left → HasLeft old id after nodes left
+has_left old id after mid nodes left back is_left = elim (is_left after (put_back old.table mid id after back)) [
   | inl over ↦ record {
     setup = ap (λ (k : KeptWorld). k.setup) over.1.rest;
     nodes_are = ap (λ (k : KeptWorld). k.nodes) over.1.rest;
-    table = left_table (actor_at old.tables) (actor_at mid) (actor_at left.tables) id after (actor_ended after) over.0 back.0.at over.1.out.at;
-    counts = counts_left old.tables mid left.tables id after (actor_ended after) over.0 back over.1.out over.1.count;
+    table = left_table (actor_at old.table) (actor_at mid) (actor_at left.table) id after (actor_ended after) over.0 back.0.at over.1.out.at;
+    counts = counts_left old.table mid left.table id after (actor_ended after) over.0 back over.1.out over.1.count;
   }
   | inr stays ↦ record {
     setup = ap (λ (k : KeptWorld). k.setup) stays.1;
     nodes_are = ap (λ (k : KeptWorld). k.nodes) stays.1;
-    table = λ q. ap (λ (k : KeptWorld). actor_at k.tables q) stays.1 ∙ back_table (actor_at old.tables) (actor_at mid) id after (actor_ended after) stays.0 back.0.at q;
-    counts = subst (λ (k : KeptWorld). CountsAfter (actor_ended after) (count_at old.tables) id.slot (count_at k.tables)) (sym stays.1) (counts_back old.tables mid id after (actor_ended after) stays.0 back);
+    table = λ q. ap (λ (k : KeptWorld). actor_at k.table q) stays.1 ∙ back_table (actor_at old.table) (actor_at mid) id after (actor_ended after) stays.0 back.0.at q;
+    counts = subst (λ (k : KeptWorld). CountsAfter (actor_ended after) (count_at old.table) id.slot (count_at k.table)) (sym stays.1) (counts_back old.table mid id after (actor_ended after) stays.0 back);
   }
 ]
 
 -- ---- the world as it is kept
 
 -- one actor was put in, put back or taken out
-pub kept_placed : (old : KeptWorld) → IsKeptWorld old → (id : ActorId) (after : Option Kept) (tables : List Table) → Places old.tables id after tables →
-    ((actor : Kept) → after ≡ Some actor → RunsAt (shape_of old.setup.head) id.slot actor × IsTrue (is_open_at old.setup id.slot)) → IsKeptWorld (record { setup = old.setup; nodes = old.nodes; tables = tables })
-kept_placed old kept id after tables places own =
+pub kept_placed : (old : KeptWorld) → IsKeptWorld old → (id : ActorId) (after : Option Kept) (table : Table) → Places old.table id after table →
+    ((actor : Kept) → after ≡ Some actor → RunsAt (shape_of old.setup.head) id.slot actor × IsTrue (is_open_at old.setup id.slot)) → IsKeptWorld (record { setup = old.setup; nodes = old.nodes; table = table })
+kept_placed old kept id after table places own =
     let whole = kept.whole in
     record {
       whole = record {
@@ -165,20 +162,20 @@ kept_placed old kept id after tables places own =
         good = whole.good;
         tenants_good = whole.tenants_good;
         enough = whole.enough;
-        run = runs_after (shape_of old.setup.head) (actor_at old.tables) (actor_at tables) id after places.at whole.run (λ actor is. (own actor is).0);
-        hosted = hosted_after old.setup (actor_at old.tables) (actor_at tables) id after places.at whole.hosted (λ actor is. (own actor is).1);
+        run = runs_after (shape_of old.setup.head) (actor_at old.table) (actor_at table) id after places.at whole.run (λ actor is. (own actor is).0);
+        hosted = hosted_after old.setup (actor_at old.table) (actor_at table) id after places.at whole.hosted (λ actor is. (own actor is).1);
       };
-      tabled = places.tables ∙ kept.tabled;
+      tabled = places.slots ∙ kept.tabled;
     }
 
 -- one was put in, or there was no memory for it
-pub kept_joined : (old : KeptWorld) → IsKeptWorld old → (id : ActorId) (actor : Kept) (tables : List Table) (done : Result (Unit {0}) AllocError) → OnOk done (Places old.tables id (Some actor) tables) → OnErr done (tables ≡ old.tables) →
-    RunsAt (shape_of old.setup.head) id.slot actor → IsTrue (is_open_at old.setup id.slot) → IsKeptWorld (record { setup = old.setup; nodes = old.nodes; tables = tables })
-kept_joined old kept id actor tables (Ok done) places lack runs there = kept_placed old kept id (Some actor) tables places (λ other is. (subst (RunsAt (shape_of old.setup.head) id.slot) (same_value actor other is) runs, there))
-kept_joined old kept id actor tables (Err error) places lack runs there = subst (λ ts. IsKeptWorld (record { setup = old.setup; nodes = old.nodes; tables = ts })) (sym lack) kept
+pub kept_joined : (old : KeptWorld) → IsKeptWorld old → (id : ActorId) (actor : Kept) (table : Table) (done : Result (Unit {0}) AllocError) → OnOk done (Places old.table id (Some actor) table) → OnErr done (table ≡ old.table) →
+    RunsAt (shape_of old.setup.head) id.slot actor → IsTrue (is_open_at old.setup id.slot) → IsKeptWorld (record { setup = old.setup; nodes = old.nodes; table = table })
+kept_joined old kept id actor table (Ok done) places lack runs there = kept_placed old kept id (Some actor) table places (λ other is. (subst (RunsAt (shape_of old.setup.head) id.slot) (same_value actor other is) runs, there))
+kept_joined old kept id actor table (Err error) places lack runs there = subst (λ t. IsKeptWorld (record { setup = old.setup; nodes = old.nodes; table = t })) (sym lack) kept
 
 -- a call was made at the nodes
-pub kept_called : (old : KeptWorld) → IsKeptWorld old → (nodes : Cluster) → nodes.shape ≡ old.nodes.shape → map site_in nodes.nodes ≡ map site_in old.nodes.nodes → IsKeptWorld (record { setup = old.setup; nodes = nodes; tables = old.tables })
+pub kept_called : (old : KeptWorld) → IsKeptWorld old → (nodes : Cluster) → nodes.shape ≡ old.nodes.shape → map site_in nodes.nodes ≡ map site_in old.nodes.nodes → IsKeptWorld (record { setup = old.setup; nodes = nodes; table = old.table })
 kept_called old kept nodes shape same =
     let whole = kept.whole in
     record {
@@ -196,11 +193,9 @@ kept_called old kept nodes shape same =
 
 -- ---- a new world
 
--- of empty tables each is empty
-pub no_table : (slots slot : ℕ) → table_of slot (replicate slots []) ≡ []
-no_table zero slot = refl
-no_table (suc slots) zero = refl
-no_table (suc slots) (suc slot) = no_table slots slot
+-- an empty table
+abbrev pub no_actors : ℕ → Table
+no_actors slots = record { slots = slots; actors = [] }
 
 -- ---- the tenants of the head are open at first
 
@@ -213,26 +208,26 @@ pub enough_begun : (tenants : List Tenant) → most_tenants ≤ length (begun_wi
 enough_begun tenants = let long = long_begun tenants (most_tenants - length tenants) in omega (arith, long)
 
 -- each tenant of a new world has a new cluster
-pub new_stands : (config : Config) (nodes : Cluster) (kept : KeptWorld) → kept.setup ≡ new_setup config → kept.nodes ≡ nodes → (slots : ℕ) → kept.tables ≡ replicate slots [] →
+pub new_stands : (config : Config) (nodes : Cluster) (kept : KeptWorld) → kept.setup ≡ new_setup config → kept.nodes ≡ nodes → (slots : ℕ) → kept.table ≡ no_actors slots →
     ((slot : ℕ) (tenant : Tenant) → slice_get config.tenants slot ≡ Some tenant → HasTenant (tenant_config config tenant) slot nodes) →
     ((slot : ℕ) (tenant : Tenant) → slice_get config.tenants slot ≡ Some tenant → nodes_of (tenant_config config tenant) slot nodes ≡ replicate (config.data_centres * config.shards) (new_node config.data_centres)) →
     (slot : ℕ) → slot < length config.tenants → HasOpenCluster kept slot (new_cluster (config_at config slot))
-new_stands config nodes kept setup_is nodes_are slots no_actors tenants fresh slot within =
+new_stands config nodes kept setup_is nodes_are slots none tenants fresh slot within =
     let at = tenant_at config.tenants slot within in
     let quota = quota_at config slot at.0 at.1 in
     let own = config_begun config slot in
     let Fresh : TenantConfig → Type 0 = λ c. HasTenant c slot nodes × (nodes_of c slot nodes ≡ (new_cluster (config_at config slot)).nodes) in
     let his : Fresh (tenant_config config at.0) = subst (λ c. HasTenant (tenant_config config at.0) slot nodes × (nodes_of (tenant_config config at.0) slot nodes ≡ (new_cluster c).nodes)) (sym quota) (tenants slot at.0 at.1, fresh slot at.0 at.1) in
     let stood = subst Fresh (sym (own ∙ quota)) his in
-    let new : KeptWorld = record { setup = new_setup config; nodes = nodes; tables = replicate slots [] } in
+    let new : KeptWorld = record { setup = new_setup config; nodes = nodes; table = no_actors slots } in
     subst (λ (k : KeptWorld). HasOpenCluster k slot (new_cluster (config_at config slot)))
-    (λ i. record { setup = sym setup_is i; nodes = sym nodes_are i; tables = sym no_actors i })
+    (λ i. record { setup = sym setup_is i; nodes = sym nodes_are i; table = sym none i })
     (record {
       open_there = open_within config slot within;
       has = stood.0;
       nodes_are = stood.1;
-      actors_are = record { same = λ name. subst (λ table. AreSame (ActorStandsFor (config_in (new_setup config) slot)) (lookup (key_eq name) table) None) (sym (no_table slots slot)) tt; distinct = tt };
-      count_is = ap length (no_table slots slot);
+      actors_are = record { same = λ name. tt; distinct = tt };
+      count_is = refl;
     })
 
 -- ---- the nodes stay those of the configuration
@@ -275,11 +270,11 @@ sites_begun config = record { all = count 0 (config.data_centres * config.shards
       each numbers,
     )
 
-pub kept_at_first : (config : Config) (tenants : List (Option Tenant)) (nodes : Cluster) (tables : List Table) → IsTrue (is_good config) → tenants ≡ begun_with config.tenants → nodes ≡ new_nodes config →
-    tables ≡ replicate (length tenants) [] → IsKeptWorld (record { setup = record { head = config; tenants = tenants }; nodes = nodes; tables = tables })
-kept_at_first config tenants nodes tables good begun nodes_are none =
+pub kept_at_first : (config : Config) (tenants : List (Option Tenant)) (nodes : Cluster) (table : Table) → IsTrue (is_good config) → tenants ≡ begun_with config.tenants → nodes ≡ new_nodes config →
+    table ≡ no_actors (length tenants) → IsKeptWorld (record { setup = record { head = config; tenants = tenants }; nodes = nodes; table = table })
+kept_at_first config tenants nodes table good begun nodes_are none =
     let slots = length tenants in
-    let first : KeptWorld = record { setup = new_setup config; nodes = new_nodes config; tables = replicate slots [] } in
+    let first : KeptWorld = record { setup = new_setup config; nodes = new_nodes config; table = no_actors slots } in
     let whole : IsWorld (world_of first) = record {
       shape_is = refl;
       sites_are = sites_begun config;
@@ -287,11 +282,8 @@ kept_at_first config tenants nodes tables good begun nodes_are none =
       tenants_good = λ slot tenant e.
           tenant_within config.tenants slot tenant (and_right (are_sizes config) (list_all is_tenant config.tenants) good) (sym (open_begun config.tenants slot) ∙ e);
       enough = enough_begun config.tenants;
-      run = λ id actor e. absurd (nobody_at_first slots id actor e);
-      hosted = λ id actor e. absurd (nobody_at_first slots id actor e);
+      run = λ id actor e. absurd (true≢false (ap is_some (sym e)));
+      hosted = λ id actor e. absurd (true≢false (ap is_some (sym e)));
     } in
-    let kept : IsKeptWorld first = record { whole = whole; tabled = length-replicate slots [] ∙ ap length begun } in
-    subst IsKeptWorld (λ i. record { setup = record { head = config; tenants = sym begun i }; nodes = sym nodes_are i; tables = sym none i }) kept
-  where
-    nobody_at_first : (slots : ℕ) (id : ActorId) (actor : Kept) → actor_at (replicate slots []) id ≡ Some actor → ⊥
-    nobody_at_first slots id actor e = true≢false (ap is_some (sym e ∙ ap (lookup (key_eq id.name)) (no_table slots id.slot)))
+    let kept : IsKeptWorld first = record { whole = whole; tabled = ap length begun } in
+    subst IsKeptWorld (λ i. record { setup = record { head = config; tenants = sym begun i }; nodes = sym nodes_are i; table = sym none i }) kept

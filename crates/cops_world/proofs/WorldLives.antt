@@ -7,12 +7,10 @@ use Rattle.std.specs.Option.{option_map}
 use Rattle.std.proofs.Math.ListN.{length-set}
 use Rattle.std.proofs.lemmas.Bool.{leb-true}
 use Rattle.std.proofs.lemmas.Bool.Decides.{eqb_tells, nat_tests}
-use Rattle.std.specs.Map.{lookup}
 use Rattle.cops_types.specs.declared.configs.Tenant.{Tenant}
 use Rattle.cops_types.specs.declared.faults.Fault.{Fault}
 use Rattle.cops_types.specs.declared.faults.Fault.TheVariants.{OutOfMemory}
 use Rattle.cops_types.specs.HeadLines.{is_name, is_quota, is_tenant}
-use Rattle.cops_types.specs.Key.{key_eq}
 use Rattle.cops_types.specs.Version.{last_clock}
 use Rattle.cops_types.specs.OpenSlots.{admission_refusal, open_at}
 use Rattle.cops_types.specs.TenantConfig.{TenantConfig, tenant_config}
@@ -31,14 +29,14 @@ use Rattle.cops_world.specs.declared.actors.Actor.{Actor as Kept}
 use Rattle.cops_world.specs.declared.actors.ActorId.{ActorId}
 use Rattle.cops_script.specs.Acting.{HasActed, HasClosed, IsAdmission, TellsExactly}
 use Rattle.cops_world.specs.Actors.{ActorsStandFor, AreSame}
-use Rattle.cops_world.specs.ActorTables.{Table, table_of}
+use Rattle.cops_world.specs.ActorTables.{IsClearedOf, Table, count_at}
 use Rattle.cops_world.specs.ActorsStand.{ActorStandsFor}
 use Rattle.cops_model.specs.Lacks.{Lacks}
 use Rattle.cops_world.specs.Worlds.{Admits, AreSitesIn, ClusterStandsAt, Closes, HasOpenCluster, IsKeptWorld, IsSiteIn, IsWorld, KeptWorld, Leaves, Moves, StaysOpen, World, open_setup, world_of}
-use Rattle.cops_world.proofs.ActorTableLemmas.{actor_elsewhere, count_elsewhere, nobody, table_here}
+use Rattle.cops_world.proofs.ActorTableLemmas.{nobody}
 use Rattle.cops_script.proofs.OpenSets.{MayBeGiven, may_be_given, open_set_other, open_set_same}
 use Rattle.cops_world.proofs.WorldJoins.{refused_moves}
-use Rattle.cops_world.proofs.WorldKeeps.{AllHosted, below_in, below_tables}
+use Rattle.cops_world.proofs.WorldKeeps.{AllHosted, below_in}
 use Rattle.cops_world.proofs.WorldMoves.{kept_alike}
 
 -- ---- while no tenant comes or goes
@@ -96,9 +94,9 @@ clock_within tenant good =
 
 -- nothing changed
 pub stays_same : (old : KeptWorld) (tenants : List (Option Tenant)) → tenants ≡ old.setup.tenants →
-    StaysOpen old (record { setup = record { head = old.setup.head; tenants = tenants }; nodes = old.nodes; tables = old.tables })
+    StaysOpen old (record { setup = record { head = old.setup.head; tenants = tenants }; nodes = old.nodes; table = old.table })
 stays_same old tenants same =
-    subst (λ (ts : List (Option Tenant)). StaysOpen old (record { setup = record { head = old.setup.head; tenants = ts }; nodes = old.nodes; tables = old.tables })) (sym same)
+    subst (λ (ts : List (Option Tenant)). StaysOpen old (record { setup = record { head = old.setup.head; tenants = ts }; nodes = old.nodes; table = old.table })) (sym same)
     (record { setup_is = refl; clusters = λ slot cluster h. h })
 
 -- the table gave it back where memory was refused elsewhere
@@ -317,14 +315,14 @@ module _ (old : KeptWorld) (whole : IsWorld (world_of old)) (slot : ℕ) (tenant
   given = record { head = old.setup.head; tenants = set old.setup.tenants slot (Some tenant) }
 
   abbrev pub admitted : Cluster → KeptWorld
-  admitted nodes = record { setup = given; nodes = nodes; tables = old.tables }
+  admitted nodes = record { setup = given; nodes = nodes; table = old.table }
 
   module _ (nodes : Cluster) (came : AtEach (IsAdmitted slot tenant.first_clock tenant.quota) old.nodes.nodes nodes.nodes) where
     sites_given : AreSitesIn given (sites nodes.nodes)
     sites_given = came_sites old.setup slot tenant old.nodes.nodes nodes.nodes within_given came whole.sites_are
 
-    nobody_there : table_of slot old.tables ≡ []
-    nobody_there = nobody (table_of slot old.tables) (no_actor old.setup (world_of old).actors slot whole.hosted may.vacant)
+    nobody_there : count_at old.table slot ≡ 0
+    nobody_there = nobody old.table.actors slot (no_actor old.setup (world_of old).actors slot whole.hosted may.vacant)
 
     there : open_at slot given.tenants ≡ Some tenant
     there = open_set_same old.setup.tenants slot (Some tenant) within_given
@@ -364,7 +362,7 @@ module _ (old : KeptWorld) (whole : IsWorld (world_of old)) (slot : ℕ) (tenant
           same = λ name. subst (λ o. AreSame (ActorStandsFor (config_in given slot)) o None) (sym (no_actor old.setup (world_of old).actors slot whole.hosted may.vacant name)) tt;
           distinct = tt;
         };
-        count_is = ap length nobody_there;
+        count_is = nobody_there;
       };
       others = λ other differ. stands_still (world_of old) (world_of (admitted nodes)) other refl (open_set_other old.setup.tenants slot other (Some tenant) (λ e. differ (sym e)))
           (IsAdmitted slot tenant.first_clock tenant.quota) (admitted_keeps slot tenant.first_clock tenant.quota other (λ e. differ (sym e))) came (λ name. refl) refl;
@@ -376,10 +374,10 @@ module _ (old : KeptWorld) (whole : IsWorld (world_of old)) (slot : ℕ) (tenant
   -- the nodes gave it back, and so did the table
   module _ (nodes : Cluster) (tenants : List (Option Tenant)) (back : AtEach (IsClosed slot) old.nodes.nodes nodes.nodes) (same : tenants ≡ old.setup.tenants) where
     abbrev pub unchanged : KeptWorld
-    unchanged = record { setup = record { head = old.setup.head; tenants = tenants }; nodes = nodes; tables = old.tables }
+    unchanged = record { setup = record { head = old.setup.head; tenants = tenants }; nodes = nodes; table = old.table }
 
     pub whole_back : nodes.shape ≡ old.nodes.shape → IsWorld (world_of unchanged)
-    whole_back shape = subst (λ (ts : List (Option Tenant)). IsWorld (world_of (record { setup = record { head = old.setup.head; tenants = ts }; nodes = nodes; tables = old.tables }))) (sym same) (record {
+    whole_back shape = subst (λ (ts : List (Option Tenant)). IsWorld (world_of (record { setup = record { head = old.setup.head; tenants = ts }; nodes = nodes; table = old.table }))) (sym same) (record {
       shape_is = shape ∙ whole.shape_is;
       sites_are = gone_sites old.setup old.setup.tenants slot old.nodes.nodes nodes.nodes may.vacant (λ other differ. refl) back whole.sites_are;
       good = whole.good;
@@ -400,9 +398,9 @@ module _ (old : KeptWorld) (whole : IsWorld (world_of old)) (slot : ℕ) (tenant
 
 -- ---- a tenant goes
 
-module _ (old : KeptWorld) (kept : IsKeptWorld old) (slot : ℕ) (open_there : IsTrue (is_open_at old.setup slot)) (nodes : Cluster) (gone : AtEach (IsClosed slot) old.nodes.nodes nodes.nodes) (table : Table) (empty : table ≡ []) where
+module _ (old : KeptWorld) (kept : IsKeptWorld old) (slot : ℕ) (open_there : IsTrue (is_open_at old.setup slot)) (nodes : Cluster) (gone : AtEach (IsClosed slot) old.nodes.nodes nodes.nodes) (table : Table) (cleared : IsClearedOf slot old.table table) where
   abbrev pub left : KeptWorld
-  left = record { setup = record { head = old.setup.head; tenants = set old.setup.tenants slot None }; nodes = nodes; tables = set old.tables slot table }
+  left = record { setup = record { head = old.setup.head; tenants = set old.setup.tenants slot None }; nodes = nodes; table = table }
 
   was_whole : IsWorld (world_of old)
   was_whole = kept.whole
@@ -410,14 +408,11 @@ module _ (old : KeptWorld) (kept : IsKeptWorld old) (slot : ℕ) (open_there : I
   within_left : slot < length old.setup.tenants
   within_left = below_in old.setup.tenants slot open_there
 
-  within_tables : slot < length old.tables
-  within_tables = below_tables old kept slot open_there
-
   none_left : (id : ActorId) → id.slot ≡ slot → (world_of left).actors id ≡ None
-  none_left id same = ap (λ n. lookup (key_eq id.name) (table_of n (set old.tables slot table))) same ∙ ap (lookup (key_eq id.name)) (table_here old.tables slot table within_tables ∙ empty)
+  none_left id same = cleared.none id (sym same)
 
   others_left : (id : ActorId) → slot ≢ id.slot → (world_of left).actors id ≡ (world_of old).actors id
-  others_left = actor_elsewhere old.tables slot table within_tables
+  others_left = cleared.elsewhere
 
   -- an actor that is there was there before, and is of another slot
   was_there : (id : ActorId) (actor : Kept) → (world_of left).actors id ≡ Some actor → (slot ≢ id.slot) × ((world_of old).actors id ≡ Some actor)
@@ -443,7 +438,7 @@ module _ (old : KeptWorld) (kept : IsKeptWorld old) (slot : ℕ) (open_there : I
   }
 
   pub kept_left : nodes.shape ≡ old.nodes.shape → IsKeptWorld left
-  kept_left shape = record { whole = whole_left shape; tabled = length-set old.tables slot table ∙ kept.tabled ∙ sym (length-set old.setup.tenants slot None) }
+  kept_left shape = record { whole = whole_left shape; tabled = cleared.slots ∙ kept.tabled ∙ sym (length-set old.setup.tenants slot None) }
 
   pub closes : Closes slot old left
   closes = record {
@@ -451,7 +446,7 @@ module _ (old : KeptWorld) (kept : IsKeptWorld old) (slot : ℕ) (open_there : I
     no_actor = λ name. none_left (record { slot = slot; name = name }) refl;
     nowhere = at_each old.nodes.nodes nodes.nodes gone;
     others = λ other differ. stands_still (world_of old) (world_of left) other refl (open_set_other old.setup.tenants slot other None (λ e. differ (sym e)))
-        (IsClosed slot) (closed_keeps slot other (λ e. differ (sym e))) gone (λ name. others_left (record { slot = other; name = name }) differ) (count_elsewhere old.tables slot table within_tables other differ);
+        (IsClosed slot) (closed_keeps slot other (λ e. differ (sym e))) gone (λ name. others_left (record { slot = other; name = name }) differ) (cleared.counts other differ);
   }
     where
       at_each : (before after : List Shared) → AtEach (IsClosed slot) before after → AllByRecursion (λ (node : Shared). (place_at slot node ≡ None) × (trail_of slot node.audit ≡ [])) after

@@ -29,14 +29,14 @@ pub record World : Type 0 where
   pub actors : ActorId → Option Kept
   pub count : ℕ → ℕ
 
--- a world as it is kept: the actors in a table for each slot
+-- a world as it is kept: the actors of all tenants in one table
 pub record KeptWorld : Type 0 where
   pub setup : Setup
   pub nodes : Cluster
-  pub tables : List Table
+  pub table : Table
 
 abbrev pub world_of : KeptWorld → World
-world_of kept = record { setup = kept.setup; nodes = kept.nodes; actors = λ id. actor_at kept.tables id; count = λ slot. count_at kept.tables slot }
+world_of kept = record { setup = kept.setup; nodes = kept.nodes; actors = λ id. actor_at kept.table id; count = λ slot. count_at kept.table slot }
 
 -- what no call changes of a node: the sizes are the head's, and each slot has the place of the tenant who is open there, or none
 pub record IsSiteIn (setup : Setup) (site : Site) : Type 0 where
@@ -58,10 +58,10 @@ pub record IsWorld (world : World) : Type 0 where
   pub run : (id : ActorId) (actor : Kept) → world.actors id ≡ Some actor → RunsAt (shape_of world.setup.head) id.slot actor
   pub hosted : (id : ActorId) (actor : Kept) → world.actors id ≡ Some actor → IsTrue (is_open_at world.setup id.slot)
 
--- a world may be kept so: each slot has a table
+-- a world may be kept so: the table has its slots
 pub record IsKeptWorld (kept : KeptWorld) : Type 0 where
   pub whole : IsWorld (world_of kept)
-  pub tabled : length kept.tables ≡ length kept.setup.tenants
+  pub tabled : kept.table.slots ≡ length kept.setup.tenants
 
 -- a tenant is open at the slot, and has this cluster
 pub record ClusterStandsAt (world : World) (slot : ℕ) (cluster : SoloCluster) : Type 0 where
@@ -97,13 +97,13 @@ Leaves Left old slot answered new =
 
 -- the actor is taken out, and nothing else changes
 pub record IsTakenOut (old : KeptWorld) (id : ActorId) (new : KeptWorld) : Type 0 where
-  pub rest : new ≡ record old { tables = new.tables }
-  pub out : Places old.tables id None new.tables
-  pub count : count_at new.tables id.slot + 1 ≡ count_at old.tables id.slot
+  pub rest : new ≡ record old { table = new.table }
+  pub out : Places old.table id None new.table
+  pub count : count_at new.table id.slot + 1 ≡ count_at old.table id.slot
 
 -- a carrier that has ended is taken out, and any other actor stays
 abbrev pub IsLeft : ActorId → KeptWorld → KeptWorld → Type 0
-IsLeft id old new = (actor : Kept) → actor_at old.tables id ≡ Some actor → ((actor_ended actor ≡ true) × IsTakenOut old id new) ⊎ ((actor_ended actor ≡ false) × (new ≡ old))
+IsLeft id old new = (actor : Kept) → actor_at old.table id ≡ Some actor → ((actor_ended actor ≡ true) × IsTakenOut old id new) ⊎ ((actor_ended actor ≡ false) × (new ≡ old))
 
 -- a new actor joins if its place exists, unless its name is taken or the tenant has as many as its quota allows
 abbrev pub join_step : List ℕ → Actor → Reply → TenantConfig → SoloCluster → ActEffect

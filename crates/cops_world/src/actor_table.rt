@@ -1,54 +1,34 @@
-//! The actors of all tenants: a table for each slot, by name.
+//! The actors of all tenants: one table, by slot and name.
 ghost use Rattle.std.specs.Option.{option_copied};
-ghost use Rattle.std.specs.Prelude.{◌≡◌, ◌<◌, ◌+◌, ◌⊎◌, ℕ, [], length, replicate, if◌then◌else◌, true, false, IsTrue, IfOk, IfSome, OnErr, OnOk, is_some, position, Ok, Some, None};
-ghost use Rattle.std.specs.List.{list_any};
-ghost use Rattle.std.specs.Map.{keys_of, lookup};
-ghost use Rattle.cops_types.specs.Key.{key_eq};
-ghost use Rattle.cops_types.specs.TenantConfig.{TenantConfig};
-ghost use Rattle.cops_types.specs.declared.faults.Fault.TheVariants.{UnknownName};
-ghost use Rattle.cops_node.specs.declared.Shape.{Shape};
-ghost use Rattle.cops_model.specs.declared.calls.NodeCall.{NodeCall};
-ghost use Rattle.cops_model.specs.declared.calls.NodeId.{NodeId};
-ghost use Rattle.cops_model.specs.declared.calls.NodeReply.{NodeReply};
-ghost use Rattle.cops_model.specs.Cluster.{Actor as Solo, goes_on};
-ghost use Rattle.cops_model.specs.Events.{is_out_of_memory};
-ghost use Rattle.cops_model.specs.declared.replies.Reply.TheVariants.{Refused};
-ghost use Rattle.cops_script.specs.Acting.{told_act};
-ghost use Rattle.cops_world.specs.ActorTables.{AllRun, Places, PlacesIn, PutsBack, actor_at, count_at, names_at};
-ghost use Rattle.cops_world.specs.ActorTurns.{actor_does};
-ghost use Rattle.cops_world.specs.ActorsStand.{ActorStandsFor, ActorSteps, HasDone, RunsAt, actor_ended, stepped_to};
+ghost use Rattle.std.specs.Prelude.{◌≡◌, ◌<◌, ◌+◌, [], replicate, is_some, Some, None, IfOk, OnErr, OnOk};
+ghost use Rattle.cops_world.specs.ActorTables.{IsClearedOf, Places, PutsBack, actor_at, count_at, actor_place};
+ghost use Rattle.cops_world.specs.ActorsStand.{actor_ended};
 ghost use Rattle.cops_world.specs.declared.actors.Actor.{Actor as Kept};
-ghost use Rattle.cops_world.specs.declared.actors.ActorId.{ActorId as Id};
 
-use crate::Reply;
-use crate::actors::{Actor, ActorId, Deed};
+use crate::actors::{Actor, ActorId};
 use crate::guesses::Guesses;
-use cops_node::Nodes;
-use cops_types::{Fault, Name, Seeds};
+use crate::rings::{self, ActorRow, Ring};
+use cops_types::Seeds;
 use indexmap::IndexMap;
 use std::alloc::{AllocError, Global};
 use std::marker::Model;
 
-/// Tables of at most this many actors are searched one by one, which is faster than hashing a name.
-const FEW: usize = 8;
-
-/// The actors of one tenant. Contracts see each with its name.
+/// The actors of all tenants. Contracts see each with its slot and its name, and the number of slots.
 #[derive(Drop)]
 pub struct ActorTable {
-    actors: IndexMap<Name, Actor, Seeds>,
+    rows: IndexMap<ActorId, ActorRow, Seeds>,
+    rings: Vec<Ring>,
 }
 
 impl Model for ActorTable {
-    ghost use Rattle.std.specs.List.{IsDistinct};
-    ghost use Rattle.std.specs.Map.{keys_of};
-    ghost use Rattle.cops_types.specs.Key.{key_eq};
+    ghost use Rattle.cops_world.specs.ActorRings.{AreKeptIn, table_in};
     ghost use Rattle.cops_world.specs.ActorTables.{Table};
 
     ghost Value = { Table };
 
-    ghost view = { λ t. t.actors.entries };
+    ghost view = { λ t. table_in t.rows.entries t.rings.items };
 
-    ghost invariant = { λ t. IsDistinct key_eq (keys_of t.actors.entries) };
+    ghost invariant = { λ t. AreKeptIn t.rows.entries t.rings.items };
 }
 
 impl ActorTable {
@@ -57,169 +37,108 @@ impl ActorTable {
     ghost use Rattle.cops_world.specs.contracts.actor_table.ActorTable.{the_row};
     ghost use Rattle.cops_world.specs.contracts.actors.Actor.{the_row as actor_row};
 
-    /// Creates an empty table. Asks for no memory.
+    /// Creates an empty table for this many slots. Fails with `AllocError` if memory runs out.
     ///
-    /// Names that collide slow only the tenant whose table it is.
-    pub(crate) fn new(alloc: Global, seeds: Seeds) -> Self
-        ensures { result ≡ [] }
+    /// Whoever does not know the seeds cannot choose names that collide.
+    pub(crate) fn new(alloc: Global, slots: usize, seeds: Seeds) -> Result<Self, AllocError>
+        ensures { IfOk result (λ table. table ≡ record { slots = slots; actors = [] }) }
     {
-        ActorTable {
-            actors: IndexMap::with_hasher(alloc, seeds),
+        let nothing = Ring { first: 0, count: 0 };
+        Ok(ActorTable {
+            rows: IndexMap::with_hasher(alloc, seeds),
+            rings: vec![in alloc; nothing; slots]?,
+        })
+    }
+
+    /// Returns the number of actors of a slot.
+    pub(crate) fn count(&self, slot: u64) -> usize
+        requires { slot < self.now.slots }
+        ensures { result ≡ count_at self.now slot }
+    {
+        let ring = &self.rings[slot as usize];
+        ring.count
+    }
+
+    /// Returns whether there is an actor of this slot and name.
+    pub(crate) fn has(&self, id: &ActorId) -> bool
+        ensures { result ≡ is_some (actor_at self.now id.now) }
+    {
+        self.rows.contains_key(id)
+    }
+
+    /// Returns the actor of this slot and name.
+    pub(crate) fn actor(&self, id: &ActorId) -> Option<&Actor>
+        ensures { option_copied result ≡ actor_at self.now id.now }
+    {
+        match self.rows.get(id) {
+            Some(row) => Some(&row.actor),
+            None => None,
         }
-    }
-
-    /// Returns the number of actors.
-    pub(crate) fn len(&self) -> usize
-        ensures { result ≡ length self.now }
-    {
-        self.actors.len()
-    }
-
-    /// Returns whether there is an actor of this name.
-    pub(crate) fn has(&self, name: &Name) -> bool
-        ensures { result ≡ is_some (lookup (key_eq name.now) self.now) }
-    {
-        if self.actors.len() > FEW {
-            return self.actors.contains_key(name);
-        }
-        self.has_among_few(name)
-    }
-
-    /// The same, in a small table.
-    fn has_among_few(&self, name: &Name) -> bool
-        ensures { result ≡ list_any (key_eq name.now) (keys_of self.now) }
-    {
-        self.actors.keys().any(|other| name == other)
-    }
-
-    /// Returns the actor of this name.
-    fn actor(&self, name: &Name) -> Option<&Actor>
-        ensures { option_copied result ≡ lookup (key_eq name.now) self.now }
-    {
-        self.actors.get(name)
     }
 
     /// Returns the place of an actor. Hashes nothing if the cached index is right.
-    fn place_of(&self, guess: usize, name: &Name) -> Option<usize>
-        ensures index { result ≡ position (key_eq name.now) (keys_of self.now) }
-        ensures found { is_some result ≡ is_some (lookup (key_eq name.now) self.now) }
+    pub(crate) fn place_of(&self, guess: usize, id: &ActorId) -> Option<usize>
+        ensures index { result ≡ actor_place id.now self.now }
+        ensures found { is_some result ≡ is_some (actor_at self.now id.now) }
     {
-        match self.actors.get_index(guess) {
-            Some((at, _)) if name == at => Some(guess),
-            _ => self.actors.get_index_of(name),
+        match self.rows.get_index(guess) {
+            Some((at, _)) if id == at => Some(guess),
+            _ => self.rows.get_index_of(id),
         }
     }
 
     /// Lends the actor at a place.
-    pub(crate) fn actor_mut(&mut self, place: usize, name: &Name) -> &mut Actor
-        requires { Some place ≡ position (key_eq name.now) (keys_of self.old) }
-        ensures* lent { sem 𝓛 (Lends the_row actor_row self.entry result (set_value_at self.old place)) }
-        ensures before { lookup (key_eq name.now) self.old ≡ Some result.now }
-        ensures placed { (actor : Kept) → PlacesIn self.old name.now (Some actor) (set_value_at self.old place actor) }
-        ensures keys { (actor : Kept) → keys_of (set_value_at self.old place actor) ≡ keys_of self.old }
-        ensures len { (actor : Kept) → length (set_value_at self.old place actor) ≡ length self.old }
+    pub(crate) fn actor_mut(&mut self, place: usize, id: &ActorId) -> &mut Actor
+        requires { Some place ≡ actor_place id.now self.old }
+        ensures* lent { sem 𝓛 (Lends the_row actor_row self.entry result (λ actor. record self.old { actors = set_value_at self.old.actors place actor })) }
+        ensures before { actor_at self.old id.now ≡ Some result.now }
+        ensures back { (actor : Kept) → PutsBack self.old id.now actor (record self.old { actors = set_value_at self.old.actors place actor }) }
+        ensures place { (actor : Kept) → Some place ≡ actor_place id.now (record self.old { actors = set_value_at self.old.actors place actor }) }
     {
-        &mut self.actors[place]
+        let row = &mut self.rows[place];
+        &mut row.actor
     }
 
-    /// Adds an actor.
-    fn put(&mut self, name: Name, actor: Actor) -> Result<(), AllocError>
-        ensures ok { OnOk result (PlacesIn self.old name (Some actor) self.new) }
-        ensures len { OnOk result (length self.new ≡ length self.old + (if is_some (lookup (key_eq name) self.old) then 0 else 1)) }
+    /// Adds an actor behind the others, and caches its place. Fails with `AllocError` if memory runs out.
+    pub(crate) fn put_new(
+        &mut self,
+        guesses: &mut Guesses,
+        id: ActorId,
+        actor: Actor,
+    ) -> Result<(), AllocError>
+        requires slot { id.slot < self.old.slots }
+        requires free { actor_at self.old id ≡ None }
+        ensures ok { OnOk result (Places self.old id (Some actor) self.new) }
+        ensures count { OnOk result (count_at self.new id.slot ≡ count_at self.old id.slot + 1) }
         ensures err { OnErr result (self.new ≡ self.old) }
     {
-        self.actors.insert(name, actor)?;
-        Ok(())
+        guesses.note(Guesses::cell_of(&id), self.rows.len());
+        rings::add(&mut self.rows, &mut self.rings, id, actor)
     }
 
     /// Returns whether the actor at a place is a carrier that has ended.
-    fn has_ended(&self, place: usize, name: &Name) -> bool
-        requires { Some place ≡ position (key_eq name.now) (keys_of self.now) }
-        ensures { (actor : Kept) → lookup (key_eq name.now) self.now ≡ Some actor → result ≡ actor_ended actor }
+    pub(crate) fn has_ended(&self, place: usize, id: &ActorId) -> bool
+        requires { Some place ≡ actor_place id.now self.now }
+        ensures { (actor : Kept) → actor_at self.now id.now ≡ Some actor → result ≡ actor_ended actor }
     {
-        let actor = &self.actors[place];
-        actor.has_ended()
+        let row = &self.rows[place];
+        row.actor.has_ended()
     }
 
     /// Removes the actor at a place.
-    fn take_out(&mut self, place: usize, name: &Name)
-        requires { Some place ≡ position (key_eq name.now) (keys_of self.old) }
-        ensures out { PlacesIn self.old name.now None self.new }
-        ensures len { length self.new + 1 ≡ length self.old }
+    pub(crate) fn take_out(&mut self, place: usize, id: &ActorId)
+        requires { Some place ≡ actor_place id.now self.old }
+        ensures out { Places self.old id.now None self.new }
+        ensures count { count_at self.new id.now.slot + 1 ≡ count_at self.old id.now.slot }
     {
-        let _over = self.actors.swap_remove_index(place);
+        rings::remove(&mut self.rows, &mut self.rings, place);
     }
-}
 
-/// Creates this many empty tables.
-pub(crate) fn empty_tables(
-    alloc: Global,
-    slots: usize,
-    seeds: Seeds,
-) -> Result<Vec<ActorTable>, AllocError>
-    ensures { IfOk result (λ tables. tables.items ≡ replicate slots []) }
-{
-    let mut tables = Vec::with_capacity(alloc, slots)?;
-    for _slot in 0..slots {
-        tables.push(ActorTable::new(alloc, seeds))?;
+    /// Removes all actors of a slot. Visits its own, and those that take their places.
+    pub(crate) fn clear(&mut self, slot: u64)
+        requires { slot < self.old.slots }
+        ensures { IsClearedOf slot self.old self.new }
+    {
+        rings::clear(&mut self.rows, &mut self.rings, slot);
     }
-    Ok(tables)
-}
-
-/// Returns the place of an actor in the table of its slot. Hashes nothing if the cached index is right.
-pub(crate) fn place_of(actors: &Vec<ActorTable>, guess: usize, id: &ActorId) -> Option<usize>
-    ensures within { IfSome result (λ _. id.now.slot < length actors.now.items) }
-    ensures index { IfSome result (λ place. Some place ≡ position (key_eq id.now.name) (names_at id.now.slot actors.now.items)) }
-    ensures found { is_some result ≡ is_some (actor_at actors.now.items id.now) }
-{
-    match actors.get(id.slot as usize) {
-        Some(table) => table.place_of(guess, &id.name),
-        None => None,
-    }
-}
-
-/// Returns an actor from the table of its slot.
-pub(crate) fn actor_of<'a>(actors: &'a Vec<ActorTable>, id: &ActorId) -> Option<&'a Actor>
-    ensures { option_copied result ≡ actor_at actors.now.items id.now }
-{
-    let table = actors.get(id.slot as usize)?;
-    table.actor(&id.name)
-}
-
-/// Adds an actor behind the others, and caches its place.
-pub(crate) fn put_new(
-    actors: &mut Vec<ActorTable>,
-    guesses: &mut Guesses,
-    id: ActorId,
-    actor: Actor,
-) -> Result<(), AllocError>
-    requires { id.slot < length actors.old.items }
-    ensures ok { OnOk result (Places actors.old.items id (Some actor) actors.new.items) }
-    ensures count { OnOk result (actor_at actors.old.items id ≡ None → count_at actors.new.items id.slot ≡ count_at actors.old.items id.slot + 1) }
-    ensures err { OnErr result (actors.new.items ≡ actors.old.items) }
-{
-    let table = &mut actors[id.slot as usize];
-    guesses.note(Guesses::cell_of(&id), table.len());
-    table.put(id.name, actor)
-}
-
-/// Returns whether the actor at a place of its table is a carrier that has ended.
-pub(crate) fn has_ended(actors: &Vec<ActorTable>, place: usize, id: &ActorId) -> bool
-    requires within { id.now.slot < length actors.now.items }
-    requires place { Some place ≡ position (key_eq id.now.name) (names_at id.now.slot actors.now.items) }
-    ensures { (actor : Kept) → actor_at actors.now.items id.now ≡ Some actor → result ≡ actor_ended actor }
-{
-    let table = &actors[id.slot as usize];
-    table.has_ended(place, &id.name)
-}
-
-/// Removes the actor at a place of its table.
-pub(crate) fn take_out(actors: &mut Vec<ActorTable>, place: usize, id: &ActorId)
-    requires within { id.now.slot < length actors.old.items }
-    requires place { Some place ≡ position (key_eq id.now.name) (names_at id.now.slot actors.old.items) }
-    ensures out { Places actors.old.items id.now None actors.new.items }
-    ensures count { count_at actors.new.items id.now.slot + 1 ≡ count_at actors.old.items id.now.slot }
-{
-    let table = &mut actors[id.slot as usize];
-    table.take_out(place, &id.name);
 }

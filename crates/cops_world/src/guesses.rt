@@ -1,4 +1,4 @@
-//! Cached indices: where each actor was last in the table of its slot.
+//! Cached indices: where each actor was last in the table.
 
 use crate::actors::ActorId;
 use std::alloc::{AllocError, Global};

@@ -5,7 +5,7 @@ use cops_session::Session;
 use std::alloc::{AllocError, Global};
 use std::marker::Model;
 
-/// A session outside the table of its tenant's actors. A place of the table is as large as its largest
+/// A session outside the table of actors. A place of the table is as large as its largest
 /// actor, and a session is more than twice as large as a carrier, which comes and goes for each entry.
 /// Contracts see the session.
 #[derive(Drop)]

@@ -1,5 +1,5 @@
 //! All tenants of a cluster in one process.
-ghost use Rattle.std.specs.Prelude.{◌≡◌, ◌≢◌, ◌<◌, ◌⊎◌, ℕ, true, false, is_some, position, Err, IfErr, IfOk, IfSome, IfNone, IsOk, IsTrue, IsFalse, None, Ok, OnErr, OnOk, Some, length, map, nat_le, nat_lt};
+ghost use Rattle.std.specs.Prelude.{◌≡◌, ◌≢◌, ◌<◌, ◌⊎◌, ℕ, true, false, is_some, Err, IfErr, IfOk, IfSome, IfNone, IsOk, IsTrue, IsFalse, None, Ok, OnErr, OnOk, Some, length, map, nat_le, nat_lt};
 ghost use Rattle.cops_types.specs.TenantConfig.{TenantConfig, tenant_config};
 ghost use Rattle.cops_node.specs.Clusters.{IsCluster, shape_of};
 ghost use Rattle.cops_node.specs.Parts.{AuditFits, site_in};
@@ -7,7 +7,7 @@ ghost use Rattle.cops_model.specs.Session.{new_session};
 ghost use Rattle.cops_model.specs.Carrier.{new_carrier};
 ghost use Rattle.cops_repl.specs.Stands.{RunsIn};
 ghost use Rattle.cops_types.specs.HeadLines.{is_tenant};
-ghost use Rattle.cops_types.specs.Key.{is_key, key_eq};
+ghost use Rattle.cops_types.specs.Key.{is_key};
 ghost use Rattle.cops_types.specs.OpenSlots.{admission_refusal, open_at};
 ghost use Rattle.cops_types.specs.RequestErrors.{IfRefusal, OnRefusal, fault_told};
 ghost use Rattle.cops_types.specs.declared.faults.Fault.TheVariants.{BadKey, OutOfMemory, UnknownTenant};
@@ -20,7 +20,7 @@ ghost use Rattle.cops_model.specs.declared.acts.Act.TheVariants as acts;
 ghost use Rattle.cops_model.specs.declared.replies.Reply.TheVariants.{Refused};
 ghost use Rattle.cops_script.specs.Acting.{HasActed, IsNew, IsSparedReply, TellsExactly, told_act};
 ghost use Rattle.cops_script.specs.GoodHeads.{is_good};
-ghost use Rattle.cops_world.specs.ActorTables.{names_at};
+ghost use Rattle.cops_world.specs.ActorTables.{actor_place};
 ghost use Rattle.cops_world.specs.ActorsStand.{ActorStandsFor, RunsAt};
 ghost use Rattle.cops_world.specs.Deeds.{DeedLacks, IsRefusalOf, deed_step};
 ghost use Rattle.cops_model.specs.Lacks.{Lacks, StepStops, StepsStop};
@@ -28,9 +28,7 @@ ghost use Rattle.cops_world.specs.Trails.{audited_at};
 ghost use Rattle.cops_world.specs.Worlds.{Admits, AnyReply, AreSitesIn, ClusterStandsAt, Closes, HasOpenCluster, IsLeft, KeptWorld, Leaves, Moves, StaysOpen, open_setup, join_step, world_of};
 ghost use Rattle.cops_script.specs.Sizes.{HasSizes};
 
-use crate::actor_table::{
-    ActorTable, actor_of, empty_tables, has_ended, place_of, put_new, take_out,
-};
+use crate::actor_table::ActorTable;
 use crate::actors::{Actor, ActorId, Deed, Keys};
 use crate::guesses::Guesses;
 use crate::own_sessions::OwnSession;
@@ -57,10 +55,7 @@ pub struct World {
     config: Config,
     tenants: OpenTenants,
     nodes: Cluster0,
-    /// The actors of each slot.
-    actors: Vec<ActorTable>,
-    /// The seeds of their tables' hashes.
-    seeds: Seeds,
+    actors: ActorTable,
     guesses: Guesses,
 }
 
@@ -69,9 +64,9 @@ impl Model for World {
 
     ghost Value = { KeptWorld };
 
-    ghost view = { λ w. record { setup = record { head = w.config; tenants = w.tenants }; nodes = w.nodes; tables = w.actors.items } };
+    ghost view = { λ w. record { setup = record { head = w.config; tenants = w.tenants }; nodes = w.nodes; table = w.actors } };
 
-    ghost invariant = { λ w. IsKeptWorld (record { setup = record { head = w.config; tenants = w.tenants }; nodes = w.nodes; tables = w.actors.items }) };
+    ghost invariant = { λ w. IsKeptWorld (record { setup = record { head = w.config; tenants = w.tenants }; nodes = w.nodes; table = w.actors }) };
 }
 
 /// Parses the keys, if each is one.
@@ -168,12 +163,11 @@ impl World {
     {
         let id = ActorId { slot, name: *name };
         let cell = Guesses::cell_of(&id);
-        let Some(place) = place_of(&self.actors, self.guesses.guess(cell), &id) else {
+        let Some(place) = self.actors.place_of(self.guesses.guess(cell), &id) else {
             return Ok(Reply::Refused(Fault::UnknownName));
         };
         self.guesses.note(cell, place);
-        let table = &mut self.actors[slot as usize];
-        let actor = table.actor_mut(place, name);
+        let actor = self.actors.actor_mut(place, &id);
         actor.act(self.alloc, deed)
     }
 
@@ -216,7 +210,7 @@ impl World {
         requires { IsTrue (is_open_at self.now.setup slot) }
         ensures there { open_at slot self.now.setup.tenants ≡ Some result.now }
         ensures good { IsTrue (is_tenant result.now) }
-        ensures tabled { slot < length self.now.tables }
+        ensures tabled { slot < self.now.table.slots }
     {
         match self.tenants.tenant(slot) {
             Some(tenant) => tenant,
@@ -230,8 +224,7 @@ impl World {
         ensures { result ≡ nat_le (config_in self.now.setup slot).quota.actors ((world_of self.now).count slot) }
     {
         let tenant = self.tenant(slot);
-        let table = &self.actors[slot as usize];
-        table.len() as u64 >= tenant.quota.actors
+        self.actors.count(slot) as u64 >= tenant.quota.actors
     }
 
     /// Returns whether an actor has this name.
@@ -239,8 +232,7 @@ impl World {
         requires { IsTrue (is_open_at self.now.setup id.now.slot) }
         ensures { result ≡ is_some ((world_of self.now).actors id.now) }
     {
-        let table = &self.actors[id.slot as usize];
-        table.has(&id.name)
+        self.actors.has(id)
     }
 
     /// Returns why a new actor may not join: its name is taken, or its tenant has as many as it may.
@@ -270,7 +262,7 @@ impl World {
             Moves AnyReply (join_step id.name solo reply) (world_of self.old) id.slot (Ok reply) (world_of self.new)) }
         ensures err { OnErr result (world_of self.new ≡ world_of self.old) }
     {
-        put_new(&mut self.actors, &mut self.guesses, id, actor)
+        self.actors.put_new(&mut self.guesses, id, actor)
     }
 
     /// Opens a session of a tenant at a data centre.
@@ -339,38 +331,37 @@ impl World {
     /// Returns the place of an actor: its cached index, if that is right. Caches what it finds.
     fn place_of(&mut self, id: &ActorId) -> Option<usize>
         ensures same { self.new ≡ self.old }
-        ensures place { IfSome result (λ place. Some place ≡ position (key_eq id.now.name) (names_at id.now.slot self.old.tables)) }
+        ensures place { IfSome result (λ place. Some place ≡ actor_place id.now self.old.table) }
         ensures nobody { IfNone result ((world_of self.old).actors id.now ≡ None) }
     {
         let cell = Guesses::cell_of(id);
-        let place = place_of(&self.actors, self.guesses.guess(cell), id)?;
+        let place = self.actors.place_of(self.guesses.guess(cell), id)?;
         self.guesses.note(cell, place);
         Some(place)
     }
 
-    /// Takes a step of the actor at a place of its table, where it stays, also if it has ended.
+    /// Takes a step of the actor at a place, where it stays, also if it has ended.
     fn step_at(&mut self, place: usize, id: &ActorId, moment: u64) -> Result<Reply, AllocError>
         requires slot { IsTrue (is_open_at self.old.setup id.now.slot) }
-        requires place { Some place ≡ position (key_eq id.now.name) (names_at id.now.slot self.old.tables) }
+        requires place { Some place ≡ actor_place id.now self.old.table }
         ensures moves { (left : KeptWorld) → IsLeft id.now self.new left → Moves IsSparedReply (λ config. actor_step config id.now.name moment) (world_of self.old) id.now.slot result (world_of left) }
         ensures lack { (left : KeptWorld) → IsLeft id.now self.new left → Leaves (λ config. StepStops config id.now.name moment) (world_of self.old) id.now.slot result (world_of left) }
         ensures goes_on { goes_on (told_act result) ≡ true → IsLeft id.now self.new self.new }
-        ensures place { Some place ≡ position (key_eq id.now.name) (names_at id.now.slot self.new.tables) }
+        ensures place { Some place ≡ actor_place id.now self.new.table }
         ensures setup { self.new.setup ≡ self.old.setup }
     {
-        let table = &mut self.actors[id.slot as usize];
-        let actor = table.actor_mut(place, &id.name);
+        let actor = self.actors.actor_mut(place, id);
         actor.step(&mut self.nodes, id.slot, moment)
     }
 
-    /// Removes the actor at a place of its table if it is a carrier that has ended.
+    /// Removes the actor at a place if it is a carrier that has ended.
     fn leave(&mut self, place: usize, id: &ActorId)
         requires slot { IsTrue (is_open_at self.old.setup id.now.slot) }
-        requires place { Some place ≡ position (key_eq id.now.name) (names_at id.now.slot self.old.tables) }
+        requires place { Some place ≡ actor_place id.now self.old.table }
         ensures { IsLeft id.now self.old self.new }
     {
-        if has_ended(&self.actors, place, id) {
-            take_out(&mut self.actors, place, id);
+        if self.actors.has_ended(place, id) {
+            self.actors.take_out(place, id);
         }
     }
 
@@ -425,7 +416,7 @@ impl World {
     fn actor(&self, slot: u64, name: &Name) -> Option<&Actor>
         ensures { option_copied result ≡ (world_of self.now).actors (record { slot = slot; name = name.now }) }
     {
-        actor_of(&self.actors, &ActorId { slot, name: *name })
+        self.actors.actor(&ActorId { slot, name: *name })
     }
 
     /// Returns why a put is refused, if it is. Allocates nothing.
@@ -591,7 +582,7 @@ impl World {
     {
         self.tenants.close(slot)?;
         self.nodes.close(slot);
-        self.actors[slot as usize] = ActorTable::new(self.alloc, self.seeds);
+        self.actors.clear(slot);
         Ok(())
     }
 
@@ -610,7 +601,7 @@ impl World {
         let nodes = Cluster0::new(alloc, &config)?;
         let tenants = OpenTenants::of(alloc, &config.tenants)?;
         let seeds = Seeds::of_tokens(config.tenants.as_slice());
-        let actors = empty_tables(alloc, tenants.as_slice().len(), seeds)?;
+        let actors = ActorTable::new(alloc, tenants.as_slice().len(), seeds)?;
         let guesses = Guesses::new(alloc)?;
         Ok(World {
             alloc,
@@ -618,7 +609,6 @@ impl World {
             tenants,
             nodes,
             actors,
-            seeds,
             guesses,
         })
     }

@@ -1,29 +1,37 @@
-use Rattle.std.proofs.Common.{◌≡◌, refl, sym, subst, ap, ◌∙◌}
-use Rattle.std.specs.Prelude.{Some, length, position}
-use Rattle.std.specs.Map.{keys_of, lookup}
-use Rattle.indexmap.proofs.CallerLemmas.{index_map_len-with_value_at, keys-with_value_at}
+use Rattle.std.proofs.Common.{◌≡◌, length, refl, sym, subst, ap, ◌∙◌}
+use Rattle.std.specs.Prelude.{Some}
 use Rattle.indexmap.specs.IndexMap.{set_value_at}
-use Rattle.cops_types.specs.Key.{key_eq}
-use Rattle.cops_world.specs.ActorTables.{PlacesIn, Table}
-use Rattle.cops_world.proofs.ActorTableLemmas.{found_here, puts, stays_unique}
+use Rattle.cops_world.specs.ActorTables.{PutsBack, Table, actor_at, actor_place}
+use Rattle.cops_world.proofs.PlaceLemmas.{actor_here, below, kept_changed, place_stays, put_back_now, table_changed}
 use Rattle.cops_world.proofs.actor_table.ActorTable.actor_mut.Goals as goal
 
+pub index_mut-row-requires : goal.index_mut-row-requires
+index_mut-row-requires c =
+    let id = c.args.id.now in
+    below c.self.inside.rows c.self.inside.rings.items c.self.invariant id c.args.place (c.requires ∙ ap (actor_place id) (sym c.self.view_is))
+
 pub invariant_of-self-lent : goal.invariant_of-self-lent
-invariant_of-self-lent c w = stays_unique c.self.inside.actors c.args.place w c.self.invariant
+invariant_of-self-lent c w = kept_changed c.self.inside.rows.entries c.self.inside.rings.items c.self.invariant c.args.place c.index_mut-row.result.now c.index_mut-row.ensures.value w
 
 pub returns : goal.returns
 returns c =
-    let name = c.args.name.now in
+    let id = c.args.id.now in
     let place = c.args.place in
-    let actors = c.self.inside.actors in
-    let index = subst (λ (es : Table). Some place ≡ position (key_eq name) (keys_of es)) (sym c.self.view_is) c.requires in
-    let found = found_here name actors c.self.invariant place index c.index_mut.result.now c.index_mut.ensures.value in (
-      (refl, λ w. ap (λ (es : Table). set_value_at es place w) c.self.view_is),
+    let map = c.self.inside.rows in
+    let rings = c.self.inside.rings.items in
+    let row = c.index_mut-row.result.now in
+    let there = c.index_mut-row.ensures.value in
+    let index = c.requires ∙ ap (actor_place id) (sym c.self.view_is) in (
+      (
+        refl,
+        λ w.
+            ap (λ actors. let t : Table = record { slots = length rings; actors = actors } in t) (table_changed map rings c.self.invariant id place index row there w)
+            ∙ ap (λ (t : Table). let u : Table = record { slots = t.slots; actors = set_value_at t.actors place w } in u) c.self.view_is,
+      ),
       record {
         lent = tt;
-        before = ap (lookup (key_eq name)) (sym c.self.view_is) ∙ found;
-        placed = λ actor. subst (λ (es : Table). PlacesIn es name (Some actor) (set_value_at es place actor)) c.self.view_is ((puts name actors c.self.invariant place index actor).0);
-        keys = λ actor. subst (λ (es : Table). keys_of (set_value_at es place actor) ≡ keys_of es) c.self.view_is (keys-with_value_at actors place actor);
-        len = λ actor. subst (λ (es : Table). length (set_value_at es place actor) ≡ length es) c.self.view_is (index_map_len-with_value_at actors place actor);
+        before = ap (λ (t : Table). actor_at t id) (sym c.self.view_is) ∙ actor_here map rings c.self.invariant id place index row there;
+        back = λ actor. subst (λ (t : Table). PutsBack t id actor (record { slots = t.slots; actors = set_value_at t.actors place actor })) c.self.view_is (put_back_now map rings c.self.invariant id place index row there actor);
+        place = λ actor. subst (λ (t : Table). Some place ≡ actor_place id (record { slots = t.slots; actors = set_value_at t.actors place actor })) c.self.view_is (place_stays map rings c.self.invariant id place index row there actor);
       },
     )

@@ -1,7 +1,8 @@
-use Rattle.std.proofs.Common.{◌∙◌, sym}
-use Rattle.std.proofs.lemmas.Map.Made.{is_some-lookup}
-use Rattle.cops_types.specs.Key.{key_eq}
+use Rattle.std.proofs.Common.{ap, ◌∙◌}
+use Rattle.std.specs.Prelude.{is_some}
+use Rattle.cops_world.specs.ActorTables.{Table, actor_at}
+use Rattle.cops_world.proofs.PlaceLemmas.{some_found}
 use Rattle.cops_world.proofs.actor_table.ActorTable.has.Goals as goal
 
 pub returns : goal.returns
-returns c = c.has_among_few.ensures ∙ sym (is_some-lookup (key_eq c.args.name.now) c.args.self.now)
+returns c = c.contains_key.ensures ∙ some_found c.args.id.now c.self.inside.rows.entries ∙ ap (λ (t : Table). is_some (actor_at t c.args.id.now)) c.self.view_is

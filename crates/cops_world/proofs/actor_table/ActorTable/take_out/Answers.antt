@@ -1,23 +1,22 @@
-use Rattle.std.proofs.Common.{◌≡◌, ◌∙◌, ap, cond, subst, sym}
-use Rattle.std.specs.Prelude.{None, Some, length, position}
-use Rattle.std.specs.Map.{keys_of, lookup}
-use Rattle.cops_types.specs.Key.{key_eq}
-use Rattle.cops_world.specs.ActorTables.{Table}
-use Rattle.cops_world.proofs.ActorTableLemmas.{takes, takes_one}
+use Rattle.std.proofs.Common.{◌≡◌, ◌+◌, ap, sym, subst, ◌∙◌}
+use Rattle.std.specs.Prelude.{None}
+use Rattle.cops_world.specs.ActorRings.{table_in}
+use Rattle.cops_world.specs.ActorTables.{Places, Table, actor_place, count_at}
+use Rattle.cops_world.proofs.PlaceLemmas.{here, index_of_row}
 use Rattle.cops_world.proofs.actor_table.ActorTable.take_out.Goals as goal
 
 pub returns-clause-out : goal.returns-clause-out
-returns-clause-out c = λ q.
-    let name = c.args.name.now in
-    let table = c.self.inside.actors in
-    let index = subst (λ (es : Table). Some c.args.place ≡ position (key_eq name) (keys_of es)) (sym c.self.view_is) c.requires in
-    let out = takes name table c.self.invariant c.args.place index c.swap_remove_index-over.new.self c.swap_remove_index-over.result c.swap_remove_index-over.ensures.entry c.swap_remove_index-over.ensures.updates in
-    out.0 q ∙ ap (λ (es : Table). cond (key_eq name q) None (lookup (key_eq q) es)) c.self.view_is
+returns-clause-out c =
+    let id = c.args.id.now in
+    let map = c.self.inside.rows in
+    let rings = c.self.inside.rings.items in
+    let h = here id map.entries c.args.place (index_of_row map rings c.self.invariant id c.args.place (c.requires ∙ ap (actor_place id) (sym c.self.view_is))) in
+    subst (λ (t : Table). Places t id None (table_in c.remove.new.rows.entries c.remove.new.rings.items)) c.self.view_is (c.remove.ensures.out id h.value h.entry)
 
-pub returns-clause-len : goal.returns-clause-len
-returns-clause-len c =
-    let name = c.args.name.now in
-    let table = c.self.inside.actors in
-    let index = subst (λ (es : Table). Some c.args.place ≡ position (key_eq name) (keys_of es)) (sym c.self.view_is) c.requires in
-    takes_one name table c.self.invariant c.args.place index c.swap_remove_index-over.result (length c.swap_remove_index-over.new.self.entries) (length table.entries) c.swap_remove_index-over.ensures.entry c.swap_remove_index-over.ensures.len
-    ∙ ap length c.self.view_is
+pub returns-clause-count : goal.returns-clause-count
+returns-clause-count c =
+    let id = c.args.id.now in
+    let map = c.self.inside.rows in
+    let rings = c.self.inside.rings.items in
+    let h = here id map.entries c.args.place (index_of_row map rings c.self.invariant id c.args.place (c.requires ∙ ap (actor_place id) (sym c.self.view_is))) in
+    subst (λ (t : Table). count_at (table_in c.remove.new.rows.entries c.remove.new.rings.items) id.slot + 1 ≡ count_at t id.slot) c.self.view_is (c.remove.ensures.count id h.value h.entry)

@@ -14,7 +14,7 @@ invariant_of-self-in-Err c =
     let slot = c.args.slot in
     let tenant = c.args.tenant in
     let inside = c.self.inside in
-    let old : KeptWorld = record { setup = record { head = inside.config; tenants = inside.tenants }; nodes = inside.nodes; tables = inside.actors.items } in
+    let old : KeptWorld = record { setup = record { head = inside.config; tenants = inside.tenants }; nodes = inside.nodes; table = inside.actors } in
     let whole = c.self.invariant.whole in
     let may = was_given inside.tenants slot tenant c.in_ok-admit_at.field-0 c.in_ok-admit_at.ensures.refused in
     let free = taken_nowhere old.setup slot may inside.nodes.nodes whole.sites_are.each in
@@ -31,7 +31,7 @@ returns-in-Err-clause-faults c =
     let slot = c.args.slot in
     let tenant = c.args.tenant in
     let inside = c.self.inside in
-    let old : KeptWorld = record { setup = record { head = inside.config; tenants = inside.tenants }; nodes = inside.nodes; tables = inside.actors.items } in
+    let old : KeptWorld = record { setup = record { head = inside.config; tenants = inside.tenants }; nodes = inside.nodes; table = inside.actors } in
     let whole = c.self.invariant.whole in
     let may = was_given inside.tenants slot tenant c.in_ok-admit_at.field-0 c.in_ok-admit_at.ensures.refused in
     let free = taken_nowhere old.setup slot may inside.nodes.nodes whole.sites_are.each in
@@ -42,14 +42,14 @@ returns-in-Err-clause-err c =
     let slot = c.args.slot in
     let tenant = c.args.tenant in
     let inside = c.self.inside in
-    let old : KeptWorld = record { setup = record { head = inside.config; tenants = inside.tenants }; nodes = inside.nodes; tables = inside.actors.items } in
+    let old : KeptWorld = record { setup = record { head = inside.config; tenants = inside.tenants }; nodes = inside.nodes; table = inside.actors } in
     let whole = c.self.invariant.whole in
     let may = was_given inside.tenants slot tenant c.in_ok-admit_at.field-0 c.in_ok-admit_at.ensures.refused in
     let free = taken_nowhere old.setup slot may inside.nodes.nodes whole.sites_are.each in
     let back = c.in-Err.ensures.err free in
     let same = closed_again c.close-closed.result inside.tenants c.admit_at.new.self c.close-closed.new.self slot tenant (within_given old whole slot tenant may) may.vacant c.in_ok-admit_at.ensures.ok
     c.close-closed.ensures.closed c.close-closed.ensures.there in
-    subst (λ (k : KeptWorld). StaysOpen k (record { setup = record { head = inside.config; tenants = c.close-closed.new.self }; nodes = c.admit.new.self; tables = inside.actors.items })) c.self.view_is
+    subst (λ (k : KeptWorld). StaysOpen k (record { setup = record { head = inside.config; tenants = c.close-closed.new.self }; nodes = c.admit.new.self; table = inside.actors })) c.self.view_is
     (stays_open old whole slot tenant may c.admit.new.self c.close-closed.new.self back same)
 
 pub invariant_of-self-in_default : goal.invariant_of-self-in_default
@@ -57,10 +57,10 @@ invariant_of-self-in_default c =
     let slot = c.args.slot in
     let tenant = c.args.tenant in
     let inside = c.self.inside in
-    let old : KeptWorld = record { setup = record { head = inside.config; tenants = inside.tenants }; nodes = inside.nodes; tables = inside.actors.items } in
+    let old : KeptWorld = record { setup = record { head = inside.config; tenants = inside.tenants }; nodes = inside.nodes; table = inside.actors } in
     let whole = c.self.invariant.whole in
     let may = was_given inside.tenants slot tenant c.in_ok-admit_at.field-0 c.in_ok-admit_at.ensures.refused in
-    subst (λ (ts : List (Option Tenant)). IsKeptWorld (record { setup = record { head = inside.config; tenants = ts }; nodes = c.admit.new.self; tables = inside.actors.items })) (sym c.in_ok-admit_at.ensures.ok)
+    subst (λ (ts : List (Option Tenant)). IsKeptWorld (record { setup = record { head = inside.config; tenants = ts }; nodes = c.admit.new.self; table = inside.actors })) (sym c.in_ok-admit_at.ensures.ok)
     (record {
       whole = whole_given old whole slot tenant may c.admit.new.self c.in_default.ensures.ok c.requires c.admit.ensures.shape;
       tabled = c.self.invariant.tabled ∙ sym (length-set inside.tenants slot (Some tenant));
@@ -71,9 +71,9 @@ returns-clause-ok c =
     let slot = c.args.slot in
     let tenant = c.args.tenant in
     let inside = c.self.inside in
-    let old : KeptWorld = record { setup = record { head = inside.config; tenants = inside.tenants }; nodes = inside.nodes; tables = inside.actors.items } in
+    let old : KeptWorld = record { setup = record { head = inside.config; tenants = inside.tenants }; nodes = inside.nodes; table = inside.actors } in
     let whole = c.self.invariant.whole in
     let may = was_given inside.tenants slot tenant c.in_ok-admit_at.field-0 c.in_ok-admit_at.ensures.refused in
-    subst (λ (k : KeptWorld). Admits slot tenant k (record { setup = record { head = inside.config; tenants = c.admit_at.new.self }; nodes = c.admit.new.self; tables = inside.actors.items })) c.self.view_is
-    (subst (λ (ts : List (Option Tenant)). Admits slot tenant old (record { setup = record { head = inside.config; tenants = ts }; nodes = c.admit.new.self; tables = inside.actors.items })) (sym c.in_ok-admit_at.ensures.ok)
+    subst (λ (k : KeptWorld). Admits slot tenant k (record { setup = record { head = inside.config; tenants = c.admit_at.new.self }; nodes = c.admit.new.self; table = inside.actors })) c.self.view_is
+    (subst (λ (ts : List (Option Tenant)). Admits slot tenant old (record { setup = record { head = inside.config; tenants = ts }; nodes = c.admit.new.self; table = inside.actors })) (sym c.in_ok-admit_at.ensures.ok)
     (admits old whole slot tenant may c.admit.new.self c.in_default.ensures.ok))

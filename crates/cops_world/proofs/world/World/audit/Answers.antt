@@ -21,7 +21,7 @@ returns c =
     let slot = c.args.slot in
     let node = c.index-nodes-id.result in
     let number = id.dc * config.shards + id.shard in
-    let old : KeptWorld = record { setup = record { head = config; tenants = c.self.inside.tenants }; nodes = nodes; tables = c.self.inside.actors.items } in
+    let old : KeptWorld = record { setup = record { head = config; tenants = c.self.inside.tenants }; nodes = nodes; table = c.self.inside.actors } in
     let dc = subst (λ (k : KeptWorld). id.dc < k.setup.head.data_centres) (sym c.self.view_is) c.requires.dc in
     let shard = subst (λ (k : KeptWorld). id.shard < k.setup.head.shards) (sym c.self.view_is) c.requires.shard in
     let all = c.nodes-nodes.ensures.in_order.all ∙ ap (λ (s : Shape). s.data_centres * s.shards) c.self.invariant.whole.shape_is in

@@ -38,7 +38,7 @@ pub returns-clause-moves : goal.returns-clause-moves
 returns-clause-moves c =
     let now = c.args.self.now in
     let sizes = sizes_in now.setup c.args.slot c.requires in
-    let old : KeptWorld = record { setup = record { head = c.self.inside.config; tenants = c.self.inside.tenants }; nodes = c.self.inside.nodes; tables = c.self.inside.actors.items } in
+    let old : KeptWorld = record { setup = record { head = c.self.inside.config; tenants = c.self.inside.tenants }; nodes = c.self.inside.nodes; table = c.self.inside.actors } in
     let new : KeptWorld = record old { nodes = c.step.new.self } in
     let there = sym (c.has_node.ensures (config_in now.setup c.args.slot) sizes) ∙ c.if-not-has_node.false in
     let shards = subst (λ (k : KeptWorld). (config_in k.setup c.args.slot).shards ≡ k.setup.head.shards) (sym c.self.view_is) sizes.shards ∙ sym (ap (λ (s : Shape). s.shards) c.self.invariant.whole.shape_is) in
@@ -61,7 +61,7 @@ returns-then-not-has_node-clause-lack c = spared_leaves (λ config. Lacks config
 pub returns-clause-lack : goal.returns-clause-lack
 returns-clause-lack c =
     let sizes = sizes_in c.args.self.now.setup c.args.slot c.requires in
-    let old : KeptWorld = record { setup = record { head = c.self.inside.config; tenants = c.self.inside.tenants }; nodes = c.self.inside.nodes; tables = c.self.inside.actors.items } in
+    let old : KeptWorld = record { setup = record { head = c.self.inside.config; tenants = c.self.inside.tenants }; nodes = c.self.inside.nodes; table = c.self.inside.actors } in
     let new : KeptWorld = record old { nodes = c.step.new.self } in
     let shards = subst (λ (k : KeptWorld). (config_in k.setup c.args.slot).shards ≡ k.setup.head.shards) (sym c.self.view_is) sizes.shards ∙ sym (ap (λ (s : Shape). s.shards) c.self.invariant.whole.shape_is) in
     let there = sym (c.has_node.ensures (config_in c.args.self.now.setup c.args.slot) sizes) ∙ c.if-not-has_node.false in
@@ -78,5 +78,5 @@ returns-clause-lack c =
 
 pub invariant_of-self : goal.invariant_of-self
 invariant_of-self c =
-    let old : KeptWorld = record { setup = record { head = c.self.inside.config; tenants = c.self.inside.tenants }; nodes = c.self.inside.nodes; tables = c.self.inside.actors.items } in
+    let old : KeptWorld = record { setup = record { head = c.self.inside.config; tenants = c.self.inside.tenants }; nodes = c.self.inside.nodes; table = c.self.inside.actors } in
     kept_called old c.self.invariant c.step.new.self c.step.ensures.shape c.step.ensures.answers.sites

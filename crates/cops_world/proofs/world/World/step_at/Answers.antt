@@ -1,9 +1,7 @@
-use Rattle.std.proofs.Common.{◌≡◌, inr, Bool, true, false, set, refl, sym, subst, ap, ◌∙◌, true≢false}
-use Rattle.std.specs.Prelude.{IsTrue, Some, position}
-use Rattle.std.specs.Map.{keys_of}
+use Rattle.std.proofs.Common.{◌≡◌, inr, Bool, true, false, refl, sym, subst, ap, ◌∙◌, true≢false}
+use Rattle.std.specs.Prelude.{IsTrue, Some}
 use Rattle.indexmap.specs.IndexMap.{set_value_at}
 use Rattle.cops_types.proofs.WordLemmas.{same_value}
-use Rattle.cops_types.specs.Key.{key_eq}
 use Rattle.cops_node.specs.Clusters.{shape_of}
 use Rattle.cops_node.specs.declared.Shape.{Shape}
 use Rattle.cops_model.specs.Cluster.{actor_step, goes_on}
@@ -11,48 +9,38 @@ use Rattle.cops_model.specs.Setups.{is_open_at}
 use Rattle.cops_world.specs.declared.actors.Actor.{Actor}
 use Rattle.cops_world.specs.declared.actors.ActorId.{ActorId}
 use Rattle.cops_world.specs.ActorsStand.{RunsAt, actor_ended, stepped_to}
-use Rattle.cops_world.specs.ActorTables.{Table, names_at}
+use Rattle.cops_world.specs.ActorTables.{Table, actor_place}
 use Rattle.cops_script.specs.Acting.{IsSparedReply, told_act}
 use Rattle.cops_model.specs.Lacks.{StepStops}
 use Rattle.cops_world.specs.Worlds.{KeptWorld, Leaves, Moves, world_of}
-use Rattle.cops_world.proofs.ActorTableLemmas.{actor_read, back_now, own, table_here}
 use Rattle.cops_world.proofs.WorldCalls.{steps_world}
-use Rattle.cops_world.proofs.WorldKeeps.{below_tables, has_left, kept_called, kept_placed, put_back, sites_stay}
+use Rattle.cops_world.proofs.WorldKeeps.{has_left, kept_called, kept_placed, put_back, sites_stay}
 use Rattle.cops_world.proofs.WorldLacks.{steps_world_leaves}
 use Rattle.cops_world.proofs.WorldSteps.{HasSteppedAt}
 use Rattle.cops_world.proofs.world.World.step_at.Goals as goal
 
 pub actor_mut-actor-requires : goal.actor_mut-actor-requires
-actor_mut-actor-requires c =
-    let id = c.args.id.now in
-    let old : KeptWorld = record { setup = record { head = c.self.inside.config; tenants = c.self.inside.tenants }; nodes = c.self.inside.nodes; tables = c.self.inside.actors.items } in
-    let within = below_tables old c.self.invariant id.slot (subst (λ (k : KeptWorld). IsTrue (is_open_at k.setup id.slot)) (sym c.self.view_is) c.requires.slot) in
-    subst (λ (k : KeptWorld). Some c.args.place ≡ position (key_eq id.name) (names_at id.slot k.tables)) (sym c.self.view_is) c.requires.place
-    ∙ ap (λ (t : Table). position (key_eq id.name) (keys_of t)) (own old.tables id within c.index_mut-table.result.now c.index_mut-table.ensures.value)
+actor_mut-actor-requires c = subst (λ (k : KeptWorld). Some c.args.place ≡ actor_place c.args.id.now k.table) (sym c.self.view_is) c.requires.place
 
 pub step-requires : goal.step-requires
 step-requires c =
     let id = c.args.id.now in
-    let old : KeptWorld = record { setup = record { head = c.self.inside.config; tenants = c.self.inside.tenants }; nodes = c.self.inside.nodes; tables = c.self.inside.actors.items } in
-    let within = below_tables old c.self.invariant id.slot (subst (λ (k : KeptWorld). IsTrue (is_open_at k.setup id.slot)) (sym c.self.view_is) c.requires.slot) in
+    let old : KeptWorld = record { setup = record { head = c.self.inside.config; tenants = c.self.inside.tenants }; nodes = c.self.inside.nodes; table = c.self.inside.actors } in
     let before = c.actor_mut-actor.result.now in
-    let there = actor_read old.tables id within c.index_mut-table.result.now c.index_mut-table.ensures.value ∙ c.actor_mut-actor.ensures.before in
+    let there = c.actor_mut-actor.ensures.before in
     subst (λ (s : Shape). RunsAt s id.slot before) (sym c.self.invariant.whole.shape_is) (c.self.invariant.whole.run id before there)
 
 pub invariant_of-self : goal.invariant_of-self
 invariant_of-self c =
     let slot = c.args.id.now.slot in
-    let old : KeptWorld = record { setup = record { head = c.self.inside.config; tenants = c.self.inside.tenants }; nodes = c.self.inside.nodes; tables = c.self.inside.actors.items } in
+    let old : KeptWorld = record { setup = record { head = c.self.inside.config; tenants = c.self.inside.tenants }; nodes = c.self.inside.nodes; table = c.self.inside.actors } in
     let id : ActorId = c.args.id.now in
-    let within = below_tables old c.self.invariant slot (subst (λ (k : KeptWorld). IsTrue (is_open_at k.setup slot)) (sym c.self.view_is) c.requires.slot) in
-    let table = c.index_mut-table.result.now in
     let lent = c.actor_mut-actor.ensures in
     let before = c.actor_mut-actor.result.now in
     let after = c.step.new.self in
-    let there = actor_read old.tables id within table c.index_mut-table.ensures.value ∙ lent.before in
-    let new = set_value_at table c.args.place after in
-    let mid = set old.tables slot new in
-    let back = back_now old.tables id within table c.index_mut-table.ensures.value new after (lent.placed after) (lent.len after) in
+    let there = lent.before in
+    let mid : Table = record old.table { actors = set_value_at old.table.actors c.args.place after } in
+    let back = lent.back after in
     let ensures = c.step.ensures in
     let stepped = stepped_to c.step.result after in
     let nodes = c.step.new.nodes in
@@ -62,17 +50,14 @@ invariant_of-self c =
 pub returns-clause-moves : goal.returns-clause-moves
 returns-clause-moves c =
     let slot = c.args.id.now.slot in
-    let old : KeptWorld = record { setup = record { head = c.self.inside.config; tenants = c.self.inside.tenants }; nodes = c.self.inside.nodes; tables = c.self.inside.actors.items } in
+    let old : KeptWorld = record { setup = record { head = c.self.inside.config; tenants = c.self.inside.tenants }; nodes = c.self.inside.nodes; table = c.self.inside.actors } in
     let id : ActorId = c.args.id.now in
-    let within = below_tables old c.self.invariant slot (subst (λ (k : KeptWorld). IsTrue (is_open_at k.setup slot)) (sym c.self.view_is) c.requires.slot) in
-    let table = c.index_mut-table.result.now in
     let lent = c.actor_mut-actor.ensures in
     let before = c.actor_mut-actor.result.now in
     let after = c.step.new.self in
-    let there = actor_read old.tables id within table c.index_mut-table.ensures.value ∙ lent.before in
-    let new = set_value_at table c.args.place after in
-    let mid = set old.tables slot new in
-    let back = back_now old.tables id within table c.index_mut-table.ensures.value new after (lent.placed after) (lent.len after) in
+    let there = lent.before in
+    let mid : Table = record old.table { actors = set_value_at old.table.actors c.args.place after } in
+    let back = lent.back after in
     let ensures = c.step.ensures in
     let stepped = stepped_to c.step.result after in
     let nodes = c.step.new.nodes in
@@ -86,17 +71,14 @@ returns-clause-moves c =
 pub returns-clause-lack : goal.returns-clause-lack
 returns-clause-lack c =
     let slot = c.args.id.now.slot in
-    let old : KeptWorld = record { setup = record { head = c.self.inside.config; tenants = c.self.inside.tenants }; nodes = c.self.inside.nodes; tables = c.self.inside.actors.items } in
+    let old : KeptWorld = record { setup = record { head = c.self.inside.config; tenants = c.self.inside.tenants }; nodes = c.self.inside.nodes; table = c.self.inside.actors } in
     let id : ActorId = c.args.id.now in
-    let within = below_tables old c.self.invariant slot (subst (λ (k : KeptWorld). IsTrue (is_open_at k.setup slot)) (sym c.self.view_is) c.requires.slot) in
-    let table = c.index_mut-table.result.now in
     let lent = c.actor_mut-actor.ensures in
     let before = c.actor_mut-actor.result.now in
     let after = c.step.new.self in
-    let there = actor_read old.tables id within table c.index_mut-table.ensures.value ∙ lent.before in
-    let new = set_value_at table c.args.place after in
-    let mid = set old.tables slot new in
-    let back = back_now old.tables id within table c.index_mut-table.ensures.value new after (lent.placed after) (lent.len after) in
+    let there = lent.before in
+    let mid : Table = record old.table { actors = set_value_at old.table.actors c.args.place after } in
+    let back = lent.back after in
     let ensures = c.step.ensures in
     let stepped = stepped_to c.step.result after in
     let nodes = c.step.new.nodes in
@@ -110,22 +92,19 @@ returns-clause-lack c =
 pub returns-clause-goes_on : goal.returns-clause-goes_on
 returns-clause-goes_on c =
     let slot = c.args.id.now.slot in
-    let old : KeptWorld = record { setup = record { head = c.self.inside.config; tenants = c.self.inside.tenants }; nodes = c.self.inside.nodes; tables = c.self.inside.actors.items } in
+    let old : KeptWorld = record { setup = record { head = c.self.inside.config; tenants = c.self.inside.tenants }; nodes = c.self.inside.nodes; table = c.self.inside.actors } in
     let id : ActorId = c.args.id.now in
-    let within = below_tables old c.self.invariant slot (subst (λ (k : KeptWorld). IsTrue (is_open_at k.setup slot)) (sym c.self.view_is) c.requires.slot) in
-    let table = c.index_mut-table.result.now in
     let lent = c.actor_mut-actor.ensures in
     let before = c.actor_mut-actor.result.now in
     let after = c.step.new.self in
-    let there = actor_read old.tables id within table c.index_mut-table.ensures.value ∙ lent.before in
-    let new = set_value_at table c.args.place after in
-    let mid = set old.tables slot new in
-    let back = back_now old.tables id within table c.index_mut-table.ensures.value new after (lent.placed after) (lent.len after) in
+    let there = lent.before in
+    let mid : Table = record old.table { actors = set_value_at old.table.actors c.args.place after } in
+    let back = lent.back after in
     let ensures = c.step.ensures in
     let stepped = stepped_to c.step.result after in
     let nodes = c.step.new.nodes in
     λ goes actor at.
-    let same : after ≡ actor = same_value after actor (sym (put_back old.tables mid id after back) ∙ at) in
+    let same : after ≡ actor = same_value after actor (sym (put_back old.table mid id after back) ∙ at) in
     inr (subst (λ (a : Actor). actor_ended a ≡ false) same (stays (actor_ended after) (goes_on (told_act c.step.result)) goes ensures.last), refl)
   where
     stays : (over goes : Bool) → goes ≡ true → (over ≡ true → goes ≡ false) → over ≡ false
@@ -133,23 +112,4 @@ returns-clause-goes_on c =
     stays false goes is last = refl
 
 pub returns-clause-place : goal.returns-clause-place
-returns-clause-place c =
-    let slot = c.args.id.now.slot in
-    let old : KeptWorld = record { setup = record { head = c.self.inside.config; tenants = c.self.inside.tenants }; nodes = c.self.inside.nodes; tables = c.self.inside.actors.items } in
-    let id : ActorId = c.args.id.now in
-    let within = below_tables old c.self.invariant slot (subst (λ (k : KeptWorld). IsTrue (is_open_at k.setup slot)) (sym c.self.view_is) c.requires.slot) in
-    let table = c.index_mut-table.result.now in
-    let lent = c.actor_mut-actor.ensures in
-    let before = c.actor_mut-actor.result.now in
-    let after = c.step.new.self in
-    let there = actor_read old.tables id within table c.index_mut-table.ensures.value ∙ lent.before in
-    let new = set_value_at table c.args.place after in
-    let mid = set old.tables slot new in
-    let back = back_now old.tables id within table c.index_mut-table.ensures.value new after (lent.placed after) (lent.len after) in
-    let ensures = c.step.ensures in
-    let stepped = stepped_to c.step.result after in
-    let nodes = c.step.new.nodes in
-    subst (λ (k : KeptWorld). Some c.args.place ≡ position (key_eq id.name) (names_at slot k.tables)) (sym c.self.view_is) c.requires.place
-    ∙ ap (λ (t : Table). position (key_eq id.name) (keys_of t)) (own old.tables id within table c.index_mut-table.ensures.value)
-    ∙ ap (position (key_eq id.name)) (sym (lent.keys after))
-    ∙ ap (λ (t : Table). position (key_eq id.name) (keys_of t)) (sym (table_here old.tables slot new within))
+returns-clause-place c = c.actor_mut-actor.ensures.place c.step.new.self

@@ -1,13 +1,12 @@
 use Rattle.std.proofs.Common.{◌≡◌, ◌-◌, suc, refl, ap, sym, subst, ◌∙◌, arith}
-use Rattle.std.specs.Prelude.{IsTrue, Ok, Some, position}
-use Rattle.cops_types.specs.Key.{key_eq}
+use Rattle.std.specs.Prelude.{IsTrue, Ok, Some}
 use Rattle.cops_types.specs.declared.faults.Fault.TheVariants.{UnknownName}
 use Rattle.cops_model.specs.declared.replies.Reply.TheVariants.{Refused}
 use Rattle.cops_model.specs.Cluster.{actor_steps}
 use Rattle.cops_model.specs.Setups.{Setup, is_open_at}
 use Rattle.cops_script.specs.Acting.{IsSparedReply}
 use Rattle.cops_model.specs.Lacks.{StepsStop}
-use Rattle.cops_world.specs.ActorTables.{names_at}
+use Rattle.cops_world.specs.ActorTables.{actor_place}
 use Rattle.cops_world.specs.Worlds.{KeptWorld, Leaves, Moves, open_setup, world_of}
 use Rattle.cops_world.proofs.WorldLacks.{spared_leaves, steps_end_leaves, steps_on_leaves}
 use Rattle.cops_world.proofs.WorldSteps.{absent_step, steps_end, steps_on}
@@ -26,7 +25,7 @@ returns-in_default-clause-lack c =
 pub loop-self-init : goal.loop-self-init
 loop-self-init c = record {
   same = ap open_setup c.place_of.ensures.same;
-  placed = subst (λ (k : KeptWorld). Some c.in-Some.place ≡ position (key_eq c.args.name.now) (names_at c.args.slot k.tables)) (sym c.place_of.ensures.same) c.in-Some.ensures.place;
+  placed = subst (λ (k : KeptWorld). Some c.in-Some.place ≡ actor_place (record { slot = c.args.slot; name = c.args.name.now }) k.table) (sym c.place_of.ensures.same) c.in-Some.ensures.place;
   rest = λ answered new later. subst (λ (k : KeptWorld). Moves IsSparedReply (λ config. actor_steps c.args.more config c.args.name.now c.args.moment) (world_of k) c.args.slot answered new) c.place_of.ensures.same later;
   lack_rest = λ answered new later. subst (λ (k : KeptWorld). Leaves (λ config. StepsStop c.args.more config c.args.name.now c.args.moment) (world_of k) c.args.slot answered new) c.place_of.ensures.same later;
 }
