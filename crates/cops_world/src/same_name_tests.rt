@@ -7,6 +7,7 @@ use crate::World;
 use crate::life_tests::first_tenant;
 use crate::test_worlds::{check_at, new_world};
 use cops_types::Tenant;
+use std::alloc::Global;
 use std::process::Abort;
 
 const TWO_CENTRES: &str = "cluster 2 1 5000 1
@@ -67,8 +68,7 @@ fn admit(rt: &impl Abort, world: &mut World, tenant: &Tenant) -> u64
 }
 
 /// Closes this slot of two, whose actors have the same names.
-fn one_goes(rt: &HostRuntime, gone: u64, other: u64) {
-    let alloc = rt.alloc();
+fn one_goes(rt: &impl Abort, alloc: Global, gone: u64, other: u64) {
     let gama = first_tenant(rt, alloc, GAMA);
     let mut world = new_world(rt, alloc, TWO_CENTRES);
     check_at(rt, alloc, &mut world, gone, SESSIONS);
@@ -88,10 +88,10 @@ fn one_goes(rt: &HostRuntime, gone: u64, other: u64) {
 
 #[test]
 fn the_second_acts_on(rt: HostRuntime) {
-    one_goes(&rt, 0, 1);
+    one_goes(&rt, rt.alloc(), 0, 1);
 }
 
 #[test]
 fn the_first_acts_on(rt: HostRuntime) {
-    one_goes(&rt, 1, 0);
+    one_goes(&rt, rt.alloc(), 1, 0);
 }
