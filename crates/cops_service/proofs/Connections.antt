@@ -1,13 +1,12 @@
 -- Connections at desks: each call is one of nodes that the tenant has to itself, behind its calls by others.
-use Rattle.std.proofs.Common.{◌≡◌, ℕ, zero, suc, ◌+◌, ◌*◌, ◌/◌, ◌%◌, ◌<◌, ◌∙◌, Bool, true, false, eqb, List, [], ◌∷◌, ◌++◌, inl, inr, length, map, set, get_or, refl, sym, ap, subst, append-nil, append_assoc, IsTrue, arith}
-use Rattle.std.specs.Prelude.{slice_get, Option, Some, None, slice_set, slice_index_or, cond}
+use Rattle.std.proofs.Common.{◌≡◌, ℕ, zero, suc, ◌+◌, ◌/◌, ◌%◌, ◌<◌, ◌∙◌, Bool, true, false, eqb, List, [], ◌∷◌, ◌++◌, inl, inr, length, map, set, get_or, refl, sym, ap, subst, append-nil, append_assoc, IsTrue, arith}
+use Rattle.std.specs.Prelude.{◌⊎◌, nat_lt, slice_get, Option, Some, None, slice_set, cond}
 use Rattle.std.specs.List.{AllByRecursion}
 use native.Mathlib.Nat.{mul_comm}
 use Rattle.std.proofs.Math.Nat.{div-add-mod}
 use Rattle.std.proofs.lemmas.Bool.{eqb-false}
 use Rattle.std.proofs.lemmas.Bool.Decides.{nat_tests}
-use Rattle.std.proofs.lemmas.List.{get_or-set_same, length-set, map-append, set-set}
-use Rattle.std.proofs.lemmas.Option.{get_or_from_slice_get, slice_get_within}
+use Rattle.std.proofs.lemmas.List.{map-append}
 use Rattle.cops_types.specs.declared.configs.Config.{Config}
 use Rattle.cops_types.specs.declared.configs.Tenant.{Tenant}
 use Rattle.cops_types.specs.declared.faults.Fault.TheVariants.{GateSpent, OutOfMemory}
@@ -15,7 +14,7 @@ use Rattle.cops_types.specs.HeadLines.{are_sizes}
 use Rattle.cops_types.specs.TenantConfig.{TenantConfig, tenant_config}
 use mathlib.Core.Option.{some, some-injective, some-ne-none}
 use lib.ListN.{get_elem?}
-use Rattle.cops_gate.specs.History.{AtNodes, entry, turn, turns_at}
+use Rattle.cops_gate.specs.History.{AtNodes, LeavesLacking, entry, turn, turns_at}
 use Rattle.cops_gate.specs.Seats.{Extends}
 use Rattle.cops_gate.proofs.Histories.{node_mine, node_other}
 use Rattle.cops_gate.proofs.Keeps.{at_below, there_at}
@@ -32,19 +31,22 @@ use Rattle.cops_node.specs.Lacking.{MayLack}
 use Rattle.cops_node.specs.Parts.{IsMachineTurn, Shared, place_at, solo_of}
 use Rattle.cops_node.specs.Run.{TimedCall, node_after}
 use Rattle.cops_node.proofs.Clusters.{id_is, tenant_new}
-use Rattle.cops_service.specs.Connections.{IsConversationAtDesk, IsDesk, IsServedAtDesk, IsServiceOf, IsTenantIn, is_without_turn, seen_at, seen_by, seen_from}
+use Rattle.cops_service.specs.Connections.{AreServedAtDesk, HasConversedAtDesk, IsConversationAtDesk, IsDesk, IsServedAtDesk, IsServiceOf, IsTenantIn, is_ticket_refusal, is_without_turn, seen_at, seen_by, seen_from}
 use Rattle.cops_service.specs.Desks.{IsDeskCall, NodeSeat}
-use Rattle.cops_service.specs.Gates.{Gates, IsSeatOf, IsToldAtGate, openings}
-use Rattle.cops_service.specs.Slots.{NodeEntry, NodeLog, StandsForSolo, calls_at, joins_at, slot_entries, timed}
+use Rattle.cops_service.specs.Gates.{Gates, openings}
+use Rattle.cops_service.specs.Slots.{NodeEntry, NodeLog, calls_at, joins_at, slot_entries, timed}
 use Rattle.cops_service.proofs.Desks.{new_are_nodes, read_at}
-use Rattle.cops_service.proofs.Told.{last_reply}
+use Rattle.cops_service.proofs.TicketedRequests.{serves_so}
+use Rattle.cops_service.proofs.Told.{last_reply, room_left}
 use Rattle.cops_wire.specs.Alone.{IsConnectionToldAlone, OwnCall, after_call, after_calls, call_alone}
 use Rattle.cops_wire.specs.Conversation.{IsReceivedAlone}
+use Rattle.cops_wire.specs.GoesAlone.{GoesAlone, IsReceivedAsAlone}
 use Rattle.cops_wire.specs.declared.messages.Message.{Message}
 use Rattle.cops_wire.specs.Requests.{Backend, backend}
 use Rattle.cops_model.specs.Session.{Session}
 use Rattle.cops_wire.proofs.AloneLemmas.{IsOwnTurn, told_alone}
-use Rattle.cops_wire.proofs.Conversations.{received_is}
+use Rattle.cops_wire.proofs.GoesAloneLemmas.{IsOwnCall, goes_alone, has_room_in}
+use Rattle.cops_wire.proofs.Conversations.{received_is, received_so}
 
 -- ---- histories, one behind another
 
@@ -268,6 +270,34 @@ module _ (config : TenantConfig) (slot : ℕ) (cluster : Gates Shared) (old new 
             ∙ (λ i. after_calls config (made_call i) (all i)),
       )
 
+  abbrev Behind : List OwnCall → Type 0
+  Behind between = has_room_in config id (after_calls config between nodes) × (seen_by config slot cluster new ≡ after_calls config between nodes)
+
+  -- the tenant's calls between come first; then memory was refused for this one, for which the audit had room
+  lacked : Extends IsMachineTurn (openings cluster) (node_number cluster.shards id) old None new → LeavesLacking IsMachineTurn MayLack (openings cluster) old.number (node_number cluster.shards id) slot call new.history
+      → (between : List OwnCall) × Behind between
+  lacked grows (prior, first, state, ends, known, leads, may_lack) =
+      let n : ℕ = node_number cluster.shards id in
+      let number_is : n ≡ number = ap (λ k. node_number k id) (sym there.shards) in
+      let earlier : NodeLog = old.history ++ grows.1.0 in
+      let parts = at_parts (length (openings cluster)) earlier (turn old.number n None ∷ []) (subst (AtNodes (length (openings cluster))) grows.1.1 grows.0.0) in
+      let between : List OwnCall = calls_between config.shards slot grows.1.0 in
+      let all : seen_from config slot 0 (openings cluster) earlier ≡ after_calls config between nodes =
+      turns_on config slot (openings cluster) are_placed old.history grows.1.0 (at_parts (length (openings cluster)) old.history grows.1.0 parts.0).1 in
+      let stays : seen_by config slot cluster new ≡ after_calls config between nodes =
+      ap (seen_from config slot 0 (openings cluster)) grows.1.1 ∙ one_turn config slot (openings cluster) are_placed earlier old.number n None first known ∙ all in
+      let place : Place = place_of config first.home.id in
+      let solo : SoloNode = solo_of slot place first in
+      let room = room_left slot old.number n place solo first call (turns_at n new.history) (record { place_is = are_placed.tenant n first known; solo_is = refl })
+      (turns_at n prior, state, ap (turns_at n) ends ∙ node_mine prior old.number n None, leads, may_lack) in
+      let left_there : SoloNode = node_after place (calls_at slot room.0) solo in
+      let read : get_or (after_calls config between nodes) number (new_node config.data_centres) ≡ left_there =
+      (λ i. get_or (sym stays i) (sym number_is i) (new_node config.data_centres))
+      ∙ (seen_there config slot 0 (openings cluster) new.history n n first (new_node config.data_centres) (from_zero n) known).1
+      ∙ ap (seen_at config slot first) room.1 ∙ left_in slot place room.0 (turn old.number n None ∷ []) solo in
+      let fits : IsTrue (nat_lt (length left_there.trail) config.quota.audit) = let less = room.2 in grind (arith, nat_tests) in
+      (between, (subst (λ (s : SoloNode). IsTrue (nat_lt (length s.trail) config.quota.audit)) (sym read) fits, stays))
+
   pub still_there : IsTenantIn config slot cluster new
   still_there = record {
     nodes = there.nodes;
@@ -308,6 +338,48 @@ module _ {N : Type 0} (Calls : N → NodeId → ℕ → ℕ → NodeCall → Nod
   desk_told Gives old requests replies new h =
       (told_alone Calls Gives config slot nodes_at IsThere (λ between. Unit {0}) tt is_without_turn refl desk_turn requests replies old new h.there h.served h.spared).0
 
+  -- ---- memory refused or not
+
+  -- a call that had its turn, a no-op turn if memory was refused
+  abbrev HasTurned : N → NodeId → ℕ → ℕ → NodeCall → NodeReply → N → Type 0
+  HasTurned old id own moment call reply new =
+      let states = openings (cluster old) in
+      let number = node_number (cluster old).shards id in
+      Calls old id own moment call reply new
+      × (Extends IsMachineTurn states number (seat old) (Some (entry own moment call reply)) (seat new)
+      ⊎ ((reply ≡ Refused OutOfMemory) × Extends IsMachineTurn states number (seat old) None (seat new)
+      × LeavesLacking IsMachineTurn MayLack states (seat old).number number own call (seat new).history))
+
+  turned_or_spent : (old new : N) (id : NodeId) (moment : ℕ) (call : NodeCall) (reply : NodeReply) → Calls old id slot moment call reply new → HasTurned old id slot moment call reply new ⊎ (reply ≡ Refused GateSpent)
+  turned_or_spent old new id moment call reply called = elim (desk.call old new id slot moment call reply called).grows [
+    | inl grows ↦ inl (called, inl grows)
+    | inr (inl lack) ↦ inl (called, inr lack)
+    | inr (inr spent) ↦ inr spent.0
+  ]
+
+  desk_own : (id : NodeId) (moment : ℕ) (call : NodeCall) (reply : NodeReply) (old new : N) → (0 < config.shards → id.shard < config.shards) → IsThere old → HasTurned old id slot moment call reply new
+      → IsOwnCall config nodes_at IsThere (λ between. Unit {0}) id moment call reply old new
+  desk_own id moment call reply old new has there (called, turned) =
+      let made_call = desk.call old new id slot moment call reply called in
+      let same = desk.stays old new id slot moment call reply called in
+      let seen_as = ap (λ c. seen_by config slot c (seat new)) same in
+      let shard = has there.some in
+      let still = subst (λ c. IsTenantIn config slot c (seat new)) (sym same) (still_there config slot (cluster old) (seat old) (seat new) there id moment call reply shard made_call) in
+      elim turned [
+        | inl grows ↦
+            let own = made config slot (cluster old) (seat old) (seat new) there id moment call reply shard made_call grows in
+            record { between = own.0; kind = tt; turn = inr (own.1, seen_as ∙ own.2); there = still }
+        | inr lack ↦
+            let own = lacked config slot (cluster old) (seat old) (seat new) there id moment call reply shard made_call lack.1 lack.2 in
+            record { between = own.0; kind = tt; turn = inl (lack.0, own.1.0, seen_as ∙ own.1.1); there = still }
+      ]
+
+  pub desk_goes : {M : Type 0} (Gives : M → ℕ → M → Type 0) (old : Backend Session N M) (requests replies : List Message) (new : Backend Session N M)
+      → AreServedAtDesk Calls Gives cluster seat config slot old requests replies new → GoesAlone Gives config nodes_at old requests replies new
+  desk_goes Gives old requests replies new h =
+      (goes_alone HasTurned Gives config slot nodes_at IsThere (λ between. Unit {0}) tt desk_own requests replies old new h.there
+      (serves_so Calls HasTurned Gives config slot turned_or_spent requests replies old new h.served h.spared)).0
+
 -- ---- conversations
 
 some_shards : (config : Config) → IsTrue (are_sizes config) → 0 < config.shards
@@ -331,4 +403,13 @@ desk_received Calls Gives cluster seat config sent received nodes new_nodes mome
     let c = h.conversation.conversed in
     (received_is Calls Gives is_without_turn (λ own slot n. seen_by own slot (cluster n) (seat n)) config sent received nodes new_nodes moments new_moments h.conversation
     (desk_told Calls cluster seat h.desk (tenant_config config c.tenant) c.slot Gives (backend (new_session c.dc 1) nodes moments) c.serves.requests c.serves.replies (backend c.after new_nodes new_moments)
+    (record { desk = h.desk; there = tenant_there config c.slot c.tenant (cluster nodes) (seat nodes) c.tenant_is h.there; served = c.serves.served; spared = h.conversation.spared }))).0
+
+pub desk_received_so : {N M : Type 0} (Calls : N → NodeId → ℕ → ℕ → NodeCall → NodeReply → N → Type 0) (Gives : M → ℕ → M → Type 0) (cluster : N → Gates Shared) (seat : N → NodeSeat)
+    (config : Config) (sent received : List ℕ) (nodes new_nodes : N) (moments new_moments : M) → HasConversedAtDesk Calls Gives cluster seat config sent received nodes new_nodes moments new_moments
+    → IsReceivedAsAlone Gives (λ own slot n. seen_by own slot (cluster n) (seat n)) config sent received nodes new_nodes moments new_moments
+desk_received_so Calls Gives cluster seat config sent received nodes new_nodes moments new_moments h =
+    let c = h.conversation.conversed in
+    (received_so Calls Gives is_ticket_refusal (λ own slot n. seen_by own slot (cluster n) (seat n)) config sent received nodes new_nodes moments new_moments h.conversation
+    (desk_goes Calls cluster seat h.desk (tenant_config config c.tenant) c.slot Gives (backend (new_session c.dc 1) nodes moments) c.serves.requests c.serves.replies (backend c.after new_nodes new_moments)
     (record { desk = h.desk; there = tenant_there config c.slot c.tenant (cluster nodes) (seat nodes) c.tenant_is h.there; served = c.serves.served; spared = h.conversation.spared }))).0

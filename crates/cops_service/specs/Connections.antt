@@ -1,5 +1,5 @@
 -- Connections whose calls are made at the desks of a service: what their tenant has there, and which replies count.
-use Rattle.std.specs.Prelude.{◌≡◌, ℕ, suc, ◌<◌, Bool, true, List, [], ◌∷◌, IsTrue}
+use Rattle.std.specs.Prelude.{◌≡◌, ℕ, suc, ◌<◌, Bool, true, false, List, [], ◌∷◌, IsTrue}
 use Rattle.cops_types.specs.declared.configs.Config.{Config}
 use Rattle.cops_types.specs.declared.faults.Fault.{Fault}
 use Rattle.cops_types.specs.declared.faults.Fault.TheVariants.{GateSpent}
@@ -70,6 +70,11 @@ abbrev pub is_without_turn : Fault → Bool
 is_without_turn GateSpent = true
 is_without_turn fault = is_memory_refusal fault
 
+-- the node's tickets are exhausted
+abbrev pub is_ticket_refusal : Fault → Bool
+is_ticket_refusal GateSpent = true
+is_ticket_refusal fault = false
+
 -- Requests of a tenant, and the replies to them that came from calls at a desk. None says that memory was refused or tickets are exhausted.
 pub record IsServedAtDesk {N M : Type 0} (Calls : N → NodeId → ℕ → ℕ → NodeCall → NodeReply → N → Type 0) (Gives : M → ℕ → M → Type 0) (cluster : N → Gates Shared) (seat : N → NodeSeat)
     (config : TenantConfig) (slot : ℕ) (old : Backend Session N M) (requests replies : List Message) (new : Backend Session N M) : Type 0 where
@@ -84,3 +89,18 @@ pub record IsConversationAtDesk {N M : Type 0} (Calls : N → NodeId → ℕ →
   pub desk : IsDesk Calls cluster seat
   pub there : IsServiceOf config (cluster nodes) (seat nodes)
   pub conversation : IsConversation Calls Gives is_without_turn config sent received nodes new_nodes moments new_moments
+
+-- Requests of a tenant at a desk and the replies to them, which may say that memory was refused. None says that tickets are exhausted.
+pub record AreServedAtDesk {N M : Type 0} (Calls : N → NodeId → ℕ → ℕ → NodeCall → NodeReply → N → Type 0) (Gives : M → ℕ → M → Type 0) (cluster : N → Gates Shared) (seat : N → NodeSeat)
+    (config : TenantConfig) (slot : ℕ) (old : Backend Session N M) (requests replies : List Message) (new : Backend Session N M) : Type 0 where
+  pub desk : IsDesk Calls cluster seat
+  pub there : IsTenantIn config slot (cluster old.nodes) (seat old.nodes)
+  pub served : Serves (Answers Calls Gives config slot) old requests replies new
+  pub spared : TellNone is_ticket_refusal replies
+
+-- So is a conversation with a service of the configuration: replies may say that memory was refused, and none says that tickets are exhausted.
+pub record HasConversedAtDesk {N M : Type 0} (Calls : N → NodeId → ℕ → ℕ → NodeCall → NodeReply → N → Type 0) (Gives : M → ℕ → M → Type 0) (cluster : N → Gates Shared) (seat : N → NodeSeat)
+    (config : Config) (sent received : List ℕ) (nodes new_nodes : N) (moments new_moments : M) : Type 0 where
+  pub desk : IsDesk Calls cluster seat
+  pub there : IsServiceOf config (cluster nodes) (seat nodes)
+  pub conversation : IsConversation Calls Gives is_ticket_refusal config sent received nodes new_nodes moments new_moments
