@@ -1,10 +1,12 @@
 //! The tenants that are open now.
-ghost use Rattle.std.specs.Prelude.{◌≡◌, ℕ, ◌≤◌, ◌⊎◌, [], cond, count_by, is_none, is_some, length, take, List, position, replicate, slice_set, IfErr, IfNone, IfOk, IfSome, IsOk, IsTrue, None, OnErr, OnOk, Some, Err};
+ghost use Rattle.std.specs.Prelude.{◌≡◌, ℕ, ◌≤◌, [], cond, count_by, is_none, is_some, length, take, List, position, replicate, slice_set, IfNone, IfOk, IfSome, IsOk, IsTrue, None, OnErr, OnOk, Some, Err};
 ghost use Rattle.std.specs.Option.{option_copied};
-ghost use Rattle.cops_types.specs.declared.faults.Fault.TheVariants.{OutOfMemory, UnknownTenant};
+ghost use Rattle.cops_types.specs.declared.faults.Fault.TheVariants.{UnknownTenant};
+ghost use Rattle.cops_types.specs.declared.request_errors.RequestError.TheVariants.{Refused};
 ghost use Rattle.cops_types.specs.HeadLines.{most_tenants};
 ghost use Rattle.cops_types.specs.Key.{IsName, key_eq};
 ghost use Rattle.indexmap.specs.IndexMap.{get};
+ghost use Rattle.cops_types.specs.RequestErrors.{IfRefusal};
 ghost use Rattle.cops_types.specs.OpenSlots.{AreFoundAt, admission_refusal, begun_with, is_free, is_new, open_at, open_slot_of_name, open_slot_of_token};
 ghost use Rattle.cops_types.specs.Slots.{AreDistinct};
 
@@ -12,6 +14,7 @@ use crate::configs::Tenant;
 use crate::faults::Fault;
 use crate::name_hints::NameHints;
 use crate::names::Name;
+use crate::request_errors::RequestError;
 use crate::tenants::Tenants;
 use indexmap::IndexMap;
 use std::alloc::{AllocError, Global};
@@ -293,17 +296,17 @@ impl OpenTenants {
         None
     }
 
-    /// Gives the slot to the tenant. Fails with `NameTaken` if an open tenant has that name or
-    /// token, with `NoSlot` if the slot has a tenant or is none of the 64, in this order, or with
-    /// `OutOfMemory`.
-    pub fn admit_at(&mut self, slot: u64, tenant: Tenant) -> Result<(), Fault>
+    /// Gives the slot to the tenant. Is refused with `NameTaken` if an open tenant has that name or
+    /// token, then with `NoSlot` if the slot has a tenant or is none of the 64. Memory can run out
+    /// only otherwise.
+    pub fn admit_at(&mut self, slot: u64, tenant: Tenant) -> Result<(), RequestError>
         ensures ok { OnOk result (self.new ≡ slice_set self.old slot (Some tenant)) }
-        ensures refused { IfSome (admission_refusal self.old slot tenant) (λ fault. result ≡ Err fault) }
-        ensures faults { IfErr result (λ fault. (admission_refusal self.old slot tenant ≡ Some fault) ⊎ (fault ≡ OutOfMemory)) }
+        ensures refused { IfSome (admission_refusal self.old slot tenant) (λ fault. result ≡ Err (Refused fault)) }
+        ensures faults { IfRefusal result (λ fault. admission_refusal self.old slot tenant ≡ Some fault) }
         ensures err { OnErr result (self.new ≡ self.old) }
     {
         if let Some(fault) = self.refusal(slot, &tenant) {
-            return Err(fault);
+            return Err(RequestError::Refused(fault));
         }
         let place = slot as usize;
         note(&mut self.names, &mut self.tokens, &tenant, place)?;
