@@ -1,6 +1,7 @@
 //! The state of one slot beside its chains.
-ghost use Rattle.std.specs.Prelude.{◌≡◌, ◌+◌, ◌^◌, ◌<◌, ◌⊎◌, false, None, Some, Err, List, [], ◌∷◌, ◌++◌, length, IsOk, IsTrue, IfErr, OnOk, OnErr, IfSome};
-ghost use Rattle.cops_types.specs.declared.faults.Fault.TheVariants.{OutOfMemory};
+ghost use Rattle.std.specs.Prelude.{◌≡◌, ◌+◌, ◌^◌, ◌<◌, false, None, Some, Err, List, [], ◌∷◌, ◌++◌, length, IsOk, IsTrue, OnOk, OnErr, IfSome};
+ghost use Rattle.cops_types.specs.declared.request_errors.RequestError.TheVariants.{Refused};
+ghost use Rattle.cops_types.specs.RequestErrors.{IfRefusal};
 ghost use Rattle.cops_types.specs.Records.{Tracked, StandsFor, collected as collected_records, collectable};
 ghost use Rattle.cops_store.specs.Contents.{LacksVersion, NoneLater, refusal, size_of};
 ghost use Rattle.cops_store.specs.Lines.{chain_entries_at, chains_at, IsRoomy, OtherSlotsStay};
@@ -10,8 +11,8 @@ ghost use Rattle.cops_store.specs.Shelves.{empty_shelf};
 use crate::notes::DueNotes;
 use crate::table::Table;
 use crate::usage::{InUse, size};
-use cops_types::{Entry, Fault, Key, OwnedValue, Quota};
-use std::alloc::Global;
+use cops_types::{Entry, Fault, Key, OwnedValue, Quota, RequestError};
+use std::alloc::{AllocError, Global};
 
 /// The state of a slot beside its chains. An empty one has no memory of its own.
 #[derive(Drop)]
@@ -53,14 +54,13 @@ impl Shelf {
         table: &mut Table,
         slot: usize,
         key: &Key,
-    ) -> Result<(), Fault>
+    ) -> Result<(), AllocError>
         requires slot { slot < length table.old }
         requires shelf { IsShelf self.old.used self.old.due.items (chains_at slot table.old) }
         ensures shelf { IsShelf self.new.used self.new.due.items (chains_at slot table.new) }
         ensures room { OnOk result (IsTrue self.new.due.room × IsRoomy key.now (chain_entries_at slot table.new)) }
         ensures rows { all_rows (chains_at slot table.new) ≡ all_rows (chains_at slot table.old) }
         ensures others { OtherSlotsStay slot table.old table.new }
-        ensures err { IfErr result (λ fault. fault ≡ OutOfMemory) }
     {
         self.due.reserve()?;
         table.reserve(alloc, slot, key)?;
@@ -76,7 +76,7 @@ impl Shelf {
         entry: Entry,
         now: u64,
         quota: &Quota,
-    ) -> Result<(), Fault>
+    ) -> Result<(), RequestError>
         requires slot { slot < length table.old }
         requires shelf { IsShelf self.old.used self.old.due.items (chains_at slot table.old) }
         requires new_version { LacksVersion entry.key entry.version (all_rows (chains_at slot table.old)) }
@@ -87,15 +87,15 @@ impl Shelf {
         ensures stands_for { OnOk result ((tracked : List Tracked) → StandsFor (all_rows (chains_at slot table.old)) tracked → NoneLater now tracked → StandsFor (all_rows (chains_at slot table.new)) (tracked ++ record { record_of = record { entry = entry; at = now }; removed = false } ∷ [])) }
 
         // With reserved room, only the quotas refuse.
-        ensures refused { IfSome (refusal quota.now (size_of entry) self.old.used) (λ fault. result ≡ Err fault) }
-        ensures faults { IfErr result (λ fault. (refusal quota.now (size_of entry) self.old.used ≡ Some fault) ⊎ (fault ≡ OutOfMemory)) }
+        ensures refused { IfSome (refusal quota.now (size_of entry) self.old.used) (λ fault. result ≡ Err (Refused fault)) }
+        ensures faults { IfRefusal result (λ fault. refusal quota.now (size_of entry) self.old.used ≡ Some fault) }
         ensures succeeds { IsTrue self.old.due.room → IsRoomy entry.key (chain_entries_at slot table.old) → refusal quota.now (size_of entry) self.old.used ≡ None → IsOk result }
         ensures err { OnErr result (all_rows (chains_at slot table.new) ≡ all_rows (chains_at slot table.old)) }
     {
         let size = size(&entry);
         let used = self.used;
         if let Some(fault) = refusal_of(quota, size, used) {
-            return Err(fault);
+            return Err(RequestError::Refused(fault));
         }
         self.due.reserve()?;
         let key = entry.key();
