@@ -5,7 +5,9 @@ ghost use Rattle.std.specs.Mem.Slots.{slots_items, slots_filled, slots_len, IsFu
 ghost use Rattle.std.specs.Mem.Slots.Ownership.{Filled};
 ghost use mathlib.Core.Option.{some};
 ghost use lib.ListN.{get_elem?};
-ghost use Rattle.cops_types.specs.declared.faults.Fault.TheVariants.{GateSpent, OutOfMemory};
+ghost use Rattle.cops_types.specs.declared.faults.Fault.TheVariants.{GateSpent};
+ghost use Rattle.cops_types.specs.declared.request_errors.RequestError.TheVariants.{OutOfMemory, Refused as RefusedWith};
+ghost use Rattle.cops_types.specs.RequestErrors.{IfRefusal};
 ghost use Rattle.cops_gate.specs.declared.board.Stage.TheVariants.{Idle};
 ghost use Rattle.cops_gate.specs.History.{entry, turns_of, StartsWith, IsWhole, LeavesLacking};
 ghost use Rattle.cops_gate.specs.Rule.{Met};
@@ -18,8 +20,8 @@ use crate::spent::{SpentReply, tell_spent};
 use crate::turns::{draw, serve, wait};
 use crate::waiting::Sleepers;
 use atomic_table::{Closed, Refused, Table};
-use cops_types::{Fault, Machine};
-use std::alloc::{AllocError, Global};
+use cops_types::{Fault, Machine, RequestError};
+use std::alloc::{AllocError, AllocFailed, Global};
 use std::marker::Model;
 use std::snapshot::Snapshot;
 use std::sync::Wait;
@@ -56,14 +58,14 @@ impl<M: Machine> Model for ClusterSeat<M> {
 
 impl<M: Machine> ClusterGate<M> {
     /// Opens a gate with these machines, numbered from 0. Returns the gate and its first seat. Fails
-    /// with `OutOfMemory` if memory runs out, and returns the machines.
+    /// if memory runs out, and returns the machines.
     pub fn open(
         alloc: Global,
         machines: Vec<M>,
-    ) -> Result<(ClusterGate<M>, ClusterSeat<M>), (Fault, Vec<M>)>
+    ) -> Result<(ClusterGate<M>, ClusterSeat<M>), AllocFailed<Vec<M>>>
         requires { (0 < length machines.items) × (length machines.items ≤ 2 ^ 32) }
         ensures ok { IfOk result (λ r. (r.0.opening ≡ machines.items) × (r.0.ticket ≡ 0) × (r.1 ≡ first_seat r.0)) }
-        ensures refused { IfErr result (λ r. (r.0 ≡ OutOfMemory) × (r.1.items ≡ machines.items)) }
+        ensures refused { IfErr result (λ back. back.value.items ≡ machines.items) }
     {
         ClusterGate::open_at(alloc, machines, 0)
     }
@@ -73,18 +75,20 @@ impl<M: Machine> ClusterGate<M> {
         alloc: Global,
         machines: Vec<M>,
         ticket: u64,
-    ) -> Result<(ClusterGate<M>, ClusterSeat<M>), (Fault, Vec<M>)>
+    ) -> Result<(ClusterGate<M>, ClusterSeat<M>), AllocFailed<Vec<M>>>
         requires machines { (0 < length machines.items) × (length machines.items ≤ 2 ^ 32) }
         requires ticket { ticket ≤ 2 ^ 62 }
         ensures ok { IfOk result (λ r. (r.0.opening ≡ machines.items) × (r.0.ticket ≡ ticket) × (r.1 ≡ first_seat r.0)) }
-        ensures refused { IfErr result (λ r. (r.0 ≡ OutOfMemory) × (r.1.items ≡ machines.items)) }
+        ensures refused { IfErr result (λ back. back.value.items ≡ machines.items) }
     {
         let count = machines.len();
-        let Ok(sleepers) = sleepers_of(alloc, count) else {
-            return Err((Fault::OutOfMemory, machines));
+        let sleepers = match sleepers_of(alloc, count) {
+            Ok(sleepers) => sleepers,
+            Err(AllocError) => return Err(AllocFailed { value: machines }),
         };
-        let Ok(words) = words_of(alloc, count, ticket) else {
-            return Err((Fault::OutOfMemory, machines));
+        let words = match words_of(alloc, count, ticket) {
+            Ok(words) => words,
+            Err(AllocError) => return Err(AllocFailed { value: machines }),
         };
         let beginning = Beginning {
             states: machines,
@@ -94,7 +98,7 @@ impl<M: Machine> ClusterGate<M> {
         let Beginning { states, ticket: _ } = beginning;
         match Table::new(alloc, words.as_slice(), states, &opening) {
             Ok((board, place)) => Ok((ClusterGate { board, sleepers }, ClusterSeat { place })),
-            Err(Refused { slots }) => Err((Fault::OutOfMemory, slots)),
+            Err(Refused { slots }) => Err(AllocFailed { value: slots }),
         }
     }
 
@@ -107,23 +111,23 @@ impl<M: Machine> ClusterGate<M> {
         slot: u64,
         moment: u64,
         call: M::Call,
-    ) -> Result<M::Reply, Fault>
+    ) -> Result<M::Reply, RequestError>
         requires seat { seat.old.gate ≡ gate_home self.now }
         requires node { node < length self.now.opening }
         requires fits { (first : M) → get_elem? self.now.opening node ≡ some first → M.fits (M.place first) slot call }
         ensures same { (seat.new.gate ≡ seat.old.gate) × (seat.new.number ≡ seat.old.number) }
         ensures reply { IfOk result (λ r. Extends M.turns self.now.opening node seat.old (Some (entry slot moment call r)) seat.new) }
-        ensures refused { IfErr result (λ f. (f ≡ OutOfMemory) ⊎ (f ≡ GateSpent)) }
+        ensures refused { IfRefusal result (λ f. f ≡ GateSpent) }
         ensures blank { result ≡ Err OutOfMemory → Extends M.turns self.now.opening node seat.old None seat.new }
         ensures lacks { result ≡ Err OutOfMemory → LeavesLacking M.turns M.may_lack self.now.opening seat.old.number node slot call seat.new.history }
-        ensures spent { result ≡ Err GateSpent → (seat.new.history ≡ seat.old.history) × Met node seat.new.spent }
-        ensures unspent { result ≢ Err GateSpent → seat.new.spent ≡ seat.old.spent }
+        ensures spent { result ≡ Err (RefusedWith GateSpent) → (seat.new.history ≡ seat.old.history) × Met node seat.new.spent }
+        ensures unspent { result ≢ Err (RefusedWith GateSpent) → seat.new.spent ≡ seat.old.spent }
         ensures room { HasRoom seat.new.gate.opening seat.new.history }
-        ensures again { Met node seat.old.spent → result ≡ Err GateSpent }
+        ensures again { Met node seat.old.spent → result ≡ Err (RefusedWith GateSpent) }
     {
         let sleepers = &self.sleepers[node];
         let Some(ticket) = draw(rt, &self.board, sleepers, &mut seat.place, node) else {
-            return Err(Fault::GateSpent);
+            return Err(RequestError::Refused(Fault::GateSpent));
         };
         let drawn = Snapshot::of(&seat.place);
         wait(rt, &self.board, sleepers, &mut seat.place, node, ticket);
@@ -140,7 +144,7 @@ impl<M: Machine> ClusterGate<M> {
         );
         match answer {
             Ok(reply) => Ok(reply),
-            Err(error) => Err(Fault::from(error)),
+            Err(error) => Err(RequestError::from(error)),
         }
     }
 

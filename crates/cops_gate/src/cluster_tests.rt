@@ -3,7 +3,7 @@ ghost use Rattle.cops_gate.specs.Seats.{gate_home};
 
 use crate::tests::{Ask, Counter};
 use crate::{ClusterGate, ClusterSeat};
-use cops_types::Fault;
+use cops_types::{Fault, RequestError};
 use std::alloc::{AllocError, Global};
 use std::process::Abort;
 use std::sync::Wait;
@@ -29,8 +29,12 @@ fn the_last_ticket_of_a_node_is_drawn_once(rt: HostRuntime) -> Result<(), Fail> 
     };
     let mut other = gate.split(&mut seat);
     assert!(rt; gate.step(&rt, &mut seat, 1, 0, 0, Ask::Go) == Ok(1));
-    assert!(rt; gate.step(&rt, &mut seat, 1, 0, 0, Ask::Go) == Err(Fault::GateSpent));
-    assert!(rt; gate.step(&rt, &mut other, 1, 0, 0, Ask::Go) == Err(Fault::GateSpent));
+    assert!(rt;
+        gate.step(&rt, &mut seat, 1, 0, 0, Ask::Go) == Err(RequestError::Refused(Fault::GateSpent))
+    );
+    assert!(rt;
+        gate.step(&rt, &mut other, 1, 0, 0, Ask::Go) == Err(RequestError::Refused(Fault::GateSpent))
+    );
     assert!(rt; gate.step(&rt, &mut seat, 2, 0, 0, Ask::Go) == Ok(1));
     let room = Vec::with_capacity(alloc, 3)?;
     let left = gate.close(seat, room);
@@ -48,7 +52,7 @@ fn a_turn_without_memory_is_blank(rt: HostRuntime) -> Result<(), Fail> {
         panic!(rt; "no memory")
     };
     assert!(rt; gate.step(&rt, &mut seat, 0, 0, 0, Ask::Go) == Ok(1));
-    assert!(rt; gate.step(&rt, &mut seat, 0, 0, 0, Ask::Refuse) == Err(Fault::OutOfMemory));
+    assert!(rt; gate.step(&rt, &mut seat, 0, 0, 0, Ask::Refuse) == Err(RequestError::OutOfMemory));
     assert!(rt; gate.step(&rt, &mut seat, 2, 0, 0, Ask::Go) == Ok(1));
     assert!(rt; gate.step(&rt, &mut seat, 0, 0, 0, Ask::Go) == Ok(2));
     Ok(())
@@ -178,9 +182,9 @@ fn refused_memory_hands_the_states_back(rt: HostRuntime) -> Result<(), Fail> {
     let counters = three(alloc).expect(&rt, "memory");
     let made = match ClusterGate::open(alloc, counters) {
         Ok(made) => Ok(made),
-        Err((fault, states)) => {
-            assert!(rt; fault == Fault::OutOfMemory && states.len() == 3);
-            ClusterGate::open(alloc, states)
+        Err(back) => {
+            assert!(rt; back.value.len() == 3);
+            ClusterGate::open(alloc, back.value)
         }
     };
     let Ok((gate, mut seat)) = made else {

@@ -1,6 +1,8 @@
 //! A gate of one machine, and its seats. It is a gate of several machines with one node.
 ghost use Rattle.std.specs.Prelude.{◌≡◌, ◌≢◌, ◌+◌, ◌^◌, length, ◌≤◌, ◌⊎◌, [], ◌∷◌, Some, None, Err, IfOk, IfErr, IfSome};
-ghost use Rattle.cops_types.specs.declared.faults.Fault.TheVariants.{GateSpent, OutOfMemory};
+ghost use Rattle.cops_types.specs.declared.faults.Fault.TheVariants.{GateSpent};
+ghost use Rattle.cops_types.specs.declared.request_errors.RequestError.TheVariants.{OutOfMemory, Refused};
+ghost use Rattle.cops_types.specs.RequestErrors.{IfRefusal};
 ghost use Rattle.cops_gate.specs.Filtered.{GrowsThere, LacksThere};
 ghost use Rattle.cops_gate.specs.History.{entry, turns_at, turns_of, IsLegal, StartsWith};
 ghost use Rattle.cops_gate.specs.Rule.{Met};
@@ -8,8 +10,8 @@ ghost use Rattle.cops_gate.specs.Seats.{Known, first_seat};
 ghost use Rattle.cops_gate.specs.Single.{ClosesAlone, SingleOrigin, as_cluster, single_home};
 
 use crate::cluster_gate::{ClusterGate, ClusterSeat};
-use cops_types::{Fault, Machine};
-use std::alloc::Global;
+use cops_types::{Machine, RequestError};
+use std::alloc::{AllocError, AllocFailed, Global};
 use std::marker::Model;
 use std::snapshot::Snapshot;
 use std::sync::Wait;
@@ -44,11 +46,11 @@ impl<M: Machine> Model for GateSeat<M> {
 }
 
 impl<M: Machine> Gate<M> {
-    /// Opens a gate with this state. Returns the gate and its first seat. Fails with `OutOfMemory`
-    /// if memory runs out, and returns the state.
-    pub fn first(alloc: Global, state: M) -> Result<(Gate<M>, GateSeat<M>), (Fault, M)>
+    /// Opens a gate with this state. Returns the gate and its first seat. Fails if memory runs
+    /// out, and returns the state.
+    pub fn first(alloc: Global, state: M) -> Result<(Gate<M>, GateSeat<M>), AllocFailed<M>>
         ensures ok { IfOk result (λ r. (r.0.opening ≡ state) × (r.0.ticket ≡ 0) × (r.1 ≡ first_seat (as_cluster r.0))) }
-        ensures refused { IfErr result (λ r. (r.0 ≡ OutOfMemory) × (r.1 ≡ state)) }
+        ensures refused { IfErr result (λ back. back.value ≡ state) }
     {
         Gate::first_at(alloc, state, 0)
     }
@@ -58,19 +60,22 @@ impl<M: Machine> Gate<M> {
         alloc: Global,
         state: M,
         ticket: u64,
-    ) -> Result<(Gate<M>, GateSeat<M>), (Fault, M)>
+    ) -> Result<(Gate<M>, GateSeat<M>), AllocFailed<M>>
         requires { ticket ≤ 2 ^ 62 }
         ensures ok { IfOk result (λ r. (r.0.opening ≡ state) × (r.0.ticket ≡ ticket) × (r.1 ≡ first_seat (as_cluster r.0))) }
-        ensures refused { IfErr result (λ r. (r.0 ≡ OutOfMemory) × (r.1 ≡ state)) }
+        ensures refused { IfErr result (λ back. back.value ≡ state) }
     {
-        let Ok(mut machines) = Vec::with_capacity(alloc, 1) else {
-            return Err((Fault::OutOfMemory, state));
+        let mut machines = match Vec::with_capacity(alloc, 1) {
+            Ok(machines) => machines,
+            Err(AllocError) => return Err(AllocFailed { value: state }),
         };
         let opening = Snapshot::of(&state);
         machines.push_reserved(state);
         match ClusterGate::open_at(alloc, machines, ticket) {
             Ok((cluster, seat)) => Ok((Gate { cluster, opening }, GateSeat { seat })),
-            Err((fault, machines)) => Err((fault, only_machine(machines))),
+            Err(AllocFailed { value }) => Err(AllocFailed {
+                value: only_machine(value),
+            }),
         }
     }
 
@@ -82,18 +87,18 @@ impl<M: Machine> Gate<M> {
         slot: u64,
         moment: u64,
         call: M::Call,
-    ) -> Result<M::Reply, Fault>
+    ) -> Result<M::Reply, RequestError>
         requires seat { seat.old.gate ≡ single_home self.now }
         requires fits { M.fits (M.place self.now.opening) slot call }
         ensures same { (seat.new.gate ≡ seat.old.gate) × (seat.new.number ≡ seat.old.number) }
         ensures reply { IfOk result (λ r. GrowsThere M.turns self.now.opening seat.old.number 0 seat.old.history (Some (entry slot moment call r)) seat.new.history) }
-        ensures refused { IfErr result (λ f. (f ≡ OutOfMemory) ⊎ (f ≡ GateSpent)) }
+        ensures refused { IfRefusal result (λ f. f ≡ GateSpent) }
         ensures blank { result ≡ Err OutOfMemory → GrowsThere M.turns self.now.opening seat.old.number 0 seat.old.history None seat.new.history }
         ensures lacks { result ≡ Err OutOfMemory → LacksThere M.turns M.may_lack self.now.opening seat.old.number 0 slot call seat.new.history }
-        ensures spent { result ≡ Err GateSpent → (seat.new.history ≡ seat.old.history) × Met 0 seat.new.spent }
-        ensures unspent { result ≢ Err GateSpent → seat.new.spent ≡ seat.old.spent }
+        ensures spent { result ≡ Err (Refused GateSpent) → (seat.new.history ≡ seat.old.history) × Met 0 seat.new.spent }
+        ensures unspent { result ≢ Err (Refused GateSpent) → seat.new.spent ≡ seat.old.spent }
         ensures room { self.now.ticket + length seat.new.history ≤ 2 ^ 62 }
-        ensures again { Met 0 seat.old.spent → result ≡ Err GateSpent }
+        ensures again { Met 0 seat.old.spent → result ≡ Err (Refused GateSpent) }
     {
         self.cluster.step(rt, &mut seat.seat, 0, slot, moment, call)
     }

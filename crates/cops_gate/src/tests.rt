@@ -2,7 +2,7 @@ ghost use Rattle.std.specs.Prelude.{◌≡◌, ◌+◌, ◌^◌, ◌≤◌, ◌�
 ghost use Rattle.cops_gate.specs.Seats.{gate_home};
 
 use crate::{ClusterGate, ClusterSeat, Gate};
-use cops_types::{Fault, Machine};
+use cops_types::{Fault, Machine, RequestError};
 use std::alloc::{AllocError, Global};
 use std::process::Abort;
 use std::sync::Wait;
@@ -70,9 +70,15 @@ fn the_last_ticket_is_drawn_once(rt: HostRuntime) -> Result<(), Fail> {
     };
     let mut other = gate.split(&mut seat);
     assert!(rt; gate.step(&rt, &mut seat, 0, 0, Ask::Go) == Ok(1));
-    assert!(rt; gate.step(&rt, &mut seat, 0, 0, Ask::Go) == Err(Fault::GateSpent));
-    assert!(rt; gate.step(&rt, &mut seat, 0, 0, Ask::Go) == Err(Fault::GateSpent));
-    assert!(rt; gate.step(&rt, &mut other, 0, 0, Ask::Go) == Err(Fault::GateSpent));
+    assert!(rt;
+        gate.step(&rt, &mut seat, 0, 0, Ask::Go) == Err(RequestError::Refused(Fault::GateSpent))
+    );
+    assert!(rt;
+        gate.step(&rt, &mut seat, 0, 0, Ask::Go) == Err(RequestError::Refused(Fault::GateSpent))
+    );
+    assert!(rt;
+        gate.step(&rt, &mut other, 0, 0, Ask::Go) == Err(RequestError::Refused(Fault::GateSpent))
+    );
     let Some(left) = gate.close(seat) else {
         panic!(rt; "a turn was under way")
     };
@@ -86,7 +92,7 @@ fn a_turn_without_memory_is_blank(rt: HostRuntime) -> Result<(), Fail> {
         panic!(rt; "no memory")
     };
     assert!(rt; gate.step(&rt, &mut seat, 0, 0, Ask::Go) == Ok(1));
-    assert!(rt; gate.step(&rt, &mut seat, 0, 0, Ask::Refuse) == Err(Fault::OutOfMemory));
+    assert!(rt; gate.step(&rt, &mut seat, 0, 0, Ask::Refuse) == Err(RequestError::OutOfMemory));
     assert!(rt; gate.step(&rt, &mut seat, 0, 0, Ask::Go) == Ok(2));
     let Some(left) = gate.close(seat) else {
         panic!(rt; "a turn was under way")
@@ -100,9 +106,9 @@ fn a_turn_without_memory_is_blank(rt: HostRuntime) -> Result<(), Fail> {
 fn refused_memory_hands_the_state_back(rt: HostRuntime) {
     let made = match Gate::first(rt.alloc(), Counter { count: 7 }) {
         Ok(made) => Ok(made),
-        Err((fault, state)) => {
-            assert!(rt; fault == Fault::OutOfMemory && state.count == 7);
-            Gate::first(rt.alloc(), state)
+        Err(back) => {
+            assert!(rt; back.value.count == 7);
+            Gate::first(rt.alloc(), back.value)
         }
     };
     let Ok((gate, mut seat)) = made else {
