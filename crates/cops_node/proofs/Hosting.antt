@@ -1,11 +1,10 @@
 -- What turns at a node, and tenants that come and go, do to what its slots hold.
-use Rattle.std.proofs.Common.{◌≡◌, ◌≢◌, ℕ, ◌⊎◌, inl, inr, Bool, true, false, true≢false, cond, ◌||◌, List, [], refl, sym, ap, ◌∙◌, subst, Option, None, Some, is_some, nat_le}
+use Rattle.std.proofs.Common.{◌≡◌, ◌≢◌, ℕ, Bool, true, false, true≢false, cond, ◌||◌, List, [], refl, sym, ap, ◌∙◌, subst, Option, None, Some, is_some, nat_le}
 use Rattle.std.specs.Prelude.{IsOk, IsSome, Ok, Err, Result}
 use Rattle.std.specs.Option.{option_map}
 use Rattle.cops_types.specs.declared.configs.Tenant.{Tenant}
 use Rattle.cops_types.specs.declared.faults.Fault.{Fault}
-use Rattle.cops_types.specs.declared.faults.Fault.TheVariants.{NoSlot, OutOfMemory, UnknownTenant}
-use Rattle.cops_types.specs.Refusal.{IsAnswer, refused_if}
+use Rattle.cops_types.specs.declared.faults.Fault.TheVariants.{NoSlot, UnknownTenant}
 use Rattle.cops_model.specs.declared.calls.AuditEntry.{AuditEntry}
 use Rattle.cops_model.specs.declared.calls.NodeCall.{NodeCall}
 use Rattle.cops_model.specs.declared.calls.NodeReply.{NodeReply}
@@ -108,15 +107,6 @@ module _ (old : Shared) (slot moment : ℕ) (tenant : Tenant) where
         others = λ other differ. let kept = others other differ in holds_same other old new kept.0 kept.1;
         home = same;
       }
-
--- memory is all that can be refused then
-pub only_memory : (slot : ℕ) (old : Shared) (result : Result Unit Fault) (fault : Fault) → IsAnswer (refused_if (is_taken slot old) NoSlot) result → is_taken slot old ≡ false → result ≡ Err fault → fault ≡ OutOfMemory
-only_memory slot old result fault answer free is =
-    by (subst (IsAnswer (refused_if (is_taken slot old) NoSlot)) is answer)
-  where
-    by : (fault ≡ OutOfMemory) ⊎ (refused_if (is_taken slot old) NoSlot ≡ Some fault) → fault ≡ OutOfMemory
-    by (inl memory) = memory
-    by (inr refused) = absurd (true≢false (ap is_some (sym refused ∙ ap (λ b. refused_if b NoSlot) free)))
 
 -- ---- a tenant goes
 

@@ -1,11 +1,14 @@
 -- A tenant comes or goes at one node after another.
-use Rattle.std.proofs.Common.{◌≡◌, ◌⊎◌, inl, inr, ℕ, zero, suc, ◌<◌, ◌≤◌, ◌≢◌, ◌||◌, Bool, true, false, List, [], ◌∷◌, length, get_or, set, refl, sym, subst, ap, ◌∙◌, arith}
+use Rattle.std.proofs.Common.{◌≡◌, inl, inr, ℕ, zero, suc, ◌<◌, ◌≤◌, ◌≢◌, ◌||◌, Bool, true, false, List, [], ◌∷◌, length, get_or, set, refl, sym, subst, ap, ◌∙◌, arith}
 use Rattle.std.specs.List.{AllByRecursion, list_any}
 use Rattle.std.specs.Prelude.{None, Some, Ok, Err, OnErr, OnOk, Result}
 use Rattle.std.proofs.lemmas.Bool.Decides.{eqb_tells}
 use Rattle.cops_types.specs.declared.faults.Fault.{Fault}
-use Rattle.cops_types.specs.declared.faults.Fault.TheVariants.{NoSlot, OutOfMemory}
+use Rattle.cops_types.specs.declared.faults.Fault.TheVariants.{NoSlot}
+use Rattle.cops_types.specs.declared.request_errors.RequestError.{RequestError}
+use Rattle.cops_types.specs.declared.request_errors.RequestError.TheVariants.{OutOfMemory, Refused}
 use Rattle.cops_types.specs.Refusal.{refused_if}
+use Rattle.cops_types.specs.RequestErrors.{AnswersUnless, IfRefusal}
 use Rattle.cops_types.specs.declared.quotas.Quota.{Quota}
 use Rattle.cops_model.specs.declared.calls.AuditEntry.{AuditEntry}
 use Rattle.cops_model.specs.Place.{Place}
@@ -82,9 +85,11 @@ first_below Is n end old now h is lt = let same = first_length Is n old now h in
 
 -- ---- a slot that is free
 
-pub only_lack : (taken : Bool) (fault : Fault) → taken ≡ false → (fault ≡ OutOfMemory) ⊎ (refused_if taken NoSlot ≡ Some fault) → fault ≡ OutOfMemory
-only_lack taken fault free (inl lack) = lack
-only_lack taken fault free (inr refused) = let none : None ≡ Some fault = ap (λ t. refused_if t NoSlot) (sym free) ∙ refused in cc
+-- a free slot is refused for memory alone
+pub unrefused : (P : Fault → Type 0) (taken : Bool) (result : Result (Unit {0}) RequestError) → taken ≡ false → AnswersUnless (refused_if taken NoSlot) result → IfRefusal result P
+unrefused P taken (Ok done) free answer = tt
+unrefused P taken (Err OutOfMemory) free answer = tt
+unrefused P taken (Err (Refused fault)) free answer = let none : None ≡ Some fault = ap (λ t. refused_if t NoSlot) (sym free) ∙ answer in cc
 
 pub none_taken : (slot : ℕ) (nodes : List Shared) → list_any (is_taken slot) nodes ≡ false → AllByRecursion (λ (node : Shared). is_taken slot node ≡ false) nodes
 none_taken slot [] none = tt
@@ -170,7 +175,7 @@ holds_admitted shape slot first_clock quota old new h was = record {
 }
 
 -- whether memory was refused or not
-pub holds_after : (shape : Shape) (slot first_clock : ℕ) (quota : Quota) (old new : List Shared) (result : Result (Unit {0}) Fault) → OnOk result (AtEach (IsAdmitted slot first_clock quota) old new) → OnErr result (AtEach (IsClosed slot) old new)
+pub holds_after : {E : Type 0} (shape : Shape) (slot first_clock : ℕ) (quota : Quota) (old new : List Shared) (result : Result (Unit {0}) E) → OnOk result (AtEach (IsAdmitted slot first_clock quota) old new) → OnErr result (AtEach (IsClosed slot) old new)
     → HoldsNodes shape old → HoldsNodes shape new
 holds_after shape slot first_clock quota old new (Ok done) came went was = holds_admitted shape slot first_clock quota old new came was
 holds_after shape slot first_clock quota old new (Err fault) came went was = holds_closed shape slot old new went was

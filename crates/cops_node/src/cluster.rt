@@ -3,7 +3,8 @@ ghost use Rattle.std.specs.Prelude.{◌≡◌, ℕ, ◌*◌, ◌≤◌, slice_ge
 ghost use Rattle.cops_types.specs.declared.configs.Tenant.{Tenant};
 ghost use Rattle.cops_types.specs.HeadLines.{are_sizes};
 ghost use Rattle.cops_types.specs.Layout.{NODES};
-ghost use Rattle.cops_types.specs.Refusal.{IsAnswer, refused_if};
+ghost use Rattle.cops_types.specs.Refusal.{refused_if};
+ghost use Rattle.cops_types.specs.RequestErrors.{AnswersUnless};
 ghost use Rattle.cops_types.specs.TenantConfig.{TenantConfig, tenant_config};
 ghost use Rattle.cops_types.specs.Version.{last_clock};
 ghost use Rattle.cops_types.specs.declared.faults.Fault.TheVariants.{NoSlot};
@@ -21,7 +22,7 @@ use crate::lives::{admit_at_all, close_at_all, is_taken_at_any};
 use crate::node::Node;
 use crate::nodes::Nodes;
 use crate::{NodeCall, NodeId, NodeReply};
-use cops_types::{Config, Fault, Quota};
+use cops_types::{Config, Fault, Quota, RequestError};
 use std::alloc::{AllocError, Global};
 use std::marker::Model;
 
@@ -88,20 +89,21 @@ impl Cluster0 {
     }
 
     /// Gives a free slot to a tenant with this first clock, at most `Version::LAST_CLOCK`, and
-    /// quota: at all nodes, or at none. No audit records it. Fails with `NoSlot` if a node's slot
-    /// is not free, and with `OutOfMemory` if memory runs out.
-    pub fn admit(&mut self, slot: u64, first_clock: u64, quota: Quota) -> Result<(), Fault>
+    /// quota: at all nodes, or at none. No audit records it. Is refused with `NoSlot` if a node's
+    /// slot is not free; memory can run out only otherwise.
+    pub fn admit(&mut self, slot: u64, first_clock: u64, quota: Quota) -> Result<(), RequestError>
         requires { first_clock ≤ last_clock }
-        ensures answer { IsAnswer (refused_if (list_any (is_taken slot) self.old.nodes) NoSlot) result }
+        ensures answer { AnswersUnless (refused_if (list_any (is_taken slot) self.old.nodes) NoSlot) result }
         ensures ok { OnOk result (AtEach (IsAdmitted slot first_clock quota) self.old.nodes self.new.nodes) }
         ensures taken { list_any (is_taken slot) self.old.nodes ≡ true → self.new ≡ self.old }
         ensures err { OnErr result (list_any (is_taken slot) self.old.nodes ≡ false → AtEach (IsClosed slot) self.old.nodes self.new.nodes) }
         ensures shape { self.new.shape ≡ self.old.shape }
     {
         if is_taken_at_any(self.nodes.as_slice(), slot) {
-            return Err(Fault::NoSlot);
+            return Err(RequestError::Refused(Fault::NoSlot));
         }
-        admit_at_all(&mut self.nodes, slot, first_clock, quota)
+        admit_at_all(&mut self.nodes, slot, first_clock, quota)?;
+        Ok(())
     }
 
     /// Drops a slot's tenant and all its data at every node; without a tenant, nothing. Allocates

@@ -3,7 +3,7 @@ ghost use Rattle.std.specs.Prelude.{◌≡◌};
 
 use crate::test_nodes::{QUOTA, config, tenant};
 use crate::{Cluster0, NodeCall, NodeId, NodeReply, Nodes, has_clocks};
-use cops_types::{Config, Fault, Tenant};
+use cops_types::{Config, Fault, RequestError, Tenant};
 use std::alloc::Global;
 use std::process::Abort;
 
@@ -39,13 +39,13 @@ fn admission_at_all_nodes_under_want_of_memory(rt: HostRuntime) {
     let mut cluster = two_nodes(&rt, alloc);
     let beta = tenant(&rt, b"beta", 2, 0, QUOTA);
     for slot in 2..4 {
-        if let Err(fault) = cluster.admit(slot, 0, QUOTA) {
-            assert!(rt; fault == Fault::OutOfMemory);
+        if let Err(error) = cluster.admit(slot, 0, QUOTA) {
+            assert!(rt; error == RequestError::OutOfMemory);
             assert_opened(&rt, &cluster, slot, &beta, false);
             assert!(rt; cluster.admit(slot, 0, QUOTA).is_ok());
         }
         assert_opened(&rt, &cluster, slot, &beta, true);
-        assert!(rt; cluster.admit(slot, 0, QUOTA) == Err(Fault::NoSlot));
+        assert!(rt; cluster.admit(slot, 0, QUOTA) == Err(RequestError::Refused(Fault::NoSlot)));
     }
     assert_opened(&rt, &cluster, 0, &beta, true);
     assert_opened(&rt, &cluster, 4, &beta, false);

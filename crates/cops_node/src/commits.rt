@@ -13,21 +13,8 @@ use crate::parts::{self, Counters};
 use crate::rows::PackedExchange;
 use crate::{Home, NodeCall, NodeReply, Terms};
 use cops_store::Store;
-use cops_types::{Entry, Key};
+use cops_types::Entry;
 use std::alloc::{AllocError, Global};
-
-// Makes room in the store for an entry of the slot and key.
-pub(crate) fn reserve(store: &mut Store, slot: usize, key: &Key) -> Result<(), AllocError>
-    requires { slot < store.old.tenants }
-    ensures ready { OnOk result (HasRoom slot key.now store.new) }
-    ensures rows { store.new.rows ≡ store.old.rows }
-    ensures tenants { store.new.tenants ≡ store.old.tenants }
-{
-    match store.reserve(slot, key) {
-        Ok(()) => Ok(()),
-        Err(_) => Err(AllocError),
-    }
-}
 
 // Stores an entry into reserved room.
 pub(crate) fn keep(
@@ -99,7 +86,7 @@ pub(crate) fn commit(
         return Ok(answered);
     }
     let shared = entry.copy(alloc)?;
-    reserve(store, slot, &key)?;
+    store.reserve(slot, &key)?;
     keep(home, terms, counters, store, slot, now, entry);
     Ok(Answered {
         told: NodeReply::Committed,

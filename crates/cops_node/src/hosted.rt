@@ -96,10 +96,8 @@ impl Machine for HostedNode {
                 if self.node.is_taken(slot) {
                     return Ok(SlotReply::Refused(Fault::NoSlot));
                 }
-                match self.node.admit(slot, tenant.first_clock, tenant.quota) {
-                    Ok(()) => Ok(SlotReply::Admitted),
-                    Err(_) => Err(AllocError),
-                }
+                self.node.give(slot, tenant.first_clock, tenant.quota)?;
+                Ok(SlotReply::Admitted)
             }
             SlotCall::Close => match self.node.close(slot) {
                 Ok(()) => Ok(SlotReply::Closed),

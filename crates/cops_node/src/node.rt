@@ -4,7 +4,7 @@ ghost use Rattle.std.specs.List.{AllByRecursion};
 ghost use Rattle.std.specs.Option.{option_copied};
 ghost use Rattle.cops_types.specs.HeadLines.{are_sizes};
 ghost use Rattle.cops_types.specs.Version.{last_clock};
-ghost use Rattle.cops_types.specs.Refusal.{IsAnswer};
+ghost use Rattle.cops_types.specs.RequestErrors.{AnswersUnless};
 ghost use Rattle.cops_node.specs.Lacking.{MayLack};
 ghost use Rattle.cops_node.specs.Parts.{AuditFits, IsAudited, IsSlotKept, IsSoloTurn, IsTurn, JoinsTrail, admit_refusal, are_clocks, has_audit_room, home_of, is_opened_as, is_taken, no_calls, opening_terms, place_at, place_for, solo_of, terms_at, trail_of};
 ghost use Rattle.cops_model.specs.Place.{Place, is_home, is_other_dc, is_other_equivalent, fits};
@@ -14,7 +14,7 @@ use crate::parts::{self, Part};
 use crate::{AuditPages, AuditRow, Home, NodeCall, NodeId, NodeReply, Shape, Terms, part_turns};
 use cops_outbox::Outbox;
 use cops_store::Store;
-use cops_types::{Config, Fault, Key, Machine, Quota, Seeds, Tenant};
+use cops_types::{Config, Fault, Key, Machine, Quota, RequestError, Seeds, Tenant};
 use std::alloc::{AllocError, Global};
 use std::marker::Model;
 
@@ -59,10 +59,7 @@ impl Node {
         let parts = parts::fresh_parts(alloc, config)?;
         let tenants = parts.len();
         let seeds = Seeds::of_tokens(config.tenants.as_slice());
-        let store = match Store::seeded(alloc, tenants, seeds) {
-            Ok(store) => store,
-            Err(_) => return Err(AllocError),
-        };
+        let store = Store::seeded(alloc, tenants, seeds)?;
         let outbox = Outbox::new(alloc, config.data_centres as usize, id.dc, tenants)?;
         let audit = AuditPages::new(alloc, tenants)?;
         Ok(Node {
@@ -170,12 +167,12 @@ impl Node {
     }
 
     /// Gives a free slot to a tenant with this first clock, at most `Version::LAST_CLOCK`, and
-    /// quota. The tenant starts with an empty node. The call is not audited. Fails with a `Fault`
-    /// if the slot is not free, or if memory runs out.
-    pub fn admit(&mut self, slot: u64, first_clock: u64, quota: Quota) -> Result<(), Fault>
+    /// quota. The tenant starts with an empty node. The call is not audited. Is refused if the slot
+    /// is not free; memory can run out only otherwise.
+    pub fn admit(&mut self, slot: u64, first_clock: u64, quota: Quota) -> Result<(), RequestError>
         requires { first_clock ≤ last_clock }
-        ensures answer { IsAnswer (admit_refusal slot self.old) result }
-        ensures taken { IsTrue (is_taken slot self.old) → result ≡ Err Fault.NoSlot }
+        ensures answer { AnswersUnless (admit_refusal slot self.old) result }
+        ensures taken { IsTrue (is_taken slot self.old) → result ≡ Err (RequestError.Refused Fault.NoSlot) }
         ensures place { OnOk result (place_at slot self.new ≡ Some (place_for self.old.home first_clock quota)) }
         ensures empty { OnOk result (trail_of slot self.new.audit ≡ []) }
         ensures slots { OnOk result (length self.new.terms ≡ max (length self.old.terms) (slot + 1)) }
@@ -184,8 +181,28 @@ impl Node {
         ensures err { OnErr result (self.new ≡ self.old) }
     {
         if self.is_taken(slot) {
-            return Err(Fault::NoSlot);
+            return Err(RequestError::Refused(Fault::NoSlot));
         }
+        self.give(slot, first_clock, quota)?;
+        Ok(())
+    }
+
+    // Gives a slot that is free to a tenant. Fails with `AllocError` if memory runs out.
+    pub(crate) fn give(
+        &mut self,
+        slot: u64,
+        first_clock: u64,
+        quota: Quota,
+    ) -> Result<(), AllocError>
+        requires clock { first_clock ≤ last_clock }
+        requires free { is_taken slot self.old ≡ false }
+        ensures place { OnOk result (place_at slot self.new ≡ Some (place_for self.old.home first_clock quota)) }
+        ensures empty { OnOk result (trail_of slot self.new.audit ≡ []) }
+        ensures slots { OnOk result (length self.new.terms ≡ max (length self.old.terms) (slot + 1)) }
+        ensures others { (other : ℕ) → other ≢ slot → IsSlotKept other self.old self.new }
+        ensures home { self.new.home ≡ self.old.home }
+        ensures err { OnErr result (self.new ≡ self.old) }
+    {
         let terms = Terms { first_clock, quota };
         let slot = slot as usize;
         let part = parts::fresh(self.alloc, self.home.shape.data_centres, terms)?;

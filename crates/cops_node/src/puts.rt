@@ -20,7 +20,7 @@ use crate::rows::PackedExchange;
 use crate::{Home, NodeCall, NodeReply, Terms, commits};
 use cops_outbox::Outbox;
 use cops_store::Store;
-use cops_types::{Deps, Entry, EntryParts, Fault, Key, Near, Quota, Value, Version};
+use cops_types::{Deps, Entry, EntryParts, Fault, Key, Near, Quota, RequestError, Value, Version};
 use std::alloc::{AllocError, Global};
 
 // Returns the version that a put with these dependencies gets.
@@ -107,11 +107,11 @@ pub(crate) fn put(
         },
     )?;
     let shared = entry.copy(alloc)?;
-    commits::reserve(store, slot, &key)?;
+    store.reserve(slot, &key)?;
     match outbox.push(slot, &entry, terms.quota.outbox) {
         Ok(()) => {}
-        Err(Fault::OutOfMemory) => return Err(AllocError),
-        Err(_) => unreachable!(),
+        Err(RequestError::OutOfMemory) => return Err(AllocError),
+        Err(RequestError::Refused(_)) => unreachable!(),
     }
     commits::keep(home, terms, counters, store, slot, now, entry);
     Ok(Answered {

@@ -1,12 +1,12 @@
 //! Tenants that come to a node and go.
 use crate::test_nodes::{QUOTA, admit, latest, refused, says, tenant, with_acme_alone};
-use cops_types::{Fault, Quota};
+use cops_types::{Fault, Quota, RequestError};
 
 #[test]
 fn a_slot_without_a_tenant(rt: HostRuntime) {
     let alloc = rt.alloc();
     let mut node = with_acme_alone(&rt, alloc);
-    assert!(rt; admit(&rt, &mut node, 0) == Err(Fault::NoSlot));
+    assert!(rt; admit(&rt, &mut node, 0) == Err(RequestError::Refused(Fault::NoSlot)));
     says(
         &rt,
         &mut node,
@@ -34,7 +34,7 @@ fn a_tenant_is_known_by_clock_and_quota(rt: HostRuntime) {
 #[test]
 fn there_are_64_slots(rt: HostRuntime) {
     let mut node = with_acme_alone(&rt, rt.alloc());
-    assert!(rt; admit(&rt, &mut node, 64) == Err(Fault::NoSlot));
+    assert!(rt; admit(&rt, &mut node, 64) == Err(RequestError::Refused(Fault::NoSlot)));
     assert!(rt; admit(&rt, &mut node, 63).is_ok());
     assert!(rt; node.close(64) == Err(Fault::UnknownTenant));
 }

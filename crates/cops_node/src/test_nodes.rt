@@ -1,7 +1,8 @@
 //! Nodes and calls in few words, and short forms of replies.
 use crate::{Node, NodeCall, NodeId, NodeReply, Wanted, has_clocks};
 use cops_types::{
-    Config, Deps, Entry, EntryParts, Fault, Key, Name, Near, Quota, Tenant, Tenants, Value, Version,
+    Config, Deps, Entry, EntryParts, Fault, Key, Name, Near, Quota, RequestError, Tenant, Tenants,
+    Value, Version,
 };
 use std::alloc::Global;
 use std::process::Abort;
@@ -95,9 +96,9 @@ pub(crate) fn with_acme_alone(rt: &impl Abort, alloc: Global) -> Node {
 }
 
 /// Admits a tenant, again if memory ran out.
-pub(crate) fn admit(rt: &impl Abort, node: &mut Node, slot: u64) -> Result<(), Fault> {
+pub(crate) fn admit(rt: &impl Abort, node: &mut Node, slot: u64) -> Result<(), RequestError> {
     match node.admit(slot, 0, QUOTA) {
-        Err(Fault::OutOfMemory) => node.admit(slot, 0, QUOTA),
+        Err(RequestError::OutOfMemory) => node.admit(slot, 0, QUOTA),
         said => said,
     }
 }
@@ -112,7 +113,7 @@ pub(crate) fn ask(
     assert!(rt; node.fits(&call));
     match node.step(slot, moment, call) {
         Ok(reply) => reply,
-        Err(error) => NodeReply::Refused(Fault::from(error)),
+        Err(_) => NodeReply::Refused(Fault::OutOfMemory),
     }
 }
 

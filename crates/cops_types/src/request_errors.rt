@@ -1,5 +1,6 @@
 ghost use Rattle.std.specs.Prelude.{◌≡◌};
 ghost use Rattle.cops_types.specs.declared.request_errors.RequestError.TheVariants.{OutOfMemory, Refused};
+ghost use Rattle.cops_types.specs.RequestErrors.{fault_told};
 
 use crate::faults::Fault;
 use std::alloc::{AllocError, AllocFailed};
@@ -11,6 +12,18 @@ pub enum RequestError {
     Refused(Fault),
     /// Memory ran out.
     OutOfMemory,
+}
+
+impl RequestError {
+    /// Returns the fault that a reply to the client says. Nothing else makes `E23`.
+    pub fn told(self) -> Fault
+        ensures { result ≡ fault_told self }
+    {
+        match self {
+            RequestError::Refused(fault) => fault,
+            RequestError::OutOfMemory => Fault::OutOfMemory,
+        }
+    }
 }
 
 impl From<Fault> for RequestError {

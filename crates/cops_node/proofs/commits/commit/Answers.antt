@@ -42,7 +42,7 @@ returns-clause-done c = λ outbox solo moment h.
     let above = ap (λ (v : Timestamp). version_le v (mark v.node solo.recs)) (sym c.version.ensures) ∙ sym (c.was_committed.ensures solo.recs h.marks) ∙ c.if-was_committed.false in
     let last = c.mark_for-mark.ensures solo.recs h.marks in
     let next = next_is (record entry { prev = c.prev-prev.result }) entry c.mark_for-mark.result c.version-2.result solo.recs (λ i. record entry { prev = c.prev-prev.ensures i }) c.version-2.ensures last ∙ not_false (version_eq c.prev-prev.result c.mark_for-mark.result) (sym c.ne.ensures ∙ c.if-ne.false) in
-    commit_done c.args.slot c.args.now (place_under c.args.home.now c.args.terms.now) c.args.counters.now c.keep.new.counters c.args.store.now c.reserve.new.store c.keep.new.store outbox solo entry c.args.entry moment h above next
+    commit_done c.args.slot c.args.now (place_under c.args.home.now c.args.terms.now) c.args.counters.now c.keep.new.counters c.args.store.now c.reserve.new.self c.keep.new.store outbox solo entry c.args.entry moment h above next
     ((λ i. commit_refusal (place_under c.args.home.now c.args.terms.now) solo (record entry { key = sym c.key-key.ensures i; value = sym c.value.ensures i })) ∙ sym (c.in_default.ensures.records solo.recs h.rows))
     (equivalent_of (is_home (place_under c.args.home.now c.args.terms.now) entry.key) (is_other_equivalent (place_under c.args.home.now c.args.terms.now) entry.version.node) c.requires.fits)
     (λ _. c.args.entry) c.reserve.ensures.rows c.reserve.ensures.tenants c.keep.ensures.stands_for c.keep.ensures.tenants c.keep.ensures.fits c.keep.ensures.clock c.keep.ensures.marks

@@ -22,7 +22,7 @@ keep-requires-clause-data_centre c =
 
 pub returns-clause-done : goal.returns-clause-done
 returns-clause-done c = λ solo moment h.
-    put_done c.args.slot c.args.now (place_under c.args.home.now c.args.terms.now) c.args.counters.now c.keep.new.counters c.args.store.now c.reserve.new.store c.keep.new.store c.args.outbox.now c.push.new.self solo
+    put_done c.args.slot c.args.now (place_under c.args.home.now c.args.terms.now) c.args.counters.now c.keep.new.counters c.args.store.now c.reserve.new.self c.keep.new.store c.args.outbox.now c.push.new.self solo
     c.args.key c.args.value c.args.deps c.args.near c.in-Ok.version c.own_mark-prev.result c.in_ok-entry.entry moment h (c.in-Ok.ensures.version solo h) (c.in-Ok.ensures.unrefused solo h)
     (c.own_mark-prev.ensures solo.recs h.marks) c.in_ok-entry.ensures c.reserve.ensures.rows c.reserve.ensures.tenants c.keep.ensures.stands_for c.keep.ensures.tenants c.keep.ensures.fits
     c.keep.ensures.clock c.keep.ensures.marks c.push.ensures.own c.push.ensures.tenants c.push.ensures.data_centres c.in-Ok-push.ensures.entry

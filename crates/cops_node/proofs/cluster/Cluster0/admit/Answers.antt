@@ -12,3 +12,8 @@ pub invariant_of-self : goal.invariant_of-self
 invariant_of-self c =
     holds_after (record { data_centres = c.self.inside.data_centres; shards = c.self.inside.shards }) c.args.slot c.args.first_clock c.args.quota c.self.inside.nodes.items c.admit_at_all.new.nodes.items c.admit_at_all.result
     c.admit_at_all.ensures.ok c.admit_at_all.ensures.err c.self.invariant
+
+pub invariant_of-self-2 : goal.invariant_of-self-2
+invariant_of-self-2 c =
+    holds_after (record { data_centres = c.self.inside.data_centres; shards = c.self.inside.shards }) c.args.slot c.args.first_clock c.args.quota c.self.inside.nodes.items c.admit_at_all.new.nodes.items c.admit_at_all.result
+    c.admit_at_all.ensures.ok c.admit_at_all.ensures.err c.self.invariant

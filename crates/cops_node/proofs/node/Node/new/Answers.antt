@@ -10,8 +10,8 @@ none c = c.in_ok-audit.ensures ∙ ap no_calls (c.len-tenants.ensures ∙ c.in_o
 pub invariant_of-result : goal.invariant_of-result
 invariant_of-result c =
     let long : c.len-tenants.result ≡ length c.in_ok-parts.parts.items = c.len-tenants.ensures ∙ c.in_ok-parts.parts.ok.0 in
-    IsNode-new c.args.config.now c.args.id c.in_ok-parts.parts.items c.in_ok-audit.audit.trails c.in-Ok.store c.in_ok-outbox.outbox c.requires.dc_exists c.requires.shard_exists (numbers_fit c.args.config.now c.requires.sizes) (clocks_of c.args.config.now.tenants c.requires.clocks)
-    c.in_ok-parts.ensures.fresh c.in_ok-parts.ensures.terms (c.in-Ok.ensures.tenants ∙ long) (c.in_ok-outbox.ensures ∙ ap (λ n. record { own = c.args.id.dc; tenants = n; queues = replicate c.args.config.now.data_centres (replicate n []) }) long) c.in-Ok.ensures.empty
+    IsNode-new c.args.config.now c.args.id c.in_ok-parts.parts.items c.in_ok-audit.audit.trails c.in_ok-store.store c.in_ok-outbox.outbox c.requires.dc_exists c.requires.shard_exists (numbers_fit c.args.config.now c.requires.sizes) (clocks_of c.args.config.now.tenants c.requires.clocks)
+    c.in_ok-parts.ensures.fresh c.in_ok-parts.ensures.terms (c.in_ok-store.ensures.tenants ∙ long) (c.in_ok-outbox.ensures ∙ ap (λ n. record { own = c.args.id.dc; tenants = n; queues = replicate c.args.config.now.data_centres (replicate n []) }) long) c.in_ok-store.ensures.empty
     (none c)
 
 pub returns : goal.returns
