@@ -4,7 +4,7 @@ ghost use Rattle.std.specs.Prelude.{◌≡◌, ◌<◌, length};
 
 use crate::entries::{entry, version};
 use cops_outbox::{Ack, Outbox};
-use cops_types::Fault;
+use cops_types::{Fault, RequestError};
 use std::alloc::Global;
 use std::process::Abort;
 
@@ -57,8 +57,8 @@ fn push_within(
 {
     let entry = entry(rt, alloc, b"x", clock);
     let before = (seen(outbox, 1), seen(outbox, 2));
-    if let Err(fault) = outbox.push(slot, &entry, limit) {
-        assert_eq!(rt; fault, Fault::OutOfMemory);
+    if let Err(error) = outbox.push(slot, &entry, limit) {
+        assert_eq!(rt; error, RequestError::OutOfMemory);
         assert_eq!(rt; (seen(outbox, 1), seen(outbox, 2)), before);
         outbox.push(slot, &entry, limit).expect(rt, "memory");
     }
@@ -116,7 +116,10 @@ fn tenants_share_a_queue(rt: HostRuntime) {
     let first = entry(&rt, alloc, b"x", 1);
     outbox.push(0, &first, 1).expect(&rt, "room");
     let second = entry(&rt, alloc, b"x", 2);
-    assert_eq!(rt; outbox.push(0, &second, 1), Err(Fault::OutboxFull));
+    assert_eq!(
+        rt; outbox.push(0, &second, 1),
+        Err(RequestError::Refused(Fault::OutboxFull))
+    );
     outbox.push(1, &first, 1).expect(&rt, "room");
     assert_eq!(rt; front(&outbox, 1, 1), 1);
     assert_eq!(rt; outbox.ack(1, 1, version(&rt, 2)), Ack::NotFront);

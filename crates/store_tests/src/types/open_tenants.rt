@@ -1,4 +1,4 @@
-use cops_types::{Fault, Name, OpenTenants, Quota, Tenant, Tenants};
+use cops_types::{Name, OpenTenants, Quota, RequestError, Tenant, Tenants};
 use std::alloc::Global;
 use std::process::Abort;
 use uuid::Uuid;
@@ -56,8 +56,8 @@ fn admissions_under_want_of_memory(rt: HostRuntime) {
     for last in 0u8..20 {
         let slot = last as u64;
         let name = [b'a' + last];
-        if let Err(fault) = tenants.admit_at(slot, tenant(&rt, &name, last)) {
-            assert!(&rt; fault == Fault::OutOfMemory);
+        if let Err(error) = tenants.admit_at(slot, tenant(&rt, &name, last)) {
+            assert!(&rt; error == RequestError::OutOfMemory);
             assert!(&rt; tenants.len() as u64 == slot);
             assert!(&rt; tenants.slot_of_name(&name).is_none());
             admit(&rt, &mut tenants, slot, &name, last);
