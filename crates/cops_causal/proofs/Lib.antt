@@ -60,6 +60,7 @@ pub mod SeenContexts
 pub mod ShownLists
 pub mod CallCounts
 pub mod LawChecks
+pub mod FixedPasts
 pub mod LawExamples
 pub mod FreshViews
 pub mod ViewLaws

@@ -9,9 +9,10 @@ ghost use Rattle.cops_model.specs.Cluster.{SoloCluster, new_cluster};
 ghost use Rattle.cops_model.specs.Events.{IsFrontOf, IsSpared, before_lack, cluster_of, solo_replies};
 ghost use Rattle.cops_model.specs.Goes.{Goes};
 ghost use Rattle.cops_model.specs.Laws.{AllAreCausal, IsCausal};
+ghost use Rattle.cops_model.specs.Precedence.{AreLeastPasts};
 ghost use Rattle.cops_model.specs.Told.{operations_told};
-ghost use Rattle.cops_causal.specs.ClientLaws.{KeepsClientLaws, ShowsTrueLists};
-ghost use Rattle.cops_causal.specs.Transcript.{operations_in, transcript};
+ghost use Rattle.cops_causal.specs.ClientLaws.{AreOfPuts, HaveDistinctVersions, KeepsClientLaws, ShowsTrueLists};
+ghost use Rattle.cops_causal.specs.Transcript.{Ended, operations_in, transcript};
 ghost use Rattle.cops_causal.specs.Views.{ShowsPasts};
 
 /// Every run of a tenant alone keeps the causal laws, however often memory runs out in it.
@@ -55,4 +56,10 @@ pub fn every_transcript_is_causal()
     ensures shown { (config : TenantConfig) (acts : List Act) (told : List Reply) (left : SoloCluster) → 0 < config.shards → Goes config acts told (new_cluster config) left → ShowsTrueLists acts told }
     ensures pasts { (config : TenantConfig) (acts : List Act) (told : List Reply) (left : SoloCluster) → 0 < config.shards → Goes config acts told (new_cluster config) left → ShowsPasts acts told }
     ensures operations { (acts : List Act) (told : List Reply) → operations_in (transcript acts told) ≡ operations_told acts told }
+{}
+
+/// If each value that was read is of an earlier put, and no two puts have one version, then the
+/// pasts follow the least relation. So no transcript breaks that law alone.
+pub fn values_and_versions_fix_pasts()
+    ensures { (es : List Ended) → AreOfPuts es → HaveDistinctVersions (operations_in es) → AreLeastPasts (operations_in es) }
 {}
