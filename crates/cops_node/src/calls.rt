@@ -4,10 +4,9 @@ ghost use Rattle.cops_node.specs.Parts.{HasSolo, IsDone, IsUnchanged, OthersStay
 ghost use Rattle.cops_model.specs.Place.{fits};
 
 use crate::answered::Answered;
-use crate::parts::{self, Counters};
+use crate::parts::{self, Caller, Counters, Storage};
+use crate::puts::PutParts;
 use crate::{Home, NodeCall, Terms, commits, gets, puts, queues};
-use cops_outbox::Outbox;
-use cops_store::Store;
 use std::alloc::{AllocError, Global};
 
 // Does what the call requests. Allocates all memory before the first change.
@@ -16,39 +15,55 @@ pub(crate) fn act(
     home: &Home,
     terms: &Terms,
     counters: &mut Counters,
-    store: &mut Store,
-    outbox: &mut Outbox,
-    slot: usize,
-    now: u64,
+    storage: &mut Storage,
+    caller: Caller,
     call: NodeCall,
 ) -> Result<Answered, AllocError>
-    requires stands { HasSolo slot now (place_under home.now terms.now) counters.old store.old outbox.old }
+    requires stands { HasSolo caller.slot caller.moment (place_under home.now terms.now) counters.old storage.old.store storage.old.outbox }
     requires fits { IsTrue (fits (place_under home.now terms.now) call) }
-    ensures done { IfOk result (λ answered. IsDone slot now (place_under home.now terms.now) call answered.told counters.old store.old outbox.old counters.new store.new outbox.new) }
+    ensures done { IfOk result (λ answered. IsDone caller.slot caller.moment (place_under home.now terms.now) call answered.told counters.old storage.old.store storage.old.outbox counters.new storage.new.store storage.new.outbox) }
     ensures kept { IfOk result (λ answered. answered.kept ≡ record { call = call; reply = answered.told }) }
-    ensures others { OthersStay slot store.old outbox.old store.new outbox.new }
-    ensures err { OnErr result (IsUnchanged counters.old store.old outbox.old counters.new store.new outbox.new) }
+    ensures others { OthersStay caller.slot storage.old.store storage.old.outbox storage.new.store storage.new.outbox }
+    ensures err { OnErr result (IsUnchanged counters.old storage.old.store storage.old.outbox counters.new storage.new.store storage.new.outbox) }
 {
     match call {
         NodeCall::Get(key, wanted) => {
-            gets::get(alloc, home, counters, store, slot, now, &key, wanted)
+            gets::get(alloc, home, counters, &storage.store, caller, &key, wanted)
         }
-        NodeCall::Put(key, value, deps, near) => puts::put(
-            alloc, home, terms, counters, store, outbox, slot, now, key, value, deps, near,
-        ),
+        NodeCall::Put(key, value, deps, near) => {
+            let put = PutParts {
+                key,
+                value,
+                deps,
+                near,
+            };
+            puts::put(alloc, home, terms, counters, storage, caller, put)
+        }
         NodeCall::DepCheck(key, version) => {
             let committed = parts::was_committed(home, counters, version);
             let answered = Answered::checked(alloc, &key, version, committed)?;
             Ok(answered)
         }
-        NodeCall::Pull(dc) => queues::pull(alloc, outbox, slot, dc),
+        NodeCall::Pull(dc) => queues::pull(alloc, &storage.outbox, caller.slot, dc),
         NodeCall::Commit(entry) => {
-            commits::commit(alloc, home, terms, counters, store, slot, now, entry)
+            commits::commit(
+                alloc,
+                home,
+                terms,
+                counters,
+                &mut storage.store,
+                caller,
+                entry,
+            )
         }
         NodeCall::Ack(dc, version) => {
-            let answer = outbox.ack(slot, dc as usize, version);
+            let answer = storage.outbox.ack(caller.slot, dc as usize, version);
             Ok(queues::acknowledged(answer, dc, version))
         }
-        NodeCall::Collect => Ok(Answered::removed(store.collect(slot, now, home.trans_time))),
+        NodeCall::Collect => Ok(Answered::removed(
+            storage
+                .store
+                .collect(caller.slot, caller.moment, home.trans_time),
+        )),
     }
 }

@@ -9,7 +9,7 @@ ghost use Rattle.cops_node.specs.Parts.{HasSolo, IsDone, IsHome, place_under};
 ghost use Rattle.cops_model.specs.Place.{fits};
 
 use crate::answered::Answered;
-use crate::parts::{self, Counters};
+use crate::parts::{self, Caller, Counters};
 use crate::rows::PackedExchange;
 use crate::{Home, NodeCall, NodeReply, Terms};
 use cops_store::Store;
@@ -22,25 +22,24 @@ pub(crate) fn keep(
     terms: &Terms,
     counters: &mut Counters,
     store: &mut Store,
-    slot: usize,
-    now: u64,
+    caller: Caller,
     entry: Entry,
 )
     requires home { IsHome home.now }
-    requires slot { slot < store.old.tenants }
+    requires slot { caller.slot < store.old.tenants }
     requires data_centre { entry.version.node / home.now.shape.shards < length counters.old.marks.items }
-    requires new_version { LacksVersion entry.key entry.version (rows_of slot store.old) }
-    requires room { HasRoom slot entry.key store.old }
-    requires unrefused { refusal terms.now.quota (size_of entry) (use_of (rows_of slot store.old)) ≡ None }
-    ensures stands_for { (tracked : List Tracked) → StandsFor (rows_of slot store.old) tracked → NoneLater now tracked → StandsFor (rows_of slot store.new) (tracked ++ record { record_of = record { entry = entry; at = now }; removed = false } ∷ []) }
-    ensures others { (other : ℕ) → other ≢ slot → rows_of other store.new ≡ rows_of other store.old }
+    requires new_version { LacksVersion entry.key entry.version (rows_of caller.slot store.old) }
+    requires room { HasRoom caller.slot entry.key store.old }
+    requires unrefused { refusal terms.now.quota (size_of entry) (use_of (rows_of caller.slot store.old)) ≡ None }
+    ensures stands_for { (tracked : List Tracked) → StandsFor (rows_of caller.slot store.old) tracked → NoneLater caller.moment tracked → StandsFor (rows_of caller.slot store.new) (tracked ++ record { record_of = record { entry = entry; at = caller.moment }; removed = false } ∷ []) }
+    ensures others { (other : ℕ) → other ≢ caller.slot → rows_of other store.new ≡ rows_of other store.old }
     ensures tenants { store.new.tenants ≡ store.old.tenants }
     ensures fits { entry.version.clock ≤ last_clock }
     ensures clock { counters.new.clock ≡ max counters.old.clock entry.version.clock }
     ensures marks { counters.new.marks.items ≡ slice_set counters.old.marks.items (entry.version.node / home.now.shape.shards) entry.version }
 {
     parts::raise(home, counters, entry.version());
-    match store.insert(slot, entry, now, &terms.quota) {
+    match store.insert(caller.slot, entry, caller.moment, &terms.quota) {
         Ok(()) => {}
         Err(_) => unreachable!(),
     }
@@ -53,15 +52,14 @@ pub(crate) fn commit(
     terms: &Terms,
     counters: &mut Counters,
     store: &mut Store,
-    slot: usize,
-    now: u64,
+    caller: Caller,
     entry: Entry,
 ) -> Result<Answered, AllocError>
-    requires stands { (outbox : Queues) × HasSolo slot now (place_under home.now terms.now) counters.old store.old outbox }
+    requires stands { (outbox : Queues) × HasSolo caller.slot caller.moment (place_under home.now terms.now) counters.old store.old outbox }
     requires fits { IsTrue (fits (place_under home.now terms.now) (NodeCall.Commit entry)) }
-    ensures done { IfOk result (λ answered. (outbox : Queues) → IsDone slot now (place_under home.now terms.now) (NodeCall.Commit entry) answered.told counters.old store.old outbox counters.new store.new outbox) }
+    ensures done { IfOk result (λ answered. (outbox : Queues) → IsDone caller.slot caller.moment (place_under home.now terms.now) (NodeCall.Commit entry) answered.told counters.old store.old outbox counters.new store.new outbox) }
     ensures kept { IfOk result (λ answered. answered.kept ≡ record { call = NodeCall.Commit entry; reply = answered.told }) }
-    ensures others { (other : ℕ) → other ≢ slot → rows_of other store.new ≡ rows_of other store.old }
+    ensures others { (other : ℕ) → other ≢ caller.slot → rows_of other store.new ≡ rows_of other store.old }
     ensures tenants { store.new.tenants ≡ store.old.tenants }
     ensures counters { OnErr result (counters.new ≡ counters.old) }
     ensures rows { OnErr result (store.new.rows ≡ store.old.rows) }
@@ -81,13 +79,13 @@ pub(crate) fn commit(
         });
     }
     let key = entry.key();
-    if let Some(fault) = store.refused(slot, &key, entry.value(), &terms.quota) {
+    if let Some(fault) = store.refused(caller.slot, &key, entry.value(), &terms.quota) {
         let answered = Answered::refused(alloc, NodeCall::Commit(entry), fault)?;
         return Ok(answered);
     }
     let shared = entry.copy(alloc)?;
-    store.reserve(slot, &key)?;
-    keep(home, terms, counters, store, slot, now, entry);
+    store.reserve(caller.slot, &key)?;
+    keep(home, terms, counters, store, caller, entry);
     Ok(Answered {
         told: NodeReply::Committed,
         kept: PackedExchange::committed(shared),

@@ -7,7 +7,7 @@ ghost use Rattle.cops_model.specs.SoloNode.{SoloNode};
 ghost use Rattle.cops_model.specs.Step.{found as found_reply, reply_latest, reply_exact, reply_get};
 
 use crate::answered::Answered;
-use crate::parts::{self, Counters};
+use crate::parts::{self, Caller, Counters};
 use crate::rows::PackedExchange;
 use crate::{Home, NodeCall, NodeReply, Wanted};
 use cops_store::Store;
@@ -72,17 +72,16 @@ fn missing(
 fn exactly(
     alloc: Global,
     store: &Store,
-    slot: usize,
+    caller: Caller,
     key: &Key,
     version: Version,
-    now: u64,
     was_here: bool,
 ) -> Result<Answered, AllocError>
-    requires { (tracked : List Tracked) × StandsFor (rows_of slot store.now) tracked }
-    ensures told { IfOk result (λ answered. (tracked : List Tracked) → StandsFor (rows_of slot store.now) tracked → answered.told ≡ reply_exact now was_here (exact_record key.now version tracked)) }
+    requires { (tracked : List Tracked) × StandsFor (rows_of caller.slot store.now) tracked }
+    ensures told { IfOk result (λ answered. (tracked : List Tracked) → StandsFor (rows_of caller.slot store.now) tracked → answered.told ≡ reply_exact caller.moment was_here (exact_record key.now version tracked)) }
     ensures kept { IfOk result (λ answered. answered.kept ≡ record { call = NodeCall.Get key.now (Wanted.Exactly version); reply = answered.told }) }
 {
-    match store.exactly(slot, key, version) {
+    match store.exactly(caller.slot, key, version) {
         Some(stored) => {
             let told = found(alloc, stored)?;
             let entry = stored.entry.copy(alloc)?;
@@ -91,7 +90,7 @@ fn exactly(
                 kept: PackedExchange::found_exactly(entry),
             })
         }
-        None => missing(alloc, key, version, now, was_here),
+        None => missing(alloc, key, version, caller.moment, was_here),
     }
 }
 
@@ -101,21 +100,20 @@ pub(crate) fn get(
     home: &Home,
     counters: &Counters,
     store: &Store,
-    slot: usize,
-    now: u64,
+    caller: Caller,
     key: &Key,
     wanted: Wanted,
 ) -> Result<Answered, AllocError>
     requires home { IsHome home.now }
-    requires stored { (tracked : List Tracked) × StandsFor (rows_of slot store.now) tracked }
-    ensures told { IfOk result (λ answered. (solo : SoloNode) → StandsFor (rows_of slot store.now) solo.recs → AreMarks home.now counters.now.marks.items solo.recs → solo.moment ≡ now → answered.told ≡ reply_get key.now wanted solo) }
+    requires stored { (tracked : List Tracked) × StandsFor (rows_of caller.slot store.now) tracked }
+    ensures told { IfOk result (λ answered. (solo : SoloNode) → StandsFor (rows_of caller.slot store.now) solo.recs → AreMarks home.now counters.now.marks.items solo.recs → solo.moment ≡ caller.moment → answered.told ≡ reply_get key.now wanted solo) }
     ensures kept { IfOk result (λ answered. answered.kept ≡ record { call = NodeCall.Get key.now wanted; reply = answered.told }) }
 {
     match wanted {
-        Wanted::Latest => latest(alloc, store, slot, key),
+        Wanted::Latest => latest(alloc, store, caller.slot, key),
         Wanted::Exactly(version) => {
             let was_here = parts::was_committed(home, counters, version);
-            exactly(alloc, store, slot, key, version, now, was_here)
+            exactly(alloc, store, caller, key, version, was_here)
         }
     }
 }

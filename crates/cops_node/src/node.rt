@@ -10,7 +10,7 @@ ghost use Rattle.cops_node.specs.Parts.{AuditFits, IsAudited, IsSlotKept, IsSolo
 ghost use Rattle.cops_model.specs.Place.{Place, is_home, is_other_dc, is_other_equivalent, fits};
 ghost use Rattle.cops_node.specs.Shape.{place_in};
 
-use crate::parts::{self, Part};
+use crate::parts::{self, Caller, Part, Storage};
 use crate::{AuditPages, AuditRow, Home, NodeCall, NodeId, NodeReply, Shape, Terms, part_turns};
 use cops_outbox::Outbox;
 use cops_store::Store;
@@ -32,8 +32,7 @@ pub struct Node {
     parts: Vec<Option<Part>>,
     /// The calls of all slots.
     audit: AuditPages,
-    store: Store,
-    outbox: Outbox,
+    storage: Storage,
 }
 
 impl Model for Node {
@@ -43,7 +42,7 @@ impl Model for Node {
 
     ghost view = { λ n. record { home = n.home; terms = terms_in n.parts.items; audit = n.audit.trails } };
 
-    ghost invariant = { λ n. IsNode n.home n.parts.items n.audit.trails n.store n.outbox };
+    ghost invariant = { λ n. IsNode n.home n.parts.items n.audit.trails n.storage.store n.storage.outbox };
 }
 
 impl Node {
@@ -74,8 +73,7 @@ impl Node {
             },
             parts,
             audit,
-            store,
-            outbox,
+            storage: Storage { store, outbox },
         })
     }
 
@@ -206,8 +204,8 @@ impl Node {
         let terms = Terms { first_clock, quota };
         let slot = slot as usize;
         let part = parts::fresh(self.alloc, self.home.shape.data_centres, terms)?;
-        self.store.admit(slot)?;
-        self.outbox.admit(slot)?;
+        self.storage.store.admit(slot)?;
+        self.storage.outbox.admit(slot)?;
         let more = (slot + 1).saturating_sub(self.parts.len());
         parts::add_vacant(self.alloc, &mut self.parts, &mut self.audit, more)?;
         self.parts[slot] = Some(part);
@@ -230,8 +228,8 @@ impl Node {
             return Err(Fault::UnknownTenant);
         }
         let slot = slot as usize;
-        self.store.drop_slot(slot);
-        self.outbox.drop_slot(slot);
+        self.storage.store.drop_slot(slot);
+        self.storage.outbox.drop_slot(slot);
         self.audit.clear(slot);
         self.parts[slot] = None;
         Ok(())
@@ -264,10 +262,8 @@ impl Node {
                     &self.home,
                     part,
                     &mut self.audit,
-                    &mut self.store,
-                    &mut self.outbox,
-                    slot,
-                    moment,
+                    &mut self.storage,
+                    Caller { slot, moment },
                     call,
                 )?;
                 Ok(reply)

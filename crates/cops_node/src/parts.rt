@@ -9,6 +9,8 @@ ghost use Rattle.cops_node.specs.Parts.{AreMarks, IsFresh, IsHome, is_opened_as,
 ghost use Rattle.cops_model.specs.Place.{node_number};
 
 use crate::{AuditPages, Home, Terms};
+use cops_outbox::Outbox;
+use cops_store::Store;
 use cops_types::{Config, Tenant, Version};
 use std::alloc::{AllocError, Global};
 
@@ -26,6 +28,20 @@ pub struct Part {
     pub terms: Terms,
     pub moment: u64,
     pub counters: Counters,
+}
+
+/// The slot and the timestamp of a call.
+#[derive(Clone, Copy, Debug)]
+pub(crate) struct Caller {
+    pub(crate) slot: usize,
+    pub(crate) moment: u64,
+}
+
+/// The records and the queues of all tenants.
+#[derive(Drop)]
+pub(crate) struct Storage {
+    pub(crate) store: Store,
+    pub(crate) outbox: Outbox,
 }
 
 // Returns the part of a tenant before any call, at a node of this many data centres.

@@ -15,13 +15,20 @@ ghost use Rattle.cops_model.specs.SoloNode.{SoloNode};
 ghost use Rattle.cops_model.specs.Step.{node_put_refusal, put as put_turn, unchanged, version_of_put};
 
 use crate::answered::Answered;
-use crate::parts::{self, Counters};
+use crate::parts::{self, Caller, Counters, Storage};
 use crate::rows::PackedExchange;
 use crate::{Home, NodeCall, NodeReply, Terms, commits};
-use cops_outbox::Outbox;
-use cops_store::Store;
 use cops_types::{Deps, Entry, EntryParts, Fault, Key, Near, Quota, RequestError, Value, Version};
 use std::alloc::{AllocError, Global};
+
+/// What a call `Put` stores: a key's value, with its dependencies.
+#[derive(Debug, Drop)]
+pub(crate) struct PutParts {
+    pub(crate) key: Key,
+    pub(crate) value: Value,
+    pub(crate) deps: Deps,
+    pub(crate) near: Near,
+}
 
 // Returns the version that a put with these dependencies gets.
 fn next_version(home: &Home, counters: &Counters, deps: &Deps) -> Result<Version, Fault>
@@ -39,25 +46,25 @@ fn version_for(
     home: &Home,
     terms: &Terms,
     counters: &Counters,
-    store: &Store,
-    outbox: &Outbox,
+    storage: &Storage,
     slot: usize,
-    key: &Key,
-    value: &Value,
-    deps: &Deps,
+    put: &PutParts,
 ) -> Result<Version, Fault>
-    requires { (solo : SoloNode) × StandsAt slot (place_under home.now terms.now) counters.now store.now outbox.now solo }
-    ensures version { IfOk result (λ version. (solo : SoloNode) → StandsAt slot (place_under home.now terms.now) counters.now store.now outbox.now solo → version_of_put (place_under home.now terms.now) solo deps.now ≡ Some version) }
-    ensures unrefused { IfOk result (λ version. (solo : SoloNode) → StandsAt slot (place_under home.now terms.now) counters.now store.now outbox.now solo → node_put_refusal (place_under home.now terms.now) solo key.now value.now ≡ None) }
-    ensures room { IfOk result (λ version. refusal terms.now.quota (length key.now + length value.now) (use_of (rows_of slot store.now)) ≡ None) }
-    ensures sendable { OnOk result (is_full slot terms.now.quota.outbox outbox.now ≡ false) }
-    ensures refused { IfErr result (λ fault. (solo : SoloNode) → StandsAt slot (place_under home.now terms.now) counters.now store.now outbox.now solo → (near : List Pair) → put_turn (place_under home.now terms.now) solo key.now value.now deps.now near ≡ unchanged (NodeReply.Refused fault) solo) }
+    requires { (solo : SoloNode) × StandsAt slot (place_under home.now terms.now) counters.now storage.now.store storage.now.outbox solo }
+    ensures version { IfOk result (λ version. (solo : SoloNode) → StandsAt slot (place_under home.now terms.now) counters.now storage.now.store storage.now.outbox solo → version_of_put (place_under home.now terms.now) solo put.now.deps ≡ Some version) }
+    ensures unrefused { IfOk result (λ version. (solo : SoloNode) → StandsAt slot (place_under home.now terms.now) counters.now storage.now.store storage.now.outbox solo → node_put_refusal (place_under home.now terms.now) solo put.now.key put.now.value ≡ None) }
+    ensures room { IfOk result (λ version. refusal terms.now.quota (length put.now.key + length put.now.value) (use_of (rows_of slot storage.now.store)) ≡ None) }
+    ensures sendable { OnOk result (is_full slot terms.now.quota.outbox storage.now.outbox ≡ false) }
+    ensures refused { IfErr result (λ fault. (solo : SoloNode) → StandsAt slot (place_under home.now terms.now) counters.now storage.now.store storage.now.outbox solo → (near : List Pair) → put_turn (place_under home.now terms.now) solo put.now.key put.now.value put.now.deps near ≡ unchanged (NodeReply.Refused fault) solo) }
 {
-    let version = next_version(home, counters, deps)?;
-    if let Some(fault) = store.refused(slot, key, value.owned(), &terms.quota) {
+    let version = next_version(home, counters, &put.deps)?;
+    if let Some(fault) = storage
+        .store
+        .refused(slot, &put.key, put.value.owned(), &terms.quota)
+    {
         return Err(fault);
     }
-    if outbox.is_full(slot, terms.quota.outbox) {
+    if storage.outbox.is_full(slot, terms.quota.outbox) {
         return Err(Fault::OutboxFull);
     }
     Ok(version)
@@ -69,51 +76,45 @@ pub(crate) fn put(
     home: &Home,
     terms: &Terms,
     counters: &mut Counters,
-    store: &mut Store,
-    outbox: &mut Outbox,
-    slot: usize,
-    now: u64,
-    key: Key,
-    value: Value,
-    deps: Deps,
-    near: Near,
+    storage: &mut Storage,
+    caller: Caller,
+    put: PutParts,
 ) -> Result<Answered, AllocError>
-    requires { HasSolo slot now (place_under home.now terms.now) counters.old store.old outbox.old }
-    ensures done { IfOk result (λ answered. IsDone slot now (place_under home.now terms.now) (NodeCall.Put key value deps near) answered.told counters.old store.old outbox.old counters.new store.new outbox.new) }
-    ensures kept { IfOk result (λ answered. answered.kept ≡ record { call = NodeCall.Put key value deps near; reply = answered.told }) }
-    ensures others { OthersStay slot store.old outbox.old store.new outbox.new }
-    ensures err { OnErr result (IsUnchanged counters.old store.old outbox.old counters.new store.new outbox.new) }
+    requires { HasSolo caller.slot caller.moment (place_under home.now terms.now) counters.old storage.old.store storage.old.outbox }
+    ensures done { IfOk result (λ answered. IsDone caller.slot caller.moment (place_under home.now terms.now) (NodeCall.Put put.key put.value put.deps put.near) answered.told counters.old storage.old.store storage.old.outbox counters.new storage.new.store storage.new.outbox) }
+    ensures kept { IfOk result (λ answered. answered.kept ≡ record { call = NodeCall.Put put.key put.value put.deps put.near; reply = answered.told }) }
+    ensures others { OthersStay caller.slot storage.old.store storage.old.outbox storage.new.store storage.new.outbox }
+    ensures err { OnErr result (IsUnchanged counters.old storage.old.store storage.old.outbox counters.new storage.new.store storage.new.outbox) }
 {
-    let version = match version_for(
-        home, terms, counters, store, outbox, slot, &key, &value, &deps,
-    ) {
+    let version = match version_for(home, terms, counters, storage, caller.slot, &put) {
         Ok(version) => version,
         Err(fault) => {
-            let call = NodeCall::Put(key, value, deps, near);
+            let call = NodeCall::Put(put.key, put.value, put.deps, put.near);
             let answered = Answered::refused(alloc, call, fault)?;
             return Ok(answered);
         }
     };
+    let key = put.key;
     let prev = parts::own_mark(home, counters);
     let entry = Entry::new(
         alloc,
         EntryParts {
             key,
             version,
-            value,
-            deps,
-            near,
+            value: put.value,
+            deps: put.deps,
+            near: put.near,
             prev,
         },
     )?;
     let shared = entry.copy(alloc)?;
-    store.reserve(slot, &key)?;
-    match outbox.push(slot, &entry, terms.quota.outbox) {
+    storage.store.reserve(caller.slot, &key)?;
+    match storage.outbox.push(caller.slot, &entry, terms.quota.outbox) {
         Ok(()) => {}
         Err(RequestError::OutOfMemory) => return Err(AllocError),
         Err(RequestError::Refused(_)) => unreachable!(),
     }
-    commits::keep(home, terms, counters, store, slot, now, entry);
+    commits::keep(home, terms, counters, &mut storage.store, caller, entry);
     Ok(Answered {
         told: NodeReply::Stored(version),
         kept: PackedExchange::stored(shared),

@@ -10,7 +10,7 @@ returns-clause-call c = c.get.ensures ∙ ap (λ (v : Shared). slice_get (trail_
 pub returns-clause-solo : goal.returns-clause-solo
 returns-clause-solo c = λ own found.
     c.get.ensures
-    ∙ ap (λ t. slice_get t c.args.place) (solo_trail c.self.inside.home c.args.slot c.self.inside.parts.items c.self.inside.audit.trails c.self.inside.store c.self.inside.outbox own c.self.invariant (ap (place_at c.args.slot) c.self.view_is ∙ found))
+    ∙ ap (λ t. slice_get t c.args.place) (solo_trail c.self.inside.home c.args.slot c.self.inside.parts.items c.self.inside.audit.trails c.self.inside.storage.store c.self.inside.storage.outbox own c.self.invariant (ap (place_at c.args.slot) c.self.view_is ∙ found))
     ∙ ap (λ (v : Shared). slice_get (solo_of c.args.slot own v).trail c.args.place) c.self.view_is
 
 pub returns-clause-vacant : goal.returns-clause-vacant

@@ -21,7 +21,7 @@ clear-requires c =
 
 pub invariant_of-self : goal.invariant_of-self
 invariant_of-self c =
-    let node = IsNode-closed c.self.inside.home c.args.slot c.self.inside.parts.items c.self.inside.audit.trails c.self.inside.store c.drop_slot.new.self c.self.inside.outbox c.drop_slot-2.new.self
+    let node = IsNode-closed c.self.inside.home c.args.slot c.self.inside.parts.items c.self.inside.audit.trails c.self.inside.storage.store c.drop_slot.new.self c.self.inside.storage.outbox c.drop_slot-2.new.self
     c.self.invariant (there c) c.drop_slot.ensures.dropped c.drop_slot-2.ensures.dropped (record {
       rows = c.drop_slot.ensures.others;
       queues = c.drop_slot-2.ensures.others;

@@ -44,7 +44,7 @@ turn-requires-clause-slot c =
 pub invariant_of-self : goal.invariant_of-self
 invariant_of-self c =
     node_same c.self.inside.home c.args.slot c.args.moment c.args.call c.self.inside.parts.items c.self.inside.audit.trails c.turn.new.audit.trails c.in-Some.part c.turn.new.part
-    c.self.inside.store c.turn.new.store c.self.inside.outbox c.turn.new.outbox c.self.invariant (at_err c) c.turn.ensures.terms c.turn.ensures.stands c.turn.ensures.others c.in_err-reply-in-Some.ensures.err
+    c.self.inside.storage.store c.turn.new.storage.store c.self.inside.storage.outbox c.turn.new.storage.outbox c.self.invariant (at_err c) c.turn.ensures.terms c.turn.ensures.stands c.turn.ensures.others c.in_err-reply-in-Some.ensures.err
 
 pub returns-in_err-reply-in-Some-clause-others : goal.returns-in_err-reply-in-Some-clause-others
 returns-in_err-reply-in-Some-clause-others c = λ other differ. ap (trail_of other) c.in_err-reply-in-Some.ensures.err ∙ ap (λ (v : Shared). trail_of other v.audit) c.self.view_is
@@ -81,7 +81,7 @@ returns-in_err-reply-in-Some-clause-full c = λ place found closed.
 pub invariant_of-self-in-Some : goal.invariant_of-self-in-Some
 invariant_of-self-in-Some c =
     node_joined c.self.inside.home c.args.slot c.args.moment c.args.call c.self.inside.parts.items c.self.inside.audit.trails c.turn.new.audit.trails c.in-Some.part c.turn.new.part
-    c.self.inside.store c.turn.new.store c.self.inside.outbox c.turn.new.outbox c.self.invariant (at_ok c) c.turn.ensures.terms c.turn.ensures.stands c.turn.ensures.others c.in_ok-reply-in-Some.reply
+    c.self.inside.storage.store c.turn.new.storage.store c.self.inside.storage.outbox c.turn.new.storage.outbox c.self.invariant (at_ok c) c.turn.ensures.terms c.turn.ensures.stands c.turn.ensures.others c.in_ok-reply-in-Some.reply
     (subst (λ (v : Shared). IsTrue (fits (place_in v.home.shape v.home.id) c.args.call)) (sym c.self.view_is) c.requires) c.in_ok-reply-in-Some.ensures.noted
 
 -- the slot's solo node made the turn
@@ -91,7 +91,7 @@ turned c place found =
     subst (λ (v : Shared). IsSoloTurn c.args.slot c.args.moment c.args.call c.in_ok-reply-in-Some.reply place v
     (view_of c.self.inside.home (set c.self.inside.parts.items c.args.slot (Some c.turn.new.part)) c.turn.new.audit.trails)) c.self.view_is
     (solo_turned c.self.inside.home c.args.slot c.args.moment c.args.call c.self.inside.parts.items c.self.inside.audit.trails c.turn.new.audit.trails c.in-Some.part c.turn.new.part
-    c.self.inside.store c.turn.new.store c.self.inside.outbox c.turn.new.outbox c.self.invariant (at_ok c) c.turn.ensures.terms c.turn.ensures.stands c.turn.ensures.others c.in_ok-reply-in-Some.reply
+    c.self.inside.storage.store c.turn.new.storage.store c.self.inside.storage.outbox c.turn.new.storage.outbox c.self.invariant (at_ok c) c.turn.ensures.terms c.turn.ensures.stands c.turn.ensures.others c.in_ok-reply-in-Some.reply
     c.in_ok-reply-in-Some.ensures.turn place (ap (place_at c.args.slot) c.self.view_is ∙ found))
 
 pub returns-in_ok-reply-in-Some-clause-turn : goal.returns-in_ok-reply-in-Some-clause-turn
@@ -102,12 +102,12 @@ returns-in_ok-reply-in-Some-clause-noted c = λ some.
     subst (λ (v : Shared). JoinsTrail c.args.slot c.args.moment c.args.call c.in_ok-reply-in-Some.reply v
     (view_of c.self.inside.home (set c.self.inside.parts.items c.args.slot (Some c.turn.new.part)) c.turn.new.audit.trails)) c.self.view_is
     (trail_joined c.self.inside.home c.args.slot c.args.moment c.args.call c.self.inside.parts.items c.self.inside.audit.trails c.turn.new.audit.trails c.in-Some.part c.turn.new.part
-    c.self.inside.store c.turn.new.store c.self.inside.outbox c.turn.new.outbox c.self.invariant (at_ok c) c.turn.ensures.terms c.turn.ensures.stands c.turn.ensures.others c.in_ok-reply-in-Some.reply c.in_ok-reply-in-Some.ensures.noted)
+    c.self.inside.storage.store c.turn.new.storage.store c.self.inside.storage.outbox c.turn.new.storage.outbox c.self.invariant (at_ok c) c.turn.ensures.terms c.turn.ensures.stands c.turn.ensures.others c.in_ok-reply-in-Some.reply c.in_ok-reply-in-Some.ensures.noted)
 
 pub returns-in_ok-reply-in-Some-clause-others : goal.returns-in_ok-reply-in-Some-clause-others
 returns-in_ok-reply-in-Some-clause-others c = λ other differ.
     elsewhere_joined c.self.inside.home c.args.slot c.args.moment c.args.call c.self.inside.parts.items c.self.inside.audit.trails c.turn.new.audit.trails c.in-Some.part c.turn.new.part
-    c.self.inside.store c.turn.new.store c.self.inside.outbox c.turn.new.outbox c.self.invariant (at_ok c) c.turn.ensures.terms c.turn.ensures.stands c.turn.ensures.others c.in_ok-reply-in-Some.reply other differ c.in_ok-reply-in-Some.ensures.noted
+    c.self.inside.storage.store c.turn.new.storage.store c.self.inside.storage.outbox c.turn.new.storage.outbox c.self.invariant (at_ok c) c.turn.ensures.terms c.turn.ensures.stands c.turn.ensures.others c.in_ok-reply-in-Some.reply other differ c.in_ok-reply-in-Some.ensures.noted
     ∙ ap (λ (v : Shared). trail_of other v.audit) c.self.view_is
 
 pub returns-in_ok-reply-in-Some-clause-home : goal.returns-in_ok-reply-in-Some-clause-home
