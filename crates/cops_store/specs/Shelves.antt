@@ -1,9 +1,11 @@
 -- The state of each slot, one by one.
-use Rattle.std.specs.Prelude.{◌≡◌, ◌<◌, ℕ, suc, false, List, [], ◌∷◌, ◌++◌, length, map, slice_index_or}
+use Rattle.std.specs.Prelude.{◌≡◌, ℕ, suc, Bool, List, [], ◌∷◌, ◌++◌, length, map, slice_index_or, sum_by, count_by, is_some, Option}
 use Rattle.cops_types.specs.declared.records.Dated.{Dated}
+use Rattle.cops_store.specs.declared.due_rows.DueRow.{DueRow}
 use Rattle.cops_store.specs.declared.shelf.Shelf.{Shelf}
 use Rattle.cops_store.specs.Chains.{KeptChain}
 use Rattle.cops_store.specs.Tables.{all_rows, chains_of, ready_in, IsShelf}
+use Rattle.cops_store.specs.Dues.{IsDueLine, IsFromLeast, dues_in, no_dues}
 use Rattle.cops_store.specs.Lines.{chains_at}
 
 -- the rows of one slot, and the keys whose `insert` allocates nothing
@@ -30,18 +32,23 @@ ready_from slot shelves = part_from (λ k. k.ready) slot shelves
 
 -- no entries, and nothing in use
 abbrev pub empty_shelf : Shelf
-empty_shelf = record { due = record { items = []; room = false }; used = record { records = 0; bytes = 0 } }
+empty_shelf = record { due = no_dues; used = record { records = 0; bytes = 0 } }
 
-abbrev pub kept_slot : List (List ℕ × KeptChain) → Shelf → Kept
-kept_slot entries s = record { rows = all_rows (chains_of entries); ready = ready_in s.due entries }
+abbrev pub kept_slot : Bool → List (List ℕ × KeptChain) → Kept
+kept_slot room entries = record { rows = all_rows (chains_of entries); ready = ready_in room entries }
 
--- the state of each slot, whose chains are in the table
-abbrev pub kept_slots : List (List (List ℕ × KeptChain)) → List Shelf → List Kept
-kept_slots [] shelves = []
-kept_slots (entries ∷ table) [] = []
-kept_slots (entries ∷ table) (s ∷ shelves) = kept_slot entries s ∷ kept_slots table shelves
+-- the state of each slot, whose chains are in the table, if there is room for an entry or not
+abbrev pub kept_slots : Bool → List (List (List ℕ × KeptChain)) → List Kept
+kept_slots room table = map (kept_slot room) table
 
--- the counts and entries of each slot are those of its chains
-pub record AreShelves (table : List (List (List ℕ × KeptChain))) (shelves : List Shelf) : Type 0 where
+-- the counters and entries of a slot are those of its chains
+pub record IsKeptShelf (table : List (List (List ℕ × KeptChain))) (rows : List (Option DueRow)) (slot : ℕ) (s : Shelf) : Type 0 where
+  pub line : IsDueLine rows slot s.due
+  pub least : IsFromLeast rows s.due
+  pub shelf : IsShelf s.used (dues_in rows s.due) (chains_at slot table)
+
+-- the counters and entries of each slot are those of its chains, and each entry is of a slot
+pub record AreShelves (table : List (List (List ℕ × KeptChain))) (rows : List (Option DueRow)) (shelves : List Shelf) : Type 0 where
   pub long : length table ≡ length shelves
-  pub each : (slot : ℕ) → slot < length shelves → IsShelf (slice_index_or shelves slot empty_shelf).used (slice_index_or shelves slot empty_shelf).due.items (chains_at slot table)
+  pub counted : sum_by (λ (s : Shelf). s.due.count) shelves ≡ count_by is_some rows
+  pub each : (slot : ℕ) → IsKeptShelf table rows slot (slice_index_or shelves slot empty_shelf)

@@ -1,35 +1,36 @@
-//! The state of one slot beside its chains.
-ghost use Rattle.std.specs.Prelude.{◌≡◌, ◌+◌, ◌^◌, ◌<◌, false, None, Some, Err, List, [], ◌∷◌, ◌++◌, length, IsOk, IsTrue, OnOk, OnErr, IfSome};
+//! The counters of one slot, and its line of garbage-collection entries.
+ghost use Rattle.std.specs.Prelude.{◌≡◌, ◌+◌, ◌^◌, ◌<◌, ◌≤◌, count_by, is_some, slice_set, false, None, Some, Err, List, [], ◌∷◌, ◌++◌, length, IsOk, IsTrue, OnOk, OnErr, IfSome};
 ghost use Rattle.cops_types.specs.declared.request_errors.RequestError.TheVariants.{Refused};
 ghost use Rattle.cops_types.specs.RequestErrors.{IfRefusal};
 ghost use Rattle.cops_types.specs.Records.{Tracked, StandsFor, collected as collected_records, collectable};
 ghost use Rattle.cops_store.specs.Contents.{LacksVersion, NoneLater, refusal, size_of};
+ghost use Rattle.cops_store.specs.Dues.{IsDueLine, IsDueTurn, IsFromLeast, dues_in};
 ghost use Rattle.cops_store.specs.Lines.{chain_entries_at, chains_at, IsRoomy, OtherSlotsStay};
 ghost use Rattle.cops_store.specs.Tables.{all_rows, IsShelf};
 ghost use Rattle.cops_store.specs.Shelves.{empty_shelf};
 
-use crate::notes::DueNotes;
-use crate::table::Table;
+use crate::due_rows::DueLine;
+use crate::shared::Tables;
 use crate::usage::{InUse, size};
 use cops_types::{Entry, Fault, Key, OwnedValue, Quota, RequestError};
-use std::alloc::{AllocError, Global};
+use std::alloc::Global;
 
-/// The state of a slot beside its chains. An empty one has no memory of its own.
-#[derive(Drop)]
+/// The counters of a slot, and its line of garbage-collection entries.
+#[derive(Clone, Copy, Debug)]
 pub struct Shelf {
-    /// The keys with something stale, and the timestamps before which nothing is stale.
-    pub due: DueNotes,
+    /// The slot's entries in the table of all.
+    pub due: DueLine,
     /// The present use.
     pub used: InUse,
 }
 
 impl Shelf {
-    // Returns the state of an empty slot. Allocates nothing.
-    pub(crate) fn new(alloc: Global) -> Self
+    // Returns the state of an empty slot.
+    pub(crate) fn new() -> Self
         ensures { result ≡ empty_shelf }
     {
         Shelf {
-            due: DueNotes::new(alloc),
+            due: DueLine::new(),
             used: InUse {
                 records: 0,
                 bytes: 0,
@@ -47,60 +48,47 @@ impl Shelf {
         refusal_of(quota, size, InUse::of(self.used.records, self.used.bytes))
     }
 
-    // Makes room for a record of the key: if the next call inserts one, it allocates nothing.
-    pub(crate) fn reserve(
-        &mut self,
-        alloc: Global,
-        table: &mut Table,
-        slot: usize,
-        key: &Key,
-    ) -> Result<(), AllocError>
-        requires slot { slot < length table.old }
-        requires shelf { IsShelf self.old.used self.old.due.items (chains_at slot table.old) }
-        ensures shelf { IsShelf self.new.used self.new.due.items (chains_at slot table.new) }
-        ensures room { OnOk result (IsTrue self.new.due.room × IsRoomy key.now (chain_entries_at slot table.new)) }
-        ensures rows { all_rows (chains_at slot table.new) ≡ all_rows (chains_at slot table.old) }
-        ensures others { OtherSlotsStay slot table.old table.new }
-    {
-        self.due.reserve()?;
-        table.reserve(alloc, slot, key)?;
-        Ok(())
-    }
-
     // Stores an entry, committed at the timestamp `now`. A refusal changes no row.
     pub(crate) fn insert(
         &mut self,
         alloc: Global,
-        table: &mut Table,
+        tables: &mut Tables,
         slot: usize,
         entry: Entry,
         now: u64,
         quota: &Quota,
     ) -> Result<(), RequestError>
-        requires slot { slot < length table.old }
-        requires shelf { IsShelf self.old.used self.old.due.items (chains_at slot table.old) }
-        requires new_version { LacksVersion entry.key entry.version (all_rows (chains_at slot table.old)) }
-        ensures shelf { IsShelf self.new.used self.new.due.items (chains_at slot table.new) }
-        ensures others { OtherSlotsStay slot table.old table.new }
+        requires slot { slot < length tables.old.table }
+        requires line { IsDueLine tables.old.due.slots slot self.old.due }
+        requires counted { self.old.due.count ≤ count_by is_some tables.old.due.slots }
+        requires shelf { IsShelf self.old.used (dues_in tables.old.due.slots self.old.due) (chains_at slot tables.old.table) }
+        requires new_version { LacksVersion entry.key entry.version (all_rows (chains_at slot tables.old.table)) }
+        ensures shelf { IsShelf self.new.used (dues_in tables.new.due.slots self.new.due) (chains_at slot tables.new.table) }
+        ensures least { IsFromLeast tables.old.due.slots self.old.due → IsFromLeast tables.new.due.slots self.new.due }
+        ensures turn { IsDueTurn tables.old.due.slots tables.new.due.slots slot self.old.due self.new.due }
+        ensures others { OtherSlotsStay slot tables.old.table tables.new.table }
 
         // Whatever the rows represent, they then represent that with one more record.
-        ensures stands_for { OnOk result ((tracked : List Tracked) → StandsFor (all_rows (chains_at slot table.old)) tracked → NoneLater now tracked → StandsFor (all_rows (chains_at slot table.new)) (tracked ++ record { record_of = record { entry = entry; at = now }; removed = false } ∷ [])) }
+        ensures stands_for { OnOk result ((tracked : List Tracked) → StandsFor (all_rows (chains_at slot tables.old.table)) tracked → NoneLater now tracked → StandsFor (all_rows (chains_at slot tables.new.table)) (tracked ++ record { record_of = record { entry = entry; at = now }; removed = false } ∷ [])) }
 
         // With reserved room, only the quotas refuse.
         ensures refused { IfSome (refusal quota.now (size_of entry) self.old.used) (λ fault. result ≡ Err (Refused fault)) }
         ensures faults { IfRefusal result (λ fault. refusal quota.now (size_of entry) self.old.used ≡ Some fault) }
-        ensures succeeds { IsTrue self.old.due.room → IsRoomy entry.key (chain_entries_at slot table.old) → refusal quota.now (size_of entry) self.old.used ≡ None → IsOk result }
-        ensures err { OnErr result (all_rows (chains_at slot table.new) ≡ all_rows (chains_at slot table.old)) }
+        ensures succeeds { IsTrue tables.old.due.room → IsRoomy entry.key (chain_entries_at slot tables.old.table) → refusal quota.now (size_of entry) self.old.used ≡ None → IsOk result }
+        ensures err { OnErr result (all_rows (chains_at slot tables.new.table) ≡ all_rows (chains_at slot tables.old.table)) }
     {
         let size = size(&entry);
         let used = self.used;
         if let Some(fault) = refusal_of(quota, size, used) {
             return Err(RequestError::Refused(fault));
         }
-        self.due.reserve()?;
+        let due = &mut tables.due;
+        due.reserve()?;
         let key = entry.key();
         let kept = entry.committed(now);
-        table.insert(alloc, slot, &key, kept, &mut self.due)?;
+        tables
+            .table
+            .insert(alloc, slot, &key, kept, due, &mut self.due)?;
         self.used = InUse {
             records: used.records + 1,
             bytes: used.bytes + size,
@@ -111,29 +99,49 @@ impl Shelf {
     // Removes the records that have been stale for longer than `trans_time`. Returns their number.
     pub(crate) fn collect(
         &mut self,
-        table: &mut Table,
+        tables: &mut Tables,
         slot: usize,
         now: u64,
         trans_time: u64,
     ) -> u64
-        requires slot { slot < length table.old }
-        requires shelf { IsShelf self.old.used self.old.due.items (chains_at slot table.old) }
-        ensures shelf { IsShelf self.new.used self.new.due.items (chains_at slot table.new) }
-        ensures others { OtherSlotsStay slot table.old table.new }
-        ensures removed { (tracked : List Tracked) → StandsFor (all_rows (chains_at slot table.old)) tracked → result ≡ collectable trans_time now tracked }
-        ensures stands_for { (tracked : List Tracked) → StandsFor (all_rows (chains_at slot table.old)) tracked → StandsFor (all_rows (chains_at slot table.new)) (collected_records trans_time now tracked) }
+        requires slot { slot < length tables.old.table }
+        requires line { IsDueLine tables.old.due.slots slot self.old.due }
+        requires least { IsFromLeast tables.old.due.slots self.old.due }
+        requires shelf { IsShelf self.old.used (dues_in tables.old.due.slots self.old.due) (chains_at slot tables.old.table) }
+        ensures shelf { IsShelf self.new.used (dues_in tables.new.due.slots self.new.due) (chains_at slot tables.new.table) }
+        ensures least { IsFromLeast tables.new.due.slots self.new.due }
+        ensures turn { IsDueTurn tables.old.due.slots tables.new.due.slots slot self.old.due self.new.due }
+        ensures others { OtherSlotsStay slot tables.old.table tables.new.table }
+        ensures removed { (tracked : List Tracked) → StandsFor (all_rows (chains_at slot tables.old.table)) tracked → result ≡ collectable trans_time now tracked }
+        ensures stands_for { (tracked : List Tracked) → StandsFor (all_rows (chains_at slot tables.old.table)) tracked → StandsFor (all_rows (chains_at slot tables.new.table)) (collected_records trans_time now tracked) }
     {
         if !self.due.is_ripe(now, trans_time) {
             return 0;
         }
         let used = InUse::of(self.used.records, self.used.bytes);
-        let freed = table.clean(slot, self.due.list(), now, trans_time);
-        self.due.put_off(table, slot, now, trans_time);
+        let freed = tables.clean(&mut self.due, slot, now, trans_time);
         self.used = InUse {
             records: used.records - freed.records,
             bytes: used.bytes - freed.bytes,
         };
         freed.records
+    }
+
+    // Drops all records of the slot, and visits no row of another.
+    pub(crate) fn clear(&mut self, tables: &mut Tables, slot: usize)
+        requires slot { slot < length tables.old.table }
+        requires line { IsDueLine tables.old.due.slots slot self.old.due }
+        ensures shelf { self.new ≡ empty_shelf }
+        ensures chains { tables.new.table ≡ slice_set tables.old.table slot [] }
+        ensures turn { IsDueTurn tables.old.due.slots tables.new.due.slots slot self.old.due self.new.due }
+        ensures room { tables.new.due.room ≡ tables.old.due.room }
+    {
+        tables.table.clear(slot);
+        tables.due.clear(&mut self.due);
+        self.used = InUse {
+            records: 0,
+            bytes: 0,
+        };
     }
 }
 

@@ -182,3 +182,41 @@ fn a_dropped_slot_is_used_again(rt: HostRuntime) {
     assert_latest(&rt, &store, 0, 0, 6);
     assert_latest(&rt, &store, 1, 0, 0);
 }
+
+/// Two stale versions of each of three keys in two slots, whose entries stand in turn: those of slot
+/// 0 are stale from 10 and 20 on, those of slot 1 from 15 and 25 on.
+fn with_entries_in_turn(rt: &impl Abort, alloc: Global) -> Store
+    ensures { result.tenants ≡ 2 }
+{
+    let mut store = store(rt, alloc, 2);
+    for (clock, now) in [(1, 5), (2, 10), (3, 20)] {
+        for name in [b"a", b"b", b"c"] {
+            keep(rt, alloc, &mut store, 0, name, clock, now);
+            keep(rt, alloc, &mut store, 1, name, clock, now + 5);
+        }
+    }
+    store
+}
+
+#[test]
+fn collections_of_two_slots_in_turn(rt: HostRuntime) {
+    let mut store = with_entries_in_turn(&rt, rt.alloc());
+    collect(&rt, &mut store, 0, 110, 100, 0);
+    collect(&rt, &mut store, 0, 111, 100, 3);
+    collect(&rt, &mut store, 1, 115, 100, 0);
+    collect(&rt, &mut store, 1, 116, 100, 3);
+    collect(&rt, &mut store, 0, 120, 100, 0);
+    collect(&rt, &mut store, 0, 121, 100, 3);
+    collect(&rt, &mut store, 1, 126, 100, 3);
+}
+
+#[test]
+fn entries_of_a_dropped_slot_leave_those_between(rt: HostRuntime) {
+    let mut store = with_entries_in_turn(&rt, rt.alloc());
+    store.drop_slot(0);
+    keep(&rt, rt.alloc(), &mut store, 0, b"d", 1, 30);
+    keep(&rt, rt.alloc(), &mut store, 0, b"d", 2, 30);
+    collect(&rt, &mut store, 1, 126, 100, 6);
+    collect(&rt, &mut store, 0, 130, 100, 0);
+    collect(&rt, &mut store, 0, 131, 100, 1);
+}

@@ -1,7 +1,9 @@
 use Rattle.std.proofs.Common.{◌<◌, ◌∙◌, ap, sym, subst, true≢false}
 use Rattle.cops_store.specs.Lines.{chains_at, linked_in, row_of}
-use Rattle.cops_store.specs.Notes.{Notes}
+use Rattle.cops_store.specs.Dues.{IsDueTurn, IsFromLeast, dues_in}
 use Rattle.cops_store.specs.Tables.{AreFounded, AreNoted, chains_of, with_key}
+use Rattle.cops_store.proofs.DueLines.{due_turn_none}
+use Rattle.cops_store.proofs.DueSteps.{least_longer}
 use Rattle.cops_store.proofs.Inserts.{put_chains, put_covered, put_founded, put_kept, put_noted, put_rises, put_turn}
 use Rattle.cops_store.proofs.Rooms.{OnErr-any}
 use Rattle.cops_store.proofs.Turns.{chains_before, chains_turned, distinct_turned, line_counted, line_here, lines_turned, others_stay, roomy_line, slot_there}
@@ -49,16 +51,31 @@ returns-clause-others c = others_stay c.self.inside.rows.entries c.self.inside.l
 
 pub returns-clause-noted : goal.returns-clause-noted
 returns-clause-noted c = λ noted.
-    subst (AreNoted c.if-put.due.items) (sym (chains_turned c.self.inside.rows.entries c.self.inside.lines.items c.self.invariant c.args.slot c.index_mut-line.result.now c.args.self.now c.self.view_is c.requires.slot c.index_mut-line.ensures.value c.put.new.rows.entries c.make_room.new.line (put_turn c.self.inside.rows.entries c.make_room.new.rows.entries c.args.slot c.args.key.now c.index_mut-line.result.now c.make_room.new.line (chains_at c.args.slot c.args.self.now) c.make_room.ensures.turn (c.in_ok-i.ensures.chains ∙ sym (ap (with_key c.args.key.now) (chains_before c.self.inside.rows.entries c.self.inside.lines.items c.self.invariant c.args.slot c.index_mut-line.result.now c.args.self.now c.self.view_is c.requires.slot c.index_mut-line.ensures.value))) c.put.new.rows.entries c.args.record_of c.put.result (c.put.ensures c.args.slot c.args.key.now c.in_ok-i.ensures.at))))
+    subst (AreNoted (dues_in c.if-put.due.slots c.if-put.dues)) (sym (chains_turned c.self.inside.rows.entries c.self.inside.lines.items c.self.invariant c.args.slot c.index_mut-line.result.now c.args.self.now c.self.view_is c.requires.slot c.index_mut-line.ensures.value c.put.new.rows.entries c.make_room.new.line (put_turn c.self.inside.rows.entries c.make_room.new.rows.entries c.args.slot c.args.key.now c.index_mut-line.result.now c.make_room.new.line (chains_at c.args.slot c.args.self.now) c.make_room.ensures.turn (c.in_ok-i.ensures.chains ∙ sym (ap (with_key c.args.key.now) (chains_before c.self.inside.rows.entries c.self.inside.lines.items c.self.invariant c.args.slot c.index_mut-line.result.now c.args.self.now c.self.view_is c.requires.slot c.index_mut-line.ensures.value))) c.put.new.rows.entries c.args.record_of c.put.result (c.put.ensures c.args.slot c.args.key.now c.in_ok-i.ensures.at))))
     (elim c.if-put.branch [
-      | then-put w ↦ put_noted c.self.inside.rows.entries c.make_room.new.rows.entries c.args.slot c.args.key.now c.index_mut-line.result.now c.make_room.new.line (chains_at c.args.slot c.args.self.now) c.make_room.ensures.turn (c.in_ok-i.ensures.chains ∙ sym (ap (with_key c.args.key.now) (chains_before c.self.inside.rows.entries c.self.inside.lines.items c.self.invariant c.args.slot c.index_mut-line.result.now c.args.self.now c.self.view_is c.requires.slot c.index_mut-line.ensures.value))) c.put.new.rows.entries c.args.record_of c.put.result (c.put.ensures c.args.slot c.args.key.now c.in_ok-i.ensures.at) c.args.due.now.items c.if-put.due.items w.if-put.true (ap (λ (d : Notes). d.items) w.due-is ∙ w.push.ensures) noted
-      | else-put w ↦ subst (λ (d : Notes). AreNoted d.items (chains_of (linked_in (row_of c.put.new.rows.entries c.args.slot) c.make_room.new.line))) (sym w.due-is) (put_covered c.self.inside.rows.entries c.make_room.new.rows.entries c.args.slot c.args.key.now c.index_mut-line.result.now c.make_room.new.line (chains_at c.args.slot c.args.self.now) c.make_room.ensures.turn (c.in_ok-i.ensures.chains ∙ sym (ap (with_key c.args.key.now) (chains_before c.self.inside.rows.entries c.self.inside.lines.items c.self.invariant c.args.slot c.index_mut-line.result.now c.args.self.now c.self.view_is c.requires.slot c.index_mut-line.ensures.value))) c.put.new.rows.entries c.args.record_of c.put.result (c.put.ensures c.args.slot c.args.key.now c.in_ok-i.ensures.at) c.args.due.now.items w.if-put.false noted)
+      | then-put w ↦ put_noted c.self.inside.rows.entries c.make_room.new.rows.entries c.args.slot c.args.key.now c.index_mut-line.result.now c.make_room.new.line (chains_at c.args.slot c.args.self.now) c.make_room.ensures.turn (c.in_ok-i.ensures.chains ∙ sym (ap (with_key c.args.key.now) (chains_before c.self.inside.rows.entries c.self.inside.lines.items c.self.invariant c.args.slot c.index_mut-line.result.now c.args.self.now c.self.view_is c.requires.slot c.index_mut-line.ensures.value))) c.put.new.rows.entries c.args.record_of c.put.result (c.put.ensures c.args.slot c.args.key.now c.in_ok-i.ensures.at) (dues_in c.args.due.now.slots c.args.dues.now) (dues_in c.if-put.due.slots c.if-put.dues) w.if-put.true ((λ i. dues_in (w.due-is i).slots (w.dues-is i)) ∙ w.push.ensures.dues) noted
+      | else-put w ↦ subst (λ due. AreNoted due (chains_of (linked_in (row_of c.put.new.rows.entries c.args.slot) c.make_room.new.line))) (λ i. dues_in (sym w.due-is i).slots (sym w.dues-is i)) (put_covered c.self.inside.rows.entries c.make_room.new.rows.entries c.args.slot c.args.key.now c.index_mut-line.result.now c.make_room.new.line (chains_at c.args.slot c.args.self.now) c.make_room.ensures.turn (c.in_ok-i.ensures.chains ∙ sym (ap (with_key c.args.key.now) (chains_before c.self.inside.rows.entries c.self.inside.lines.items c.self.invariant c.args.slot c.index_mut-line.result.now c.args.self.now c.self.view_is c.requires.slot c.index_mut-line.ensures.value))) c.put.new.rows.entries c.args.record_of c.put.result (c.put.ensures c.args.slot c.args.key.now c.in_ok-i.ensures.at) (dues_in c.args.due.now.slots c.args.dues.now) w.if-put.false noted)
     ])
 
 pub returns-clause-founded : goal.returns-clause-founded
 returns-clause-founded c = λ founded.
-    subst (AreFounded c.if-put.due.items) (sym (chains_turned c.self.inside.rows.entries c.self.inside.lines.items c.self.invariant c.args.slot c.index_mut-line.result.now c.args.self.now c.self.view_is c.requires.slot c.index_mut-line.ensures.value c.put.new.rows.entries c.make_room.new.line (put_turn c.self.inside.rows.entries c.make_room.new.rows.entries c.args.slot c.args.key.now c.index_mut-line.result.now c.make_room.new.line (chains_at c.args.slot c.args.self.now) c.make_room.ensures.turn (c.in_ok-i.ensures.chains ∙ sym (ap (with_key c.args.key.now) (chains_before c.self.inside.rows.entries c.self.inside.lines.items c.self.invariant c.args.slot c.index_mut-line.result.now c.args.self.now c.self.view_is c.requires.slot c.index_mut-line.ensures.value))) c.put.new.rows.entries c.args.record_of c.put.result (c.put.ensures c.args.slot c.args.key.now c.in_ok-i.ensures.at))))
+    subst (AreFounded (dues_in c.if-put.due.slots c.if-put.dues)) (sym (chains_turned c.self.inside.rows.entries c.self.inside.lines.items c.self.invariant c.args.slot c.index_mut-line.result.now c.args.self.now c.self.view_is c.requires.slot c.index_mut-line.ensures.value c.put.new.rows.entries c.make_room.new.line (put_turn c.self.inside.rows.entries c.make_room.new.rows.entries c.args.slot c.args.key.now c.index_mut-line.result.now c.make_room.new.line (chains_at c.args.slot c.args.self.now) c.make_room.ensures.turn (c.in_ok-i.ensures.chains ∙ sym (ap (with_key c.args.key.now) (chains_before c.self.inside.rows.entries c.self.inside.lines.items c.self.invariant c.args.slot c.index_mut-line.result.now c.args.self.now c.self.view_is c.requires.slot c.index_mut-line.ensures.value))) c.put.new.rows.entries c.args.record_of c.put.result (c.put.ensures c.args.slot c.args.key.now c.in_ok-i.ensures.at))))
     (elim c.if-put.branch [
-      | then-put w ↦ put_founded c.self.inside.rows.entries c.make_room.new.rows.entries c.args.slot c.args.key.now c.index_mut-line.result.now c.make_room.new.line (chains_at c.args.slot c.args.self.now) c.make_room.ensures.turn (c.in_ok-i.ensures.chains ∙ sym (ap (with_key c.args.key.now) (chains_before c.self.inside.rows.entries c.self.inside.lines.items c.self.invariant c.args.slot c.index_mut-line.result.now c.args.self.now c.self.view_is c.requires.slot c.index_mut-line.ensures.value))) c.put.new.rows.entries c.args.record_of c.put.result (c.put.ensures c.args.slot c.args.key.now c.in_ok-i.ensures.at) c.args.due.now.items c.if-put.due.items w.if-put.true (ap (λ (d : Notes). d.items) w.due-is ∙ w.push.ensures) c.requires.chained founded
-      | else-put w ↦ subst (λ (d : Notes). AreFounded d.items (chains_of (linked_in (row_of c.put.new.rows.entries c.args.slot) c.make_room.new.line))) (sym w.due-is) (put_kept c.self.inside.rows.entries c.make_room.new.rows.entries c.args.slot c.args.key.now c.index_mut-line.result.now c.make_room.new.line (chains_at c.args.slot c.args.self.now) c.make_room.ensures.turn (c.in_ok-i.ensures.chains ∙ sym (ap (with_key c.args.key.now) (chains_before c.self.inside.rows.entries c.self.inside.lines.items c.self.invariant c.args.slot c.index_mut-line.result.now c.args.self.now c.self.view_is c.requires.slot c.index_mut-line.ensures.value))) c.put.new.rows.entries c.args.record_of c.put.result (c.put.ensures c.args.slot c.args.key.now c.in_ok-i.ensures.at) c.args.due.now.items c.requires.chained founded)
+      | then-put w ↦ put_founded c.self.inside.rows.entries c.make_room.new.rows.entries c.args.slot c.args.key.now c.index_mut-line.result.now c.make_room.new.line (chains_at c.args.slot c.args.self.now) c.make_room.ensures.turn (c.in_ok-i.ensures.chains ∙ sym (ap (with_key c.args.key.now) (chains_before c.self.inside.rows.entries c.self.inside.lines.items c.self.invariant c.args.slot c.index_mut-line.result.now c.args.self.now c.self.view_is c.requires.slot c.index_mut-line.ensures.value))) c.put.new.rows.entries c.args.record_of c.put.result (c.put.ensures c.args.slot c.args.key.now c.in_ok-i.ensures.at) (dues_in c.args.due.now.slots c.args.dues.now) (dues_in c.if-put.due.slots c.if-put.dues) w.if-put.true ((λ i. dues_in (w.due-is i).slots (w.dues-is i)) ∙ w.push.ensures.dues) c.requires.chained founded
+      | else-put w ↦ subst (λ due. AreFounded due (chains_of (linked_in (row_of c.put.new.rows.entries c.args.slot) c.make_room.new.line))) (λ i. dues_in (sym w.due-is i).slots (sym w.dues-is i)) (put_kept c.self.inside.rows.entries c.make_room.new.rows.entries c.args.slot c.args.key.now c.index_mut-line.result.now c.make_room.new.line (chains_at c.args.slot c.args.self.now) c.make_room.ensures.turn (c.in_ok-i.ensures.chains ∙ sym (ap (with_key c.args.key.now) (chains_before c.self.inside.rows.entries c.self.inside.lines.items c.self.invariant c.args.slot c.index_mut-line.result.now c.args.self.now c.self.view_is c.requires.slot c.index_mut-line.ensures.value))) c.put.new.rows.entries c.args.record_of c.put.result (c.put.ensures c.args.slot c.args.key.now c.in_ok-i.ensures.at) (dues_in c.args.due.now.slots c.args.dues.now) c.requires.chained founded)
     ])
+
+pub returns-clause-least : goal.returns-clause-least
+returns-clause-least c = λ from. elim c.if-put.branch [
+  | then-put w ↦ rw (w.due-is, w.dues-is) (least_longer c.args.due.now.slots w.push.new.self.slots c.args.dues.now w.push.new.line _ w.push.ensures.dues w.push.ensures.least from)
+  | else-put w ↦ rw (w.due-is, w.dues-is) from
+]
+
+pub returns-clause-turn : goal.returns-clause-turn
+returns-clause-turn c = elim c.if-put.branch [
+  | then-put w ↦ rw (w.due-is, w.dues-is) w.push.ensures.turn
+  | else-put w ↦ rw (w.due-is, w.dues-is) (due_turn_none c.args.due.now.slots c.args.slot c.args.dues.now c.requires.line)
+]
+
+pub returns-in_err-i-clause-turn : goal.returns-in_err-i-clause-turn
+returns-in_err-i-clause-turn c = due_turn_none c.args.due.now.slots c.args.slot c.args.dues.now c.requires.line
