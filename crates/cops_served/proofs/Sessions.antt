@@ -295,7 +295,7 @@ module _ {N M : Type 0} (Calls : N → NodeId → ℕ → ℕ → NodeCall → N
         made = subst (λ ts. MakesTurns Calls slot old.nodes ts old.nodes) (sym (append-nil (turn_made_by command) ∙ silent)) refl;
       } in
       let rest = ends h.2.0 begun new h.0 h.2.1 in
-      (both old begun new first rest.0, inr (messages_both first.did rest.0.did ∙ rest.1 ∙ ap (λ m. m ∷ []) (sym h.1)))
+      (both old begun new first rest.0, inr (messages_both first.did rest.0.did ∙ rest.1 ∙ ap (λ m. m ∷ []) (sym h.1.gives)))
 
   by_request : (old new : At) (request message : Message) → AnswersSo Calls Gives config slot old request message new → IsReply old message new
   by_request old new CreateContext message h = by (create_refusal config old.session) refl h

@@ -99,7 +99,7 @@ module _ {N M : Type 0} (Calls Turns : N → NodeId → ℕ → ℕ → NodeCall
       Runs Turns Gives config slot old context action reply new ⊎ IsTold reply
   runs_so old context action reply new (ended, reply_is, (steps, runs)) = elim (ends_so steps _ ended new runs) [
     | inl turned ↦ inl (ended, reply_is, (steps, turned))
-    | inr spent ↦ inr (ap (tells is_ticket_refusal) (reply_is ∙ ap message_of_answer spent))
+    | inr spent ↦ inr (ap (tells is_ticket_refusal) (reply_is.gives ∙ ap message_of_answer spent))
   ]
 
   unless_so : {A B : Type 0} (refusal : Option Fault) (old : At) (reply : Message) (new : At) → (A → B ⊎ IsTold reply) →

@@ -1,5 +1,5 @@
 ghost use Rattle.std.specs.Arc.{arc_value};
-ghost use Rattle.std.specs.Prelude.{◌≡◌, ◌<◌, ◌≤◌, [], ◌∷◌, length, slice_index_or, IfOk, IfSome, IsTrue, OnOk, OnErr, ◌↔◌};
+ghost use Rattle.std.specs.Prelude.{◌≡◌, ◌<◌, ◌≤◌, ◌==◌, [], ◌∷◌, length, slice_index_or, IfOk, IfSome, IsTrue, OnOk, OnErr, ◌↔◌};
 ghost use Rattle.cops_types.specs.Pairs.{holds, pairs_eq, version_of, joined, is_over, greatest_clock as greatest_clock_of};
 ghost use Rattle.cops_types.specs.Same.{same_pairs, same_equivalence};
 ghost use Rattle.cops_types.specs.declared.faults.Fault.TheVariants.{DependenciesFull};
@@ -47,6 +47,14 @@ impl OwnedDeps {
         ensures { result ≡ length self.now }
     {
         self.pairs.len()
+    }
+
+    /// Returns `true` if there is no pair.
+    pub fn is_empty(&self) -> bool
+        ensures value { result ≡ (length self.now == 0) }
+        ensures in_order { IsDeps self.now }
+    {
+        self.pairs.len() == 0
     }
 
     /// Returns the pair at a place.

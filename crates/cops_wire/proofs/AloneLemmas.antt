@@ -252,11 +252,11 @@ module _ {N M : Type 0} (Calls : N → NodeId → ℕ → ℕ → NodeCall → N
         are = end.are;
         between = end.between;
         alone = elim end.alone [
-          | inl lack ↦ inl (ap (tells lost) (h.1 ∙ ap message_of_answer lack.2) ∙ lack.1)
+          | inl lack ↦ inl (ap (tells lost) (h.1.gives ∙ ap message_of_answer lack.2) ∙ lack.1)
           | inr alone ↦
               inr λ tail.
               is (end.given ++ tail) ∙ ap replied (alone tail)
-              ∙ ap (λ r. let a : ReplyAlone = record { reply = r; after = backend new.session (nodes_at new.nodes) tail } in Some a) (sym h.1)
+              ∙ ap (λ r. let a : ReplyAlone = record { reply = r; after = backend new.session (nodes_at new.nodes) tail } in Some a) (sym h.1.gives)
         ];
         there = end.there;
       }

@@ -1,4 +1,4 @@
--- What a transaction answers is within the limits of a head if what nodes found is, or if its context took it.
+-- What a transaction answers is within the limits of a head if what nodes found is, or if it is as its types allow and its context took it.
 use Rattle.std.proofs.Common.{◌≡◌, ℕ, zero, suc, ◌+◌, ◌≤◌, Bool, true, false, cond, ◌&&◌, List, [], ◌∷◌, ◌++◌, map, length, drop, refl, sym, ◌∙◌, ap, subst, arith, append-nil, true≢false}
 use Rattle.std.specs.Prelude.{Option, Some, None, find, nat_le, unwrap_or}
 use Rattle.std.specs.List.{AllByRecursion, cons_option, flat_map, fold}
@@ -26,7 +26,7 @@ use Rattle.cops_model.specs.Log.{LogStep, Late, Outcome, Replied, reply_in, repl
 use Rattle.cops_model.specs.Request.{Action, Attempt, Fetch, answer, attempt_after, attempt_of, begins_again}
 use Rattle.cops_model.specs.Transaction.{final_reads, last_read, outdated, read_of, reads_of}
 use Rattle.cops_session.proofs.RequestReplies.{get-answer, replies_in}
-use Rattle.cops_wire.specs.Limits.{IsFoundLimited, IsFoundTyped, AreLogged, IsOutcomeOf, IsShort}
+use Rattle.cops_wire.specs.Limits.{IsFoundLimited, IsTyped, AreLogged, IsOutcomeOf, IsShort}
 use Rattle.cops_wire.specs.Requests.{AreLimited, IsLimited, message_of_answer, values_of}
 use Rattle.cops_wire.proofs.LimitedAnswers.{limited}
 
@@ -118,19 +118,7 @@ found_fit config dc obs keys log reads few short each e =
     let follows = get-answer config dc obs keys log (answer_is.Values reads) e in
     limited reads (subst AreLimited (sym follows.0) (few_final keys (replies_in keys log) few, logged_are IsFoundLimited IsLimited limited_in read_limited keys log short each))
 
--- ---- as the types say, and taken by a context
-
--- an absent key has no dependencies
-abbrev IsTyped : Read → Type 0
-IsTyped read =
-    IsShort read.key × (option_map_or length read.value 0 ≤ 4096) × IsDeps read.deps × AllByRecursion (λ (pair : Pair). IsShort pair.key) read.deps × (read.value ≡ None → read.deps ≡ [])
-
-typed_in : (read : Read) → IsTyped read → IsShort read.key
-typed_in read is = is.0
-
-read_typed : (key : List ℕ) (reply : NodeReply) → IsShort key → IsFoundTyped reply → IsTyped (read_of key reply)
-read_typed key (Found f) short found = (short, found.0, found.1, found.2, λ none. let clash : Some f.value ≡ None = none in cc)
-read_typed key other short found = (short, omega arith, refl, tt, λ none. refl)
+-- ---- as the types allow, and taken by a context
 
 -- a set grows with its list
 add_item-grows : (key : List ℕ) (keys : List (List ℕ)) → length keys ≤ length (add_item key_cmp key keys)
@@ -183,22 +171,21 @@ taken_few limit small obs (read ∷ reads) takes each = by read.value refl takes
     by : (value : Option (List ℕ)) → read.value ≡ value → can_observe limit obs (observations_of (of_value value ∷ reads)) ≡ true →
         ((more : List Observation) → can_observe limit more (observations_of reads) ≡ true → AllByRecursion IsLimited reads) → AllByRecursion IsLimited (read ∷ reads)
     by None absent takes rest =
-        let none : read.deps ≡ [] = each.0.4 absent in
+        let none : read.deps ≡ [] = each.0.none absent in
         let few : length read.deps ≤ 1024 = let size = ap length none in omega (arith, size) in
-        ((each.0.0, each.0.1, few, each.0.3), rest obs takes)
+        ((each.0.short_key, each.0.short_value, few, each.0.short_keys), rest obs takes)
     by (Some value) there takes rest =
         let seen : Observation = Observed (record { key = read.key; version = read.version }) read.deps in
         let parts = both (is_within limit (obs ++ seen ∷ [])) (can_observe limit (obs ++ seen ∷ []) (observations_of reads)) takes in
         let lists = both (nat_le (length (all_of (obs ++ seen ∷ []))) limit) (nat_le (length (near_of (obs ++ seen ∷ []))) limit) parts.0 in
         let all = within (length (all_of (obs ++ seen ∷ []))) limit lists.0 in
-        let among = deps_among obs (record { key = read.key; version = read.version }) read.deps each.0.2 in
+        let among = deps_among obs (record { key = read.key; version = read.version }) read.deps each.0.once in
         let few : length read.deps ≤ 1024 = omega (arith, all, among, small) in
-        ((each.0.0, each.0.1, few, each.0.3), rest (obs ++ seen ∷ []) parts.1)
+        ((each.0.short_key, each.0.short_value, few, each.0.short_keys), rest (obs ++ seen ∷ []) parts.1)
 
-pub typed_fit : (config : TenantConfig) (dc : ℕ) (obs : List Observation) (keys : List (List ℕ)) (log : List LogStep) (reads : List Read) → config.quota.deps ≤ 1024 → length keys ≤ 32 → AllByRecursion IsShort keys → AreLogged IsFoundTyped log
+pub taken_fit : (config : TenantConfig) (dc : ℕ) (obs : List Observation) (keys : List (List ℕ)) (log : List LogStep) (reads : List Read) → config.quota.deps ≤ 1024 → length keys ≤ 32 → AllByRecursion IsTyped reads
     → answer config (record { dc = dc; obs = obs; action = Fetch keys }) log ≡ Some (answer_is.Values reads) → message_of_answer (answer_is.Values reads) ≡ values_of reads
-typed_fit config dc obs keys log reads small few short each e =
+taken_fit config dc obs keys log reads small few typed e =
     let follows = get-answer config dc obs keys log (answer_is.Values reads) e in
-    let typed : AllByRecursion IsTyped reads = subst (AllByRecursion IsTyped) (sym follows.0) (logged_are IsFoundTyped IsTyped typed_in read_typed keys log short each) in
     let size : length reads ≤ 32 = subst (λ (rs : List Read). length rs ≤ 32) (sym follows.0) (few_final keys (replies_in keys log) few) in
     limited reads (size, taken_few config.quota.deps small obs reads follows.4 typed)

@@ -291,8 +291,8 @@ module _ {N M : Type 0} (Calls : N → NodeId → ℕ → ℕ → NodeCall → N
         are = end.are;
         between = end.between;
         alone = elim end.alone [
-          | inl alone ↦ λ tail. told_so request (message_of_answer ended) reply (alone_at old (end.given ++ tail)) (alone_at new tail) (is (end.given ++ tail) ∙ ap replied (alone tail)) reply_is
-          | inr (lack, stops) ↦ λ tail. inr (reply_is ∙ ap message_of_answer lack, stopped (end.given ++ tail) (alone_at new tail) (stops tail))
+          | inl alone ↦ λ tail. told_so request (message_of_answer ended) reply (alone_at old (end.given ++ tail)) (alone_at new tail) (is (end.given ++ tail) ∙ ap replied (alone tail)) reply_is.gives
+          | inr (lack, stops) ↦ λ tail. inr (reply_is.gives ∙ ap message_of_answer lack, stopped (end.given ++ tail) (alone_at new tail) (stops tail))
         ];
         there = end.there;
       }

@@ -22,8 +22,9 @@ use Rattle.cops_model.specs.Session.{Session, has_repeats, is_busy, is_open, req
 use Rattle.cops_session.specs.SessionStands.{SessionStandsFor}
 use Rattle.cops_wire.specs.declared.messages.Message.{Message}
 use Rattle.cops_wire.specs.declared.messages.Message.TheVariants.{Refused}
-use Rattle.cops_wire.specs.Requests.{Answers, AnswersSo, Backend, Becomes, Ends, HasAnswered, HasFewRestarts, Runs, UnlessRefused, backend, message_of_answer, naming_refusal, number_in, reading_refusal, writing_refusal}
+use Rattle.cops_wire.specs.Requests.{Answers, AnswersSo, Backend, Becomes, Ends, HasAnswered, HasFewRestarts, Runs, UnlessRefused, backend, message_of_answer, whole_message, naming_refusal, number_in, reading_refusal, writing_refusal}
 use Rattle.cops_wire.specs.Running.{HasFewKeys, HasRun, IsRequestDone, IsTold}
+use Rattle.cops_wire.proofs.WholeReplies.{ends_logged, whole_so}
 
 -- ---- refusals
 
@@ -132,14 +133,16 @@ module _ {N M : Type 0} (Calls : N → NodeId → ℕ → ℕ → NodeCall → N
       answers config session restarts stands =
           let none = told config session stands in
           let from = backend (request_begun context action session) nodes moments in
-          let ended = ran.2 config (request_begun context action session) _ restarts (begins config session stands) refl refl (few config session none) in
+          let ended = ran.3 config (request_begun context action session) _ restarts (begins config session stands) refl refl (few config session none) in
           let ends : Ends Calls GivesMoment config old.setting.slot from ran.0 (backend ended.after new.nodes new.moments) =
-          subst (λ slot. Ends Calls GivesMoment config slot from ran.0 (backend ended.after new.nodes new.moments)) (ap (λ s. s.slot) same) ended.ends in (
+          subst (λ slot. Ends Calls GivesMoment config slot from ran.0 (backend ended.after new.nodes new.moments)) (ap (λ s. s.slot) same) ended.ends in
+          let whole : config.quota.deps ≤ 1024 → message_of_answer ran.0 ≡ whole_message ran.0 = λ small.
+          whole_so config action ran.0 (few config session none) ran.2 small (ends_logged Calls GivesMoment config old.setting.slot ends.0 from ran.0 (backend ended.after new.nodes new.moments) _ refl ends.1) in (
             ended.after,
             ended.stands,
             inr (so config old.setting.slot (backend session nodes moments) (backend ended.after new.nodes new.moments) (message_of_answer ran.0)
                 (subst (λ o. UnlessRefused Calls GivesMoment config old.setting.slot o (backend session nodes moments) (message_of_answer ran.0) (backend ended.after new.nodes new.moments)
-                (Runs Calls GivesMoment config old.setting.slot (backend session nodes moments) context action (message_of_answer ran.0) (backend ended.after new.nodes new.moments))) (sym none) (ran.0, refl, ends))),
+                (Runs Calls GivesMoment config old.setting.slot (backend session nodes moments) context action (message_of_answer ran.0) (backend ended.after new.nodes new.moments))) (sym none) (ran.0, record { gives = refl; whole = whole }, ends))),
           )
   answered_by_steps request refusal context action so few old mid new nodes moments (Err (RefusedWith fault)) IsPut same later told begins err ran =
       (Refused fault, record { setting = ap (λ (b : Backend KeptSession N M). b.session.setting) ran.1 ∙ same; answers = answers }, ran.0)

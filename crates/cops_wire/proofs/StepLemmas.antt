@@ -31,6 +31,7 @@ use Rattle.cops_session.specs.Stepping as stepping
 use Rattle.cops_session.specs.Stepping.{TellsNext, told_shown}
 use Rattle.cops_session.proofs.StepLaws.{as_told}
 use Rattle.cops_model.specs.Transaction.{outdated, reads_of, wanted_version}
+use Rattle.cops_wire.specs.Limits.{IsHeldOrTyped}
 use Rattle.cops_wire.specs.Requests.{Backend, DoesNext, Ends, HasFewRestarts, KeepsShape, RequestGoesOn, Steps, backend, message_of_answer}
 use Rattle.cops_wire.specs.Running.{ShowsAnswer, HasEnded, HasFewKeys, HasStepped, PutsAnswer, PutsFrame}
 
@@ -65,7 +66,7 @@ module _ {N M : Type 0} (Calls : N → NodeId → ℕ → ℕ → NodeCall → N
       }
 
   -- a step with which the request goes on is in its log
-  logged : (session : Session) (running : Running) (moment : ℕ) (old new : N) (shown : Progress) (after : Session) (n : Next Answer) → RequestGoesOn shown
+  pub logged : (session : Session) (running : Running) (moment : ℕ) (old new : N) (shown : Progress) (after : Session) (n : Next Answer) → RequestGoesOn shown
       → DoesNext Calls GivesMoment config slot session running moment old n shown after new → (step : LogStep) × (after.running ≡ Some (record running { log = running.log ++ step ∷ [] }))
   logged session running moment old new shown after (Call directed) goes d =
       let step : LogStep = record { moment = moment; outcome = Replied d.0 } in (step, ap (λ (s : Session). s.running) d.2.after_is ∙ still shown goes step)
@@ -190,7 +191,7 @@ module _ {N M : Type 0} (Calls : N → NodeId → ℕ → ℕ → NodeCall → N
     rest = λ answer new ends. ends;
   }
 
-  same_running : (a b : Running) (o : Option Running) → o ≡ Some a → o ≡ Some b → a ≡ b
+  pub same_running : (a b : Running) (o : Option Running) → o ≡ Some a → o ≡ Some b → a ≡ b
   same_running a b o p q = let both : Some a ≡ Some b = sym p ∙ q in cc
 
   pub goes_on : (old : Backend Session N M) (action : Action) (kept later : KeptSession) (nodes new_nodes : N) (moments new_moments : M) (count : ℕ) → HasFewKeys action
@@ -259,8 +260,8 @@ runs_so session running request is named idle =
 -- ---- replies
 
 -- a reply that was put gives the answer
-pub put_gives : (put : Result Unit AllocError) (old new : List ℕ) (answer : Option Answer) → PutsAnswer (Some put) old new answer → (given : Answer) × (answer ≡ Some given) × PutsFrame put old new (message_of_answer given)
-put_gives put old new (Some given) puts = (given, refl, puts)
+pub put_gives : (put : Result Unit AllocError) (old new : List ℕ) (answer : Option Answer) → PutsAnswer (Some put) old new answer → (given : Answer) × (answer ≡ Some given) × PutsFrame put old new (message_of_answer given) × IsHeldOrTyped given
+put_gives put old new (Some given) puts = (given, refl, puts.0, puts.1)
 put_gives put old new None puts = absurd puts
 
 -- if none was put there is no answer

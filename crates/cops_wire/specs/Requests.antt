@@ -96,12 +96,21 @@ IsLimited read =
 abbrev pub AreLimited : List Read → Type 0
 AreLimited reads = (length reads ≤ 32) × AllByRecursion IsLimited reads
 
--- The message that gives the answer of a request. What no frame can hold counts as too many dependencies; within the limits of a head
--- every answer fits (`limited_answers_fit`).
+-- the message that gives all of an answer
+abbrev pub whole_message : Answer → Message
+whole_message (answer.Stored pair) = Stored pair.key pair.version
+whole_message (answer.Values reads) = values_of reads
+whole_message (answer.Refused fault) = Refused fault
+
+-- the message that gives the answer of a request; what no frame can hold counts as too many dependencies
 abbrev pub message_of_answer : Answer → Message
-message_of_answer (answer.Stored pair) = Stored pair.key pair.version
 message_of_answer (answer.Values reads) = if is_one_frame reads then values_of reads else Refused DependenciesFull
-message_of_answer (answer.Refused fault) = Refused fault
+message_of_answer others = whole_message others
+
+-- The reply gives the answer. It gives all of it if the tenant's lists have at most 1,024 pairs, as in each head.
+pub record GivesAnswer (config : TenantConfig) (ended : Answer) (reply : Message) : Type 0 where
+  pub gives : reply ≡ message_of_answer ended
+  pub whole : config.quota.deps ≤ 1024 → reply ≡ whole_message ended
 
 -- ---- steps
 
@@ -169,7 +178,7 @@ module _ {N M : Type 0} (Calls : N → NodeId → ℕ → ℕ → NodeCall → N
 
   -- the request runs until it has its answer
   abbrev pub Runs : Backend Session N M → ℕ → Action → Message → Backend Session N M → Type 0
-  Runs old context action reply new = (ended : Answer) × (reply ≡ message_of_answer ended) × Ends (backend (request_begun context action old.session) old.nodes old.moments) ended new
+  Runs old context action reply new = (ended : Answer) × GivesAnswer config ended reply × Ends (backend (request_begun context action old.session) old.nodes old.moments) ended new
 
   -- the request is answered as the session's definition says
   abbrev pub AnswersSo : Backend Session N M → Message → Message → Backend Session N M → Type 0

@@ -21,6 +21,7 @@ use Rattle.cops_model.specs.Session.{Running, Session}
 use Rattle.cops_session.specs.SessionStands.{SessionStandsFor}
 use Rattle.cops_wire.specs.declared.messages.Message.{Message}
 use Rattle.cops_wire.specs.declared.messages.Message.TheVariants.{Refused}
+use Rattle.cops_wire.specs.Limits.{IsHeldOrTyped}
 use Rattle.cops_wire.specs.Requests.{Backend, Ends, HasFewRestarts, RequestGoesOn, Steps, backend, message_of_answer}
 use Rattle.cops_wire.specs.Spelling.{spelling}
 
@@ -73,14 +74,14 @@ PutsFrame result old new reply = OnOk result (new ≡ old ++ spelling reply) × 
 -- What was begun ran to its answer, from whatever the kept session stood for; what failed changed nothing.
 abbrev pub HasRun : {N M : Type 0} → (N → NodeId → ℕ → ℕ → NodeCall → NodeReply → N → Type 0) → (M → ℕ → M → Type 0) → Backend KeptSession N M → Result Unit RequestError → Backend KeptSession N M → (Message → Type 0) → Type 0
 HasRun Calls GivesMoment old (Ok begun) new IsPut =
-    (answer : Answer) × IsPut (message_of_answer answer)
+    (answer : Answer) × IsPut (message_of_answer answer) × IsHeldOrTyped answer
     × ((config : TenantConfig) (session : Session) (running : Running) → HasFewRestarts config → SessionStandsFor config old.session session → session.running ≡ Some running → running.log ≡ [] → HasFewKeys running.action →
     HasEnded Calls GivesMoment config old.session.setting.slot (backend session old.nodes old.moments) new.session new.nodes new.moments answer)
 HasRun Calls GivesMoment old (Err error) new IsPut = IsPut (Refused (fault_told error)) × (new ≡ old)
 
 -- the reply that gives the answer was put at the end if there is one; otherwise nothing was
 abbrev pub PutsAnswer : Option (Result Unit AllocError) → List ℕ → List ℕ → Option Answer → Type 0
-PutsAnswer (Some put) old new (Some answer) = PutsFrame put old new (message_of_answer answer)
+PutsAnswer (Some put) old new (Some answer) = PutsFrame put old new (message_of_answer answer) × IsHeldOrTyped answer
 PutsAnswer (Some put) old new None = ⊥
 PutsAnswer None old new (Some answer) = ⊥
 PutsAnswer None old new None = new ≡ old

@@ -1,9 +1,11 @@
 //! Serializes the answers of requests as frames.
 ghost use Rattle.std.specs.Prelude.{◌≡◌, ◌≤◌, ◌+◌, [], ◌∷◌, ◌++◌, length, map, take, true, IfOk, MatchBool, OnOk, OnErr};
 ghost use Rattle.std.specs.Bool.{OnTrue};
-ghost use Rattle.std.specs.List.{flat_map};
+ghost use Rattle.std.specs.List.{AllByRecursion, flat_map};
 ghost use Rattle.byteorder.specs.Endian.{big_bytes};
+ghost use Rattle.cops_types.specs.Pairs.{IsDeps};
 ghost use Rattle.cops_types.specs.Words.{StartsWith};
+ghost use Rattle.cops_wire.specs.Limits.{IsHeldOrTyped, IsShort, IsTyped};
 ghost use Rattle.cops_wire.specs.Requests.{are_counted, is_counted, is_one_frame, link_to, message_of_answer, outcome_of_read, values_of};
 ghost use Rattle.cops_wire.specs.Spelling.{body_of, link_of, outcome_of, spelled_key, spelled_value, spelled_version, spelling};
 ghost use Rattle.cops_wire.specs.declared.messages.Message.{Message};
@@ -328,10 +330,46 @@ fn push_stored(out: &mut Vec<u8>, pair: &Pair) -> Result<(), AllocError>
     Ok(())
 }
 
+/// Reads the keys of dependencies, which are within the limit of their type.
+fn see_pairs(deps: &OwnedDeps)
+    ensures once { IsDeps deps.now }
+    ensures short { AllByRecursion (λ pair. IsShort pair.key) deps.now }
+{
+    if deps.is_empty() {
+        return;
+    }
+    for place in 0..deps.len() {
+        key_bytes(&deps.pair(place).key);
+    }
+}
+
+/// Reads the parts of a read, which are within the limits of their types.
+fn see_read(read: &Read)
+    ensures typed { IsTyped read.now }
+{
+    key_bytes(read.key());
+    if let Some(found) = read.found() {
+        found.value().bytes();
+        see_pairs(found.deps());
+    }
+}
+
+/// Reads the reads of a reply that was not written. Their types show that it is not too long if
+/// their context took them.
+#[cold]
+fn see_reads(reads: &[Read])
+    ensures typed { AllByRecursion IsTyped reads.now }
+{
+    for read in reads {
+        see_read(read);
+    }
+}
+
 /// Appends the reply with an answer. On `Err` nothing is appended.
 pub(crate) fn push_reply(out: &mut Vec<u8>, answer: &Answer) -> Result<(), AllocError>
     ensures ok { OnOk result (out.new.items ≡ out.old.items ++ spelling (message_of_answer answer.now)) }
     ensures err { OnErr result (out.new.items ≡ out.old.items) }
+    ensures typed { IsHeldOrTyped answer.now }
 {
     match answer {
         Answer::Stored(pair) => push_stored(out, pair),
@@ -341,10 +379,12 @@ pub(crate) fn push_reply(out: &mut Vec<u8>, answer: &Answer) -> Result<(), Alloc
                 Ok(true) => Ok(()),
                 Ok(false) => {
                     out.truncate(len);
+                    see_reads(reads.as_slice());
                     push_refusal(out, Fault::DependenciesFull)
                 }
                 Err(error) => {
                     out.truncate(len);
+                    see_reads(reads.as_slice());
                     Err(error)
                 }
             }

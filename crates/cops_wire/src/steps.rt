@@ -5,6 +5,7 @@ ghost use Rattle.cops_session.specs.Kept.{IsOfSizes};
 ghost use Rattle.cops_model.specs.Session.{Running as SoloRunning, Session as SoloSession};
 ghost use Rattle.cops_model.specs.declared.requests.Answer.{Answer as SoloAnswer};
 ghost use Rattle.cops_session.specs.SessionStands.{SessionStandsFor};
+ghost use Rattle.cops_wire.specs.Limits.{IsHeldOrTyped};
 ghost use Rattle.cops_wire.specs.Requests.{KeepsShape, HasFewRestarts, backend, message_of_answer};
 ghost use Rattle.cops_wire.specs.Running.{HasEnded, HasStepped, HasFewKeys, PutsAnswer, PutsFrame};
 
@@ -57,7 +58,7 @@ pub(crate) fn finish<N: Nodes, M: Moments>(
     out: &mut Vec<u8>,
 ) -> Result<(), AllocError>
     requires fits { IsOfSizes (N.shape nodes.old).data_centres (N.shape nodes.old).shards session.old.setting }
-    ensures ended { (answer : SoloAnswer) × PutsFrame result out.old.items out.new.items (message_of_answer answer)
+    ensures ended { (answer : SoloAnswer) × PutsFrame result out.old.items out.new.items (message_of_answer answer) × IsHeldOrTyped answer
         × ((config : TenantConfig) (solo : SoloSession) (running : SoloRunning) → HasFewRestarts config → SessionStandsFor config session.old solo → solo.running ≡ Some running → running.log ≡ [] → HasFewKeys running.action →
         HasEnded (KeepsShape N.shape N.Answers) M.Gives config session.old.setting.slot (backend solo nodes.old moments.old) session.new nodes.new moments.new answer) }
     ensures setting { session.new.setting ≡ session.old.setting }

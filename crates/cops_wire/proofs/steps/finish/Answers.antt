@@ -14,6 +14,7 @@ returns-in-Some-clause-ended g c =
     let answer = gives.0 in (
       answer,
       subst (λ old. PutsFrame c.in-Some.put old c.step_once.new.out.items (message_of_answer answer)) c.loop.invariant.out gives.2,
+      gives.3,
       λ config solo running restarts stands runs none few.
           let h = c.loop.invariant.ongoing config solo running restarts stands runs none few in
           ends_so (KeepsShape g.N.Nodes.shape g.N.Nodes.Answers) g.M.Moments.Gives config c.args.session.now.setting.slot _ running.action c.loop.session c.step_once.new.session c.loop.nodes c.step_once.new.nodes c.loop.moments c.step_once.new.moments c.loop.counter answer h
@@ -42,6 +43,7 @@ pub returns-clause-ended : goal.returns-clause-ended
 returns-clause-ended g c = (
   Refused Overrun,
   subst (λ old. PutsFrame c.push_refusal.result old c.push_refusal.new.out.items (message_of_answer (Refused Overrun))) c.loop.invariant.out (c.push_refusal.ensures.ok, c.push_refusal.ensures.err),
+  tt,
   λ config solo running restarts stands runs none few.
       let h = c.loop.invariant.ongoing config solo running restarts stands runs none few in
       let over : c.loop.counter ≡ 2 ^ 64 - 1 = omega arith in

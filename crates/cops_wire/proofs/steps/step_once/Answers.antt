@@ -17,7 +17,7 @@ use Rattle.cops_wire.proofs.steps.step_once.Goals as goal
 pub returns-in_default-clause-stepped : goal.returns-in_default-clause-stepped
 returns-in_default-clause-stepped g c = (
   Some (Refused Idle),
-  (c.push_refusal.ensures.ok, c.push_refusal.ensures.err),
+  ((c.push_refusal.ensures.ok, c.push_refusal.ensures.err), tt),
   λ config solo running stands runs.
       absurd (has_number solo running runs (c.in_default.ensures config solo stands)),
 )
@@ -25,7 +25,7 @@ returns-in_default-clause-stepped g c = (
 pub returns-in-Done-clause-stepped : goal.returns-in-Done-clause-stepped
 returns-in-Done-clause-stepped g c = (
   Some c.in-Done.answer,
-  (c.push_reply.ensures.ok, c.push_reply.ensures.err),
+  ((c.push_reply.ensures.ok, c.push_reply.ensures.err), c.push_reply.ensures.typed),
   λ config solo running stands runs.
       let does = when_ok _ _ (told_step c.step-stepped.result) (Ok c.in-Ok.shown) (ap told_step c.in-Ok.is) (c.step-stepped.ensures.stepped config solo stands) in
       stepped g.N.Nodes.Answers g.M.Moments.Gives config c.args.session.now.setting.slot g.N.Nodes.shape solo does.0 c.args.nodes.now c.step-stepped.new.nodes c.args.moments.now c.now-moment.new.self c.now-moment.result (Ok c.in-Ok.shown) c.step-stepped.new.self _
@@ -55,7 +55,7 @@ returns-in-Ok-clause-stepped g c = (
 pub returns-clause-stepped : goal.returns-clause-stepped
 returns-clause-stepped g c = (
   Some (Refused (fault_told c.in-Err.error)),
-  (c.push_failure.ensures.ok, c.push_failure.ensures.err),
+  ((c.push_failure.ensures.ok, c.push_failure.ensures.err), tt),
   λ config solo running stands runs. by config solo running stands runs c.in-Err.error c.in-Err.is,
 )
   where
