@@ -183,18 +183,35 @@ fn a_dropped_slot_is_used_again(rt: HostRuntime) {
     assert_latest(&rt, &store, 1, 0, 0);
 }
 
-/// Two stale versions of each of three keys in two slots, whose entries stand in turn: those of slot
-/// 0 are stale from 10 and 20 on, those of slot 1 from 15 and 25 on.
+/// Inserts a version of three keys, each in slot 0 and then in slot 1.
+fn keep_in_turn(
+    rt: &impl Abort,
+    alloc: Global,
+    store: &mut Store,
+    clock: u64,
+    first_now: u64,
+    second_now: u64,
+)
+    requires { 1 < store.old.tenants }
+    ensures { store.new.tenants ≡ store.old.tenants }
+{
+    keep(rt, alloc, store, 0, b"a", clock, first_now);
+    keep(rt, alloc, store, 1, b"a", clock, second_now);
+    keep(rt, alloc, store, 0, b"b", clock, first_now);
+    keep(rt, alloc, store, 1, b"b", clock, second_now);
+    keep(rt, alloc, store, 0, b"c", clock, first_now);
+    keep(rt, alloc, store, 1, b"c", clock, second_now);
+}
+
+/// Two stale versions of three keys in two slots, whose entries stand in turn: those of slot 0 are
+/// stale since 10 and 20, those of slot 1 since 15 and 25.
 fn with_entries_in_turn(rt: &impl Abort, alloc: Global) -> Store
     ensures { result.tenants ≡ 2 }
 {
     let mut store = store(rt, alloc, 2);
-    for (clock, now) in [(1, 5), (2, 10), (3, 20)] {
-        for name in [b"a", b"b", b"c"] {
-            keep(rt, alloc, &mut store, 0, name, clock, now);
-            keep(rt, alloc, &mut store, 1, name, clock, now + 5);
-        }
-    }
+    keep_in_turn(rt, alloc, &mut store, 1, 5, 5);
+    keep_in_turn(rt, alloc, &mut store, 2, 10, 15);
+    keep_in_turn(rt, alloc, &mut store, 3, 20, 25);
     store
 }
 
