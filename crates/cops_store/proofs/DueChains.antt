@@ -4,7 +4,6 @@ use Rattle.std.specs.Prelude.{Option, Some, None, ◌==◌, if◌then◌else◌,
 use Rattle.std.proofs.lemmas.Bool.Decides.{nat_tests}
 use Rattle.cops_store.specs.declared.table.Due.{Due}
 use Rattle.cops_store.specs.declared.due_rows.DueRow.{DueRow}
-use Rattle.cops_store.specs.declared.due_rows.DueLine.{DueLine}
 use Rattle.cops_store.specs.Dues.{IsDueAdded, IsDueChain, IsDueGone, IsRowOf, cell_at, due_in, dues_from, next_in}
 
 -- ---- one chain

@@ -1,4 +1,4 @@
-use Rattle.std.proofs.Common.{◌≡◌, ◌<◌, ◌+◌, ◌∙◌, ap, arith, refl}
+use Rattle.std.proofs.Common.{◌∙◌, ap, arith, refl}
 use Rattle.cops_store.specs.declared.due_rows.DueLine.{DueLine}
 use Rattle.cops_store.proofs.DueLines.{due_turn_empty, due_turn_none, due_turn_then}
 use Rattle.cops_store.proofs.due_rows.DueRows.clear.Goals as goal

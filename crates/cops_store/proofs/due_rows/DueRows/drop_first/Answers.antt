@@ -1,6 +1,6 @@
-use Rattle.std.proofs.Common.{◌≡◌, ◌<◌, ◌≤◌, ◌+◌, ◌-◌, ◌∙◌, ap, arith, subst, sym, refl}
-use Rattle.std.specs.Prelude.{Some, drop, slice_get}
-use Rattle.cops_store.specs.Dues.{Dues, IsDueLine, IsDueTurn, IsRowOf, dues_in, dues_from, passed}
+use Rattle.std.proofs.Common.{◌≡◌, ◌-◌, subst, sym, refl}
+use Rattle.std.specs.Prelude.{drop}
+use Rattle.cops_store.specs.Dues.{Dues, IsDueLine, IsDueTurn, dues_in}
 use Rattle.cops_store.proofs.DueLines.{first_there, gone_dues, gone_turn}
 use Rattle.cops_store.proofs.due_rows.DueRows.drop_first.Goals as goal
 

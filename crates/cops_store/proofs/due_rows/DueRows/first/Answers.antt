@@ -1,6 +1,6 @@
-use Rattle.std.proofs.Common.{◌≡◌, ◌<◌, ◌≤◌, ◌+◌, ◌-◌, ◌∙◌, ap, arith, subst, sym, refl}
-use Rattle.std.specs.Prelude.{Some, drop, slice_get}
-use Rattle.cops_store.specs.Dues.{Dues, IsDueLine, IsDueTurn, IsRowOf, dues_in, dues_from, passed}
+use Rattle.std.proofs.Common.{◌≡◌, ap, subst, sym}
+use Rattle.std.specs.Prelude.{Some, slice_get}
+use Rattle.cops_store.specs.Dues.{Dues, IsDueLine, dues_in}
 use Rattle.cops_store.proofs.DueLines.{first_is, first_there, some_there}
 use Rattle.cops_store.proofs.due_rows.DueRows.first.Goals as goal
 

@@ -1,6 +1,5 @@
-use Rattle.std.proofs.Common.{◌≡◌, ◌<◌, ◌≤◌, ◌+◌, ◌-◌, ◌∙◌, ap, arith, subst, sym, refl}
-use Rattle.std.specs.Prelude.{Some, drop, slice_get}
-use Rattle.cops_store.specs.Dues.{Dues, IsDueLine, IsDueTurn, IsRowOf, dues_in, dues_from, passed}
+use Rattle.std.proofs.Common.{◌≡◌, arith, subst, sym, refl}
+use Rattle.cops_store.specs.Dues.{Dues, IsDueLine, IsDueTurn, dues_in, passed}
 use Rattle.cops_store.proofs.DueLines.{first_there, last_there, moved_dues, moved_turn}
 use Rattle.cops_store.proofs.due_rows.DueRows.pass.Goals as goal
 

@@ -1,7 +1,7 @@
-use Rattle.std.proofs.Common.{◌≡◌, ◌<◌, ◌≤◌, ◌+◌, ◌-◌, ◌∙◌, ap, arith, subst, sym, refl}
+use Rattle.std.proofs.Common.{◌≡◌, ap, subst, sym}
 use Rattle.std.specs.Prelude.{IsTrue, ◌++◌, ◌∷◌, []}
 use Rattle.cops_store.specs.declared.due_rows.DueLine.{DueLine}
-use Rattle.cops_store.specs.Dues.{Dues, IsDueLine, IsDueTurn, IsRowOf, dues_in, dues_from, passed}
+use Rattle.cops_store.specs.Dues.{Dues, IsDueLine, IsDueTurn, dues_in}
 use Rattle.cops_store.proofs.DueLines.{added_dues, added_turn}
 use Rattle.cops_store.proofs.due_rows.DueRows.push.Goals as goal
 

@@ -1,4 +1,4 @@
-use Rattle.std.proofs.Common.{◌≡◌, ◌<◌, ◌≤◌, ◌-◌, ◌^◌, ◌∙◌, arith, length, subst, sym}
+use Rattle.std.proofs.Common.{◌<◌, ◌≤◌, ◌-◌, ◌^◌, arith, subst, sym}
 use Rattle.cops_store.specs.declared.shared.Cleaned.{Cleaned}
 use Rattle.cops_store.specs.Dues.{dues_in}
 use Rattle.cops_store.specs.Lines.{chains_at}

@@ -1,5 +1,4 @@
-use Rattle.std.proofs.Common.{◌≡◌, ◌∙◌, ap, max, refl, subst, sym, zero-add}
-use Rattle.std.specs.Prelude.{Some, None}
+use Rattle.std.proofs.Common.{◌∙◌, ap, max, subst, sym, zero-add}
 use Rattle.cops_store.specs.Dues.{dues_in}
 use Rattle.cops_store.specs.Lines.{chains_at}
 use Rattle.cops_store.specs.declared.shared.Cleaned.{Cleaned}

@@ -2,7 +2,7 @@ use Rattle.std.proofs.Common.{◌∙◌, ◌-◌, ap, sym, subst, zero-add}
 use Rattle.cops_types.specs.Records.{ever}
 use Rattle.cops_store.specs.Dues.{dues_in}
 use Rattle.cops_store.specs.Lines.{chains_at}
-use Rattle.cops_store.specs.Tables.{all_rows, collect_chains_by, IsShelf}
+use Rattle.cops_store.specs.Tables.{all_rows, IsShelf}
 use Rattle.cops_store.proofs.Meaning.{flags, to_left, from_collected, count_is}
 use Rattle.cops_store.proofs.Lists.{IsPermutation-same}
 use Rattle.cops_store.proofs.Versions.{AreLeft-collected}

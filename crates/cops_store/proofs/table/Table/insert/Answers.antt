@@ -1,6 +1,6 @@
 use Rattle.std.proofs.Common.{◌<◌, ◌∙◌, ap, sym, subst, true≢false}
 use Rattle.cops_store.specs.Lines.{chains_at, linked_in, row_of}
-use Rattle.cops_store.specs.Dues.{IsDueTurn, IsFromLeast, dues_in}
+use Rattle.cops_store.specs.Dues.{dues_in}
 use Rattle.cops_store.specs.Tables.{AreFounded, AreNoted, chains_of, with_key}
 use Rattle.cops_store.proofs.DueLines.{due_turn_none}
 use Rattle.cops_store.proofs.DueSteps.{least_longer}
