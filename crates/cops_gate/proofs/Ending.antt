@@ -1,10 +1,10 @@
 -- Seats that end: what the last one knows of the turns of each.
-use Rattle.std.proofs.Common.{◌≡◌, ◌≢◌, ℕ, zero, suc, ◌<◌, ◌≤◌, ◌+◌, eqb, List, [], ◌∷◌, ◌++◌, Bool, length, length-append, sym, refl, ap, ◌∙◌, subst, append_assoc, append-nil, arith, get_or, set, take}
-use Rattle.std.specs.List.{AllByRecursion, filter}
+use Rattle.std.proofs.Common.{◌≡◌, inl, inr, ℕ, zero, suc, ◌<◌, ◌≤◌, ◌+◌, eqb, List, [], ◌∷◌, ◌++◌, length, length-append, sym, refl, ap, ◌∙◌, subst, append_assoc, append-nil, arith, get_or, set, take}
+use Rattle.std.specs.List.{AllByRecursion}
 use Rattle.std.proofs.lemmas.List.Elements.{filter-append}
 use Rattle.cops_gate.specs.declared.history.Turn.{Turn}
 use Rattle.cops_gate.specs.History.{turns_of, StartsWith}
-use Rattle.cops_gate.specs.Seats.{HasAllOf, Known}
+use Rattle.cops_gate.specs.Rule.{Met}
 
 module _ {A : Type 0} where
   -- a list that begins with one that begins with it
@@ -26,6 +26,12 @@ module _ {C R : Type 0} where
       let in_heard : turns_of n heard ≡ turns_of n log ++ turns_of n sees.0 = ap (turns_of n) sees.1 ∙ of_parts n log sees.0 in
       let none : turns_of n has.0 ≡ [] = short (turns_of n seen) (turns_of n has.0) (turns_of n sees.0) (sym same ∙ in_heard ∙ ap (λ l. l ++ turns_of n sees.0) in_log) in
       in_log ∙ ap (λ l. turns_of n seen ++ l) none ∙ append-nil (turns_of n seen)
+
+  -- A seat that ends knows its own turns in what the last seat has seen, and those of the seats that ended into it
+  pub all_known : (log seen heard : List (Turn C R)) (number : ℕ) (joined : List ℕ) → StartsWith log seen → StartsWith heard log → turns_of number heard ≡ turns_of number seen
+      → ((j : ℕ) → Met j joined → turns_of j heard ≡ turns_of j seen) → (j : ℕ) → Met j (number ∷ joined) → turns_of j log ≡ turns_of j heard
+  all_known log seen heard number joined has sees own earlier j (inl this) = ap (λ n. turns_of n log) this ∙ (own_turns number log seen heard has sees own ∙ (sym own ∙ ap (λ n. turns_of n heard) (sym this)))
+  all_known log seen heard number joined has sees own earlier j (inr met) = own_turns j log seen heard has sees (earlier j met) ∙ sym (earlier j met)
 
 module _ {A : Type 0} (P : A → Type 0) where
   pub all_split : (xs ys : List A) → AllByRecursion P (xs ++ ys) → AllByRecursion P xs × AllByRecursion P ys

@@ -1,10 +1,8 @@
 -- A history of all nodes, node by node.
-use Rattle.std.proofs.Common.{◌≡◌, ◌≢◌, ℕ, eqb, List, [], ◌∷◌, ◌++◌, sym, refl, ap, ◌∙◌, subst, Option, None, Bool, cond, true, false}
+use Rattle.std.proofs.Common.{◌≡◌, ℕ, eqb, List, [], ◌∷◌, ◌++◌, sym, refl, ap, ◌∙◌, subst, None, Bool, cond, true, false}
 use Rattle.std.specs.List.{filter}
 use Rattle.std.proofs.lemmas.List.Elements.{filter-append}
-use mathlib.Core.Option.{some, some-injective}
-use lib.ListN.{get_elem?}
-use Rattle.cops_gate.specs.declared.history.Entry.{Entry}
+use mathlib.Core.Option.{some-injective}
 use Rattle.cops_gate.specs.declared.history.Turn.{Turn}
 use Rattle.cops_gate.specs.History.{turn, turns_of, turns_at, Leads}
 use Rattle.cops_gate.specs.Filtered.{TurnsAreOfOneNode, OtherNodesAreSeen, LackingIsOfOneNode}

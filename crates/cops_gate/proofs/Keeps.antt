@@ -11,15 +11,20 @@ use Rattle.atomic_table.specs.Table.{State, Act, keeps, takes, gives, step, step
 use Rattle.atomic_table.proofs.Lists.{at_set, exchanged, set_else, set_again, at_longer, at_map}
 use Rattle.cops_gate.specs.declared.history.Entry.{Entry}
 use Rattle.cops_gate.specs.declared.history.Turn.{Turn}
+use Rattle.cops_gate.specs.declared.board.Account.{Account}
 use Rattle.cops_gate.specs.declared.board.Opening.{Opening}
 use Rattle.cops_gate.specs.declared.board.Stage.{Stage}
 use Rattle.cops_gate.specs.declared.board.Stage.TheVariants.{Idle, Waits, Holds}
 use Rattle.cops_gate.specs.declared.board.View.{View}
 use Rattle.cops_gate.specs.History.{turn, turns_of, turns_at, StartsWith, Leads, IsLegal, IsWhole}
-use Rattle.cops_gate.specs.Rule.{ticket_at, serving_at, Apart, HasTicket, HoldsItsTicket, IsOut, Kept, Knows, Met, Rests, Stands, newcomer}
-use Rattle.cops_gate.specs.Plays.{Sat, at_stage, spent_view, published_view, fresh_view, numbered_view, told_view, ended_view, DrawnAt, HasRoom, PublishedAt, learned, glanced, drawn, published, looked, Gets}
-use Rattle.cops_gate.specs.Seats.{AreAtRest, ClosesWith, Known, Origin}
+use Rattle.cops_gate.specs.Accounts.{IsComplete, no_account}
+use Rattle.cops_gate.specs.Rule.{ticket_at, serving_at, Apart, AreCovered, HasTicket, HoldsItsTicket, AreCounted, IsCovered, IsOut, Kept, Knows, Met, Rests, Stands, newcomer}
+use Rattle.cops_gate.specs.Plays.{Sat, at_stage, spent_view, published_view, fresh_view, fork_view, forked_view, numbered_view, told_view, joined_view, ended_view, KnowsTurnsOf, DrawnAt, HasRoom, PublishedAt, learned, glanced, drawn, published, looked, Gets}
+use Rattle.cops_gate.specs.Seats.{AreAtRest, AreMadeBy, ClosesWith, Known, Origin}
+use Rattle.cops_gate.proofs.Accounts.{all_by_it, all_seen, counted_again, counted_end, counted_fork, counted_more, covered_again, covered_end, covered_fork, covered_more, fork_joined_none, met_parts}
+use Rattle.cops_gate.proofs.Ending.{all_joined, all_weaker}
 use Rattle.cops_gate.proofs.Histories.{starts_on, turns_other, turns_mine, node_other, node_mine, node_parts, none_before, placed_on}
+use Rattle.cops_gate.proofs.Words.{apart_words, ticket_else, ticket_here, ticket_serving, serving_ticket, serving_else, serving_here, true_not_false, waits_not_holds, idle_not_holds, waits_same, holds_same}
 
 -- lists read by `get_elem?`
 module _ {A : Type 0} where
@@ -54,84 +59,6 @@ there_at (x ∷ xs) (suc i) h = there_at xs i (omega arith)
 -- the slot that was taken last
 pub slot_out : {A : Type 0} (xs : List (ℕ × A)) (n : ℕ) (a : A) → ◌≡◌ {A = List (ℕ × A)} xs ((n, a) ∷ []) → (b : A) × ◌≡◌ {A = List (ℕ × A)} xs ((n, b) ∷ rest xs)
 slot_out {A} xs n a e = let P : List (ℕ × A) → Type 0 = λ l. ◌≡◌ {A = List (ℕ × A)} xs ((n, a) ∷ l) in (a, subst P (ap rest (sym e)) e)
-
--- words
-word_else : (ws : List ℕ) (i j x : ℕ) → j ≢ i → get_or (set ws i x) j 0 ≡ get_or ws j 0
-word_else [] i j x n = refl
-word_else (w ∷ ws) zero zero x n = absurd (n refl)
-word_else (w ∷ ws) zero (suc j) x n = refl
-word_else (w ∷ ws) (suc i) zero x n = refl
-word_else (w ∷ ws) (suc i) (suc j) x n = word_else ws i j x (λ e. n (ap suc e))
-
-word_here : (ws : List ℕ) (i x : ℕ) → i < length ws → get_or (set ws i x) i 0 ≡ x
-word_here [] i x h = absurd (omega arith)
-word_here (w ∷ ws) zero x h = refl
-word_here (w ∷ ws) (suc i) x h = word_here ws i x (omega arith)
-
--- where the words of a node lie
-apart_words : (m n : ℕ) → 16 * m ≡ 16 * n → m ≡ n
-apart_words m n e = omega arith
-
-odd_words : (m n : ℕ) → 16 * m + 1 ≡ 16 * n → ⊥
-odd_words m n e = omega arith
-
--- a new ticket at the node n
-ticket_else : (ws : List ℕ) (n m x : ℕ) → m ≢ n → ticket_at (set ws (16 * n) x) m ≡ ticket_at ws m
-ticket_else ws n m x other = word_else ws (16 * n) (16 * m) x (λ e. other (apart_words m n e))
-
-ticket_here : (ws : List ℕ) (n x : ℕ) → 16 * n < length ws → ticket_at (set ws (16 * n) x) n ≡ x
-ticket_here ws n x inside = word_here ws (16 * n) x inside
-
-ticket_serving : (ws : List ℕ) (n m x : ℕ) → serving_at (set ws (16 * n) x) m ≡ serving_at ws m
-ticket_serving ws n m x = word_else ws (16 * n) (16 * m + 1) x (odd_words m n)
-
--- the next turn at the node n
-serving_ticket : (ws : List ℕ) (n m x : ℕ) → ticket_at (set ws (16 * n + 1) x) m ≡ ticket_at ws m
-serving_ticket ws n m x = word_else ws (16 * n + 1) (16 * m) x (λ e. odd_words n m (sym e))
-
-serving_else : (ws : List ℕ) (n m x : ℕ) → m ≢ n → serving_at (set ws (16 * n + 1) x) m ≡ serving_at ws m
-serving_else ws n m x other = word_else ws (16 * n + 1) (16 * m + 1) x (λ e. other (apart_words m n (omega arith)))
-
-serving_here : (ws : List ℕ) (n x : ℕ) → 16 * n + 1 < length ws → serving_at (set ws (16 * n + 1) x) n ≡ x
-serving_here ws n x inside = word_here ws (16 * n + 1) x inside
-
-true_not_false : true ≡ false → ⊥
-true_not_false e = cc
-
--- stages
-ticket_of : Stage → ℕ
-ticket_of Idle = 0
-ticket_of (Waits n t) = t
-ticket_of (Holds n t) = t
-
-node_of : Stage → ℕ
-node_of Idle = 0
-node_of (Waits n t) = n
-node_of (Holds n t) = n
-
-IsWaiting : Stage → Type 0
-IsWaiting (Waits n t) = Unit {0}
-IsWaiting _ = ⊥
-
-IsHolding : Stage → Type 0
-IsHolding (Holds n t) = Unit {0}
-IsHolding _ = ⊥
-
-waits_not_holds : (n t m u : ℕ) → Waits n t ≡ Holds m u → ⊥
-unfolding IsWaiting
-waits_not_holds n t m u e = subst IsWaiting e tt
-
-idle_not_holds : (m u : ℕ) → Idle ≡ Holds m u → ⊥
-unfolding IsHolding
-idle_not_holds m u e = subst IsHolding (sym e) tt
-
-waits_same : (n t m u : ℕ) → Waits n t ≡ Waits m u → (n ≡ m) × (t ≡ u)
-unfolding ticket_of node_of
-waits_same n t m u e = (ap node_of e, ap ticket_of e)
-
-holds_same : (n t m u : ℕ) → Holds n t ≡ Holds m u → (n ≡ m) × (t ≡ u)
-unfolding ticket_of node_of
-holds_same n t m u e = (ap node_of e, ap ticket_of e)
 
 module _ {C R : Type 0} where
   -- a ticket was drawn
@@ -204,27 +131,38 @@ module _ {M C R P : Type 0} (turns : M → ℕ → ℕ → C → R → M → Typ
         k.slot;
   }
 
+  -- the second is the same seat, with the same account
+  abbrev IsSeatStill : V → V → Type 0
+  IsSeatStill v w = (w.account ≡ v.account) × (w.is_seat ≡ v.is_seat) × (v.numbered ≡ true → (w.numbered ≡ true) × (w.number ≡ v.number))
+
+  still_covered : (vs : List V) (id : ℕ) (v w : V) (log : List (Turn C R)) → get_elem? vs id ≡ some v → IsSeatStill v w → AreCovered vs log → AreCovered (set vs id w) log
+  still_covered vs id v w log at still covered =
+      all_weaker (λ (t : Turn C R). IsCovered vs t.seat) (λ (t : Turn C R). IsCovered (set vs id w) t.seat) log (λ t c. covered_again vs id v w at still.0 still.1 still.2 t.seat c) covered
+
   -- a seat knows something else
-  reseat : (s : St) (r : Rule s) (id : ℕ) (v w : V) → get_elem? s.views id ≡ some v → Knows from s.words r.log id w → w.stage ≡ v.stage → Rule record { words = s.words; homes = s.homes; views = set s.views id w }
-  reseat s r id v w at mine same = record {
+  reseat : (s : St) (r : Rule s) (id : ℕ) (v w : V) → get_elem? s.views id ≡ some v → Knows from s.words r.log id w → w.stage ≡ v.stage → IsSeatStill v w → Rule record { words = s.words; homes = s.homes; views = set s.views id w }
+  reseat s r id v w at mine same still = record {
     log = r.log;
     placed = r.placed;
     wide = r.wide;
     each_seat = each_set (Knows from s.words r.log) s.views id w mine (λ j u _. r.each_seat j u);
     unmade = λ j l. r.unmade j (subst (λ k. k ≤ j) (length-set s.views id w) l);
     apart = apart_set s.views id v w at (λ n t h. subst (HasTicket n t) same h) r.apart;
+    counted = counted_again s.views id v w at still.0 still.1 r.counted;
+    covered = still_covered s.views id v w r.log at still r.covered;
     each_node = λ m first there. stands_else s record { words = s.words; homes = s.homes; views = set s.views id w } r.log r.log m first refl refl refl refl
         (λ o. out_stays s.views id m (serving_at s.words m) v w at (λ e. same ∙ e) o) (r.each_node m first there);
   }
 
   -- a step that changes no word
-  unmoved : (s : St) (r : Rule s) (i id : ℕ) (cs : List (ℕ × M)) (v w : V) → get_elem? s.views id ≡ some v → Knows from s.words r.log id w → w.stage ≡ v.stage
+  unmoved : (s : St) (r : Rule s) (i id : ℕ) (cs : List (ℕ × M)) (v w : V) → get_elem? s.views id ≡ some v → Knows from s.words r.log id w → w.stage ≡ v.stage → IsSeatStill v w
       → Rule (stepped s i (get_or s.words i 0) id cs w keeps)
-  unmoved s r i id cs v w at mine same = subst (λ (ws : List ℕ). Rule record { words = ws; homes = s.homes; views = set s.views id w }) (sym (set-get_or s.words i 0)) (reseat s r id v w at mine same)
+  unmoved s r i id cs v w at mine same still = subst (λ (ws : List ℕ). Rule record { words = ws; homes = s.homes; views = set s.views id w }) (sym (set-get_or s.words i 0)) (reseat s r id v w at mine same still)
 
-  -- a seat comes that has made no turn
-  arrived : (s : St) (r : Rule s) (w : V) → w.stage ≡ Idle → ((j : ℕ) → turns_of j r.log ≡ [] → Knows from s.words r.log j w) → Rule record { words = s.words; homes = s.homes; views = s.views ++ w ∷ [] }
-  arrived s r w idle new = record {
+  -- a view comes that has made no turn
+  arrived : (s : St) (r : Rule s) (w : V) → w.stage ≡ Idle → ((j : ℕ) → turns_of j r.log ≡ [] → Knows from s.words r.log j w) → AreCounted (s.views ++ w ∷ []) → AreCovered (s.views ++ w ∷ []) r.log
+      → Rule record { words = s.words; homes = s.homes; views = s.views ++ w ∷ [] }
+  arrived s r w idle new counted covered = record {
     log = r.log;
     placed = r.placed;
     wide = r.wide;
@@ -235,38 +173,149 @@ module _ {M C R P : Type 0} (turns : M → ℕ → ℕ → C → R → M → Typ
         let old : (k : ℕ) (c : V) → get_elem? (s.views ++ w ∷ []) k ≡ some c → HasTicket n t c.stage → get_elem? s.views k ≡ some c
         = λ k c e h. ⊎_elim (λ o. o) (λ (y : (k ≡ length s.views) × (w ≡ c)). absurd (subst (HasTicket n t) (ap (λ (z : V). z.stage) (sym y.1) ∙ idle) h)) (at_end s.views w c k e) in
         r.apart i j a b n t (old i a ai ha) (old j b bj hb) ha hb;
+    counted = counted;
+    covered = covered;
     each_node = λ m first there. stands_else s record { words = s.words; homes = s.homes; views = s.views ++ w ∷ [] } r.log r.log m first refl refl refl refl
         (λ out. (out.0, out.1, at_longer s.views (w ∷ []) out.0 out.1 out.2, out.3)) (r.each_node m first there);
+  }
+
+  -- a seat that has ended knows nothing
+  ended_knows : (s : St) (r : Rule s) (j : ℕ) → Knows from s.words r.log j ended_view
+  ended_knows s r j = record {
+    same = tt;
+    seen = (r.log, refl);
+    told = (r.log, refl);
+    owns = ((λ e. absurd (true_not_false (sym e))), (λ e. absurd (true_not_false (sym e))));
+    seated = λ e. absurd (true_not_false (sym e));
+    joined = λ i met. absurd met;
+    queues = tt;
+    spent = λ n met. absurd met;
   }
 
   pub splits : (id : ℕ) (v : V) → Splits Rule id v v (fresh_view v)
   splits id v s r at =
       let k = r.each_seat id v at in
       subst (λ (vs : List V). Rule record { words = s.words; homes = s.homes; views = vs ++ fresh_view v ∷ [] }) (sym (set_again s.views id v at))
-      (arrived s r (fresh_view v) refl (λ j none_made. record { same = k.same; seen = k.seen; told = k.told; owns = ((λ e. absurd (true_not_false (sym e))), (λ _. none_made)); queues = tt; spent = k.spent }))
+      (arrived s r (fresh_view v) refl
+      (λ j none_made. record {
+        same = k.same;
+        seen = k.seen;
+        told = k.told;
+        owns = ((λ e. absurd (true_not_false (sym e))), (λ e. absurd (true_not_false (sym e))));
+        seated = λ e. absurd (true_not_false (sym e));
+        joined = λ j met. absurd met;
+        queues = tt;
+        spent = k.spent;
+      })
+      (counted_more s.views (fresh_view v) refl refl r.counted)
+      (all_weaker (λ (t : Turn C R). IsCovered s.views t.seat) (λ (t : Turn C R). IsCovered (s.views ++ fresh_view v ∷ []) t.seat) r.log (λ t c. covered_more s.views (fresh_view v) t.seat c) r.covered))
 
-  pub joins : (id : ℕ) (v : V) (other : ℕ) (w : V) → w.stage ≡ Idle → w.numbered ≡ false → Joins Rule id v other w (told_view v w) ended_view
+  -- A split changes the account of the seat alone, so all else is that of a seat that stays beside a view that comes
+  pub forks : (id : ℕ) (v : V) → v.numbered ≡ true → Splits Rule id v (forked_view v) (fork_view v)
+  forks id v numbered s r at =
+      let k = r.each_seat id v at in
+      let seat : v.is_seat ≡ true = k.seated numbered in
+      let w : V = forked_view v in let new : V = fork_view v in
+      let vs : List V = set s.views id w in
+      let all : List V = vs ++ new ∷ [] in
+      let counts = counted_fork s.views id v at seat r.counted in
+      let covers : AreCovered all r.log
+      = all_weaker (λ (t : Turn C R). IsCovered s.views t.seat) (λ (t : Turn C R). IsCovered all t.seat) r.log (λ t c. covered_fork s.views id v at seat r.counted t.seat c) r.covered in
+      let fresh : (j : ℕ) → turns_of j r.log ≡ [] → Knows from s.words r.log j new
+      = λ j none_made. record {
+        same = k.same;
+        seen = k.seen;
+        told = k.told;
+        owns = ((λ e. absurd (true_not_false (sym e))), (λ _ _. none_made));
+        seated = λ _. refl;
+        joined = λ i met. absurd (subst (Met i) (fork_joined_none v.account.is_first) met);
+        queues = tt;
+        spent = k.spent;
+      } in record {
+        log = r.log;
+        placed = r.placed;
+        wide = r.wide;
+        each_seat = λ j u e. ⊎_elim
+            (λ old. each_set (Knows from s.words r.log) s.views id w record { same = k.same; seen = k.seen; told = k.told; owns = k.owns; seated = k.seated; joined = k.joined; queues = k.queues; spent = k.spent } (λ i x _. r.each_seat i x) j u old)
+            (λ (t : (j ≡ length vs) × (new ≡ u)). subst (Knows from s.words r.log j) t.1 (let end = t.0 in let same = length-set s.views id w in fresh j (r.unmade j (omega arith)))) (at_end vs new u j e);
+        unmade = λ j l. let more = length-append vs (new ∷ []) in let same = length-set s.views id w in r.unmade j (omega arith);
+        apart = λ i j a b n t ai bj ha hb.
+            let old : (x : ℕ) (c : V) → get_elem? all x ≡ some c → HasTicket n t c.stage → get_elem? vs x ≡ some c = λ x c e h. ⊎_elim (λ o. o) (λ (y : (x ≡ length vs) × (new ≡ c)). absurd (subst (HasTicket n t) (ap (λ (z : V). z.stage) (sym y.1)) h)) (at_end vs new c x e) in
+            apart_set s.views id v w at (λ m y h. h) r.apart i j a b n t (old i a ai ha) (old j b bj hb) ha hb;
+        counted = counts;
+        covered = covers;
+        each_node = λ m first there. stands_else s record { words = s.words; homes = s.homes; views = all } r.log r.log m first refl refl refl refl
+            (λ o. let out = out_stays s.views id m (serving_at s.words m) v w at (λ e. e) o in (out.0, out.1, at_longer vs (new ∷ []) out.0 out.1 out.2, out.3)) (r.each_node m first there);
+      }
+
+  pub joins : (id : ℕ) (v : V) (other : ℕ) (w : V) → w.stage ≡ Idle → w.numbered ≡ false → w.is_seat ≡ false → w.account ≡ no_account → Joins Rule id v other w (told_view v w) ended_view
   unfolding reseat
-  joins id v other w idle new s r at apart there =
+  joins id v other w idle new note empty s r at apart there =
       let k = r.each_seat id v at in
       let o = r.each_seat other w (sym (set_else s.views id other (told_view v w) apart) ∙ there) in
       let heard : Rule record { words = s.words; homes = s.homes; views = set s.views id (told_view v w) }
-      = reseat s r id v (told_view v w) at record { same = k.same; seen = k.seen; told = o.seen; owns = k.owns; queues = k.queues; spent = k.spent } refl in
+      = reseat s r id v (told_view v w) at record { same = k.same; seen = k.seen; told = o.seen; owns = k.owns; seated = k.seated; joined = k.joined; queues = k.queues; spent = k.spent } refl (refl, refl, (λ e. (e, refl))) in
       reseat record { words = s.words; homes = s.homes; views = set s.views id (told_view v w) } heard other w ended_view there
-      record { same = tt; seen = (r.log, refl); told = (r.log, refl); owns = ((λ e. absurd (true_not_false (sym e))), (λ _. o.owns.1 new)); queues = tt; spent = λ n met. absurd met }
+      (ended_knows s r other)
       (sym idle)
+      (sym empty, sym note, (λ e. absurd (true_not_false (sym e ∙ new))))
 
-  pub learns : (slots id : ℕ) (me : Sat M C R) → me.0.numbered ≡ false → Allows Rule slots id me 0 (λ x. x) (learned (step slots 0 0 0 none) me)
-  learns slots id me new s r wide at small =
+  pub ends : (id : ℕ) (v : V) (other : ℕ) (w : V) → w.stage ≡ Idle → v.numbered ≡ true → w.numbered ≡ true → KnowsTurnsOf v.seen w → Joins Rule id v other w (joined_view v w) ended_view
+  ends id v other w idle numbered known sees s r at apart there =
+      let k = r.each_seat id v at in
+      let there_before : get_elem? s.views other ≡ some w = sym (set_else s.views id other (joined_view v w) apart) ∙ there in
+      let o = r.each_seat other w there_before in
+      let seat : v.is_seat ≡ true = k.seated numbered in
+      let number : w.number ≡ other = (o.owns.0 known).0 in
+      let into : V = joined_view v w in
+      let vs : List V = set s.views id into in
+      let all : List V = set vs other ended_view in
+      let of_w : (j : ℕ) → Met j (w.number ∷ w.account.joined) → turns_of j r.log ≡ turns_of j v.seen
+      = λ j met. ⊎_elim (λ this. subst (λ n. turns_of n r.log ≡ turns_of n w.seen) (sym (this ∙ number)) (o.owns.0 known).1) (λ earlier. o.joined j earlier) met ∙ sym (sees j met) in
+      let mine : Knows from s.words r.log id into
+      = record {
+        same = k.same;
+        seen = k.seen;
+        told = k.told;
+        owns = k.owns;
+        seated = k.seated;
+        joined = λ j met. ⊎_elim (λ this. of_w j (inl this)) (λ earlier. ⊎_elim (λ by_w. of_w j (inr by_w)) (λ by_v. k.joined j by_v) (met_parts j w.account.joined v.account.joined earlier)) met;
+        queues = k.queues;
+        spent = k.spent;
+      } in record {
+        log = r.log;
+        placed = r.placed;
+        wide = r.wide;
+        each_seat = each_set (Knows from s.words r.log) vs other ended_view (ended_knows s r other) (λ j u _. each_set (Knows from s.words r.log) s.views id into mine (λ i x _. r.each_seat i x) j u);
+        unmade = λ j l. let one = length-set s.views id into in let two = length-set vs other ended_view in r.unmade j (omega arith);
+        apart = apart_set vs other w ended_view there (λ n t h. absurd h) (apart_set s.views id v into at (λ n t h. h) r.apart);
+        counted = counted_end s.views id other v w apart at there_before seat number r.counted;
+        covered = all_weaker (λ (t : Turn C R). IsCovered s.views t.seat) (λ (t : Turn C R). IsCovered all t.seat) r.log (λ t c. covered_end s.views id other v w apart at there_before seat number numbered t.seat c) r.covered;
+        each_node = λ m first at_node. stands_else s record { words = s.words; homes = s.homes; views = all } r.log r.log m first refl refl refl refl
+            (λ o. out_stays vs other m (serving_at s.words m) w ended_view there (λ e. absurd (idle_not_holds m (serving_at s.words m) (sym idle ∙ e))) (out_stays s.views id m (serving_at s.words m) v into at (λ e. e) o)) (r.each_node m first at_node);
+      }
+
+  pub learns : (slots id : ℕ) (me : Sat M C R) → me.0.is_seat ≡ true → me.0.numbered ≡ false → Allows Rule slots id me 0 (λ x. x) (learned (step slots 0 0 0 none) me)
+  learns slots id me seat new s r wide at small =
       let v : V = me.0 in
       let k = r.each_seat id v at in
-      let none_made = k.owns.1 new in
+      let none_made = k.owns.1 seat new in
       let none_seen : turns_of id v.seen ≡ [] = none_before r.log v.seen id k.seen none_made in (
         numbered_view id v,
         keeps,
         tt,
         unmoved s r 0 id me.1 v (numbered_view id v) at
-            record { same = k.same; seen = k.seen; told = k.told; owns = ((λ _. (refl, none_made ∙ sym none_seen)), (λ e. absurd (true_not_false e))); queues = k.queues; spent = k.spent } refl,
+            record {
+              same = k.same;
+              seen = k.seen;
+              told = k.told;
+              owns = ((λ _. (refl, none_made ∙ sym none_seen)), (λ _ e. absurd (true_not_false e)));
+              seated = λ _. seat;
+              joined = k.joined;
+              queues = k.queues;
+              spent = k.spent;
+            }
+            refl (refl, refl, (λ e. absurd (true_not_false (sym e ∙ new)))),
         (refl, (id, refl, none_seen)),
       )
 
@@ -292,7 +341,7 @@ module _ {M C R P : Type 0} (turns : M → ℕ → ℕ → C → R → M → Typ
   known_whole v o log same known whole = subst (λ (b : Opening M). IsWhole turns b.states log) (sym (known_opening v o same known)) whole
 
   seeing : List (Turn C R) → V → V
-  seeing log v = record { opening = v.opening; number = v.number; numbered = v.numbered; seen = log; told = v.told; stage = v.stage; spent = v.spent }
+  seeing log v = record { opening = v.opening; is_seat = v.is_seat; account = v.account; number = v.number; numbered = v.numbered; seen = log; told = v.told; stage = v.stage; spent = v.spent }
 
   pub glances : (slots id : ℕ) (me : Sat M C R) → me.0.stage ≡ Idle → me.0.numbered ≡ true → Allows Rule slots id me 0 (λ x. x) (glanced turns place (step slots 0 0 0 none) me)
   unfolding seeing
@@ -303,10 +352,11 @@ module _ {M C R P : Type 0} (turns : M → ℕ → ℕ → C → R → M → Typ
         keeps,
         tt,
         unmoved s r 0 id me.1 v (seeing r.log v) at
-            record { same = k.same; seen = ([], sym (append-nil r.log)); told = k.told; owns = ((λ e. ((k.owns.0 e).0, refl)), k.owns.1); queues = subst (HoldsItsTicket s.words r.log r.log) (sym idle) tt; spent = k.spent } refl,
+            record { same = k.same; seen = ([], sym (append-nil r.log)); told = k.told; owns = ((λ e. ((k.owns.0 e).0, refl)), k.owns.1); seated = k.seated; joined = λ j met. refl; queues = subst (HoldsItsTicket s.words r.log r.log) (sym idle) tt; spent = k.spent } refl
+            (refl, refl, (λ e. (e, refl))),
         (
           refl,
-          (refl, refl, numbered, refl, k.seen, k.told, subst (λ n. turns_of n r.log ≡ turns_of n v.seen) (sym (k.owns.0 numbered).0) (k.owns.0 numbered).1),
+          (refl, refl, numbered, refl, k.seen, k.told, subst (λ n. turns_of n r.log ≡ turns_of n v.seen) (sym (k.owns.0 numbered).0) (k.owns.0 numbered).1, refl, k.joined),
           idle,
           (λ o known. known_whole v o r.log k.same known (is_whole s r)),
           has_room s r v r.log k.same ([], sym (append-nil r.log)),
@@ -345,11 +395,13 @@ module _ {M C R P : Type 0} (turns : M → ℕ → ℕ → C → R → M → Typ
         wide = length-set s.words (16 * n) x ∙ r.wide;
         each_seat = each_set (Knows from ws r.log) s.views id w
             (let y : serving_at s.words n ≤ ticket_at s.words n = (r.each_node n first known).served in let z : serving_at ws n ≡ serving_at s.words n = sv n in
-            record { same = k.same; seen = k.seen; told = k.told; owns = k.owns; queues = (omega arith, omega arith); spent = later v k.spent })
+            record { same = k.same; seen = k.seen; told = k.told; owns = k.owns; seated = k.seated; joined = k.joined; queues = (omega arith, omega arith); spent = later v k.spent })
             (λ j u _ e. let q = r.each_seat j u e in
-            record { same = q.same; seen = q.seen; told = q.told; owns = q.owns; queues = queues_grow s.words ws r.log u.seen u.stage sv more q.queues; spent = later u q.spent });
+            record { same = q.same; seen = q.seen; told = q.told; owns = q.owns; seated = q.seated; joined = q.joined; queues = queues_grow s.words ws r.log u.seen u.stage sv more q.queues; spent = later u q.spent });
         unmade = λ j l. r.unmade j (subst (λ y. y ≤ j) (length-set s.views id w) l);
         apart = apart_new s.views id n t w (λ j u y e h. subst (λ z. y < z) (sym is) (has_below s.words n y r.log u.seen u.stage (r.each_seat j u e).queues h)) (λ m y h. (sym h.0, sym h.1)) r.apart;
+        counted = counted_again s.views id v w at refl refl r.counted;
+        covered = still_covered s.views id v w r.log at (refl, refl, (λ e. (e, refl))) r.covered;
         each_node = nodes_at (Stands turns place from.ticket s' r.log) n
             (λ f there. let q = r.each_node n f there in
             let y : serving_at s.words n ≤ ticket_at s.words n = q.served in let z : serving_at ws n ≡ serving_at s.words n = sv n in record {
@@ -385,20 +437,21 @@ module _ {M C R P : Type 0} (turns : M → ℕ → ℕ → C → R → M → Typ
         keeps,
         tt,
         unmoved s r (16 * n) id me.1 me.0 (spent_view n me.0) at
-            record { same = k.same; seen = k.seen; told = k.told; owns = k.owns; queues = k.queues; spent = λ m met. ⊎_elim (λ e. ap (ticket_at s.words) e ∙ end) (λ old_one. k.spent m old_one) met } refl,
+            record { same = k.same; seen = k.seen; told = k.told; owns = k.owns; seated = k.seated; joined = k.joined; queues = k.queues; spent = λ m met. ⊎_elim (λ e. ap (ticket_at s.words) e ∙ end) (λ old_one. k.spent m old_one) met } refl
+            (refl, refl, (λ e. (e, refl))),
         tells (spent_view n me.0, me.1) (refl, most, gone, room, (λ hit. absurd (miss hit)), (λ _ ne. absurd (ne end)), (λ _ _. refl)),
       ))
       (λ more. (
         me.0,
         keeps,
         tt,
-        unmoved s r (16 * n) id me.1 me.0 me.0 at k refl,
+        unmoved s r (16 * n) id me.1 me.0 me.0 at k refl (refl, refl, (λ e. (e, refl))),
         tells (me.0, me.1) (refl, most, gone, room, (λ hit. absurd (miss hit)), (λ _ _. refl), (λ _ e. absurd (more e))),
       )))
 
   -- the seat has the slot of the node n, and has seen all
   abbrev holding : List (Turn C R) → ℕ → ℕ → V → V
-  holding log n t v = record { opening = v.opening; number = v.number; numbered = v.numbered; seen = log; told = v.told; stage = Holds n t; spent = v.spent }
+  holding log n t v = record { opening = v.opening; is_seat = v.is_seat; account = v.account; number = v.number; numbered = v.numbered; seen = log; told = v.told; stage = Holds n t; spent = v.spent }
 
   -- the ticket t of the node n is served, and the slot goes to its seat
   taken : (s : St) (r : Rule s) (id n t : ℕ) (cs : List (ℕ × M)) (v : V) (h : M) → get_elem? s.views id ≡ some v → v.stage ≡ Waits n t → serving_at s.words n ≡ t → get_elem? s.homes n ≡ some (some h)
@@ -418,12 +471,16 @@ module _ {M C R P : Type 0} (turns : M → ℕ → ℕ → C → R → M → Typ
               seen = ([], sym (append-nil r.log));
               told = k.told;
               owns = ((λ e. ((k.owns.0 e).0, refl)), k.owns.1);
+              seated = k.seated;
+              joined = λ j met. refl;
               queues = (now, q.1, refl);
               spent = k.spent;
             }
             (λ j u _. r.each_seat j u);
         unmade = λ j l. r.unmade j (subst (λ x. x ≤ j) (length-set s.views id w) l);
         apart = apart_set s.views id v w at (λ m x e. subst (HasTicket m x) (sym waits) e) r.apart;
+        counted = counted_again s.views id v w at refl refl r.counted;
+        covered = still_covered s.views id v w r.log at (refl, refl, (λ e. (e, refl))) r.covered;
         each_node = nodes_at (Stands turns place from.ticket s' r.log) n
             (λ f there. let p = r.each_node n f there in record {
               most = p.most;
@@ -460,7 +517,7 @@ module _ {M C R P : Type 0} (turns : M → ℕ → ℕ → C → R → M → Typ
             home.0,
             refl,
             (
-              (refl, refl, numbered, refl, k.seen, k.told, subst (λ j. turns_of j r.log ≡ turns_of j v.seen) (sym (k.owns.0 numbered).0) (k.owns.0 numbered).1),
+              (refl, refl, numbered, refl, k.seen, k.told, subst (λ j. turns_of j r.log ≡ turns_of j v.seen) (sym (k.owns.0 numbered).0) (k.owns.0 numbered).1, refl, k.joined),
               refl,
               rests.0,
               rests.1,
@@ -475,7 +532,7 @@ module _ {M C R P : Type 0} (turns : M → ℕ → ℕ → C → R → M → Typ
       let u : v ≡ o.1 = some-injective v o.1 (sym at ∙ subst (λ i. get_elem? s.views i ≡ some o.1) (sym own) o.2) in
       absurd (waits_not_holds n t n x (sym waits ∙ (ap (λ (y : V). y.stage) u ∙ o.3))))
       p.slot)
-      (λ miss. (v, keeps, tt, unmoved s r (16 * n + 1) id me.1 v v at k refl, tells (v, me.1) (λ numbered. ((λ hit. absurd (miss hit)), (λ _. refl)))))
+      (λ miss. (v, keeps, tt, unmoved s r (16 * n + 1) id me.1 v v at k refl (refl, refl, (λ e. (e, refl))), tells (v, me.1) (λ numbered. ((λ hit. absurd (miss hit)), (λ _. refl)))))
 
   -- The slot of the node n comes back, and its next ticket is served. Others may have gone on at other nodes, so the history is what the seat had seen, what they did, and this turn
   served_next : (s : St) (r : Rule s) (id n t x : ℕ) (first : M) (cs : List (ℕ × M)) (v : V) (h : M) (e : Option (Entry C R)) (between : List (Turn C R)) → get_elem? from.states n ≡ some first → get_elem? s.views id ≡ some v
@@ -514,7 +571,9 @@ module _ {M C R P : Type 0} (turns : M → ℕ → ℕ → C → R → M → Typ
               same = k.same;
               seen = ([], all ∙ sym (append-nil w.seen));
               told = starts_on r.log v.told it k.told;
-              owns = ((λ _. (mine, ap (turns_of id) all)), (λ f. absurd (true_not_false (sym numbered ∙ f))));
+              owns = ((λ _. (mine, ap (turns_of id) all)), (λ _ f. absurd (true_not_false (sym numbered ∙ f))));
+              seated = k.seated;
+              joined = λ j met. ap (turns_of j) all;
               queues = tt;
               spent = λ m met. tk m ∙ k.spent m met;
             }
@@ -522,12 +581,18 @@ module _ {M C R P : Type 0} (turns : M → ℕ → ℕ → C → R → M → Typ
               same = o.same;
               seen = starts_on r.log u.seen it o.seen;
               told = starts_on r.log u.told it o.told;
-              owns = ((λ y. ((o.owns.0 y).0, others j other ∙ (o.owns.0 y).1)), (λ y. others j other ∙ o.owns.1 y));
+              owns = ((λ y. ((o.owns.0 y).0, others j other ∙ (o.owns.0 y).1)), (λ y z. others j other ∙ o.owns.1 y z));
+              seated = o.seated;
+              joined = λ i met.
+                  let gone = r.counted.gone j u i f met in
+                  others i (λ same. true_not_false (sym (k.seated numbered) ∙ (ap (λ (y : V). y.is_seat) (some-injective v gone.0 (sym at ∙ (ap (get_elem? s.views) (sym same) ∙ gone.1))) ∙ gone.2))) ∙ o.joined i met;
               queues = queues_on s.words ws r.log log u.seen u.stage n tk sv elsewhere after (λ has. other (r.apart j id u v n (serving_at s.words n) f at has (subst (HasTicket n (serving_at s.words n)) (sym holds) (refl, sym now)))) o.queues;
               spent = λ m met. tk m ∙ o.spent m met;
             });
         unmade = λ j l. let far : length s.views ≤ j = subst (λ y. y ≤ j) (length-set s.views id w) l in let in_range = at_below s.views id v at in others j (λ y. omega arith) ∙ r.unmade j far;
         apart = apart_set s.views id v w at (λ m y f. absurd f) r.apart;
+        counted = counted_again s.views id v w at refl refl r.counted;
+        covered = all_joined (λ (y : Turn C R). IsCovered (set s.views id w) y.seat) r.log (it ∷ []) (still_covered s.views id v w r.log at (refl, refl, (λ f. (f, refl))) r.covered) ((id, w, set_at s.views id v w at, numbered, inl refl), tt);
         each_node = nodes_at (Stands turns place from.ticket s' log) n
             (λ f there. let p = r.each_node n f there in
             let one : first ≡ f = some-injective first f (sym known ∙ there) in
@@ -606,9 +671,19 @@ module _ {M C R P : Type 0} (turns : M → ℕ → ℕ → C → R → M → Typ
     placed = tt;
     wide = wide;
     each_seat = λ j u e. let p = only_one (newcomer from) u j e in subst (λ (x : ℕ × V). Knows from ws [] x.0 x.1) (λ i. (sym p.0 i, p.1 i))
-        record { same = refl; seen = ([], refl); told = ([], refl); owns = ((λ _. (refl, refl)), (λ _. refl)); queues = tt; spent = λ n met. absurd met };
+        record { same = refl; seen = ([], refl); told = ([], refl); owns = ((λ _. (refl, refl)), (λ _ _. refl)); seated = λ _. refl; joined = λ j met. absurd met; queues = tt; spent = λ n met. absurd met };
     unmade = λ j l. refl;
     apart = λ i j a b n x ai bj ha hb. (only_one (newcomer from) a i ai).0 ∙ sym (only_one (newcomer from) b j bj).0;
+    counted = record {
+      one = λ i j a b ai bj fa fb. (only_one (newcomer from) a i ai).0 ∙ sym (only_one (newcomer from) b j bj).0;
+      all = λ i a ai fa.
+          let p = only_one (newcomer from) a i ai in record {
+            counted = omega arith;
+            others = λ j b bj is none. inl ((only_one (newcomer from) b j bj).0 ∙ sym p.0);
+          };
+      gone = λ i a j ai met. absurd (subst (λ (x : V). Met j x.account.joined) (sym (only_one (newcomer from) a i ai).1) met);
+    };
+    covered = tt;
     each_node = λ n first there.
         let a : n < length from.states = at_below from.states n first there in
         let tk : ticket_at ws n ≡ from.ticket = each (16 * n) (omega arith) in
@@ -638,18 +713,26 @@ module _ {M C R P : Type 0} (turns : M → ℕ → ℕ → C → R → M → Typ
       (opens ws (omega arith) (λ i h. ap (λ l. get_or l i 0) is ∙ (all_same t (16 * count) i (omega arith) ∙ sym start)) (subst (λ x. x ≤ 2 ^ 62) (sym start) most))
 
   -- Where all tickets of a node were served, its machine is one that the turns there leave. There is one history for all nodes, which begins with all that the seat has seen
-  abbrev Left : List (Turn C R) → ℕ → List ℕ → List ℕ → List M → Type 0
-  Left seen number spent ws hs =
+  abbrev Left : List (Turn C R) → ℕ → List ℕ → Account → List ℕ → List M → Type 0
+  Left seen number spent account ws hs =
       (log : List (Turn C R)) × StartsWith log seen × (turns_of number log ≡ turns_of number seen)
+      × (IsComplete account → (log ≡ seen) × AreMadeBy (number ∷ account.joined) log)
       × ((n x : ℕ) (first h : M) → get_elem? from.states n ≡ some first → get_or ws (16 * n) 0 ≡ x → get_or ws (16 * n + 1) 0 ≡ x → get_elem? hs n ≡ some h
       → Leads turns first (turns_at n log) h × (place h ≡ place first) × (Met n spent → from.ticket + length (turns_at n log) ≡ 2 ^ 62))
 
-  pub closes : (id : ℕ) (v : V) (ws : List ℕ) (hs : List M) → v.numbered ≡ true → Final (Seen Rule id v) ws hs → Left v.seen v.number v.spent ws hs
+  pub closes : (id : ℕ) (v : V) (ws : List ℕ) (hs : List M) → v.numbered ≡ true → Final (Seen Rule id v) ws hs → Left v.seen v.number v.spent v.account ws hs
   closes id v ws hs numbered final =
       let s : St = final.0 in let r : Rule s = final.1.0 in let k = r.each_seat id v final.1.1 in (
         r.log,
         k.seen,
         subst (λ j. turns_of j r.log ≡ turns_of j v.seen) (sym (k.owns.0 numbered).0) (k.owns.0 numbered).1,
+        (λ complete.
+            let made = all_by_it s.views id v r.log r.counted final.1.1 complete (λ j w wj is. (r.each_seat j w wj).seated is) r.covered in
+            let number : v.number ≡ id = (k.owns.0 numbered).0 in (
+              all_seen (v.number ∷ v.account.joined) r.log v.seen k.seen made
+              (λ j met. ⊎_elim (λ this. subst (λ i. turns_of i r.log ≡ turns_of i v.seen) (sym (this ∙ number)) (k.owns.0 numbered).1) (λ earlier. k.joined j earlier) met),
+              made,
+            )),
         (λ n x first h known ticket serving there.
             let p = r.each_node n first known in
             let t : ticket_at s.words n ≡ x = ap (λ l. ticket_at l n) final.2 ∙ ticket in
@@ -676,11 +759,12 @@ module _ {M C R P : Type 0} (turns : M → ℕ → ℕ → C → R → M → Typ
 
   -- the same of the machines that are taken out, with what the gate and the seat say of themselves
   pub gives_back : (id : ℕ) (v : V) (ws : List ℕ) (hs : List M) (given : List (Option M)) (gate : Origin M) (seat : Known M C R) → v.numbered ≡ true → Final (Seen Rule id v) ws hs → AreAtRest ws hs given
-      → from.states ≡ gate.opening → from.ticket ≡ gate.ticket → v.seen ≡ seat.history → v.number ≡ seat.number → v.spent ≡ seat.spent → ClosesWith turns place gate seat given
-  gives_back id v ws hs given gate seat numbered final left opened begun saw number spent =
+      → from.states ≡ gate.opening → from.ticket ≡ gate.ticket → v.seen ≡ seat.history → v.number ≡ seat.number → v.spent ≡ seat.spent → v.account ≡ seat.account → ClosesWith turns place gate seat given
+  gives_back id v ws hs given gate seat numbered final left opened begun saw number spent account =
       let r = closes id v ws hs numbered final in
-      subst (λ (x : List M × ℕ × List (Turn C R) × ℕ × List ℕ).
+      subst (λ (x : List M × ℕ × List (Turn C R) × ℕ × List ℕ × Account).
       (log : List (Turn C R)) × StartsWith log x.2 × (turns_of x.3 log ≡ turns_of x.3 x.2)
+      × (IsComplete x.5 → (log ≡ x.2) × AreMadeBy (x.3 ∷ x.5.joined) log)
       × ((node : ℕ) (first machine : M) → get_elem? x.0 node ≡ some first → get_elem? given node ≡ some (Some machine)
-      → Leads turns first (turns_at node log) machine × (place machine ≡ place first) × (Met node x.4 → x.1 + length (turns_at node log) ≡ 2 ^ 62))) (λ i. (opened i, begun i, saw i, number i, spent i))
-      (r.0, r.1, r.2, (λ node first machine known at. let l = left node machine at in r.3 node l.0 first machine known (word_at ws (16 * node) l.0 l.1) (word_at ws (16 * node + 1) l.0 l.2) l.3))
+      → Leads turns first (turns_at node log) machine × (place machine ≡ place first) × (Met node x.4 → x.1 + length (turns_at node log) ≡ 2 ^ 62))) (λ i. (opened i, begun i, saw i, number i, spent i, account i))
+      (r.0, r.1, r.2, r.3, (λ node first machine known at. let l = left node machine at in r.4 node l.0 first machine known (word_at ws (16 * node) l.0 l.1) (word_at ws (16 * node + 1) l.0 l.2) l.3))

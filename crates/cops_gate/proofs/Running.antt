@@ -1,13 +1,12 @@
 -- A history of all nodes is a run of the cluster as one machine.
-use Rattle.std.proofs.Common.{◌≡◌, ◌≢◌, ℕ, ◌<◌, eqb, List, [], ◌∷◌, ◌++◌, set, length, length-set, sym, refl, ap, ◌∙◌, subst, ne_eqb, eq-eqb, Bool, cond}
-use Rattle.std.specs.List.{filter}
+use Rattle.std.proofs.Common.{◌≡◌, ◌≢◌, ℕ, List, [], ◌∷◌, ◌++◌, set, length-set, sym, refl, ap, ◌∙◌, subst, ne_eqb, eq-eqb, cond}
 use mathlib.Core.Logic.{dite}
 use mathlib.Core.Option.{some, some-injective}
 use native.Mathlib.Decide.{ℕ_discrete}
 use lib.ListN.{get_elem?}
 use Rattle.atomic_table.proofs.Lists.{set_else}
 use Rattle.cops_gate.specs.declared.history.Turn.{Turn}
-use Rattle.cops_gate.specs.History.{turn, AtNodes, turns_at, Makes, Leads, IsLegal, IsWhole, Runs}
+use Rattle.cops_gate.specs.History.{turn, AtNodes, turns_at, Leads, IsLegal, Runs}
 use Rattle.cops_gate.specs.Running.{WholeHistoriesRun, RunsLeadEachNode, TurnsEndARun}
 use Rattle.cops_gate.proofs.Keeps.{there_at, set_at}
 

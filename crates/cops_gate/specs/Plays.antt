@@ -11,6 +11,7 @@ use Rattle.cops_gate.specs.declared.board.Opening.{Opening}
 use Rattle.cops_gate.specs.declared.board.Stage.{Stage}
 use Rattle.cops_gate.specs.declared.board.Stage.TheVariants.{Idle, Waits, Holds}
 use Rattle.cops_gate.specs.declared.board.View.{View}
+use Rattle.cops_gate.specs.Accounts.{fork_of, forked, joined_with, no_account}
 use Rattle.cops_gate.specs.History.{turn, turns_of, turns_at, StartsWith, Leads, IsWhole}
 use Rattle.cops_gate.specs.Rule.{Met}
 
@@ -27,31 +28,49 @@ AreWords table n = (n < 2 ^ 32) × (16 * n + 1 < table.words)
 
 module _ {M C R : Type 0} where
   abbrev pub at_stage : Stage → View M C R → View M C R
-  at_stage stage v = record { opening = v.opening; number = v.number; numbered = v.numbered; seen = v.seen; told = v.told; stage = stage; spent = v.spent }
+  at_stage stage v = record { opening = v.opening; is_seat = v.is_seat; account = v.account; number = v.number; numbered = v.numbered; seen = v.seen; told = v.told; stage = stage; spent = v.spent }
 
   abbrev pub spent_view : ℕ → View M C R → View M C R
-  spent_view n v = record { opening = v.opening; number = v.number; numbered = v.numbered; seen = v.seen; told = v.told; stage = v.stage; spent = n ∷ v.spent }
+  spent_view n v = record { opening = v.opening; is_seat = v.is_seat; account = v.account; number = v.number; numbered = v.numbered; seen = v.seen; told = v.told; stage = v.stage; spent = n ∷ v.spent }
 
   -- the view of a seat that holds the slot of the node n, after its turn. Others have gone on at other nodes meanwhile
   abbrev pub published_view : ℕ → Option (Entry C R) → List (Turn C R) → View M C R → View M C R
-  published_view n e between v = record { opening = v.opening; number = v.number; numbered = v.numbered; seen = (v.seen ++ between) ++ turn v.number n e ∷ []; told = v.told; stage = Idle; spent = v.spent }
+  published_view n e between v = record { opening = v.opening; is_seat = v.is_seat; account = v.account; number = v.number; numbered = v.numbered; seen = (v.seen ++ between) ++ turn v.number n e ∷ []; told = v.told; stage = Idle; spent = v.spent }
 
-  -- the seat has seen more, and no turn of its own among that
+  -- the seat has seen more, and among that no turn of its own, nor of a seat that ended into it
   abbrev pub SeesOn : View M C R → View M C R → Type 0
   SeesOn v w =
       (w.opening ≡ v.opening) × (w.number ≡ v.number) × (w.numbered ≡ true) × (w.spent ≡ v.spent)
       × StartsWith w.seen v.seen × StartsWith w.seen v.told × (turns_of v.number w.seen ≡ turns_of v.number v.seen)
+      × (w.account ≡ v.account) × ((j : ℕ) → Met j v.account.joined → turns_of j w.seen ≡ turns_of j v.seen)
+
+  -- what v tells another seat: all that it has seen
+  abbrev pub fresh_view : View M C R → View M C R
+  fresh_view v = record { opening = v.opening; is_seat = false; account = no_account; number = 0; numbered = false; seen = v.seen; told = v.told; stage = Idle; spent = v.spent }
+
+  -- v, after a seat was split off from it
+  abbrev pub forked_view : View M C R → View M C R
+  forked_view v = record { opening = v.opening; is_seat = v.is_seat; account = forked v.account; number = v.number; numbered = v.numbered; seen = v.seen; told = v.told; stage = v.stage; spent = v.spent }
 
   -- the knowledge of a new seat, split from v: it has seen the same, and made no turn
-  abbrev pub fresh_view : View M C R → View M C R
-  fresh_view v = record { opening = v.opening; number = 0; numbered = false; seen = v.seen; told = v.told; stage = Idle; spent = v.spent }
+  abbrev pub fork_view : View M C R → View M C R
+  fork_view v = record { opening = v.opening; is_seat = true; account = fork_of v.account; number = 0; numbered = false; seen = v.seen; told = v.told; stage = Idle; spent = v.spent }
+
+  -- v, after w has ended into it
+  abbrev pub joined_view : View M C R → View M C R → View M C R
+  joined_view v w =
+      record { opening = v.opening; is_seat = v.is_seat; account = joined_with v.account w.number w.account; number = v.number; numbered = v.numbered; seen = v.seen; told = v.told; stage = v.stage; spent = v.spent }
+
+  -- what was seen has all turns of this seat, and of those that ended into it
+  abbrev pub KnowsTurnsOf : List (Turn C R) → View M C R → Type 0
+  KnowsTurnsOf seen w = (j : ℕ) → Met j (w.number ∷ w.account.joined) → turns_of j seen ≡ turns_of j w.seen
 
   abbrev pub numbered_view : ℕ → View M C R → View M C R
-  numbered_view n v = record { opening = v.opening; number = n; numbered = true; seen = v.seen; told = v.told; stage = v.stage; spent = v.spent }
+  numbered_view n v = record { opening = v.opening; is_seat = v.is_seat; account = v.account; number = n; numbered = true; seen = v.seen; told = v.told; stage = v.stage; spent = v.spent }
 
   -- v, after it learned what w has seen
   abbrev pub told_view : View M C R → View M C R → View M C R
-  told_view v w = record { opening = v.opening; number = v.number; numbered = v.numbered; seen = v.seen; told = w.seen; stage = v.stage; spent = v.spent }
+  told_view v w = record { opening = v.opening; is_seat = v.is_seat; account = v.account; number = v.number; numbered = v.numbered; seen = v.seen; told = w.seen; stage = v.stage; spent = v.spent }
 
   -- there are no more turns at a node than tickets below 2^62
   abbrev pub HasRoom : Option (Opening M) → List (Turn C R) → Type 0
@@ -59,7 +78,7 @@ module _ {M C R : Type 0} where
 
   -- a seat that has ended
   abbrev pub ended_view : View M C R
-  ended_view = record { opening = None; number = 0; numbered = false; seen = []; told = []; stage = Idle; spent = [] }
+  ended_view = record { opening = None; is_seat = false; account = no_account; number = 0; numbered = false; seen = []; told = []; stage = Idle; spent = [] }
 
   -- a new seat learns its number
   abbrev pub learned : Step M → Sat M C R → ℕ → Sat M C R → Type 0
@@ -67,7 +86,7 @@ module _ {M C R : Type 0} where
 
   -- a seat between two turns, which knows about itself what v says
   abbrev pub IsIdle : View M C R → Sat M C R → Type 0
-  IsIdle v m = (m.1 ≡ []) × (m.0.stage ≡ Idle) × (m.0.numbered ≡ true) × (m.0.opening ≡ v.opening) × (m.0.number ≡ v.number) × (m.0.spent ≡ v.spent)
+  IsIdle v m = (m.1 ≡ []) × (m.0.stage ≡ Idle) × (m.0.numbered ≡ true) × (m.0.opening ≡ v.opening) × (m.0.number ≡ v.number) × (m.0.spent ≡ v.spent) × (m.0.account ≡ v.account)
 
   -- the number found is the node's ticket if it is the expected one
   abbrev pub DrawnAt : ℕ → Step M → Sat M C R → ℕ → Sat M C R → Type 0

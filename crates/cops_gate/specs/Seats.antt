@@ -1,12 +1,15 @@
 -- A gate of a cluster and its seats, as callers see them.
-use Rattle.std.specs.Prelude.{◌≡◌, ◌⊎◌, ℕ, ◌+◌, ◌*◌, ◌^◌, List, [], length, Option, Some, None, Result, Ok, IfOk, OnErr}
+use Rattle.std.specs.Prelude.{◌≡◌, ◌⊎◌, ℕ, ◌+◌, ◌*◌, ◌^◌, List, [], ◌∷◌, length, Option, Some, None, Result, Ok, IfOk, OnErr}
+use Rattle.std.specs.List.{AllByRecursion}
 use Rattle.std.specs.declared.alloc.AllocError.{AllocError}
 use mathlib.Core.Option.{some}
 use lib.ListN.{get_elem?}
 use Rattle.atomic_table.specs.Seated.{TableId}
+use Rattle.cops_gate.specs.declared.board.Account.{Account}
 use Rattle.cops_gate.specs.declared.board.Opening.{Opening}
 use Rattle.cops_gate.specs.declared.history.Entry.{Entry}
 use Rattle.cops_gate.specs.declared.history.Turn.{Turn}
+use Rattle.cops_gate.specs.Accounts.{IsComplete, first_of, forked, joined_with}
 use Rattle.cops_gate.specs.History.{turns_of, turns_at, entry, StartsWith, Leads, Grows, LeavesLacking}
 use Rattle.cops_gate.specs.Rule.{Met}
 
@@ -24,12 +27,36 @@ pub record GateHome (M : Type 0) : Type 0 where
 abbrev pub gate_home : {M : Type 0} → Origin M → GateHome M
 gate_home gate = record { table = gate.table; opening = Some (record { states = gate.opening; ticket = gate.ticket }) }
 
--- a seat: its number, the history of all nodes that it has seen, and the nodes at which it has met the ticket word at 2^62
+-- a seat: its number, the history of all nodes that it has seen, the nodes at which it has met the ticket word at 2^62, and its account of the
+-- seats that were split off
 pub record Known (M C R : Type 0) : Type 0 where
   pub gate : GateHome M
   pub number : ℕ
   pub history : List (Turn C R)
   pub spent : List ℕ
+  pub account : Account
+
+-- the seat, after one was split off from it
+abbrev pub split_off : {M C R : Type 0} → Known M C R → Known M C R
+split_off seat = record { gate = seat.gate; number = seat.number; history = seat.history; spent = seat.spent; account = forked seat.account }
+
+-- the seat, after one of this number and account has ended into it
+abbrev pub joined_by : {M C R : Type 0} → Known M C R → ℕ → Account → Known M C R
+joined_by seat number account = record { gate = seat.gate; number = seat.number; history = seat.history; spent = seat.spent; account = joined_with seat.account number account }
+
+-- the account, after these seats have ended
+abbrev pub all_joined : {M C R : Type 0} → Account → List (Known M C R) → Account
+all_joined account [] = account
+all_joined account (seat ∷ seats) = joined_with (all_joined account seats) seat.number seat.account
+
+-- each turn was made by a seat of one of these numbers
+abbrev pub AreMadeBy : {C R : Type 0} → List ℕ → List (Turn C R) → Type 0
+AreMadeBy {C} {R} numbers log = AllByRecursion (λ (t : Turn C R). Met t.seat numbers) log
+
+-- If the seat is the first one, and each seat that was split off from it has ended into it, then it has seen the whole history. Each turn is its
+-- own or was made by a seat that has ended into it
+abbrev pub HasAllTurns : {M C R : Type 0} → List (Turn C R) → Known M C R → Type 0
+HasAllTurns log seat = IsComplete seat.account → (log ≡ seat.history) × AreMadeBy (seat.number ∷ seat.account.joined) log
 
 -- the seat has made one turn more at this node, a no-op turn if there is no entry
 abbrev pub Extends : {M C R : Type 0} → (M → ℕ → ℕ → C → R → M → Type 0) → List M → ℕ → Known M C R → Option (Entry C R) → Known M C R → Type 0
@@ -50,12 +77,13 @@ abbrev pub ClosesWith : {M C R P : Type 0} → (M → ℕ → ℕ → C → R �
 ClosesWith {M} {C} {R} turns place gate seat machines =
     (log : List (Turn C R)) × StartsWith log seat.history
     × (turns_of seat.number log ≡ turns_of seat.number seat.history)
+    × HasAllTurns log seat
     × ((node : ℕ) (first : M) (machine : M) → get_elem? gate.opening node ≡ some first → get_elem? machines node ≡ some (Some machine)
     → Leads turns first (turns_at node log) machine × (place machine ≡ place first) × (Met node seat.spent → gate.ticket + length (turns_at node log) ≡ 2 ^ 62))
 
 -- the seat 0 of a gate
 abbrev pub first_seat : {M C R : Type 0} → Origin M → Known M C R
-first_seat gate = record { gate = gate_home gate; number = 0; history = []; spent = [] }
+first_seat gate = record { gate = gate_home gate; number = 0; history = []; spent = []; account = first_of 0 }
 
 -- the history has all that the seat has seen as a prefix, and of its turns those that it has made
 abbrev pub HasAllOf : {M C R : Type 0} → List (Turn C R) → Known M C R → Type 0

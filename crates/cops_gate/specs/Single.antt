@@ -4,7 +4,7 @@ use Rattle.atomic_table.specs.Seated.{TableId}
 use Rattle.cops_gate.specs.declared.history.Turn.{Turn}
 use Rattle.cops_gate.specs.History.{turns_of, StartsWith, Leads}
 use Rattle.cops_gate.specs.Rule.{Met}
-use Rattle.cops_gate.specs.Seats.{GateHome, Known, Origin, gate_home}
+use Rattle.cops_gate.specs.Seats.{GateHome, HasAllTurns, Known, Origin, gate_home}
 
 -- the identity of a gate, the state that it opened with, and the number of its first ticket
 pub record SingleOrigin (M : Type 0) : Type 0 where
@@ -25,4 +25,5 @@ abbrev pub ClosesAlone : {M C R : Type 0} → (M → ℕ → ℕ → C → R →
 ClosesAlone {M} {C} {R} turns gate seat machine =
     (log : List (Turn C R)) × StartsWith log seat.history × Leads turns gate.opening log machine
     × (turns_of seat.number log ≡ turns_of seat.number seat.history)
+    × HasAllTurns log seat
     × (Met 0 seat.spent → gate.ticket + length log ≡ 2 ^ 62)

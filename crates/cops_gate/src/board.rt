@@ -51,10 +51,25 @@ pub enum Stage {
     Holds(u64, u64),
 }
 
+/// A seat's account of the seats that were split off (forks). Only the gate's first seat counts them. No value of it is ever made.
+pub struct Account {
+    /// `true` for the gate's first seat.
+    pub is_first: bool,
+    /// How many seats were split off from the first seat and have not ended into it.
+    pub unjoined: u64,
+    /// 1 for a seat that the first seat counts, 0 for any other.
+    pub counted: u64,
+    /// The numbers of the seats that have ended into this one.
+    pub joined: LinkedList<u64>,
+}
+
 /// A seat's knowledge. No value of it is ever made.
 pub struct View<M, C, R> {
     /// The gate's opening. A seat that has ended does not know it.
     pub opening: Option<Opening<M>>,
+    /// `false` for what one seat tells another, and for a seat that has ended.
+    pub is_seat: bool,
+    pub account: Account,
     pub number: u64,
     /// `true` if the seat knows its number. Until then it has made no turn.
     pub numbered: bool,

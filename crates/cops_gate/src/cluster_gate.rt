@@ -1,5 +1,5 @@
 //! A gate of several machines, and its seats.
-ghost use Rattle.std.specs.Prelude.{◌≡◌, ◌≢◌, ◌+◌, ◌*◌, ◌<◌, ◌^◌, length, ◌≤◌, ◌⊎◌, [], true, ◌∷◌, ◌++◌, Some, None, Err, IfOk, IfErr, IfSome, OnErr, replicate, false, slice_set, vec_capacity};
+ghost use Rattle.std.specs.Prelude.{◌≡◌, ◌≢◌, ℕ, ◌+◌, ◌*◌, ◌<◌, ◌^◌, length, ◌≤◌, ◌⊎◌, [], true, ◌∷◌, ◌++◌, Some, None, Err, IfOk, IfErr, IfSome, OnErr, replicate, false, slice_set, vec_capacity};
 ghost use Rattle.std.specs.List.{AllByRecursion};
 ghost use Rattle.std.specs.Mem.Slots.{slots_items, slots_filled, slots_len, IsFull};
 ghost use Rattle.std.specs.Mem.Slots.Ownership.{Filled};
@@ -12,10 +12,11 @@ ghost use Rattle.cops_gate.specs.declared.board.Stage.TheVariants.{Idle};
 ghost use Rattle.cops_gate.specs.History.{entry, turns_of, StartsWith, IsWhole, LeavesLacking};
 ghost use Rattle.cops_gate.specs.Rule.{Met};
 ghost use Rattle.cops_gate.specs.Plays.{HasRoom, IsTableFor};
-ghost use Rattle.cops_gate.specs.Seats.{AreAtRest, ClosesWith, Extends, HasAllOf, IsAtRest, IsToldOrSpent, Known, Origin, first_seat, gate_home};
+ghost use Rattle.cops_gate.specs.Accounts.{fork_of};
+ghost use Rattle.cops_gate.specs.Seats.{AreAtRest, ClosesWith, Extends, HasAllOf, IsAtRest, IsToldOrSpent, Known, Origin, all_joined, first_seat, gate_home, joined_by, split_off};
 
 use crate::board::{Beginning, Board, BoardSeat};
-use crate::meetings::{hear, learn, note};
+use crate::meetings::{end, fork, hear, learn, note};
 use crate::spent::{SpentReply, tell_spent};
 use crate::turns::{draw, serve, wait};
 use crate::waiting::Sleepers;
@@ -43,7 +44,8 @@ impl<M: Machine> Model for ClusterGate<M> {
 }
 
 /// The right to make turns at each node. Contracts see its number, the history of all nodes that it
-/// has seen, and the nodes at which it has met the last ticket.
+/// has seen, the nodes at which it has met the last ticket, and its account of the seats that were
+/// split off.
 pub struct ClusterSeat<M: Machine> {
     place: BoardSeat<M>,
 }
@@ -51,7 +53,7 @@ pub struct ClusterSeat<M: Machine> {
 impl<M: Machine> Model for ClusterSeat<M> {
     ghost Value = { Known M M.Call M.Reply };
 
-    ghost view = { λ s. record { gate = record { table = s.place.table_id; opening = s.place.me.0.opening }; number = s.place.me.0.number; history = s.place.me.0.seen; spent = s.place.me.0.spent } };
+    ghost view = { λ s. record { gate = record { table = s.place.table_id; opening = s.place.me.0.opening }; number = s.place.me.0.number; history = s.place.me.0.seen; spent = s.place.me.0.spent; account = s.place.me.0.account } };
 
     ghost invariant = { λ s. (s.place.me.1 ≡ []) × (s.place.me.0.stage ≡ Idle) × (s.place.me.0.numbered ≡ true) };
 }
@@ -116,6 +118,7 @@ impl<M: Machine> ClusterGate<M> {
         requires node { node < length self.now.opening }
         requires fits { (first : M) → get_elem? self.now.opening node ≡ some first → M.fits (M.place first) slot call }
         ensures same { (seat.new.gate ≡ seat.old.gate) × (seat.new.number ≡ seat.old.number) }
+        ensures account { seat.new.account ≡ seat.old.account }
         ensures reply { IfOk result (λ r. Extends M.turns self.now.opening node seat.old (Some (entry slot moment call r)) seat.new) }
         ensures refused { IfRefusal result (λ f. f ≡ GateSpent) }
         ensures blank { result ≡ Err OutOfMemory → Extends M.turns self.now.opening node seat.old None seat.new }
@@ -164,6 +167,7 @@ impl<M: Machine> ClusterGate<M> {
         requires node { node < length self.now.opening }
         requires fits { (first : M) → get_elem? self.now.opening node ≡ some first → M.fits (M.place first) slot call }
         ensures same { (seat.new.gate ≡ seat.old.gate) × (seat.new.number ≡ seat.old.number) }
+        ensures account { seat.new.account ≡ seat.old.account }
         ensures told { IsToldOrSpent M.turns M.may_lack self.now.opening S.told node slot moment call seat.old seat.new result }
         ensures room { HasRoom seat.new.gate.opening seat.new.history }
     {
@@ -194,14 +198,16 @@ impl<M: Machine> ClusterGate<M> {
         self.sleepers.len()
     }
 
-    /// Returns a new seat (fork), which has seen the same and has made no turn.
+    /// Returns a new seat (fork), which has seen the same and has made no turn. If the seat is the
+    /// gate's first, it counts the new one.
     pub fn split(&self, seat: &mut ClusterSeat<M>) -> ClusterSeat<M>
         requires { seat.old.gate ≡ gate_home self.now }
-        ensures same { seat.new ≡ seat.old }
+        ensures same { seat.new ≡ split_off seat.old }
         ensures new { (result.gate ≡ seat.old.gate) × (result.history ≡ seat.old.history) × (result.spent ≡ seat.old.spent) }
+        ensures account { result.account ≡ fork_of seat.old.account }
         ensures no_turn { turns_of result.number result.history ≡ [] }
     {
-        let mut place = note(&self.board, &mut seat.place);
+        let mut place = fork(&self.board, &mut seat.place);
         learn(&self.board, &mut place);
         ClusterSeat { place }
     }
@@ -212,26 +218,30 @@ impl<M: Machine> ClusterGate<M> {
         requires to { to.old.gate ≡ gate_home self.now }
         ensures from { from.new ≡ from.old }
         ensures same { (to.new.gate ≡ to.old.gate) × (to.new.number ≡ to.old.number) × (to.new.spent ≡ to.old.spent) }
+        ensures account { to.new.account ≡ to.old.account }
         ensures seen { StartsWith to.new.history from.old.history × StartsWith to.new.history to.old.history }
         ensures legal { IsWhole M.turns self.now.opening to.new.history }
         ensures room { HasRoom to.new.gate.opening to.new.history }
         ensures no_turn { turns_of to.new.number to.new.history ≡ turns_of to.old.number to.old.history }
+        ensures joined { (j : ℕ) → Met j to.old.account.joined → turns_of j to.new.history ≡ turns_of j to.old.history }
     {
         let told = note(&self.board, &mut from.place);
         hear(&self.board, &mut to.place, told);
     }
 
-    /// Ends these seats. The last one sees all that they have seen, and in its history the turns of each are those that it made.
+    /// Ends these seats (join). The last one sees all that they have seen, and in its history the
+    /// turns of each are those that it made. Its account has them.
     pub fn end_all(&self, mut seats: Vec<ClusterSeat<M>>, last: &mut ClusterSeat<M>)
         requires seats { AllByRecursion (λ (s : Known M M.Call M.Reply). s.gate ≡ gate_home self.now) seats.items }
         requires last { last.old.gate ≡ gate_home self.now }
         ensures same { (last.new.gate ≡ last.old.gate) × (last.new.number ≡ last.old.number) × (last.new.spent ≡ last.old.spent) }
+        ensures account { last.new.account ≡ all_joined last.old.account seats.items }
         ensures given { AllByRecursion (HasAllOf last.new.history) seats.items }
         ensures seen { StartsWith last.new.history last.old.history }
         ensures no_turn { turns_of last.new.number last.new.history ≡ turns_of last.old.number last.old.history }
     {
         self.meet_each(&mut seats, last);
-        self.tell_each(seats, last);
+        self.end_each(seats, last);
     }
 
     // Lets a seat see all that these have seen.
@@ -240,6 +250,7 @@ impl<M: Machine> ClusterGate<M> {
         requires last { last.old.gate ≡ gate_home self.now }
         ensures seats { seats.new.items ≡ seats.old.items }
         ensures same { (last.new.gate ≡ last.old.gate) × (last.new.number ≡ last.old.number) × (last.new.spent ≡ last.old.spent) }
+        ensures account { last.new.account ≡ last.old.account }
         ensures each { AllByRecursion (λ (s : Known M M.Call M.Reply). StartsWith last.new.history s.history) seats.old.items }
         ensures seen { StartsWith last.new.history last.old.history }
         ensures no_turn { turns_of last.new.number last.new.history ≡ turns_of last.old.number last.old.history }
@@ -250,18 +261,31 @@ impl<M: Machine> ClusterGate<M> {
         }
     }
 
-    // Ends these seats, of which a seat has seen all. Each sees what that one has seen, so it knows that its own turns there are
-    // all that it made.
-    fn tell_each(&self, mut seats: Vec<ClusterSeat<M>>, last: &mut ClusterSeat<M>)
+    // Ends these seats into a seat that has seen all that they have seen.
+    fn end_each(&self, mut seats: Vec<ClusterSeat<M>>, last: &mut ClusterSeat<M>)
         requires seats { AllByRecursion (λ (s : Known M M.Call M.Reply). s.gate ≡ gate_home self.now) seats.items }
         requires last { last.old.gate ≡ gate_home self.now }
         requires each { AllByRecursion (λ (s : Known M M.Call M.Reply). StartsWith last.old.history s.history) seats.items }
-        ensures last { last.new ≡ last.old }
+        ensures same { (last.new.gate ≡ last.old.gate) × (last.new.number ≡ last.old.number) × (last.new.spent ≡ last.old.spent) × (last.new.history ≡ last.old.history) }
+        ensures account { last.new.account ≡ all_joined last.old.account seats.items }
         ensures given { AllByRecursion (HasAllOf last.new.history) seats.items }
     {
-        while let Some(mut seat) = seats.pop() {
-            self.meet(last, &mut seat);
+        while let Some(seat) = seats.pop() {
+            self.end(seat, last);
         }
+    }
+
+    // Ends a seat into one that has seen all that it has seen. It sees what that one has seen, so it
+    // knows that its own turns there are all that it made.
+    fn end(&self, mut seat: ClusterSeat<M>, last: &mut ClusterSeat<M>)
+        requires seat { seat.gate ≡ gate_home self.now }
+        requires last { last.old.gate ≡ gate_home self.now }
+        requires seen { StartsWith last.old.history seat.history }
+        ensures last { last.new ≡ joined_by last.old seat.number seat.account }
+        ensures given { HasAllOf last.new.history seat }
+    {
+        self.meet(last, &mut seat);
+        end(&self.board, &mut last.place, seat.into_place());
     }
 }
 
@@ -334,6 +358,8 @@ impl<M: Machine> ClusterSeat<M> {
     fn into_place(self) -> BoardSeat<M>
         ensures home { (result.table_id ≡ self.gate.table) × (result.me.0.opening ≡ self.gate.opening) × (result.me.0.numbered ≡ true) }
         ensures sight { (result.me.0.seen ≡ self.history) × (result.me.0.number ≡ self.number) × (result.me.0.spent ≡ self.spent) }
+        ensures account { result.me.0.account ≡ self.account }
+        ensures idle { (result.me.1 ≡ []) × (result.me.0.stage ≡ Idle) }
     {
         let ClusterSeat { place } = self;
         place

@@ -6,7 +6,8 @@ ghost use Rattle.cops_types.specs.RequestErrors.{IfRefusal};
 ghost use Rattle.cops_gate.specs.Filtered.{GrowsThere, LacksThere};
 ghost use Rattle.cops_gate.specs.History.{entry, turns_at, turns_of, IsLegal, StartsWith};
 ghost use Rattle.cops_gate.specs.Rule.{Met};
-ghost use Rattle.cops_gate.specs.Seats.{Known, first_seat};
+ghost use Rattle.cops_gate.specs.Accounts.{fork_of};
+ghost use Rattle.cops_gate.specs.Seats.{Known, first_seat, split_off};
 ghost use Rattle.cops_gate.specs.Single.{ClosesAlone, SingleOrigin, as_cluster, single_home};
 
 use crate::cluster_gate::{ClusterGate, ClusterSeat};
@@ -32,8 +33,8 @@ impl<M: Machine> Model for Gate<M> {
     ghost invariant = { λ g. g.cluster.opening ≡ g.opening.value ∷ [] };
 }
 
-/// The right to make turns at a gate. Contracts see its number, the history that it has seen, and
-/// whether it has met the last ticket.
+/// The right to make turns at a gate. Contracts see its number, the history that it has seen,
+/// whether it has met the last ticket, and its account of the seats that were split off.
 #[derive(Drop)]
 pub struct GateSeat<M: Machine> {
     seat: ClusterSeat<M>,
@@ -42,7 +43,7 @@ pub struct GateSeat<M: Machine> {
 impl<M: Machine> Model for GateSeat<M> {
     ghost Value = { Known M M.Call M.Reply };
 
-    ghost view = { λ s. record { gate = s.seat.gate; number = s.seat.number; history = turns_at 0 s.seat.history; spent = s.seat.spent } };
+    ghost view = { λ s. record { gate = s.seat.gate; number = s.seat.number; history = turns_at 0 s.seat.history; spent = s.seat.spent; account = s.seat.account } };
 }
 
 impl<M: Machine> Gate<M> {
@@ -91,6 +92,7 @@ impl<M: Machine> Gate<M> {
         requires seat { seat.old.gate ≡ single_home self.now }
         requires fits { M.fits (M.place self.now.opening) slot call }
         ensures same { (seat.new.gate ≡ seat.old.gate) × (seat.new.number ≡ seat.old.number) }
+        ensures account { seat.new.account ≡ seat.old.account }
         ensures reply { IfOk result (λ r. GrowsThere M.turns self.now.opening seat.old.number 0 seat.old.history (Some (entry slot moment call r)) seat.new.history) }
         ensures refused { IfRefusal result (λ f. f ≡ GateSpent) }
         ensures blank { result ≡ Err OutOfMemory → GrowsThere M.turns self.now.opening seat.old.number 0 seat.old.history None seat.new.history }
@@ -103,11 +105,13 @@ impl<M: Machine> Gate<M> {
         self.cluster.step(rt, &mut seat.seat, 0, slot, moment, call)
     }
 
-    /// Returns a new seat (fork), which has seen the same and has made no turn.
+    /// Returns a new seat (fork), which has seen the same and has made no turn. If the seat is the
+    /// gate's first, it counts the new one.
     pub fn split(&self, seat: &mut GateSeat<M>) -> GateSeat<M>
         requires { seat.old.gate ≡ single_home self.now }
-        ensures same { seat.new ≡ seat.old }
+        ensures same { seat.new ≡ split_off seat.old }
         ensures new { (result.gate ≡ seat.old.gate) × (result.history ≡ seat.old.history) × (result.spent ≡ seat.old.spent) }
+        ensures account { result.account ≡ fork_of seat.old.account }
         ensures no_turn { turns_of result.number result.history ≡ [] }
     {
         GateSeat {
@@ -121,6 +125,7 @@ impl<M: Machine> Gate<M> {
         requires to { to.old.gate ≡ single_home self.now }
         ensures from { from.new ≡ from.old }
         ensures same { (to.new.gate ≡ to.old.gate) × (to.new.number ≡ to.old.number) × (to.new.spent ≡ to.old.spent) }
+        ensures account { to.new.account ≡ to.old.account }
         ensures seen { StartsWith to.new.history from.old.history × StartsWith to.new.history to.old.history }
         ensures legal { IsLegal M.turns self.now.opening to.new.history }
         ensures room { self.now.ticket + length to.new.history ≤ 2 ^ 62 }

@@ -4,6 +4,7 @@ use Rattle.std.specs.Prelude.{Option, Some, None}
 use Rattle.cops_types.specs.declared.configs.Config.{Config}
 use Rattle.cops_types.specs.declared.faults.Fault.{Fault}
 use Rattle.cops_types.specs.TenantConfig.{TenantConfig, tenant_config}
+use Rattle.cops_gate.specs.declared.board.Account.{Account}
 use Rattle.cops_model.specs.Carrier.{Carrier, new_carrier}
 use Rattle.cops_model.specs.Log.{Next, Call, Restart, Ended}
 use Rattle.cops_model.specs.declared.calls.NodeCall.{NodeCall}
@@ -231,37 +232,37 @@ module _ {N K S : Type 0} (Calls : N → NodeId → ℕ → ℕ → NodeCall →
 -- ---- desks
 
 module _ {N Name : Type 0} (cluster : N → Gates Shared) (name : N → Name) (seat : N → NodeSeat) where
-  -- a call at this cluster with this seat, which the desk keeps
+  -- a call at this cluster with this seat, which the desk keeps; its account stays
   abbrev DeskCalls : N → NodeId → ℕ → ℕ → NodeCall → NodeReply → N → Type 0
   DeskCalls old id slot moment call reply new = (cluster new ≡ cluster old) × (name new ≡ name old) × IsDeskCall (cluster old) (seat old) id slot moment call reply (seat new)
 
   abbrev At : Type 0
-  At = Gates Shared × Name
+  At = Gates Shared × Name × Account
 
   abbrev key : N → At
-  key n = (cluster n, name n)
+  key n = (cluster n, name n, (seat n).account)
 
   abbrev Tells : At → NodeSeat → NodeId → ℕ → ℕ → NodeCall → NodeReply → NodeSeat → Type 0
   Tells here = IsDeskCall here.0
 
   abbrev Stays : N → N → Type 0
-  Stays old new = (cluster new ≡ cluster old) × (name new ≡ name old)
+  Stays old new = (cluster new ≡ cluster old) × (name new ≡ name old) × ((seat new).account ≡ (seat old).account)
 
   kept : (old new : N) → key new ≡ key old → Stays old new
-  kept old new same = (ap (λ (k : At). k.0) same, ap (λ (k : At). k.1) same)
+  kept old new same = (ap (λ (k : At). k.0) same, ap (λ (k : At). k.1) same, ap (λ (k : At). k.2) same)
 
   pub desk_serves : {M : Type 0} (Gives : M → ℕ → M → Type 0) (config : Config) (old new : N) (moments new_moments : M) → ((count : ℕ) × ConverseAll (KeepsShape (λ n. shape_in (cluster n)) DeskCalls) Gives config count old new moments new_moments)
       → Stays old new × ServesClients config (cluster old) Gives moments (seat old) (seat new)
   desk_serves Gives config old new moments new_moments (count, all) =
-      let done = all_conversed_there (KeepsShape (λ n. shape_in (cluster n)) DeskCalls) Tells key seat (λ a b id slot moment call reply h i. (h.0.0 i, h.0.1 i)) (λ a b id slot moment call reply h. h.0.2) (key old) Gives config count old new moments new_moments refl all in
+      let done = all_conversed_there (KeepsShape (λ n. shape_in (cluster n)) DeskCalls) Tells key seat (λ a b id slot moment call reply h i. (h.0.0 i, h.0.1 i, h.0.2.account i)) (λ a b id slot moment call reply h. h.0.2) (key old) Gives config count old new moments new_moments refl all in
       (kept old new done.0, (count, new_moments, done.1))
 
   pub desk_carries : (config : Config) (old new : N) → ((count : ℕ) × DeliverAll DeskCalls config count old new) → Stays old new × CarriesStreams config (cluster old) (seat old) (seat new)
   desk_carries config old new (count, all) =
-      let done = all_delivered_there DeskCalls Tells key seat (λ a b id slot moment call reply h i. (h.0 i, h.1 i)) (λ a b id slot moment call reply h. h.2) (key old) config count old new refl all in
+      let done = all_delivered_there DeskCalls Tells key seat (λ a b id slot moment call reply h i. (h.0 i, h.1 i, h.2.account i)) (λ a b id slot moment call reply h. h.2) (key old) config count old new refl all in
       (kept old new done.0, (count, done.1))
 
   pub desk_collects : (config : Config) (old new : N) → ((count : ℕ) × CollectAll DeskCalls config count old new) → Stays old new × CollectsPlaces config (cluster old) (seat old) (seat new)
   desk_collects config old new (count, all) =
-      let done = collected_there DeskCalls Tells key seat (λ a b id slot moment call reply h i. (h.0 i, h.1 i)) (λ a b id slot moment call reply h. h.2) (key old) config count old new refl all in
+      let done = collected_there DeskCalls Tells key seat (λ a b id slot moment call reply h i. (h.0 i, h.1 i, h.2.account i)) (λ a b id slot moment call reply h. h.2) (key old) config count old new refl all in
       (kept old new done.0, (count, done.1))

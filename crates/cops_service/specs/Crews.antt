@@ -1,10 +1,10 @@
 -- The threads of a service: what each did with its seat, and the one history that has it all.
-use Rattle.std.specs.Prelude.{◌≡◌, ℕ, List, [], ◌∷◌, ◌++◌, length, IsTrue}
+use Rattle.std.specs.Prelude.{◌≡◌, ℕ, ◌+◌, List, [], ◌∷◌, ◌++◌, map, length, IsTrue}
 use Rattle.std.specs.List.{AllByRecursion}
 use Rattle.cops_types.specs.declared.configs.Config.{Config}
 use Rattle.cops_types.specs.HeadLines.{are_sizes}
-use Rattle.cops_gate.specs.History.{StartsWith}
-use Rattle.cops_gate.specs.Seats.{HasAllOf}
+use Rattle.cops_gate.specs.Accounts.{counted_account, first_of}
+use Rattle.cops_gate.specs.Seats.{AreMadeBy, HasAllOf, all_joined}
 use Rattle.cops_node.specs.Clusters.{new_nodes, shape_of}
 use Rattle.cops_node.specs.Parts.{Shared}
 use Rattle.cops_service.specs.Calling.{CollectAll}
@@ -34,9 +34,10 @@ module _ (config : Config) (cluster : Gates Shared) where
   abbrev pub CollectsPlaces : NodeSeat → NodeSeat → Type 0
   CollectsPlaces first last = (count : ℕ) × CollectAll (IsDeskCall cluster) config count first last
 
--- The seat had made no turn when its thread began, and since then has done just this.
+-- The seat, which the first seat counts, had made no turn when its thread began, and since then has done just this.
 pub record HasJustDone (cluster : Gates Shared) (Does : NodeSeat → NodeSeat → Type 0) (seat : NodeSeat) : Type 0 where
   pub own : IsSeatOf cluster seat
+  pub account : seat.account ≡ counted_account
   pub first : NodeSeat
   pub no_turn : HasNoTurn first
   pub does : Does first seat
@@ -62,14 +63,17 @@ module _ {M : Type 0} (Gives : M → ℕ → M → Type 0) (moments : M) (config
     pub serve : AreOfServers count servers
     pub collects : HasJustDone cluster (CollectsPlaces config cluster) collector
 
-  -- a seat has seen all that the threads' seats saw, and of the turns of each those that it made
+  -- A seat has seen all that the threads' seats saw, and of the turns of each those that it made. It is the first seat, has made no turn, and these
+  -- seats ended into it, which are all that were split off from it
   pub record HasSeenCrew (workers : ℕ) (seat : NodeSeat) : Type 0 where
     pub seats : List NodeSeat
     pub crew : AreOfCrew workers seats
     pub all : AllByRecursion (HasAllOf seat.history) seats
+    pub no_turn : HasNoTurn seat
+    pub account : seat.account ≡ all_joined (first_of (workers + 1 + 1)) seats
 
--- One history leaves these nodes from the new ones of the configuration. A prefix of it has all that the threads' seats saw; of the
--- turns of each seat it has those that the seat made: conversations of a worker, carriers, or collections.
+-- One history leaves these nodes from the new ones of the configuration. It has all that the threads' seats saw, and each of its turns was made by one
+-- of these seats. The turns of a seat are those that it made: conversations of a worker, carriers, or collections.
 pub record AreServedBy {M : Type 0} (Gives : M → ℕ → M → Type 0) (moments : M) (config : Config) (workers : ℕ) (nodes : List Shared) : Type 0 where
   pub cluster : Gates Shared
   pub opened : openings cluster ≡ (new_nodes config).nodes
@@ -77,5 +81,6 @@ pub record AreServedBy {M : Type 0} (Gives : M → ℕ → M → Type 0) (moment
   pub log : NodeLog
   pub leaves : LeavesEach (openings cluster) log nodes
   pub last : NodeSeat
-  pub prefix : StartsWith log last.history
+  pub whole : log ≡ last.history
   pub seen : HasSeenCrew Gives moments config cluster workers last
+  pub made : AreMadeBy (map (λ (s : NodeSeat). s.number) seen.seats) log

@@ -54,7 +54,7 @@ fn second<M: Machine>(
     seat: &mut ServiceSeat<M>,
 ) -> ServiceSeat<M>
     requires { IsSeatOf cluster.now seat.old }
-    ensures same { seat.new ≡ seat.old }
+    ensures same { (seat.new.gate ≡ seat.old.gate) × (seat.new.history ≡ seat.old.history) }
     ensures seat { IsSeatOf cluster.now result }
 {
     match seat.split(alloc, cluster) {

@@ -156,6 +156,7 @@ fn serve_at_desk<R: Wait + Clock, L: Reports, T: Moments>(
 )
     requires open { IsOpenFor shared.config.now nodes.old.desk.cluster.now }
     ensures desk { (nodes.new.desk.cluster.now ≡ nodes.old.desk.cluster.now) × (nodes.new.desk.seat.ghost_name ≡ nodes.old.desk.seat.ghost_name) }
+    ensures account { nodes.new.desk.seat.now.account ≡ nodes.old.desk.seat.now.account }
     ensures serves { ServesClients shared.entry.config.now nodes.old.desk.cluster.now T.Gives moments.old nodes.old.desk.seat.now nodes.new.desk.seat.now }
 {
     serve_each(shared, shared.config, nodes, streams, moments);
@@ -171,6 +172,7 @@ fn carry_at_desk<R: Wait + Clock, L: Reports, T: Moments>(
 )
     requires open { IsOpenFor shared.config.now nodes.old.desk.cluster.now }
     ensures desk { (nodes.new.desk.cluster.now ≡ nodes.old.desk.cluster.now) × (nodes.new.desk.seat.ghost_name ≡ nodes.old.desk.seat.ghost_name) }
+    ensures account { nodes.new.desk.seat.now.account ≡ nodes.old.desk.seat.now.account }
     ensures carries { CarriesStreams shared.entry.config.now nodes.old.desk.cluster.now nodes.old.desk.seat.now nodes.new.desk.seat.now }
 {
     carry_noted(
@@ -193,6 +195,7 @@ fn collect_at_desk<R: Wait + Clock, L: Reports, T: Moments>(
 )
     requires open { IsOpenFor shared.config.now desk.old.cluster.now }
     ensures desk { (desk.new.cluster.now ≡ desk.old.cluster.now) × (desk.new.seat.ghost_name ≡ desk.old.seat.ghost_name) }
+    ensures account { desk.new.seat.now.account ≡ desk.old.seat.now.account }
     ensures collects { CollectsPlaces shared.entry.config.now desk.old.cluster.now desk.old.seat.now desk.new.seat.now }
 {
     collect_noted(

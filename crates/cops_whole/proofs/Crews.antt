@@ -4,6 +4,7 @@ use Rattle.std.specs.List.{AllByRecursion}
 use Rattle.std.proofs.lemmas.Bool.Decides.{Decides-eqb}
 use Rattle.cops_types.specs.declared.configs.Config.{Config}
 use Rattle.cops_gate.specs.declared.history.Turn.{Turn}
+use Rattle.cops_gate.specs.Accounts.{no_account}
 use Rattle.cops_gate.specs.History.{turns_of}
 use Rattle.cops_gate.specs.Seats.{gate_home}
 use Rattle.cops_model.specs.declared.calls.NodeCall.{NodeCall}
@@ -45,7 +46,7 @@ module _ (config : Config) (cluster : Gates Shared) (history : NodeLog) where
   idle number none = record { first = unused; last = unused; number_is = refl; no_turn = refl; made = refl; behave = tt; ticketed = tt; all_of = ((history, refl), none) }
     where
       unused : NodeSeat
-      unused = record { gate = gate_home cluster.gate; number = number; history = []; spent = [] }
+      unused = record { gate = gate_home cluster.gate; number = number; history = []; spent = []; account = no_account }
 
   -- a number that is there has the actors of its first seat, and any other number has none
   by_number : (crew : List SeatActors) → AllByRecursion (λ (s : SeatActors). SeatDid config cluster history s.number s.actors) crew → (number : ℕ) → ((IsNumbered crew number → ⊥) → turns_of number history ≡ []) →

@@ -1,5 +1,5 @@
 -- The seats that the threads of a service gave back did the calls of actors.
-use Rattle.std.proofs.Common.{◌≡◌, ◌≢◌, ℕ, zero, suc, ◌*◌, ◌<◌, true, false, not, ◌==◌, ◌&&◌, nat_lt, List, [], ◌∷◌, map, length, get_or, lt-ltb, refl, sym, ◌∙◌, ap, subst}
+use Rattle.std.proofs.Common.{◌≡◌, ◌≢◌, ℕ, zero, suc, ◌*◌, ◌<◌, true, false, not, ◌==◌, ◌&&◌, nat_lt, List, [], ◌∷◌, map, length, inl, inr, get_or, lt-ltb, refl, sym, ◌∙◌, ap, subst}
 use Rattle.std.specs.Prelude.{Some, slice_get}
 use Rattle.std.specs.List.{AllByRecursion}
 use Rattle.std.proofs.lemmas.Bool.Decides.{Decides-eqb}
@@ -11,10 +11,14 @@ use Rattle.cops_types.specs.declared.configs.Tenant.{Tenant}
 use Rattle.cops_types.specs.TenantConfig.{tenant_config}
 use Rattle.cops_types.proofs.Elements.{and_true}
 use Rattle.cops_gate.specs.History.{IsLegal, Leads, turns_at}
-use Rattle.cops_gate.specs.Seats.{HasAllOf}
+use Rattle.cops_gate.specs.declared.history.Turn.{Turn}
+use Rattle.cops_gate.specs.Rule.{Met}
+use Rattle.cops_gate.specs.Seats.{AreMadeBy, HasAllOf}
 use Rattle.cops_gate.proofs.Ending.{all_joined, all_weaker}
 use Rattle.cops_gate.proofs.Keeps.{there_at}
 use Rattle.cops_model.specs.Cluster.{has_node, has_stream}
+use Rattle.cops_model.specs.declared.calls.NodeCall.{NodeCall}
+use Rattle.cops_model.specs.declared.calls.NodeReply.{NodeReply}
 use Rattle.cops_node.specs.Clusters.{new_shared}
 use Rattle.cops_node.specs.Parts.{Shared, IsMachineTurn}
 use Rattle.cops_service.specs.Calling.{CollectAll}
@@ -27,8 +31,8 @@ use Rattle.cops_service.proofs.Desks.{read_at}
 use Rattle.cops_history.specs.Turns.{Turn as CallTurn}
 use Rattle.cops_served.specs.Conversations.{MakesTurns, turns_of_told}
 use Rattle.cops_whole.specs.Seats.{MakesAll, SlotActor}
-use Rattle.cops_whole.specs.ServedBy.{AreServedByActors, AreTicketed, HasNoOtherTurn, ServesAllCausally}
-use Rattle.cops_whole.specs.Services.{IsCallAtShard, IsCrewRun, SeatActors, SeatDid, actors_numbered, past_numbers}
+use Rattle.cops_whole.specs.ServedBy.{AreServedByActors, AreTicketed, ServesAllCausally}
+use Rattle.cops_whole.specs.Services.{IsCallAtShard, IsCrewRun, IsNumbered, SeatActors, SeatDid, actors_numbered, past_numbers}
 use Rattle.cops_whole.specs.Threads.{AreCallsOfActors}
 use Rattle.cops_whole.proofs.Crews.{run_of_crew}
 use Rattle.cops_whole.proofs.Histories.{how_many, opened_at}
@@ -127,6 +131,17 @@ module _ (config : Config) (cluster : Gates Shared) where
     all_did history seats all.1 seen.1 ticketed.1,
   )
 
+-- ---- who made the turns
+
+is_numbered : (crew : List SeatActors) (number : ℕ) → Met number (map (λ (s : SeatActors). s.number) crew) → IsNumbered crew number
+is_numbered [] number met = absurd met
+is_numbered (s ∷ crew) number (inl this) = inl (sym this)
+is_numbered (s ∷ crew) number (inr later) = inr (is_numbered crew number later)
+
+all_numbered : (crew : List SeatActors) (history : NodeLog) → AreMadeBy (map (λ (s : SeatActors). s.number) crew) history → AllByRecursion (λ (t : Turn NodeCall NodeReply). IsNumbered crew t.seat) history
+all_numbered crew history made =
+    all_weaker (λ (t : Turn NodeCall NodeReply). Met t.seat (map (λ (s : SeatActors). s.number) crew)) (λ (t : Turn NodeCall NodeReply). IsNumbered crew t.seat) history (λ t met. is_numbered crew t.seat met) made
+
 -- ---- the service
 
 module _ {M : Type 0} (Gives : M → ℕ → M → Type 0) (moments : M) (config : Config) (workers : ℕ) (nodes : List Shared) (some_shards : 0 < config.shards) (served : AreServedBy Gives moments config workers nodes) where
@@ -165,16 +180,16 @@ module _ {M : Type 0} (Gives : M → ℕ → M → Type 0) (moments : M) (config
   legal_there : (number : ℕ) → number < config.data_centres * config.shards → IsLegal IsMachineTurn (new_shared config number) (turns_at number history)
   legal_there number within = let node = there_at nodes number (subst (λ n. number < n) (sym node_count) within) in (node.0, left_there number node.0 within node.1)
 
-  run : AreTicketed all_crew → HasNoOtherTurn history served.last all_crew → IsCrewRun config cluster history all_crew
-  run ticketed only = record {
+  run : AreTicketed all_crew → IsCrewRun config cluster history all_crew
+  run ticketed = record {
     gate = record { shards = served.shards; opened = served.opened; legal = legal_there };
-    did = all_did config cluster history seats all_acted (subst (λ h. AllByRecursion (HasAllOf h) seats) (sym only.seen) served.seen.all) ticketed;
-    seated = only.seated;
+    did = all_did config cluster history seats all_acted (subst (λ h. AllByRecursion (HasAllOf h) seats) (sym served.whole) served.seen.all) ticketed;
+    seated = all_numbered all_crew history (subst (λ numbers. AreMadeBy numbers history) (sym (numbers_are config cluster seats all_acted)) served.made);
   }
 
-  causally : AreTicketed all_crew → HasNoOtherTurn history served.last all_crew → ServesAllCausally config history nodes all_crew
-  causally ticketed only =
-      let service = run_of_crew config cluster history all_crew (run ticketed only) in
+  causally : AreTicketed all_crew → ServesAllCausally config history nodes all_crew
+  causally ticketed =
+      let service = run_of_crew config cluster history all_crew (run ticketed) in
       let all = tenants_of_service config cluster history (past_numbers all_crew) (actors_numbered all_crew) service some_shards in
       record {
         log = all.0;

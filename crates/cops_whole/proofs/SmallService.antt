@@ -44,10 +44,10 @@ module _ (gate : Origin Shared) where
       (at_one (λ m node. 0 + length (turns_at m history) ≤ 2 ^ 62) (omega (arith, few)) n first (subst (λ (o : Opening Shared). get_elem? o.states n ≡ some first) (sym same) at))
 
   puts : IsDeskCall (small_gates gate) (small_seat gate 0 []) small_put.node 0 small_put.moment small_put.call small_put.reply (small_seat gate 0 small_beginning)
-  puts = record { grows = inl (whole_beginning, ([], refl), refl); same = (refl, refl); room = has_room small_beginning (omega arith) }
+  puts = record { grows = inl (whole_beginning, ([], refl), refl); same = (refl, refl); account = refl; room = has_room small_beginning (omega arith) }
 
   collects : IsDeskCall (small_gates gate) (small_seat gate 1 small_beginning) small_collection.node 1 small_collection.moment small_collection.call small_collection.reply (small_seat gate 1 small_history)
-  collects = record { grows = inl (whole_history, ([], refl), refl); same = (refl, refl); room = has_room small_history (omega arith) }
+  collects = record { grows = inl (whole_history, ([], refl), refl); same = (refl, refl); account = refl; room = has_room small_history (omega arith) }
 
   all_did : (seat : ℕ) → seat < 2 → SeatDid small_config (small_gates gate) small_history seat (small_actors seat)
   all_did zero within = record {
@@ -93,6 +93,7 @@ module _ (gate : Origin Shared) where
   lacks = record {
     grows = inr (inl (refl, (whole_lacking, ([], refl), refl), (small_beginning, opened, written, refl, refl, (written, put_is, refl), (place_there small_config (small_tenant 2) 0, refl, refl))));
     same = (refl, refl);
+    account = refl;
     room = has_room lacking_history (omega arith);
   }
 

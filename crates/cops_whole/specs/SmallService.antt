@@ -1,6 +1,7 @@
 -- A service that ran the small cluster: what its gate kept, and its two seats.
 use Rattle.std.specs.Prelude.{ℕ, zero, suc, List, [], ◌∷◌, Some, None}
 use Rattle.cops_types.specs.declared.faults.Fault.TheVariants.{OutOfMemory}
+use Rattle.cops_gate.specs.Accounts.{counted_account}
 use Rattle.cops_gate.specs.History.{entry, turn}
 use Rattle.cops_gate.specs.Seats.{Origin, gate_home}
 use Rattle.cops_model.specs.declared.calls.NodeReply.TheVariants.{Refused}
@@ -31,7 +32,7 @@ abbrev pub small_history : NodeLog
 small_history = turn 0 0 (Some (small_entry 0 small_put)) ∷ turn 1 0 (Some (small_entry 1 small_collection)) ∷ []
 
 abbrev pub small_seat : Origin Shared → ℕ → NodeLog → NodeSeat
-small_seat gate number history = record { gate = gate_home (small_gates gate).gate; number = number; history = history; spent = [] }
+small_seat gate number history = record { gate = gate_home (small_gates gate).gate; number = number; history = history; spent = []; account = counted_account }
 
 -- ---- the same, but the collection was refused memory
 

@@ -1,5 +1,4 @@
 use Rattle.std.proofs.Common.{◌≡◌, ◌∙◌, ◌<◌, ◌≤◌, length, arith, ap, sym, refl, subst, get_or, take}
-use Rattle.std.specs.List.{AllByRecursion}
 use Rattle.cops_gate.specs.History.{StartsWith}
 use Rattle.cops_gate.specs.Seats.{gate_home}
 use Rattle.cops_gate.proofs.Ending.{all_at, all_of, all_taken, all_weaker, set_same, starts_again}
@@ -24,13 +23,14 @@ loop-number-preserved g c =
     let same = c.meet.ensures.same in (
       ap (λ s. Rattle.std.proofs.Common.set c.loop-number.seats.items c.loop-number.number s) c.meet.ensures.from ∙ (set_same (λ s. s ≡ s) c.loop-number.seats.items c.loop-number.number c.index_mut-from.result.now c.index_mut-from.ensures.value ∙ inv.0),
       (same.0 ∙ inv.1.0, same.1 ∙ inv.1.1, same.2 ∙ inv.1.2),
+      c.meet.ensures.account ∙ inv.2,
       all_taken (λ s. StartsWith c.meet.new.to.history s.history) c.args.seats.now.items c.loop-number.number c.index_mut-from.result.now within at c.meet.ensures.seen.0
           (all_weaker (λ s. StartsWith c.loop-number.last.history s.history) (λ s. StartsWith c.meet.new.to.history s.history) (take c.loop-number.number c.args.seats.now.items)
-          (λ s sees. starts_again c.meet.new.to.history c.loop-number.last.history s.history c.meet.ensures.seen.1 sees) inv.2),
-      starts_again c.meet.new.to.history c.loop-number.last.history c.args.last.now.history c.meet.ensures.seen.1 inv.3,
-      c.meet.ensures.no_turn ∙ inv.4,
+          (λ s sees. starts_again c.meet.new.to.history c.loop-number.last.history s.history c.meet.ensures.seen.1 sees) inv.3),
+      starts_again c.meet.new.to.history c.loop-number.last.history c.args.last.now.history c.meet.ensures.seen.1 inv.4,
+      c.meet.ensures.no_turn ∙ inv.5,
     )
 
 pub returns-clause-each : goal.returns-clause-each
 returns-clause-each g c =
-    all_of (λ s. StartsWith c.loop-number.last.history s.history) c.args.seats.now.items c.loop-number.number (omega (arith, c.loop-number-test.false, c.len-number-end.ensures, c.args.seats.now.ok.0)) c.loop-number.invariant.2
+    all_of (λ s. StartsWith c.loop-number.last.history s.history) c.args.seats.now.items c.loop-number.number (omega (arith, c.loop-number-test.false, c.len-number-end.ensures, c.args.seats.now.ok.0)) c.loop-number.invariant.3

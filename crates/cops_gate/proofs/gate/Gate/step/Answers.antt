@@ -1,4 +1,4 @@
-use Rattle.std.proofs.Common.{◌≡◌, ◌∙◌, [], ◌∷◌, ap, subst, Some, None, IfOk}
+use Rattle.std.proofs.Common.{◌∙◌, [], ◌∷◌, ap, subst, Some, None, IfOk}
 use Rattle.cops_gate.specs.Filtered.{GrowsThere}
 use Rattle.cops_gate.specs.History.{entry, turns_at}
 use Rattle.cops_gate.proofs.Single.{grows_there, replies_there, room_there}

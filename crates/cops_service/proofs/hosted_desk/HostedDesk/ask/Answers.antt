@@ -10,4 +10,4 @@ step_or_reply-requires-clause-fits g c =
 pub returns-clause-told : goal.returns-clause-told
 returns-clause-told g c =
     is_told_at_slot c.args.slot c.args.moment c.args.call (openings c.args.self.now.cluster.now) (node_number c.args.self.now.cluster.now.shards c.args.id) c.args.self.now.seat.now c.step_or_reply.new.self c.step_or_reply.result
-    c.step_or_reply.ensures.told c.step_or_reply.ensures.same c.step_or_reply.ensures.room
+    c.step_or_reply.ensures.told c.step_or_reply.ensures.same c.step_or_reply.ensures.account c.step_or_reply.ensures.room
