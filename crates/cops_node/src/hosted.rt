@@ -1,18 +1,26 @@
 //! Nodes whose tenants come and go between calls.
-ghost use Rattle.std.specs.Prelude.{◌≡◌};
+ghost use Rattle.std.specs.Prelude.{◌≡◌, replicate};
+ghost use Rattle.cops_node.specs.Hosting.{life_at};
+ghost use Rattle.cops_node.specs.Parts.{MOST_SLOTS};
 
 use crate::{Home, Node, NodeCall, NodeReply};
 use cops_types::{Fault, Machine, Tenant};
 use std::alloc::AllocError;
 use std::marker::Model;
 
+/// The most slots of a node.
+const MOST_SLOTS: usize = 64;
+
 /// A call to a slot of a node: from a session or a carrier of its tenant, or from the host.
+///
+/// A life is the time from an admission of a tenant to its close. Its number tells the slot's tenants apart: a call of
+/// another life than the present one gets `UnknownTenant`, and changes nothing.
 #[derive(Debug, Drop)]
 pub enum SlotCall {
-    /// A call of the slot's tenant.
-    Own(NodeCall),
-    /// Gives the slot to this tenant. A node ignores its name and token.
-    Admit(Tenant),
+    /// A call of the slot's tenant in the life of this number.
+    Own { life: u64, call: NodeCall },
+    /// Gives the slot to this tenant, and this number to its life. A node ignores its name and token.
+    Admit { life: u64, tenant: Tenant },
     /// Drops the slot's tenant and all its data on the node.
     Close,
 }
@@ -35,44 +43,59 @@ pub enum SlotReply {
 #[derive(Drop)]
 pub struct HostedNode {
     node: Node,
+    /// The number of each slot's latest life.
+    lives: [u64; MOST_SLOTS],
 }
 
 impl Model for HostedNode {
-    ghost use Rattle.cops_node.specs.Parts.{Shared};
+    ghost use Rattle.cops_node.specs.Hosting.{Hosted};
 
-    ghost Value = { Shared };
+    ghost Value = { Hosted };
 
-    ghost view = { λ h. h.node };
+    ghost view = { λ h. record { node = h.node; lives = h.lives } };
 }
 
 impl HostedNode {
-    /// Wraps the node, with its tenants.
+    /// Wraps the node, with its tenants. They are in their slots' lives 0.
     pub fn of(node: Node) -> Self
-        ensures { result ≡ node }
+        ensures node { result.node ≡ node }
+        ensures lives { result.lives ≡ replicate MOST_SLOTS 0 }
     {
-        HostedNode { node }
+        HostedNode {
+            node,
+            lives: [0; MOST_SLOTS],
+        }
     }
 
     /// Returns the node.
     pub fn node(&self) -> &Node
-        ensures { result.now ≡ self.now }
+        ensures { result.now ≡ self.now.node }
     {
         &self.node
     }
 
     /// Returns the node alone.
     pub fn into_node(self) -> Node
-        ensures { result ≡ self }
+        ensures { result ≡ self.node }
     {
-        let HostedNode { node } = self;
+        let HostedNode { node, lives: _ } = self;
         node
+    }
+
+    // Returns the number of the slot's latest life.
+    fn life(&self, slot: u64) -> u64
+        ensures { result ≡ life_at slot self.now }
+    {
+        match self.lives.get(slot as usize) {
+            Some(life) => *life,
+            None => 0,
+        }
     }
 }
 
 impl Machine for HostedNode {
-    ghost use Rattle.cops_node.specs.Hosting.{FitsSlot, IsSlotTurn};
+    ghost use Rattle.cops_node.specs.Hosting.{FitsSlot, IsSlotTurn, host_in};
     ghost use Rattle.cops_node.specs.Lacking.{MayLackAtSlot};
-    ghost use Rattle.cops_node.specs.Parts.{home_in};
 
     type Call = SlotCall;
 
@@ -81,7 +104,7 @@ impl Machine for HostedNode {
     /// The node without its tenants.
     type Place = Home;
 
-    ghost place = { home_in };
+    ghost place = { host_in };
 
     ghost fits = { FitsSlot };
 
@@ -91,12 +114,18 @@ impl Machine for HostedNode {
 
     fn turn(&mut self, slot: u64, moment: u64, call: SlotCall) -> Result<SlotReply, AllocError> {
         match call {
-            SlotCall::Own(call) => Ok(SlotReply::Own(self.node.turn(slot, moment, call)?)),
-            SlotCall::Admit(tenant) => {
+            SlotCall::Own { life, call } => {
+                if life != self.life(slot) {
+                    return Ok(SlotReply::Own(NodeReply::Refused(Fault::UnknownTenant)));
+                }
+                Ok(SlotReply::Own(self.node.turn(slot, moment, call)?))
+            }
+            SlotCall::Admit { life, tenant } => {
                 if self.node.is_taken(slot) {
                     return Ok(SlotReply::Refused(Fault::NoSlot));
                 }
                 self.node.give(slot, tenant.first_clock, tenant.quota)?;
+                self.lives[slot as usize] = life;
                 Ok(SlotReply::Admitted)
             }
             SlotCall::Close => match self.node.close(slot) {

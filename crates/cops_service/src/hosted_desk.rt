@@ -1,8 +1,7 @@
 //! A thread's access to nodes at which tenants come and go.
 ghost use Rattle.std.specs.Prelude.{◌≡◌, ◌<◌};
-ghost use Rattle.cops_service.specs.Desks.{AreNodes, shape_in};
 ghost use Rattle.cops_service.specs.Gates.{IsSeatOf};
-ghost use Rattle.cops_service.specs.HostedDesks.{FitsThere, IsOwnCall, IsSlotCall, told_at_slot};
+ghost use Rattle.cops_service.specs.HostedDesks.{AreHosted, FitsThere, IsLifeCall, IsSlotCall, hosted_shape, told_at_slot};
 
 use crate::cluster::{Cluster, ServiceSeat};
 use cops_gate::SpentReply;
@@ -12,7 +11,7 @@ use std::alloc::AllocError;
 use std::sync::Wait;
 
 /// Refuses a call if a node's tickets are exhausted.
-struct RefusesSpent;
+pub(crate) struct RefusesSpent;
 
 impl SpentReply<SlotReply> for RefusesSpent {
     ghost use Rattle.cops_types.specs.declared.faults.Fault.TheVariants.{GateSpent};
@@ -32,7 +31,7 @@ pub struct HostedDesk<'a, R: Wait> {
     pub rt: &'a R,
     pub cluster: &'a Cluster<HostedNode>,
     pub seat: &'a mut ServiceSeat<HostedNode>,
-    pub ghost nodes: { AreNodes cluster.now },
+    pub ghost nodes: { AreHosted cluster.now },
     pub ghost own: { IsSeatOf cluster.now seat.now },
 }
 
@@ -43,7 +42,7 @@ impl<'a, R: Wait> HostedDesk<'a, R> {
         cluster: &'a Cluster<HostedNode>,
         seat: &'a mut ServiceSeat<HostedNode>,
     ) -> HostedDesk<'a, R>
-        requires nodes { AreNodes cluster.now }
+        requires nodes { AreHosted cluster.now }
         requires seat { IsSeatOf cluster.now seat.old }
         ensures same_seat { (result.seat.ghost_name ≡ seat.entry.ghost_name) × (result.seat.now ≡ seat.old) }
         ensures cluster { result.cluster.now ≡ cluster.now }
@@ -60,9 +59,9 @@ impl<'a, R: Wait> HostedDesk<'a, R> {
         moment: u64,
         call: SlotCall,
     ) -> Result<SlotReply, AllocError>
-        requires dc { id.dc < (shape_in self.old.cluster.now).data_centres }
-        requires shard { id.shard < (shape_in self.old.cluster.now).shards }
-        requires fits { FitsThere (shape_in self.old.cluster.now) id call }
+        requires dc { id.dc < (hosted_shape self.old.cluster.now).data_centres }
+        requires shard { id.shard < (hosted_shape self.old.cluster.now).shards }
+        requires fits { FitsThere (hosted_shape self.old.cluster.now) id call }
         ensures cluster { self.new.cluster.now ≡ self.old.cluster.now }
         ensures seat { self.new.seat.ghost_name ≡ self.old.seat.ghost_name }
         ensures told { IsSlotCall self.old.cluster.now self.old.seat.now id slot moment call (told_at_slot result) self.new.seat.now }
@@ -72,19 +71,31 @@ impl<'a, R: Wait> HostedDesk<'a, R> {
     }
 }
 
-impl<R: Wait> Nodes for HostedDesk<'_, R> {
-    ghost shape = { λ desk. shape_in desk.cluster.now };
+/// A thread's access to the nodes in one life of a slot. The slot that a session or a carrier names is ignored.
+#[derive(Drop)]
+pub struct LifeDesk<'a, R: Wait> {
+    pub desk: HostedDesk<'a, R>,
+    pub slot: u64,
+    pub life: u64,
+}
 
-    ghost Answers = { λ old id slot moment call reply new. (new.cluster.now ≡ old.cluster.now) × (new.seat.ghost_name ≡ old.seat.ghost_name) × IsOwnCall old.cluster.now old.seat.now id slot moment call reply new.seat.now };
+impl<R: Wait> Nodes for LifeDesk<'_, R> {
+    ghost shape = { λ nodes. hosted_shape nodes.desk.cluster.now };
+
+    ghost Answers = { λ old id slot moment call reply new. (new.desk.cluster.now ≡ old.desk.cluster.now) × (new.desk.seat.ghost_name ≡ old.desk.seat.ghost_name) × (new.slot ≡ old.slot) × (new.life ≡ old.life) × IsLifeCall old.desk.cluster.now old.desk.seat.now id old.slot old.life moment call reply new.desk.seat.now };
 
     fn step(
         &mut self,
         id: NodeId,
-        slot: u64,
+        _slot: u64,
         moment: u64,
         call: NodeCall,
     ) -> Result<NodeReply, AllocError> {
-        match self.ask(id, slot, moment, SlotCall::Own(call))? {
+        let life = self.life;
+        match self
+            .desk
+            .ask(id, self.slot, moment, SlotCall::Own { life, call })?
+        {
             SlotReply::Own(reply) => Ok(reply),
             SlotReply::Refused(fault) => Ok(NodeReply::Refused(fault)),
             SlotReply::Admitted | SlotReply::Closed => Ok(NodeReply::Refused(Fault::Torn)),

@@ -4,12 +4,13 @@ ghost use Rattle.std.specs.Prelude.{◌≡◌, ◌<◌, ◌≤◌, IfOk, IsTrue,
 ghost use Rattle.cops_types.specs.HeadLines.{are_sizes};
 ghost use Rattle.cops_node.specs.Clusters.{new_nodes};
 ghost use Rattle.cops_node.specs.Parts.{are_clocks};
-ghost use Rattle.cops_service.specs.Desks.{AreNodes, shape_in};
 ghost use Rattle.cops_service.specs.Gates.{IsSeatOf};
+ghost use Rattle.cops_service.specs.HostedDesks.{AreHosted, hosted_shape};
 
 use crate::hosted_tests::{admit, beta, put, two_tenants};
-use crate::tests::closed;
-use crate::{Cluster, HostedDesk, ServiceSeat};
+use crate::hosting_tests::assert_clocks;
+use crate::tests::{closed, config};
+use crate::{Cluster, HostedDesk, LifeDesk, ServiceSeat, hosting_tests};
 use cops_node::{HostedNode, Node, NodeId, has_clocks};
 use cops_types::{Config, Fault, Machine};
 use std::alloc::{AllocError, Global};
@@ -25,8 +26,8 @@ fn hosted(
     requires sizes { IsTrue (are_sizes config.now) }
     requires clocks { IsTrue (are_clocks config.now) }
     ensures own { IsSeatOf result.0 result.1 }
-    ensures nodes { AreNodes result.0 }
-    ensures shape { shape_in result.0 ≡ (new_nodes config.now).shape }
+    ensures nodes { AreHosted result.0 }
+    ensures shape { hosted_shape result.0 ≡ (new_nodes config.now).shape }
 {
     match Cluster::host(alloc, config) {
         Ok(both) => both,
@@ -80,24 +81,24 @@ fn closed_again<M: Machine + Drop>(
 }
 
 /// Asserts that the third slot is given to beta, again if memory is refused.
-fn assert_comes<R: Wait + Abort>(rt: &R, desk: &mut HostedDesk<'_, R>)
-    requires { (0 < (shape_in desk.old.cluster.now).data_centres) × ((shape_in desk.old.cluster.now).shards ≡ 1) }
-    ensures { (desk.new.cluster.now ≡ desk.old.cluster.now) × (desk.new.seat.ghost_name ≡ desk.old.seat.ghost_name) }
+fn assert_comes<R: Wait + Abort>(rt: &R, nodes: &mut LifeDesk<'_, R>)
+    requires { (0 < (hosted_shape nodes.old.desk.cluster.now).data_centres) × ((hosted_shape nodes.old.desk.cluster.now).shards ≡ 1) }
+    ensures { (nodes.new.desk.cluster.now ≡ nodes.old.desk.cluster.now) × (nodes.new.desk.seat.ghost_name ≡ nodes.old.desk.seat.ghost_name) }
 {
-    if let Some(fault) = admit(desk, 2, beta(rt)) {
+    if let Some(fault) = admit(nodes, 2, beta(rt)) {
         assert!(rt; fault == Fault::OutOfMemory);
-        assert!(rt; admit(desk, 2, beta(rt)).is_none());
+        assert!(rt; admit(nodes, 2, beta(rt)).is_none());
     }
 }
 
 /// Asserts that beta's first put has the first version. It is made again if memory is refused.
-fn assert_puts<R: Wait + Abort>(rt: &R, alloc: Global, desk: &mut HostedDesk<'_, R>)
-    requires { (0 < (shape_in desk.old.cluster.now).data_centres) × ((shape_in desk.old.cluster.now).shards ≡ 1) }
-    ensures { (desk.new.cluster.now ≡ desk.old.cluster.now) × (desk.new.seat.ghost_name ≡ desk.old.seat.ghost_name) }
+fn assert_puts<R: Wait + Abort>(rt: &R, alloc: Global, nodes: &mut LifeDesk<'_, R>)
+    requires { (0 < (hosted_shape nodes.old.desk.cluster.now).data_centres) × ((hosted_shape nodes.old.desk.cluster.now).shards ≡ 1) }
+    ensures { (nodes.new.desk.cluster.now ≡ nodes.old.desk.cluster.now) × (nodes.new.desk.seat.ghost_name ≡ nodes.old.desk.seat.ghost_name) }
 {
-    let clock = match put(alloc, desk) {
+    let clock = match put(alloc, nodes) {
         Some(clock) => clock,
-        None => put(alloc, desk).expect(rt, "memory"),
+        None => put(alloc, nodes).expect(rt, "memory"),
     };
     assert!(rt; clock == 1);
 }
@@ -109,14 +110,19 @@ fn visit<R: Wait + Abort>(
     cluster: &Cluster<HostedNode>,
     mut seat: ServiceSeat<HostedNode>,
 ) -> ServiceSeat<HostedNode>
-    requires nodes { AreNodes cluster.now }
+    requires nodes { AreHosted cluster.now }
     requires seat { IsSeatOf cluster.now seat }
-    requires shape { (0 < (shape_in cluster.now).data_centres) × ((shape_in cluster.now).shards ≡ 1) }
+    requires shape { (0 < (hosted_shape cluster.now).data_centres) × ((hosted_shape cluster.now).shards ≡ 1) }
     ensures { IsSeatOf cluster.now result }
 {
-    let mut desk = HostedDesk::new(rt, cluster, &mut seat);
-    assert_comes(rt, &mut desk);
-    assert_puts(rt, alloc, &mut desk);
+    let desk = HostedDesk::new(rt, cluster, &mut seat);
+    let mut nodes = LifeDesk {
+        desk,
+        slot: 2,
+        life: 1,
+    };
+    assert_comes(rt, &mut nodes);
+    assert_puts(rt, alloc, &mut nodes);
     seat
 }
 
@@ -140,6 +146,62 @@ fn refused_memory_at_a_running_node(rt: HostRuntime) {
     let nodes = nodes_after_visit(&rt, rt.alloc(), &config);
     assert!(rt; nodes.len() == 1);
     assert!(rt; nodes[0].node().audit_len(2) == 1);
+}
+
+/// Asserts that beta comes to both nodes; if memory is refused at one, to none, and then to both.
+fn assert_comes_to_all<R: Wait + Abort>(rt: &R, alloc: Global, nodes: &mut LifeDesk<'_, R>)
+    requires { (1 < (hosted_shape nodes.old.desk.cluster.now).data_centres) × ((hosted_shape nodes.old.desk.cluster.now).shards ≡ 1) }
+    ensures { (nodes.new.desk.cluster.now ≡ nodes.old.desk.cluster.now) × (nodes.new.desk.seat.ghost_name ≡ nodes.old.desk.seat.ghost_name) }
+{
+    if let Err(fault) = hosting_tests::admit(rt, nodes) {
+        assert!(rt; fault == Fault::OutOfMemory);
+        assert_clocks(rt, alloc, nodes, (0, 0));
+        assert!(rt; hosting_tests::admit(rt, nodes) == Ok(()));
+    }
+}
+
+/// Beta comes to both nodes.
+fn come_to_all<R: Wait + Abort>(
+    rt: &R,
+    alloc: Global,
+    cluster: &Cluster<HostedNode>,
+    mut seat: ServiceSeat<HostedNode>,
+) -> ServiceSeat<HostedNode>
+    requires nodes { AreHosted cluster.now }
+    requires seat { IsSeatOf cluster.now seat }
+    requires shape { (1 < (hosted_shape cluster.now).data_centres) × ((hosted_shape cluster.now).shards ≡ 1) }
+    ensures { IsSeatOf cluster.now result }
+{
+    let desk = HostedDesk::new(rt, cluster, &mut seat);
+    let mut nodes = LifeDesk {
+        desk,
+        slot: 2,
+        life: 1,
+    };
+    assert_comes_to_all(rt, alloc, &mut nodes);
+    seat
+}
+
+/// Two nodes that beta came to.
+fn nodes_of_all<R: Wait + Abort>(rt: &R, alloc: Global, config: &Config) -> Vec<HostedNode>
+    requires sizes { IsTrue (are_sizes config.now) }
+    requires clocks { IsTrue (are_clocks config.now) }
+    requires two { (config.now.data_centres ≡ 2) × (config.now.shards ≡ 1) }
+{
+    let (cluster, seat) = hosted(rt, alloc, config);
+    let last = come_to_all(rt, alloc, &cluster, seat);
+    closed_again(rt, alloc, cluster, last)
+}
+
+#[test]
+fn refused_memory_admits_at_all_nodes_or_at_none(rt: HostRuntime) {
+    let config = config(&rt, rt.alloc(), 2);
+    assert!(&rt; has_clocks(&config));
+    let nodes = nodes_of_all(&rt, rt.alloc(), &config);
+    assert!(rt; nodes.len() == 2);
+    assert!(rt;
+        nodes[0].node().opened_as(2, &beta(&rt)) && nodes[1].node().opened_as(2, &beta(&rt))
+    );
 }
 
 #[test]

@@ -1,7 +1,12 @@
-use Rattle.cops_service.proofs.Desks.{fitting_slot, is_told_at_slot}
+use Rattle.cops_service.proofs.Desks.{is_told_at_slot}
+use Rattle.cops_service.proofs.HostedDesks.{fitting_slot, hosted_there}
 use Rattle.cops_model.specs.Place.{node_number}
 use Rattle.cops_service.specs.Gates.{openings}
 use Rattle.cops_service.proofs.hosted_desk.HostedDesk.ask.Goals as goal
+
+pub step_or_reply-requires-clause-node : goal.step_or_reply-requires-clause-node
+step_or_reply-requires-clause-node g c =
+    hosted_there c.args.self.now.cluster.now c.args.id c.args.self.now.nodes c.requires.dc c.requires.shard
 
 pub step_or_reply-requires-clause-fits : goal.step_or_reply-requires-clause-fits
 step_or_reply-requires-clause-fits g c =

@@ -1,5 +1,5 @@
 use Rattle.std.proofs.Common.{inl, inr, ◌⊎◌}
-use Rattle.cops_service.proofs.hosted_tests.put.Goals as goal
+use Rattle.cops_service.proofs.hosted_tests.put_in.Goals as goal
 
 pub returns : goal.returns
 returns g c = elim c.put_x.ensures.once [
