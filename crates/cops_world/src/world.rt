@@ -229,7 +229,6 @@ impl World {
 
     /// Returns whether an actor has this name.
     fn has_actor(&self, id: &ActorId) -> bool
-        requires { IsTrue (is_open_at self.now.setup id.now.slot) }
         ensures { result ≡ is_some ((world_of self.now).actors id.now) }
     {
         self.actors.has(id)
