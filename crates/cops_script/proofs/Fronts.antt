@@ -13,9 +13,9 @@ use Rattle.cops_model.specs.declared.acts.Act.{Act}
 use Rattle.cops_model.specs.Events.{IsFrontOf, before_lack, config_at, is_out_of_memory, own, replies, with_cluster}
 use Rattle.cops_model.specs.Goes.{Goes, Turns}
 use Rattle.cops_script.specs.Said.{HostDeed, Said, OfHost, Unformed, Acts}
-use Rattle.cops_script.specs.Answers.{Answer, ToHost, ToTenant, addressee}
+use Rattle.cops_script.specs.Answers.{Answer, ToHost, ToTenant}
 use Rattle.cops_script.specs.Script.{answers_of, events_in}
-use Rattle.cops_script.specs.ScriptRuns.{AreNoActs, act_replies, named_by, replies_to}
+use Rattle.cops_script.specs.ScriptRuns.{AreAnswersTo, act_replies, replies_to}
 use Rattle.cops_causal.proofs.Runs.{exactly}
 use Rattle.cops_script.proofs.AnswersTo.{answers_of-from, new_at}
 use Rattle.cops_script.proofs.Sequence.{AreThere, answers_from}
@@ -78,40 +78,35 @@ one_reply r s told whole right =
     (λ spared. rw spared (let one = right spared in one_more r s (before_lack told) whole one.0 one.1))
 
 -- from the acts of a tenant, whose replies are a run of them, and from lines that are no acts
-pub told_front : (config : TenantConfig) (slot : ℕ) (said : List Said) (told : List Answer) (c d : SoloCluster) → map addressee told ≡ map named_by said → AreNoActs said told →
+pub told_front : (config : TenantConfig) (slot : ℕ) (said : List Said) (told : List Answer) (c d : SoloCluster) → AreAnswersTo said told →
     Goes config (own slot (events_in said)) (replies slot (events_in said) (act_replies said told)) c d → IsFrontOf (before_lack (replies_to slot told)) (replies_along config slot said c)
-told_front config slot [] [] c d addressed no_acts goes = no_replies []
-told_front config slot [] (answer ∷ told) c d addressed no_acts goes = absurd cc
-told_front config slot (one ∷ said) [] c d addressed no_acts goes = absurd cc
-told_front config slot (OfHost deed ∷ said) (ToHost reply ∷ told) c d addressed no_acts goes =
-    let later : map addressee told ≡ map named_by said = cc in told_front config slot said told c d later no_acts goes
-told_front config slot (OfHost deed ∷ said) (ToTenant number reply ∷ told) c d addressed no_acts goes = absurd cc
-told_front config slot (Unformed other ∷ said) (ToHost reply ∷ told) c d addressed no_acts goes = absurd cc
-told_front config slot (Unformed other ∷ said) (ToTenant number reply ∷ told) c d addressed no_acts goes =
-    let same : number ≡ other = cc in
-    let later : map addressee told ≡ map named_by said = cc in
-    let rest = told_front config slot said told c d later no_acts.1 goes in
-    subst (λ (answer : Answer). IsFrontOf (before_lack (replies_to slot (answer ∷ told))) (replies_along config slot (Unformed other ∷ said) c)) (λ i. ToTenant (sym same i) (sym no_acts.0 i))
+told_front config slot [] [] c d each goes = no_replies []
+told_front config slot [] (answer ∷ told) c d each goes = absurd each
+told_front config slot (one ∷ said) [] c d each goes = absurd each
+told_front config slot (OfHost deed ∷ said) (answer ∷ told) c d (is, later) goes =
+    subst (λ (a : Answer). IsFrontOf (before_lack (replies_to slot (a ∷ told))) (replies_along config slot (OfHost deed ∷ said) c)) (sym is) (told_front config slot said told c d later goes)
+told_front config slot (Unformed other ∷ said) (answer ∷ told) c d (is, later) goes =
+    let rest = told_front config slot said told c d later goes in
+    subst (λ (a : Answer). IsFrontOf (before_lack (replies_to slot (a ∷ told))) (replies_along config slot (Unformed other ∷ said) c)) (sym is)
     (by_test (other == slot)
     (λ is. rw is (one_reply (Refused Syntax) (Refused Syntax) (replies_to slot told) (replies_along config slot said c) (λ spared. (refl, rest))))
     (λ apart. rw apart rest))
-told_front config slot (Acts e ∷ said) (ToHost reply ∷ told) c d addressed no_acts goes = absurd cc
-told_front config slot (Acts e ∷ said) (ToTenant number reply ∷ told) c d addressed no_acts goes =
-    let same : number ≡ e.slot = cc in
-    let later : map addressee told ≡ map named_by said = cc in
+told_front config slot (Acts e ∷ said) (answer ∷ told) c d ((reply, is), later) goes =
     let turn = cluster_step config e.act c in
     let acts = own slot (events_in said) in
     let rs = replies slot (events_in said) (act_replies said told) in
-    subst (λ n. IsFrontOf (before_lack (replies_to slot (ToTenant n reply ∷ told))) (replies_along config slot (Acts e ∷ said) c)) (sym same)
+    let Run : Answer → Type 0 = λ a. Goes config (own slot (events_in (Acts e ∷ said))) (replies slot (events_in (Acts e ∷ said)) (act_replies (Acts e ∷ said) (a ∷ told))) c d in
+    let goes_so : Run (ToTenant e.slot reply) = subst Run is goes in
+    subst (λ (a : Answer). IsFrontOf (before_lack (replies_to slot (a ∷ told))) (replies_along config slot (Acts e ∷ said) c)) (sym is)
     (by_test (e.slot == slot)
     (λ is.
-    let run : Goes config (e.act ∷ acts) (reply ∷ rs) c d = rw is at goes in
+    let run : Goes config (e.act ∷ acts) (reply ∷ rs) c d = rw is at goes_so in
     rw is (one_reply reply turn.reply (replies_to slot told) (replies_along config slot said turn.after) (λ spared.
     let one = exactly config e.act reply c run.0 spared run.1 in
-    (one.0, subst (λ x. IsFrontOf (before_lack (replies_to slot told)) (replies_along config slot said x)) one.1 (told_front config slot said told run.0 d later no_acts run.2)))))
+    (one.0, subst (λ x. IsFrontOf (before_lack (replies_to slot told)) (replies_along config slot said x)) one.1 (told_front config slot said told run.0 d later run.2)))))
     (λ apart.
-    let run : Goes config acts rs c d = rw apart at goes in
-    rw apart (told_front config slot said told c d later no_acts run)))
+    let run : Goes config acts rs c d = rw apart at goes_so in
+    rw apart (told_front config slot said told c d later run)))
 
 -- ---- the replies to acts
 

@@ -5,12 +5,13 @@ use Rattle.std.proofs.lemmas.Bool.{eqb-true}
 use Rattle.std.proofs.lemmas.Bool.Decides.{nat_tests}
 use Rattle.std.proofs.lemmas.List.{take_all}
 use Rattle.cops_types.specs.declared.configs.Tenant.{Tenant}
-use Rattle.cops_types.specs.HeadLines.{is_tenant, tenant_in, tenant_line, IsTenantLine}
+use Rattle.cops_types.specs.HeadLines.{is_tenant, tenant_in, tenant_line}
 use Rattle.cops_types.specs.HeadWords.{AreTenantWords, quota_words}
 use Rattle.cops_script.specs.HostLines.{admitted_in, closed_in, hyphen, plus}
+use Rattle.cops_script.specs.Meaning.{IsAdmissionLine, IsClosingLine}
 use Rattle.cops_types.specs.Key.{is_name}
 use Rattle.cops_types.specs.Version.{last_clock}
-use Rattle.cops_types.specs.Words.{parts_at, space, spaced}
+use Rattle.cops_types.specs.Words.{first_word, parts_at, space, spaced}
 use Rattle.cops_types.proofs.HeadLemmas.{tenant_fits, tenant_in-finds, tenant_in-is, tenant_line-parts}
 use Rattle.cops_types.proofs.HeadLengths.{name-short, tenant-short}
 use Rattle.cops_types.proofs.HeadReading.{spelled_by, token_is_word, token_lacks}
@@ -18,19 +19,23 @@ use Rattle.cops_types.proofs.WordLemmas.{both, lacks_from_test, parts-more, same
 
 -- ---- a line that admits
 
--- with the sign in front, it is the line of a head
-record IsAdmission (line : List ℕ) (tenant : Tenant) : Type 0 where
-  rest : List ℕ
-  signed : line ≡ plus ∷ rest
-  said : IsTenantLine (codes "tenant" ++ rest) tenant
-
-admitted_in-is : (line : List ℕ) (tenant : Tenant) → admitted_in line ≡ Some tenant → IsAdmission line tenant
+pub admitted_in-is : (line : List ℕ) (tenant : Tenant) → admitted_in line ≡ Some tenant → IsAdmissionLine line tenant
 admitted_in-is [] tenant e = absurd cc
 admitted_in-is (sign ∷ rest) tenant e = by_test (sign == plus) refl e
   where
-    by_test : (t : Bool) → (sign == plus) ≡ t → cond t (tenant_in (codes "tenant" ++ rest)) None ≡ Some tenant → IsAdmission (sign ∷ rest) tenant
+    by_test : (t : Bool) → (sign == plus) ≡ t → cond t (tenant_in (codes "tenant" ++ rest)) None ≡ Some tenant → IsAdmissionLine (sign ∷ rest) tenant
     by_test true is e = record { rest = rest; signed = ap (λ s. s ∷ rest) (eqb-true sign plus is); said = tenant_in-is (codes "tenant" ++ rest) tenant e }
     by_test false is e = absurd cc
+
+pub admitted_in-finds : (line : List ℕ) (tenant : Tenant) → IsAdmissionLine line tenant → admitted_in line ≡ Some tenant
+admitted_in-finds line tenant is = ap admitted_in is.signed ∙ tenant_in-finds (codes "tenant" ++ is.rest) tenant is.said
+
+-- a space follows the sign
+pub admission_first : (line : List ℕ) (tenant : Tenant) → IsAdmissionLine line tenant → first_word line ≡ codes "+"
+admission_first line tenant is =
+    let words : List (List ℕ) = tenant.name ∷ is.said.token ∷ decimal tenant.first_clock ∷ quota_words tenant.quota in
+    let rest_is : is.rest ≡ space ∷ spaced words = let whole = is.said.spelled in cc in
+    ap first_word (is.signed ∙ ap (λ r. plus ∷ r) rest_is)
 
 -- a tenant's words after a plus
 pub admitted_words : (line : List ℕ) (words : List (List ℕ)) (tenant : Tenant) → parts_at space line ≡ codes "+" ∷ words → AreTenantWords last_clock words tenant → admitted_in line ≡ Some tenant
@@ -85,27 +90,33 @@ admitted-short line tenant e =
 
 -- ---- a line that closes
 
-closed_in-is : (line name : List ℕ) → closed_in line ≡ Some name → (line ≡ hyphen ∷ space ∷ name) × IsTrue (is_name name)
+pub closed_in-is : (line name : List ℕ) → closed_in line ≡ Some name → IsClosingLine line name
 closed_in-is [] name e = absurd cc
 closed_in-is (sign ∷ []) name e = absurd cc
 closed_in-is (sign ∷ gap ∷ rest) name e = by_test (sign == hyphen && gap == space && is_name rest) refl e
   where
-    by_test : (t : Bool) → (sign == hyphen && gap == space && is_name rest) ≡ t → cond t (Some rest) None ≡ Some name → (sign ∷ gap ∷ rest ≡ hyphen ∷ space ∷ name) × IsTrue (is_name name)
+    by_test : (t : Bool) → (sign == hyphen && gap == space && is_name rest) ≡ t → cond t (Some rest) None ≡ Some name → IsClosingLine (sign ∷ gap ∷ rest) name
     by_test true is e =
         let whole = both (sign == hyphen && gap == space) (is_name rest) is in
         let front = both (sign == hyphen) (gap == space) whole.0 in
         let same : rest ≡ name = same_value rest name e in
-        ((λ i. eqb-true sign hyphen front.0 i ∷ eqb-true gap space front.1 i ∷ same i), ap is_name (sym same) ∙ whole.1)
+        record { signed = λ i. eqb-true sign hyphen front.0 i ∷ eqb-true gap space front.1 i ∷ same i; named = ap is_name (sym same) ∙ whole.1 }
     by_test false is e = absurd cc
 
+pub closed_in-finds : (line name : List ℕ) → IsClosingLine line name → closed_in line ≡ Some name
+closed_in-finds line name is = ap closed_in is.signed ∙ rw is.named refl
+
+pub closing_first : (line name : List ℕ) → IsClosingLine line name → first_word line ≡ codes "-"
+closing_first line name is = ap first_word is.signed
+
 pub closed-named : (line name : List ℕ) → closed_in line ≡ Some name → IsTrue (is_name name)
-closed-named line name e = (closed_in-is line name e).1
+closed-named line name e = (closed_in-is line name e).named
 
 closed-short : (line name : List ℕ) → closed_in line ≡ Some name → length line ≤ 8192
 closed-short line name e =
     let is = closed_in-is line name e in
-    let short = name-short name is.1 in
-    let size = ap length is.0 in
+    let short = name-short name is.named in
+    let size = ap length is.signed in
     omega (arith, short, size)
 
 -- ---- lines as they are cut

@@ -44,5 +44,8 @@ pub mod LifeRuns
 pub mod SaidLines
 pub mod LifeLines
 pub mod LifeAnswers
+pub mod ScriptHeadLemmas
+pub mod Meanings
+pub mod SparedAnswers
 pub mod Turning
 pub mod WorkedTurns

@@ -67,7 +67,7 @@ pub all_there : (config : Config) (said : List Said) → ArePlaced (begun_with c
 all_there config said placed = are_there (with_all_lives config said) (begun_with config.tenants) (first_lives config) said (numbered_first config said) placed (of_all_lives config said)
 
 -- and all that was heard
-said_from-placed : (tenants : List (Option Tenant)) (lines : List (List ℕ)) (told : List Answer) → ArePlaced tenants (said_from tenants lines told)
+pub said_from-placed : (tenants : List (Option Tenant)) (lines : List (List ℕ)) (told : List Answer) → ArePlaced tenants (said_from tenants lines told)
 said_from-placed tenants [] told = tt
 said_from-placed tenants (line ∷ lines) [] = tt
 said_from-placed tenants (line ∷ lines) (answer ∷ told) =
@@ -83,7 +83,7 @@ answered_front config lines told number answered below =
     let run = answered.theorem number below in
     subst (IsFrontOf (before_lack (replies_to number told)))
     (sym (answers_of-along whole said number (all_there config (said_told config lines told) (said_from-placed (begun_with config.tenants) lines told))))
-    (told_front (config_at whole number) number said told (new_cluster (config_at whole number)) run.left answered.addressed answered.no_acts run.goes)
+    (told_front (config_at whole number) number said told (new_cluster (config_at whole number)) run.left answered.each run.goes)
 
 -- ---- a new world
 
@@ -120,9 +120,7 @@ module _ {W : Type 0} (setup : W → Setup) (StandsFor : W → ℕ → SoloClust
         let for = for_front said said fresh placed (of_all_lives config said) in
         let standing = stands_new said fresh in
         record {
-          addressed = p.addressed;
-          hosted = p.hosted;
-          no_acts = p.no_acts;
+          each = p.answers;
           theorem = λ number below.
               let mine = p.acts whole (new_at whole) for standing number in
               own_run whole (events_in (of_lives config said)) (act_replies (of_lives config said) told) number mine.0 some below mine.1;

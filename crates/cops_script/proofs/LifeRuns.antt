@@ -1,6 +1,6 @@
 -- The replies to lives, if a world does each line, in any representation.
-use Rattle.std.proofs.Common.{◌≡◌, ◌≢◌, ℕ, suc, ◌≤◌, Bool, true, false, ◌||◌, ◌==◌, List, [], ◌∷◌, ◌++◌, length, map, inl, inr, refl, sym, subst, ap, ◌∙◌, true≢false, arith}
-use Rattle.std.specs.Prelude.{filter_map, IsTrue, Option, Some, None}
+use Rattle.std.proofs.Common.{◌≡◌, ◌≢◌, ℕ, suc, ◌≤◌, Bool, true, false, ◌||◌, ◌==◌, List, [], ◌∷◌, ◌++◌, length, inl, inr, refl, sym, subst, ap, ◌∙◌, true≢false, arith}
+use Rattle.std.specs.Prelude.{IsTrue, Option, Some, None}
 use Rattle.std.specs.List.{list_any}
 use Rattle.std.proofs.lemmas.Bool.Decides.{Decides-eqb}
 use Rattle.cops_types.specs.declared.configs.Config.{Config}
@@ -15,17 +15,17 @@ use Rattle.cops_model.specs.declared.replies.Reply.{Reply}
 use Rattle.cops_model.specs.declared.replies.Reply.TheVariants.{Refused}
 use Rattle.cops_model.specs.Cluster.{SoloCluster, cluster_step, new_cluster}
 use Rattle.cops_model.specs.Events.{cluster_after, config_at, is_out_of_memory, own, with_cluster}
-use Rattle.cops_script.specs.Lives.{Lives, lives_after, lives_past, of_lives_from, with_life}
+use Rattle.cops_script.specs.Lives.{Lives, lives_after, lives_past, of_lives_from}
 use Rattle.cops_script.specs.Said.{HostDeed, Admits, Closes, Refuses, Said, OfHost, Unformed, Acts, tenants_after, tenants_past}
 use Rattle.cops_model.specs.Setups.{Setup, config_in, config_of, is_open_at}
 use Rattle.cops_script.specs.Acting.{HasAdmitted, HasClosed, HasStayed, OthersStay, told_act}
-use Rattle.cops_script.specs.Answers.{Answer, ToHost, ToTenant, addressee, is_lack, reply_to_host}
+use Rattle.cops_script.specs.Answers.{Answer, ToHost, ToTenant, is_lack, reply_to_host}
 use Rattle.cops_script.specs.Doing.{IsDone, IsHosted}
 use Rattle.cops_script.specs.Script.{events_in}
-use Rattle.cops_script.specs.ScriptRuns.{AreNoActs, AreSpared, due_to_host, heard, host_reply, named_by}
+use Rattle.cops_script.specs.ScriptRuns.{AreAnswersTo, AreSpared, heard}
 use Rattle.cops_script.proofs.AnswersTo.{new_at}
 use Rattle.cops_script.proofs.Fronts.{ActsGo, act_keeps_acts, host_keeps_acts, unformed_keeps_acts}
-use Rattle.cops_script.proofs.Numbered.{AreNumbered, AreOf, ArePlaced, HasTenantAt, next_numbered}
+use Rattle.cops_script.proofs.Numbered.{AreNumbered, AreOf, ArePlaced, HasTenantAt, next_numbered, with_life}
 use Rattle.cops_script.proofs.OpenSets.{closed_set, open_set_other}
 use Rattle.cops_script.proofs.Sequence.{answers_from}
 use Rattle.cops_script.proofs.TenantConfigs.{quota_at, tenant_in}
@@ -82,11 +82,9 @@ module _ {W : Type 0} (setup : W → Setup) (StandsFor : W → ℕ → SoloClust
   pub record AreGiven (old : W) (lives : Lives) (said : List Said) (told : List Answer) (new : W) : Type 0 where
     pub same : setup new ≡ setup_past (setup old) said
     pub each : length told ≡ length said
-    pub addressed : map addressee told ≡ map named_by (of_lives_from lives said)
-    pub hosted : filter_map host_reply told ≡ filter_map due_to_host (of_lives_from lives said)
+    pub answers : AreAnswersTo (of_lives_from lives said) told
     pub acts : (config : Config) (clusters : ℕ → SoloCluster) → AreFor config (setup old) lives said → AreStanding config old lives clusters → (number : ℕ) →
         ActsGo (config_at config number) number (of_lives_from lives said) told (clusters number)
-    pub no_acts : AreNoActs (of_lives_from lives said) told
     pub right : AreSpared told → (config : Config) (clusters : ℕ → SoloCluster) → AreFor config (setup old) lives said → AreStanding config old lives clusters →
         (later : ℕ → SoloCluster) × AreStanding config new (lives_past lives said) later
         × ((others : List Said) → answers_from (config_at config) (of_lives_from lives (said ++ others)) clusters ≡ told ++ answers_from (config_at config) (of_lives_from (lives_past lives said) others) later)
@@ -104,10 +102,8 @@ module _ {W : Type 0} (setup : W → Setup) (StandsFor : W → ℕ → SoloClust
   given_nothing old lives = record {
     same = refl;
     each = refl;
-    addressed = refl;
-    hosted = refl;
+    answers = tt;
     acts = λ config clusters for standing number. (clusters number, refl);
-    no_acts = tt;
     right = λ spared config clusters for standing. (clusters, standing, λ others. refl);
     left = λ spared config clusters for standing. standing;
   }
@@ -124,12 +120,10 @@ module _ {W : Type 0} (setup : W → Setup) (StandsFor : W → ℕ → SoloClust
     given_host deed is still p = record {
       same = p.same ∙ ap (λ s. setup_past s said) is;
       each = ap suc p.each;
-      addressed = ap (λ names. None ∷ names) p.addressed;
-      hosted = ap (λ replies. reply_to_host deed ∷ replies) p.hosted;
+      answers = (refl, p.answers);
       acts = λ config clusters for standing number.
           host_keeps_acts (reply_to_host deed) deed (config_at config number) number told (of_lives_from (lives_after lives (OfHost deed)) said) (clusters number)
           (p.acts config clusters (for_next config (setup old) (setup mid) lives (OfHost deed) said is for) (still config clusters for standing) number);
-      no_acts = p.no_acts;
       right = λ spared config clusters for standing.
           let rest = p.right (later_spared (is_lack (ToHost (reply_to_host deed))) (list_any is_lack told) spared) config clusters (for_next config (setup old) (setup mid) lives (OfHost deed) said is for) (still config clusters for standing) in
           (rest.0, rest.1, λ others. ap (λ told. ToHost (reply_to_host deed) ∷ told) (rest.2 others));
@@ -142,12 +136,10 @@ module _ {W : Type 0} (setup : W → Setup) (StandsFor : W → ℕ → SoloClust
     given_unformed slot is still p = record {
       same = p.same ∙ ap (λ s. setup_past s said) is;
       each = ap suc p.each;
-      addressed = ap (λ names. Some (lives.last_at slot) ∷ names) p.addressed;
-      hosted = p.hosted;
+      answers = (refl, p.answers);
       acts = λ config clusters for standing number.
           unformed_keeps_acts (lives.last_at slot) (config_at config number) number told (of_lives_from lives said) (clusters number)
           (p.acts config clusters (for_next config (setup old) (setup mid) lives (Unformed slot) said is for) (still config clusters for standing) number);
-      no_acts = (refl, p.no_acts);
       right = λ spared config clusters for standing.
           let rest = p.right (later_spared false (list_any is_lack told) spared) config clusters (for_next config (setup old) (setup mid) lives (Unformed slot) said is for) (still config clusters for standing) in
           (rest.0, rest.1, λ others. ap (λ told. ToTenant (lives.last_at slot) (Refused Syntax) ∷ told) (rest.2 others));
@@ -298,13 +290,11 @@ module _ {W : Type 0} (setup : W → Setup) (StandsFor : W → ℕ → SoloClust
     given_act = record {
       same = p.same ∙ ap (λ s. setup_past s said) acted.same;
       each = ap suc p.each;
-      addressed = ap (λ names. Some life ∷ names) p.addressed;
-      hosted = p.hosted;
+      answers = ((reply, refl), p.answers);
       acts = λ config clusters for standing number.
           let Is : SoloCluster → Type 0 = λ cluster. ActsGo (config_at config number) number (of_lives_from lives said) told cluster in
           let later : (cs : ℕ → SoloCluster) → AreStanding config mid lives cs → Is (cs number) = λ cs stands. p.acts config cs (next config clusters for standing) stands number in
           act_keeps_acts (config_at config number) number step reply told (of_lives_from lives said) (clusters number) (his_turn config clusters for standing number Is later) (other config clusters for standing number Is later);
-      no_acts = p.no_acts;
       right = λ spared config clusters for standing.
           let one = turned config clusters for standing (first_spared (is_out_of_memory reply) (list_any is_lack told) spared) in
           let turn = cluster_step (config_at config life) event.act (clusters life) in

@@ -57,7 +57,7 @@ pub record IsOpenTo (tenants : List (Option Tenant)) (slot : ℕ) (tenant : Tena
   pub free : slice_get tenants slot ≡ Some None
   pub within : slot < length tenants
 
-free_at : (n : ℕ) (slots : List (Option Tenant)) (at : ℕ) (other : Option Tenant) → at < length (take n slots) → is_none (get_or (take n slots) at other) ≡ true → (slice_get slots at ≡ Some None) × (at < length slots)
+pub free_at : (n : ℕ) (slots : List (Option Tenant)) (at : ℕ) (other : Option Tenant) → at < length (take n slots) → is_none (get_or (take n slots) at other) ≡ true → (slice_get slots at ≡ Some None) × (at < length slots)
 free_at zero slots at other below none = absurd (omega arith)
 free_at (suc n) [] at other below none = absurd (omega arith)
 free_at (suc n) (None ∷ slots) zero other below none = (refl, omega arith)

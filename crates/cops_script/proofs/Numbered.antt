@@ -1,13 +1,13 @@
 -- Who is open at a slot is the tenant of the life that began there last.
 use Rattle.std.proofs.Common.{◌≡◌, ℕ, zero, suc, ◌+◌, ◌<◌, Bool, true, false, ◌==◌, List, [], ◌∷◌, ◌++◌, length, map, set, refl, sym, subst, ap, ◌∙◌, append_assoc, true≢false, arith}
-use Rattle.std.specs.Prelude.{filter_map, slice_get, Option, Some, None}
+use Rattle.std.specs.Prelude.{filter_map, slice_get, if◌then◌else◌, Option, Some, None}
 use Rattle.std.specs.Option.{option_map}
 use Rattle.std.proofs.lemmas.Bool.Decides.{Decides-eqb}
 use Rattle.cops_types.specs.declared.configs.Config.{Config}
 use Rattle.cops_types.specs.declared.configs.Tenant.{Tenant}
 use Rattle.cops_types.specs.OpenSlots.{begun_with, open_at}
 use Rattle.cops_types.specs.TenantConfig.{tenant_config}
-use Rattle.cops_script.specs.Lives.{Lives, admitted_by, first_lives, lives_after, of_lives_from, with_all_lives, with_life}
+use Rattle.cops_script.specs.Lives.{Lives, admitted_by, first_lives, lives_after, of_lives_from, with_all_lives}
 use Rattle.cops_script.specs.Said.{Admits, Closes, Refuses, Said, OfHost, Unformed, Acts, tenants_after}
 use Rattle.cops_script.proofs.OpenSets.{closed_set, open_set_either, open_set_other}
 use Rattle.cops_script.proofs.Sequence.{AreThere}
@@ -16,6 +16,10 @@ use Rattle.cops_script.proofs.BegunSetups.{open_begun}
 by_test : {C : Type 0} (b : Bool) → (b ≡ true → C) → (b ≡ false → C) → C
 by_test {C} true holds fails = holds refl
 by_test {C} false holds fails = fails refl
+
+-- a life begins at the slot
+abbrev pub with_life : ℕ → Lives → Lives
+with_life slot lives = record { begun = lives.begun + 1; last_at = λ other. if slot == other then lives.begun else lives.last_at other }
 
 -- the tenant that is open in a slot has a life of its own, and the configuration has it at that number
 pub record AreNumbered (config : Config) (tenants : List (Option Tenant)) (lives : Lives) : Type 0 where

@@ -2,22 +2,21 @@
 use Rattle.std.proofs.Common.{◌≡◌, ℕ, suc, ◌<◌, List, [], ◌∷◌, ◌++◌, length, map, inl, inr, refl, sym, subst, ap, ◌∙◌, append-nil}
 use Rattle.std.specs.Prelude.{Option, Some, None, IfSome, flat_map}
 use Rattle.std.specs.Io.KnownBytes.{Appends, Keeps}
-use Rattle.std.proofs.lemmas.List.Concat.{flat_map-append}
 use Rattle.cops_types.specs.declared.configs.Config.{Config}
 use Rattle.cops_script.specs.declared.head_machine.ScriptMachine.{ScriptMachine}
 use Rattle.cops_script.specs.declared.line_runs.fault.RunFault.{RunFault}
 use Rattle.cops_script.specs.declared.script_machine.AllLines.{AllLines}
 use Rattle.cops_script.specs.declared.scripts.BadConfig.{BadConfig}
-use Rattle.cops_types.specs.Head.{AtStart, Begun, Whole, BadAt, head_of}
+use Rattle.cops_types.specs.Head.{AtStart, Begun, BadAt, Says, head_of}
 use Rattle.cops_script.specs.LineRules.{Run}
 use Rattle.cops_script.specs.LineRuns.{AnswersAll, IfRunRefused, StopsEarly}
 use Rattle.cops_types.specs.Lines.{lines_of, cut_line, longest_line}
 use Rattle.cops_types.specs.OpenSlots.{begun_with}
-use Rattle.cops_types.specs.Sink.{AppendsFront}
+use Rattle.cops_types.proofs.FrontLemmas.{head_of-says}
 use Rattle.cops_types.proofs.HeadLengths.{AreGood}
-use Rattle.cops_script.proofs.KnownLemmas.{AppendsFront-more, by_known}
+use Rattle.cops_script.proofs.KnownLemmas.{by_known}
 use Rattle.cops_model.specs.Cluster.{SoloCluster}
-use Rattle.cops_script.specs.Lives.{Lives, first_lives, lives_after, with_all_lives}
+use Rattle.cops_script.specs.Lives.{Lives, first_lives, lives_after}
 use Rattle.cops_script.specs.Said.{said_in, tenants_after}
 use Rattle.cops_model.specs.Setups.{Setup}
 use Rattle.cops_script.specs.Acting.{IsNew}
@@ -26,16 +25,17 @@ use Rattle.cops_script.specs.Answers.{Answer, answer_line, slot_line}
 use Rattle.cops_script.specs.Doing.{IsDone}
 use Rattle.cops_script.specs.HeadRules.{IsHeadAt}
 use Rattle.cops_script.specs.OpenNames.{AreOpenNamed}
-use Rattle.cops_script.specs.Script.{all_tenants, answers_to, said_by_lines, script_after, script_out}
 use Rattle.cops_script.specs.ScriptRules.{script_rules}
-use Rattle.cops_script.specs.ScriptRuns.{AreAnswered, AreSpared, WritesFront, WritesScript, WritesSome, config_told, heard, lives_told, said_from, said_told, text_in, text_of}
+use Rattle.cops_script.specs.ScriptRuns.{AnswersScript, AreAnswered, WritesFront, WritesScript, config_told, heard, lives_told, said_from, said_told}
 use Rattle.cops_script.proofs.BodyRuns.{Behind, RefusedBy, BadHead, NotBegun, AtLine, AtEnd, all_answered, front_answered, refused, unwritten as unwritten_in}
 use Rattle.cops_script.proofs.CutLemmas.{said_in-cut}
 use Rattle.cops_script.proofs.HeadRuns.{named_of}
-use Rattle.cops_script.proofs.LifeAnswers.{all_are_told, answers_go_on, are_answered, for_all}
+use Rattle.cops_script.proofs.LifeAnswers.{are_answered, for_all}
 use Rattle.cops_script.proofs.LifeLines.{done_setup, heard_named, heard_placed, line_of_life}
 use Rattle.cops_script.proofs.LifeRuns.{AreFor, AreGiven, answer_of, for_next, given_nothing, given_one}
+use Rattle.cops_script.proofs.Meanings.{are_meant}
 use Rattle.cops_script.proofs.Numbered.{ArePlaced}
+use Rattle.cops_script.proofs.ScriptHeadLemmas.{head_whole}
 use Rattle.cops_script.proofs.SaidLines.{named_after, named_begun, said_in-named, said_in-placed}
 use Rattle.cops_script.proofs.WholeHeads.{shards_of}
 
@@ -48,7 +48,7 @@ module _ {W : Type 0} (setup : W → Setup) (StandsFor : W → ℕ → SoloClust
     pub each : length told ≡ length lines
     pub given : AreGiven setup StandsFor old lives (said_from (setup old).tenants lines told) told new
     pub placed : ArePlaced (setup old).tenants (said_from (setup old).tenants lines told)
-    pub whole : (config : Config) → AreFor config (setup old) lives (said_from (setup old).tenants lines told) → text ≡ text_of config.tenants told
+    pub whole : (config : Config) → AreFor config (setup old) lives (said_from (setup old).tenants lines told) → text ≡ flat_map (answer_line config.tenants) told
 
   abbrev pub one_more : (line : List ℕ) (lines : List (List ℕ)) (first later text : List ℕ) (old after new : W) (lives : Lives) (answer : Answer) → IsDone setup StandsFor old (said_in (setup old).tenants line) answer after →
       first ≡ slot_line (setup old).tenants answer → text ≡ first ++ later → RunsOn after (lives_after lives (heard (said_in (setup old).tenants line) (answer_of lives answer))) lines later new → RunsOn old lives (line ∷ lines) text new
@@ -102,25 +102,15 @@ module _ {W : Type 0} (setup : W → Setup) (StandsFor : W → ℕ → SoloClust
     back : (whole : Config) → AreFor whole (setup world) (first_lives config) (said_told config rest p.told) → AreFor whole (setup world) (first_lives config) (said_from (setup world).tenants rest p.told)
     back whole for = subst (λ (s : Setup). AreFor whole (setup world) (first_lives config) (said_from s.tenants rest p.told)) (sym fresh.setup_is) for
 
-  -- the answers after the head are the definition's, and go on as it does
-  pub given_right : (config : Config) (world : W) (rest : List (List ℕ)) (text : List ℕ) (new : W) → IsNew setup StandsFor config world → (p : RunsOn world (first_lives config) rest text new) → AreSpared p.told →
-      (others : List (List ℕ)) → (more : List Answer) × (answers_to config (rest ++ others) ≡ p.told ++ more) × (text ≡ text_of (all_tenants config (rest ++ others)) p.told)
-  given_right config world rest text new fresh p spared others =
-      let found = answers_go_on setup StandsFor config world rest p.told new fresh (given_at config world rest text new fresh p) p.each spared others in
-      (found.0, found.1, p.whole (with_all_lives config (said_by_lines config (rest ++ others))) (back config world rest text new fresh p (with_all_lives config (said_by_lines config (rest ++ others))) found.2))
-
   pub given_answered : (config : Config) (world : W) (rest : List (List ℕ)) (text : List ℕ) (new : W) → 0 < config.shards → IsNew setup StandsFor config world → (p : RunsOn world (first_lives config) rest text new) →
       AreAnswered (config_told config rest p.told) (lives_told config rest p.told) p.told
   given_answered config world rest text new some fresh p = are_answered setup StandsFor config world rest p.told new some fresh (given_at config world rest text new fresh p) (placed_at config world rest text new fresh p)
 
   pub given_text : (config : Config) (world : W) (rest : List (List ℕ)) (text : List ℕ) (new : W) → IsNew setup StandsFor config world → (p : RunsOn world (first_lives config) rest text new) →
-      text ≡ text_of (config_told config rest p.told).tenants p.told
+      text ≡ flat_map (answer_line (config_told config rest p.told).tenants) p.told
   given_text config world rest text new fresh p =
       p.whole (config_told config rest p.told)
       (back config world rest text new fresh p (config_told config rest p.told) (for_all setup StandsFor config world rest p.told fresh (placed_at config world rest text new fresh p)))
-
-  pub given_whole : (config : Config) (world : W) (rest : List (List ℕ)) (text : List ℕ) (new : W) → IsNew setup StandsFor config world → (p : RunsOn world (first_lives config) rest text new) → AreSpared p.told → p.told ≡ answers_to config rest
-  given_whole config world rest text new fresh p spared = all_are_told setup StandsFor config world rest p.told new fresh (given_at config world rest text new fresh p) p.each spared
 
   -- ---- what is written
 
@@ -131,41 +121,26 @@ module _ {W : Type 0} (setup : W → Setup) (StandsFor : W → ℕ → SoloClust
   ran body bytes others text new b = running b.lines b.first (first_lives b.config) text new (named_at b.config b.first b.starts b.good) b.run
 
   module _ (old_contents new_contents : Option (List ℕ)) (body : AllLines) (bytes text : List ℕ) (new : W) where
-    whole_written : Past body bytes [] text new → Appends old_contents new_contents text → WritesScript bytes old_contents new_contents
-    whole_written b written =
-        let p = ran body bytes [] text new b in
-        let head : head_of (lines_of bytes) ≡ Whole b.config b.lines = b.head ∙ ap (Whole b.config) (append-nil b.lines) in
+    -- the answers to the lines that were read
+    answers_script : (others : List (List ℕ)) → Past body bytes others text new → AnswersScript bytes others text
+    answers_script others b =
+        let p = ran body bytes others text new b in
+        let head = subst (Says (lines_of bytes)) b.head (head_of-says (lines_of bytes)) in
         record {
-          config = b.config;
+          head = head.0;
           lines = b.lines;
-          head = head;
+          whole = head.2;
+          config = b.config;
+          begins = head_whole head.0 b.config head.1;
+          said = said_told b.config b.lines p.told;
+          meant = are_meant (begun_with b.config.tenants) b.lines p.told (named_begun b.config.tenants (named_of b.config b.good)) p.each;
           told = p.told;
-          each = p.each;
-          answered = given_answered b.config b.first b.lines text new (shards_of (lines_of bytes) b.config b.lines head) b.starts p;
-          right = given_whole b.config b.first b.lines text new b.starts p;
-          written = subst (Appends old_contents new_contents) (given_text b.config b.first b.lines text new b.starts p) written;
+          answered = given_answered b.config b.first b.lines text new (shards_of (lines_of bytes) b.config (b.lines ++ others) b.head) b.starts p;
+          has_answers = given_text b.config b.first b.lines text new b.starts p;
         }
 
-    some_written : (others : List (List ℕ)) → Past body bytes others text new → AppendsFront old_contents new_contents text → WritesSome bytes old_contents new_contents
-    some_written others b written =
-        let p = ran body bytes others text new b in
-        record {
-          config = b.config;
-          lines = b.lines;
-          others = others;
-          head = b.head;
-          told = p.told;
-          each = p.each;
-          answered = given_answered b.config b.first b.lines text new (shards_of (lines_of bytes) b.config (b.lines ++ others) b.head) b.starts p;
-          written = subst (AppendsFront old_contents new_contents) (given_text b.config b.first b.lines text new b.starts p) written;
-          right = λ spared.
-              let more = given_right b.config b.first b.lines text new b.starts p spared others in
-              let tenants = all_tenants b.config (b.lines ++ others) in
-              let out : text_in (script_out bytes) ≡ text_of tenants p.told ++ text_of tenants more.0 =
-              ap (λ r. text_in (script_after r)) b.head ∙ ap (flat_map (answer_line tenants)) more.1 ∙ flat_map-append (answer_line tenants) p.told more.0 in
-              subst (AppendsFront old_contents new_contents) (sym out)
-              (AppendsFront-more old_contents new_contents (text_of tenants p.told) (text_of tenants more.0) (subst (AppendsFront old_contents new_contents) more.2 written));
-        }
+    whole_written : Past body bytes [] text new → Appends old_contents new_contents text → WritesScript bytes old_contents new_contents
+    whole_written b written = (text, answers_script [] b, written)
 
   module _ (old_contents new_contents new_remaining : Option (List ℕ)) (begins : ScriptMachine AllLines W) (begun : IsHeadAt AtStart 0 begins.script) where
     abbrev StopsAt : Option (List ℕ) → RunFault BadConfig → Type 0
@@ -183,7 +158,13 @@ module _ {W : Type 0} (setup : W → Setup) (StandsFor : W → ℕ → SoloClust
     front_written (Some bytes) why p =
         elim (front_answered (all_rules setup StandsFor) begins.body old_contents new_contents (Some bytes) new_remaining begins refl begun (λ body old text new h. h.0) (Some bytes) why p) [
           | inl nothing ↦ inl nothing
-          | inr (others, text, new, behind, written) ↦ inr (some_written old_contents new_contents begins.body bytes text new others behind written)
+          | inr (others, text, new, behind, (rest, written)) ↦ inr (
+            others,
+            written.written,
+            rest,
+            subst (AnswersScript bytes others) written.whole (answers_script old_contents new_contents begins.body bytes text new others behind),
+            written.appended,
+          )
         ]
 
     -- ---- a bad head

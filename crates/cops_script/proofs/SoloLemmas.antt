@@ -243,9 +243,7 @@ module _ {W : Type 0} (setup : W → Setup) (StandsFor : W → ℕ → SoloClust
       record {
         same = p.same ∙ ap (λ s. setup_past s said) stayed.same;
         each = p.each;
-        addressed = p.addressed;
-        hosted = p.hosted;
-        no_acts = p.no_acts;
+        answers = p.answers;
         acts = λ config clusters for standing number. p.acts config clusters (before config for) (stand_stayed solo_setup Stands config old mid lives clusters stayed standing) number;
         right = λ spared config clusters for standing. p.right spared config clusters (before config for) (stand_stayed solo_setup Stands config old mid lives clusters stayed standing);
         left = λ spared config clusters for standing. p.left spared config clusters (before config for) (stand_stayed solo_setup Stands config old mid lives clusters stayed standing);

@@ -24,10 +24,6 @@ words_of_act (Step name moment) = codes "step" ∷ name ∷ decimal moment ∷ [
 words_of_act (Done name moment) = codes "done" ∷ name ∷ decimal moment ∷ []
 words_of_act (Collect dc shard moment) = codes "collect" ∷ decimal dc ∷ decimal shard ∷ decimal moment ∷ []
 
--- the line of a tenant's act
-abbrev pub act_line : List ℕ → Act → List ℕ
-act_line tenant act = spaced (tenant ∷ words_of_act act)
-
 -- ---- which acts have a line
 
 -- a value is a word of visible bytes
@@ -49,15 +45,15 @@ has_line (Collect dc shard moment) = is_u64 dc && is_u64 shard && is_u64 moment
 
 -- the line is this act of the tenant of this name
 pub record IsActLine (tenant line : List ℕ) (act : Act) : Type 0 where
-  pub spelled : line ≡ act_line tenant act
+  pub spelled : line ≡ spaced (tenant ∷ words_of_act act)
   pub allowed : IsTrue (has_line act)
   pub short : IsTrue (nat_le (length line) longest_line)
 
--- the line has no known form: it is no act
-abbrev pub IsUnformed : List ℕ → List ℕ → Type 0
-IsUnformed tenant line = (act : Act) → IsActLine tenant line act → ⊥
-
 -- ---- the same as a function that computes: a reading of the words, kept if it writes the line
+
+-- the line of a tenant's act
+abbrev pub act_line : List ℕ → Act → List ℕ
+act_line tenant act = spaced (tenant ∷ words_of_act act)
 
 -- a number from this word, and with it an act
 abbrev pub with_number : {A : Type 0} → (ℕ → A) → List ℕ → Option A

@@ -1,5 +1,5 @@
 -- The answers to lines: to the host, or to a tenant.
-use Rattle.std.specs.Prelude.{ℕ, Bool, false, List, [], ◌∷◌, ◌++◌, codes, map, slice_index_or, Option, Some, None}
+use Rattle.std.specs.Prelude.{ℕ, Bool, false, List, [], ◌∷◌, ◌++◌, codes, map, slice_index_or, Option}
 use Rattle.std.specs.Option.{option_map_or}
 use Rattle.cops_types.specs.declared.configs.Tenant.{Tenant}
 use Rattle.cops_types.specs.FaultText.{fault_text}
@@ -22,11 +22,6 @@ abbrev pub reply_to_host : HostDeed → HostReply
 reply_to_host (Admits slot tenant) = Admitted tenant.name
 reply_to_host (Closes slot name) = Closed name
 reply_to_host (Refuses fault) = Denied fault
-
--- the tenant that gets the answer
-abbrev pub addressee : Answer → Option ℕ
-addressee (ToHost reply) = None
-addressee (ToTenant number reply) = Some number
 
 -- it is out of memory
 abbrev pub is_lack : Answer → Bool

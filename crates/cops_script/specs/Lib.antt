@@ -20,6 +20,7 @@ pub mod RunFaults
 pub mod ActLines
 pub mod Said
 pub mod Lives
+pub mod Meaning
 pub mod ActWords
 pub mod ReplyText
 pub mod ReplyWords
@@ -27,6 +28,7 @@ pub mod OpenNames
 pub mod Answers
 pub mod Doing
 pub mod Script
+pub mod ScriptHeads
 pub mod GoodHeads
 pub mod HeadRules
 pub mod BodyRules

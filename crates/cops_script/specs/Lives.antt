@@ -14,12 +14,9 @@ pub record Lives : Type 0 where
 abbrev pub first_lives : Config → Lives
 first_lives config = record { begun = length config.tenants; last_at = λ slot. slot }
 
--- a life begins at the slot
-abbrev pub with_life : ℕ → Lives → Lives
-with_life slot lives = record { begun = lives.begun + 1; last_at = λ other. if slot == other then lives.begun else lives.last_at other }
-
+-- an admission begins a life at its slot
 abbrev pub lives_after : Lives → Said → Lives
-lives_after lives (OfHost (Admits slot tenant)) = with_life slot lives
+lives_after lives (OfHost (Admits slot tenant)) = record { begun = lives.begun + 1; last_at = λ other. if slot == other then lives.begun else lives.last_at other }
 lives_after lives said = lives
 
 abbrev pub lives_past : Lives → List Said → Lives

@@ -24,7 +24,8 @@ mod texts;
 
 pub use heads::read_config;
 pub use laws::{
-    line_is_one_act, long_line_may_be_cut, replies_begin_as_defined, tenants_lines_are_those_alone,
+    line_is_one_act, long_line_may_be_cut, replies_begin_as_defined, rules_give_one_meaning,
+    spared_answers_are_the_output, tenants_lines_are_those_alone,
 };
 pub use line_runs::{LineMachine, RunFault, Stop, run_lines};
 pub use lines::parse_act;
