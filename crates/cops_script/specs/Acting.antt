@@ -1,11 +1,12 @@
 -- The behaviour of a world of many tenants, in any representation.
-use Rattle.std.specs.Prelude.{◌≡◌, ◌≢◌, ◌⊎◌, ℕ, ◌<◌, IfOk, IsFalse, IsTrue, length, Some, None, Result, Ok, Err}
+use Rattle.std.specs.Prelude.{◌≡◌, ◌≢◌, ℕ, ◌<◌, IfOk, IsFalse, IsTrue, length, Some, None, Result, Ok, Err}
 use Rattle.std.specs.declared.alloc.AllocError.{AllocError}
 use Rattle.cops_types.specs.declared.configs.Config.{Config}
 use Rattle.cops_types.specs.declared.configs.Tenant.{Tenant}
-use Rattle.cops_types.specs.declared.faults.Fault.{Fault}
 use Rattle.cops_types.specs.declared.faults.Fault.TheVariants.{OutOfMemory}
+use Rattle.cops_types.specs.declared.request_errors.RequestError.{RequestError}
 use Rattle.cops_types.specs.OpenSlots.{admission_refusal}
+use Rattle.cops_types.specs.RequestErrors.{refusal_in}
 use Rattle.cops_types.specs.TenantConfig.{tenant_config}
 use Rattle.cops_model.specs.declared.acts.Act.{Act}
 use Rattle.cops_model.specs.declared.acts.Act.TheVariants.{Done, Step}
@@ -69,9 +70,8 @@ module _ {W : Type 0} (setup : W → Setup) (StandsFor : W → ℕ → SoloClust
     pub others : OthersStay slot old new
 
   -- the tenant is admitted to the least free slot; or it may not be admitted, or memory ran out
-  abbrev pub IsAdmission : W → Tenant → Result ℕ Fault → W → Type 0
+  abbrev pub IsAdmission : W → Tenant → Result ℕ RequestError → W → Type 0
   IsAdmission old tenant (Ok slot) new =
       (slot ≡ next_slot (setup old).tenants) × (admission_refusal (setup old).tenants slot tenant ≡ None) × HasAdmitted slot tenant old new
-  IsAdmission old tenant (Err fault) new =
-      let refusal = admission_refusal (setup old).tenants (next_slot (setup old).tenants) tenant in
-      ((refusal ≡ Some fault) ⊎ ((refusal ≡ None) × (fault ≡ OutOfMemory))) × HasStayed old new
+  IsAdmission old tenant (Err error) new =
+      (admission_refusal (setup old).tenants (next_slot (setup old).tenants) tenant ≡ refusal_in error) × HasStayed old new

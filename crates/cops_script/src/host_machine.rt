@@ -8,7 +8,7 @@ ghost use Rattle.cops_script.specs.Doing.{IsHosted};
 use crate::Tenancy;
 use crate::host_lines::{read_admission, read_closing};
 use cops_model::HostReply;
-use cops_types::Fault;
+use cops_types::{Fault, RequestError};
 
 /// Admits the tenant that a line gives, to the least free slot.
 #[inline(never)]
@@ -21,7 +21,8 @@ pub(crate) fn admit<W: Tenancy>(world: &mut W, line: &[u8]) -> HostReply
     let name = tenant.name;
     match world.admit(tenant) {
         Ok(_slot) => HostReply::Admitted(name),
-        Err(fault) => HostReply::Denied(fault),
+        Err(RequestError::Refused(fault)) => HostReply::Denied(fault),
+        Err(RequestError::OutOfMemory) => HostReply::Denied(RequestError::OutOfMemory.told()),
     }
 }
 

@@ -8,7 +8,7 @@ ghost use Rattle.cops_script.specs.Acting.{HasActed, HasClosed, IsAdmission, IsN
 ghost use Rattle.cops_script.specs.GoodHeads.{is_good};
 
 use cops_model::{Act, Event, Reply};
-use cops_types::{Config, Fault, OpenTenants, Tenant};
+use cops_types::{Config, OpenTenants, RequestError, Tenant};
 use std::alloc::{AllocError, Global};
 
 /// Many tenants in one world, in any representation. They may come and go.
@@ -36,8 +36,8 @@ pub trait Tenancy {
         ensures { HasActed setup StandsFor self.old (record { slot = slot; act = act.now }) result self.new };
 
     /// Gives the least free slot to a tenant, which starts with a new cluster. Returns the slot.
-    /// Fails with a `Fault` if the tenant may not be admitted, or if memory runs out.
-    fn admit(&mut self, tenant: Tenant) -> Result<u64, Fault>
+    /// Is refused if the tenant may not be admitted; memory can run out only otherwise.
+    fn admit(&mut self, tenant: Tenant) -> Result<u64, RequestError>
         requires { IsTrue (is_tenant tenant) }
         ensures { IsAdmission setup StandsFor self.old tenant result self.new };
 
@@ -54,7 +54,7 @@ pub fn as_reply(answered: Result<Reply, AllocError>) -> Reply
 {
     match answered {
         Ok(reply) => reply,
-        Err(error) => Reply::Refused(Fault::from(error)),
+        Err(error) => Reply::Refused(RequestError::from(error).told()),
     }
 }
 

@@ -15,7 +15,7 @@ use crate::scripts::BadConfig;
 use crate::texts::{push_answer, push_host, push_nobody, push_refusal};
 use crate::{Stop, Tenancy};
 use cops_types::words::split_word;
-use cops_types::{Config, Fault, Name, OpenTenants};
+use cops_types::{Config, Fault, Name, OpenTenants, RequestError};
 use std::alloc::{AllocError, Global};
 
 /// Returns the name of the tenant that is open in a slot.
@@ -54,7 +54,7 @@ pub(crate) fn answer_tenant<W: Tenancy>(
     match &read_act(words) {
         Some(act) => match world.act(slot, act) {
             Ok(reply) => push_answer(out, &name, &reply),
-            Err(error) => push_refusal(out, &name, Fault::from(error)),
+            Err(error) => push_refusal(out, &name, RequestError::from(error).told()),
         },
         None => push_refusal(out, &name, Fault::Syntax),
     }

@@ -52,6 +52,6 @@ pub fn read_head(
         }
         Ok(HeadLine::Begin(config)) => Ok(Some(config)),
         Ok(HeadLine::BadLine) => Err(Stop::Refused(BadConfig { line: number })),
-        Err(_) => Err(Stop::OutOfMemory),
+        Err(error) => Err(Stop::from(error)),
     }
 }

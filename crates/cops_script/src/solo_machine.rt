@@ -1,8 +1,7 @@
 //! The machine that answers the lines of one name's tenants behind the head of a script. Each
 //! tenant has a world to itself.
-ghost use Rattle.std.specs.Prelude.{◌≡◌, [], ◌∷◌, Some, IfErr, IfOk, IsTrue, OnOk};
+ghost use Rattle.std.specs.Prelude.{◌≡◌, [], ◌∷◌, Some, IfOk, IsTrue, OnOk};
 ghost use Rattle.std.specs.Option.{option_map_or};
-ghost use Rattle.cops_script.specs.declared.line_runs.machine.Stop.TheVariants.{OutOfMemory};
 ghost use Rattle.cops_types.specs.HeadLines.{is_tenant};
 ghost use Rattle.cops_script.specs.HostLines.{admitted_in, closed_in};
 ghost use Rattle.cops_script.specs.LineAnswers.{Answers};
@@ -23,7 +22,7 @@ use crate::scripts::BadConfig;
 use crate::solo_scripts::SoloRun;
 use crate::{Stop, Tenancy};
 use cops_types::words::split_word;
-use cops_types::{Bytes, Config, Fault, OpenTenants, Tenant};
+use cops_types::{Bytes, Config, OpenTenants, RequestError, Tenant};
 use std::alloc::{AllocError, Global};
 
 /// Why a tenant's lines are not answered.
@@ -88,15 +87,15 @@ fn next_slot(tenants: &OpenTenants) -> u64
 }
 
 /// Returns `true` if the tenant got the least free slot. If it may not be admitted nothing changed.
-fn give_slot(tenants: &mut OpenTenants, tenant: Tenant) -> Result<bool, Stop<SoloRefusal>>
-    ensures ok { IfOk result (λ given. IsGiven tenants.old tenant given tenants.new) }
-    ensures err { IfErr result (λ stop. stop ≡ OutOfMemory) }
+/// Fails if memory runs out.
+fn give_slot(tenants: &mut OpenTenants, tenant: Tenant) -> Result<bool, AllocError>
+    ensures { IfOk result (λ given. IsGiven tenants.old tenant given tenants.new) }
 {
     let slot = next_slot(tenants);
     match tenants.admit_at(slot, tenant) {
         Ok(()) => Ok(true),
-        Err(Fault::OutOfMemory) => Err(Stop::OutOfMemory),
-        Err(_) => Ok(false),
+        Err(RequestError::Refused(_)) => Ok(false),
+        Err(RequestError::OutOfMemory) => Err(AllocError),
     }
 }
 
@@ -105,10 +104,9 @@ fn admit_named<W: Tenancy + Drop>(
     alloc: Global,
     run: &mut SoloRun<W>,
     tenant: Tenant,
-) -> Result<(), Stop<SoloRefusal>>
+) -> Result<(), AllocError>
     requires { IsTrue (is_tenant tenant) }
-    ensures ok { OnOk result (Takes W.setup W.StandsFor tenant.name run.old (OfHost (admission_of run.old.tenants (Some tenant))) [] run.new) }
-    ensures err { IfErr result (λ stop. stop ≡ OutOfMemory) }
+    ensures { OnOk result (Takes W.setup W.StandsFor tenant.name run.old (OfHost (admission_of run.old.tenants (Some tenant))) [] run.new) }
 {
     let world = begin_alone(alloc, &run.head, &tenant)?;
     if give_slot(&mut run.tenants, tenant)? {
@@ -125,9 +123,8 @@ fn admit<W: Tenancy + Drop>(
     name: &[u8],
     run: &mut SoloRun<W>,
     line: &[u8],
-) -> Result<(), Stop<SoloRefusal>>
-    ensures ok { OnOk result (Takes W.setup W.StandsFor name.now run.old (OfHost (admission_of run.old.tenants (admitted_in line.now))) [] run.new) }
-    ensures err { IfErr result (λ stop. stop ≡ OutOfMemory) }
+) -> Result<(), AllocError>
+    ensures { OnOk result (Takes W.setup W.StandsFor name.now run.old (OfHost (admission_of run.old.tenants (admitted_in line.now))) [] run.new) }
 {
     let Some(tenant) = read_admission(line) else {
         return Ok(());
@@ -181,9 +178,8 @@ fn answer<W: Tenancy + Drop>(
     run: &mut SoloRun<W>,
     line: &[u8],
     out: &mut Vec<u8>,
-) -> Result<(), Stop<SoloRefusal>>
-    ensures ok { OnOk result (Answers (λ text new. AnswersOwn W.setup W.StandsFor (is_own name.now line.now) name.now run.old line.now text new) run.new out.old.items out.new.items) }
-    ensures err { IfErr result (λ stop. stop ≡ OutOfMemory) }
+) -> Result<(), AllocError>
+    ensures { OnOk result (Answers (λ text new. AnswersOwn W.setup W.StandsFor (is_own name.now line.now) name.now run.old line.now text new) run.new out.old.items out.new.items) }
 {
     let (word, rest) = split_word(line);
     if word == b"+".as_slice() {
@@ -222,7 +218,8 @@ impl<W: Tenancy + Drop> Body<SoloRun<W>> for LinesOf {
         line: &[u8],
         out: &mut Vec<u8>,
     ) -> Result<(), Stop<SoloRefusal>> {
-        answer(alloc, self.name.as_slice(), run, line, out)
+        answer(alloc, self.name.as_slice(), run, line, out)?;
+        Ok(())
     }
 
     fn end(&self, run: &SoloRun<W>) -> Result<(), Stop<SoloRefusal>> {

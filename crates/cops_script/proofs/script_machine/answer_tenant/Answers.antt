@@ -1,6 +1,7 @@
 use Rattle.std.proofs.Common.{◌∙◌, ap, sym}
 use Rattle.std.proofs.lemmas.Result.{on_ok_weaker}
 use Rattle.cops_types.specs.declared.faults.Fault.TheVariants.{Syntax}
+use Rattle.cops_types.specs.RequestErrors.{fault_told}
 use Rattle.cops_types.specs.Words.{first_word}
 use Rattle.cops_model.specs.declared.replies.Reply.TheVariants.{Refused}
 use Rattle.cops_script.specs.Acting.{told_act}
@@ -34,9 +35,9 @@ returns-in-Err g c =
     let line = c.args.line.now in
     on_ok_weaker c.push_refusal-in-Err.result
     (λ appended. answers_told g.W.Tenancy.setup g.W.Tenancy.StandsFor c.args.world.now c.act.new.self line c.args.word.now c.tenants-tenants.result.now c.slot_of_name.result c.in-Some.slot
-    c.name_at-name.result (Refused c.from.result) c.args.out.now.items c.push_refusal-in-Err.new.out.items
+    c.name_at-name.result (Refused c.told.result) c.args.out.now.items c.push_refusal-in-Err.new.out.items
     c.tenants-tenants.ensures c.requires.word c.slot_of_name.ensures c.in-Some.is c.name_at-name.ensures
-    (done_written g.W.Tenancy.setup g.W.Tenancy.StandsFor c.args.world.now c.act.new.self c.in-Some.slot (act_in (first_word line) line) c.in-Some-read_act.act c.act.result (Refused c.from.result) (sym c.in-Some-words_of_act.ensures.some ∙ sym c.read_act.ensures ∙ c.in-Some-read_act.is) (ap Refused c.from.ensures ∙ sym (ap told_act c.in-Err.is)) c.act.ensures)
+    (done_written g.W.Tenancy.setup g.W.Tenancy.StandsFor c.args.world.now c.act.new.self c.in-Some.slot (act_in (first_word line) line) c.in-Some-read_act.act c.act.result (Refused c.told.result) (sym c.in-Some-words_of_act.ensures.some ∙ sym c.read_act.ensures ∙ c.in-Some-read_act.is) (ap Refused (c.told.ensures ∙ ap fault_told c.from.ensures) ∙ sym (ap told_act c.in-Err.is)) c.act.ensures)
     appended)
     c.push_refusal-in-Err.ensures
 
