@@ -11,35 +11,35 @@ pub record Dues : Type 0 where
   pub room : Bool
 
 -- the row at a place
-abbrev pub cell_at : List (Option DueRow) → ℕ → Option DueRow
-cell_at rows at = slice_index_or rows at None
+abbrev pub due_cell : List (Option DueRow) → ℕ → Option DueRow
+due_cell rows at = slice_index_or rows at None
 
 abbrev pub due_in : Option DueRow → List Due
 due_in None = []
 due_in (Some r) = r.due ∷ []
 
-abbrev pub next_in : Option DueRow → ℕ
-next_in None = 0
-next_in (Some r) = r.next
+abbrev pub next_due : Option DueRow → ℕ
+next_due None = 0
+next_due (Some r) = r.next
 
 -- this many entries, from a place on
 abbrev pub dues_from : List (Option DueRow) → ℕ → ℕ → List Due
 dues_from rows zero at = []
-dues_from rows (suc n) at = due_in (cell_at rows at) ++ dues_from rows n (next_in (cell_at rows at))
+dues_from rows (suc n) at = due_in (due_cell rows at) ++ dues_from rows n (next_due (due_cell rows at))
 
 -- the entries of a line
 abbrev pub dues_in : List (Option DueRow) → DueLine → List Due
 dues_in rows line = dues_from rows line.count line.first
 
 -- a row of the slot is there
-abbrev pub IsRowOf : List (Option DueRow) → ℕ → ℕ → Type 0
-IsRowOf rows slot at = (r : DueRow) × (cell_at rows at ≡ Some r) × (r.slot ≡ slot)
+abbrev pub IsDueRowOf : List (Option DueRow) → ℕ → ℕ → Type 0
+IsDueRowOf rows slot at = (r : DueRow) × (due_cell rows at ≡ Some r) × (r.slot ≡ slot)
 
 -- from this place on, this many rows of the slot lead to the last
 abbrev pub IsDueChain : List (Option DueRow) → ℕ → ℕ → ℕ → ℕ → Type 0
 IsDueChain rows slot last zero at = Unit {0}
-IsDueChain rows slot last (suc zero) at = IsRowOf rows slot at × (at ≡ last)
-IsDueChain rows slot last (suc (suc n)) at = IsRowOf rows slot at × (at ≢ last) × IsDueChain rows slot last (suc n) (next_in (cell_at rows at))
+IsDueChain rows slot last (suc zero) at = IsDueRowOf rows slot at × (at ≡ last)
+IsDueChain rows slot last (suc (suc n)) at = IsDueRowOf rows slot at × (at ≢ last) × IsDueChain rows slot last (suc n) (next_due (due_cell rows at))
 
 abbrev pub IsDueLine : List (Option DueRow) → ℕ → DueLine → Type 0
 IsDueLine rows slot line = IsDueChain rows slot line.last line.count line.first
@@ -57,8 +57,8 @@ passed stale [] = []
 passed stale (d ∷ dues) = dues ++ record { key = d.key; stale = stale } ∷ []
 
 -- the line with one more row at its end
-abbrev pub extended : ℕ → ℕ → DueLine → DueLine
-extended at stale line = record { first = if line.count == 0 then at else line.first; last = at; count = line.count + 1; least = min line.least stale }
+abbrev pub extended_dues : ℕ → ℕ → DueLine → DueLine
+extended_dues at stale line = record { first = if line.count == 0 then at else line.first; last = at; count = line.count + 1; least = min line.least stale }
 
 -- ---- changes of the table
 
@@ -74,20 +74,20 @@ pub record IsDueTurn (rows rows' : List (Option DueRow)) (slot : ℕ) (line line
 
 -- an entry joined the table behind the last of this many
 pub record IsDueAdded (rows rows' : List (Option DueRow)) (slot last count at : ℕ) (due : Due) : Type 0 where
-  pub vacant : cell_at rows at ≡ None
-  pub added : IsRowOf rows' slot at
-  pub holds : due_in (cell_at rows' at) ≡ due ∷ []
-  pub linked : (r : DueRow) → 0 < count → cell_at rows last ≡ Some r → cell_at rows' last ≡ Some (record r { next = at })
-  pub others : (x : ℕ) → x ≢ at → (x ≡ last → count ≡ 0) → cell_at rows' x ≡ cell_at rows x
+  pub vacant : due_cell rows at ≡ None
+  pub added : IsDueRowOf rows' slot at
+  pub holds : due_in (due_cell rows' at) ≡ due ∷ []
+  pub linked : (r : DueRow) → 0 < count → due_cell rows last ≡ Some r → due_cell rows' last ≡ Some (record r { next = at })
+  pub others : (x : ℕ) → x ≢ at → (x ≡ last → count ≡ 0) → due_cell rows' x ≡ due_cell rows x
 
 -- the entry at a place left the table
 abbrev pub IsDueGone : List (Option DueRow) → List (Option DueRow) → ℕ → Type 0
-IsDueGone rows rows' at = (x : ℕ) → x ≢ at → cell_at rows' x ≡ cell_at rows x
+IsDueGone rows rows' at = (x : ℕ) → x ≢ at → due_cell rows' x ≡ due_cell rows x
 
 -- the first entry went behind the last, with another timestamp; the place `next` has the one that is then the first
 pub record IsDueMoved (rows rows' : List (Option DueRow)) (first last stale next : ℕ) : Type 0 where
-  pub others : (x : ℕ) → x ≢ first → x ≢ last → cell_at rows' x ≡ cell_at rows x
-  pub linked : (r : DueRow) → first ≢ last → cell_at rows last ≡ Some r → cell_at rows' last ≡ Some (record r { next = first })
-  pub moved : (r : DueRow) → cell_at rows first ≡ Some r → (q : DueRow) × (cell_at rows' first ≡ Some q) × (q.slot ≡ r.slot) × (q.due ≡ record { key = r.due.key; stale = stale })
+  pub others : (x : ℕ) → x ≢ first → x ≢ last → due_cell rows' x ≡ due_cell rows x
+  pub linked : (r : DueRow) → first ≢ last → due_cell rows last ≡ Some r → due_cell rows' last ≡ Some (record r { next = first })
+  pub moved : (r : DueRow) → due_cell rows first ≡ Some r → (q : DueRow) × (due_cell rows' first ≡ Some q) × (q.slot ≡ r.slot) × (q.due ≡ record { key = r.due.key; stale = stale })
   pub alone : first ≡ last → next ≡ first
-  pub rest : first ≢ last → next ≡ next_in (cell_at rows first)
+  pub rest : first ≢ last → next ≡ next_due (due_cell rows first)

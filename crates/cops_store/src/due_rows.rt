@@ -1,7 +1,7 @@
 //! The garbage-collection entries of all slots, in one table: those of a slot are linked.
 ghost use Rattle.std.specs.Prelude.{◌≡◌, ◌<◌, ◌≤◌, ◌+◌, ◌^◌, ◌++◌, ◌∷◌, [], ℕ, false, min, count_by, is_some, slice_get, drop, OnOk, IsOk, IsTrue, Some};
 ghost use Rattle.cops_store.specs.Contents.{is_ripe as may_go};
-ghost use Rattle.cops_store.specs.Dues.{extended as line_with, IsDueAdded, IsDueGone, IsDueLine, IsDueMoved, IsDueTurn, IsRowOf, cell_at, dues_in, next_in, no_dues, passed};
+ghost use Rattle.cops_store.specs.Dues.{extended_dues as line_with, IsDueAdded, IsDueGone, IsDueLine, IsDueMoved, IsDueTurn, IsDueRowOf, due_cell, dues_in, next_due, no_dues, passed};
 ghost use Rattle.slab.specs.Slab.{HasRoomFor, slab_len};
 
 use crate::chain;
@@ -46,8 +46,8 @@ fn link(rows: &mut Slab<DueRow>, line: &DueLine, slot: usize, due: Due) -> usize
 // Puts the first entry of a line behind the last, with another timestamp, and returns the place of
 // the one that is then the first.
 fn move_behind(rows: &mut Slab<DueRow>, first: usize, last: usize, stale: u64) -> usize
-    requires first { (slot : ℕ) × IsRowOf rows.old.slots slot first }
-    requires last { (slot : ℕ) × IsRowOf rows.old.slots slot last }
+    requires first { (slot : ℕ) × IsDueRowOf rows.old.slots slot first }
+    requires last { (slot : ℕ) × IsDueRowOf rows.old.slots slot last }
     ensures moved { IsDueMoved rows.old.slots rows.new.slots first last stale result }
     ensures len { slab_len rows.new ≡ slab_len rows.old }
     ensures capacity { rows.new.capacity ≡ rows.old.capacity }
@@ -62,9 +62,9 @@ fn move_behind(rows: &mut Slab<DueRow>, first: usize, last: usize, stale: u64) -
 
 // Removes an entry from the table, and returns the place of the line's next one.
 fn release(rows: &mut Slab<DueRow>, first: usize) -> usize
-    requires row { (slot : ℕ) × IsRowOf rows.old.slots slot first }
+    requires row { (slot : ℕ) × IsDueRowOf rows.old.slots slot first }
     ensures gone { IsDueGone rows.old.slots rows.new.slots first }
-    ensures rest { result ≡ next_in (cell_at rows.old.slots first) }
+    ensures rest { result ≡ next_due (due_cell rows.old.slots first) }
     ensures len { slab_len rows.new + 1 ≡ slab_len rows.old }
     ensures room { HasRoomFor rows.new 1 }
 {
