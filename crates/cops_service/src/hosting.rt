@@ -54,7 +54,7 @@ impl<R: Wait> HostedDesk<'_, R> {
 
     // Closes the slot at this many first nodes.
     fn close_at_first(&mut self, count: usize, slot: u64)
-        requires count { count ≤ length (openings self.old.cluster.now) }
+        requires { count ≤ length (openings self.old.cluster.now) }
         ensures cluster { self.new.cluster.now ≡ self.old.cluster.now }
         ensures seat { self.new.seat.ghost_name ≡ self.old.seat.ghost_name }
         ensures closed { IsClosedAtFirst self.old.cluster.now slot count self.old.seat.now self.new.seat.now }

@@ -10,7 +10,7 @@ loop-number-init g c = (refl, refl, refl)
 
 pub tell-told-requires-clause-node : goal.tell-told-requires-clause-node
 tell-told-requires-clause-node g c =
-    subst (λ cluster. c.loop-number.number < length (openings cluster)) (sym c.loop-number.invariant.0) (omega (arith, c.loop-number-test.true, c.requires.count))
+    subst (λ cluster. c.loop-number.number < length (openings cluster)) (sym c.loop-number.invariant.0) (omega (arith, c.loop-number-test.true, c.requires))
 
 pub loop-number-preserved : goal.loop-number-preserved
 loop-number-preserved g c =
