@@ -1,6 +1,6 @@
 -- The replies to tenants that come and go, one event after another.
 use Rattle.std.proofs.Common.{◌≡◌, ℕ, ◌+◌, ◌<◌, true, inl, List, [], ◌∷◌, ◌++◌, length, map, refl, sym, subst, ap, ◌∙◌, append_assoc, append-nil, length-append, Bor}
-use Rattle.std.specs.Prelude.{is_some, IfSome, Option, Some, None, Result, Ok, Err}
+use Rattle.std.specs.Prelude.{is_some, IfSome, Option, Some, None, Result}
 use Rattle.std.specs.Option.{option_copied}
 use Rattle.std.proofs.lemmas.List.{map-append}
 use Rattle.cops_types.specs.declared.configs.Config.{Config}
@@ -34,7 +34,7 @@ use Rattle.cops_script.proofs.Numbered.{ArePlaced, IsPlaced}
 use Rattle.cops_script.proofs.OpenSets.{may_be_given}
 use Rattle.cops_world.specs.SlotLives.{AreLivedAlone}
 use Rattle.cops_world.proofs.SlotLifeLemmas.{LivesOn, lives_alone, lives_one, lives_to_end}
-use Rattle.cops_world.proofs.WorldLives.{has_acted}
+use Rattle.cops_world.proofs.WorldLives.{OkIsRefused, has_acted}
 
 -- ---- who says it is open
 
@@ -76,11 +76,11 @@ some_copied None = refl
 some_copied (Some x) = refl
 
 -- a tenant was admitted to a slot
-pub admitted_to : (old new : KeptWorld) (slot : ℕ) (tenant : Tenant) (done : Unit {0}) → IfSome (admission_refusal old.setup.tenants slot tenant) (λ fault. let result : Result (Unit {0}) Fault = Ok done in result ≡ Err fault) → IsAdmitted slot tenant old new →
+pub admitted_to : (old new : KeptWorld) (slot : ℕ) (tenant : Tenant) (done : Unit {0}) → IfSome (admission_refusal old.setup.tenants slot tenant) (OkIsRefused done) → IsAdmitted slot tenant old new →
     IsHosted open_setup HasOpenCluster old (admits_at old.setup.tenants slot tenant) (ToHost (Admitted tenant.name)) new
 admitted_to old new slot tenant done unrefused admits = by (admission_refusal old.setup.tenants slot tenant) unrefused
   where
-    by : (refusal : Option Fault) → IfSome refusal (λ fault. let result : Result (Unit {0}) Fault = Ok done in result ≡ Err fault) → IsHosted open_setup HasOpenCluster old (admits_unless slot tenant refusal) (ToHost (Admitted tenant.name)) new
+    by : (refusal : Option Fault) → IfSome refusal (OkIsRefused done) → IsHosted open_setup HasOpenCluster old (admits_unless slot tenant refusal) (ToHost (Admitted tenant.name)) new
     by None h = inl (refl, record { setup_is = admits.setup_is; begins = admits.begins; others = admits.others })
     by (Some fault) h = absurd cc
 

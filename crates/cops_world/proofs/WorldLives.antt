@@ -1,6 +1,6 @@
 -- A tenant comes to a world, or goes from it.
 use Rattle.std.proofs.Common.{◌≡◌, ◌≢◌, ◌⊎◌, inl, inr, ℕ, zero, suc, ◌<◌, ◌≤◌, Bool, true, false, true≢false, ◌&&◌, ◌||◌, List, [], ◌∷◌, length, map, set, refl, sym, subst, ap, ◌∙◌, arith}
-use Rattle.std.specs.Prelude.{Option, Some, None, IsTrue, IfErr, IfNone, IfOk, IfSome, is_ok, is_some, nat_le, replicate, Result, Ok, Err, IsOk, OnErr, OnOk}
+use Rattle.std.specs.Prelude.{Option, Some, None, IsTrue, IfNone, IfOk, IfSome, is_ok, is_some, nat_le, replicate, Result, Ok, Err, IsOk, OnErr, OnOk}
 use Rattle.std.specs.declared.alloc.AllocError.{AllocError}
 use Rattle.std.specs.List.{AllByRecursion, list_any}
 use Rattle.std.specs.Option.{option_map}
@@ -9,10 +9,12 @@ use Rattle.std.proofs.lemmas.Bool.{leb-true}
 use Rattle.std.proofs.lemmas.Bool.Decides.{eqb_tells, nat_tests}
 use Rattle.cops_types.specs.declared.configs.Tenant.{Tenant}
 use Rattle.cops_types.specs.declared.faults.Fault.{Fault}
-use Rattle.cops_types.specs.declared.faults.Fault.TheVariants.{OutOfMemory}
+use Rattle.cops_types.specs.declared.request_errors.RequestError.{RequestError}
+use Rattle.cops_types.specs.declared.request_errors.RequestError.TheVariants.{OutOfMemory, Refused as RefusedWith}
 use Rattle.cops_types.specs.HeadLines.{is_name, is_quota, is_tenant}
 use Rattle.cops_types.specs.Version.{last_clock}
 use Rattle.cops_types.specs.OpenSlots.{admission_refusal, open_at}
+use Rattle.cops_types.specs.RequestErrors.{IfRefusal}
 use Rattle.cops_types.specs.TenantConfig.{TenantConfig, tenant_config}
 use Rattle.cops_node.specs.Clusters.{Cluster, HasTenant, nodes_of}
 use Rattle.cops_node.specs.Lives.{AtEach, IsAdmitted, IsClosed}
@@ -67,16 +69,20 @@ pub opened : (o : Option Tenant) (done : Unit {0}) (fault : Fault) → IfNone o 
 opened None done fault h = absurd cc
 opened (Some tenant) done fault h = refl
 
-unrefused_if : (refusal : Option Fault) (done : Unit {0}) → IfSome refusal (OkIsErr done) → refusal ≡ None
+-- the same of a request
+abbrev pub OkIsRefused : Unit {0} → Fault → Type 0
+OkIsRefused done fault = let result : Result (Unit {0}) RequestError = Ok done in result ≡ Err (RefusedWith fault)
+
+unrefused_if : (refusal : Option Fault) (done : Unit {0}) → IfSome refusal (OkIsRefused done) → refusal ≡ None
 unrefused_if None done h = refl
 unrefused_if (Some fault) done h = absurd cc
 
 -- a slot that was given could be
-pub was_given : (tenants : List (Option Tenant)) (slot : ℕ) (tenant : Tenant) (done : Unit {0}) → IfSome (admission_refusal tenants slot tenant) (OkIsErr done) → MayBeGiven tenants slot
+pub was_given : (tenants : List (Option Tenant)) (slot : ℕ) (tenant : Tenant) (done : Unit {0}) → IfSome (admission_refusal tenants slot tenant) (OkIsRefused done) → MayBeGiven tenants slot
 was_given tenants slot tenant done h = may_be_given tenants slot tenant (unrefused_if (admission_refusal tenants slot tenant) done h)
 
 -- and only running out of memory refuses that
-pub no_refusal : (P : Fault → Type 0) (tenants : List (Option Tenant)) (slot : ℕ) (tenant : Tenant) (done : Unit {0}) → IfSome (admission_refusal tenants slot tenant) (OkIsErr done) → IfSome (admission_refusal tenants slot tenant) P
+pub no_refusal : (P : Fault → Type 0) (tenants : List (Option Tenant)) (slot : ℕ) (tenant : Tenant) (done : Unit {0}) → IfSome (admission_refusal tenants slot tenant) (OkIsRefused done) → IfSome (admission_refusal tenants slot tenant) P
 no_refusal P tenants slot tenant done h = subst (λ o. IfSome o P) (sym (unrefused_if (admission_refusal tenants slot tenant) done h)) tt
 
 -- a tenant within the limits begins at a number that a clock has
@@ -107,25 +113,29 @@ closed_again (Err fault) old mid new slot tenant within vacant given closed ther
     absurd (true≢false (sym (subst (λ o. IfSome o (λ (_ : Tenant). is_ok {T = Unit {0}} (Err fault) ≡ true)) (ap (open_at slot) given ∙ open_set_same old slot (Some tenant) within) there)))
 
 -- a refusal of one call is that of the other that makes it
-abbrev pub IsErrOfSlot : Fault → Fault → Type 0
-IsErrOfSlot fault other = let result : Result ℕ Fault = Err fault in result ≡ Err other
+abbrev pub IsErrOfSlot : RequestError → Fault → Type 0
+IsErrOfSlot error other = let result : Result ℕ RequestError = Err error in result ≡ Err (RefusedWith other)
 
-abbrev pub IsErrOfUnit : Fault → Fault → Type 0
-IsErrOfUnit fault other = let result : Result (Unit {0}) Fault = Err fault in result ≡ Err other
+abbrev pub IsErrOfUnit : RequestError → Fault → Type 0
+IsErrOfUnit error other = let result : Result (Unit {0}) RequestError = Err error in result ≡ Err (RefusedWith other)
 
-pub refused_too : (refusal : Option Fault) (fault : Fault) → IfSome refusal (IsErrOfUnit fault) → IfSome refusal (IsErrOfSlot fault)
-refused_too None fault h = tt
-refused_too (Some other) fault h = let same : fault ≡ other = cc in ap (λ f. let result : Result ℕ Fault = Err f in result) same
+pub refused_too : (refusal : Option Fault) (error : RequestError) → IfSome refusal (IsErrOfUnit error) → IfSome refusal (IsErrOfSlot error)
+refused_too None error h = tt
+refused_too (Some other) error h = let same : error ≡ RefusedWith other = cc in ap (λ e. let result : Result ℕ RequestError = Err e in result) same
+
+pub refusal_too : (A B : Type 0) (P : Fault → Type 0) (error : RequestError) → IfRefusal {A = A} (Err error) P → IfRefusal {A = B} (Err error) P
+refusal_too A B P (RefusedWith fault) h = h
+refusal_too A B P OutOfMemory h = tt
 
 abbrev pub SlotIsErr : ℕ → Fault → Type 0
-SlotIsErr slot fault = let result : Result ℕ Fault = Ok slot in result ≡ Err fault
+SlotIsErr slot fault = let result : Result ℕ RequestError = Ok slot in result ≡ Err (RefusedWith fault)
 
 -- ---- admissions and closes, as any world of many tenants tells them
 
 -- what an admission found is what any world's may
-pub is_admission : (old : KeptWorld) (tenant : Tenant) (result : Result ℕ Fault) (new : KeptWorld) → let refusal = admission_refusal old.setup.tenants (next_slot old.setup.tenants) tenant in
-    IfOk result (λ slot. slot ≡ next_slot old.setup.tenants) → IfOk result (λ slot. Admits slot tenant old new) → IfSome refusal (λ fault. result ≡ Err fault) →
-    IfErr result (λ fault. (refusal ≡ Some fault) ⊎ (fault ≡ OutOfMemory)) → OnErr result (StaysOpen old new) → IsAdmission open_setup HasOpenCluster old tenant result new
+pub is_admission : (old : KeptWorld) (tenant : Tenant) (result : Result ℕ RequestError) (new : KeptWorld) → let refusal = admission_refusal old.setup.tenants (next_slot old.setup.tenants) tenant in
+    IfOk result (λ slot. slot ≡ next_slot old.setup.tenants) → IfOk result (λ slot. Admits slot tenant old new) → IfSome refusal (λ fault. result ≡ Err (RefusedWith fault)) →
+    IfRefusal result (λ fault. refusal ≡ Some fault) → OnErr result (StaysOpen old new) → IsAdmission open_setup HasOpenCluster old tenant result new
 is_admission old tenant (Ok slot) new least admits refused faults stays = (
   least,
   subst (λ n. admission_refusal old.setup.tenants n tenant ≡ None) (sym least) (none (admission_refusal old.setup.tenants (next_slot old.setup.tenants) tenant) refused),
@@ -135,15 +145,15 @@ is_admission old tenant (Ok slot) new least admits refused faults stays = (
     none : (refusal : Option Fault) → IfSome refusal (SlotIsErr slot) → refusal ≡ None
     none None h = refl
     none (Some fault) h = absurd cc
-is_admission old tenant (Err fault) new least admits refused faults stays = (
-  by (admission_refusal old.setup.tenants (next_slot old.setup.tenants) tenant) refused faults,
+is_admission old tenant (Err (RefusedWith fault)) new least admits refused faults stays = (faults, record { same = stays.setup_is; clusters = stays.clusters })
+is_admission old tenant (Err OutOfMemory) new least admits refused faults stays = (
+  by (admission_refusal old.setup.tenants (next_slot old.setup.tenants) tenant) refused,
   record { same = stays.setup_is; clusters = stays.clusters },
 )
   where
-    by : (refusal : Option Fault) → IfSome refusal (IsErrOfSlot fault) → (refusal ≡ Some fault) ⊎ (fault ≡ OutOfMemory) → (refusal ≡ Some fault) ⊎ ((refusal ≡ None) × (fault ≡ OutOfMemory))
-    by None h (inl is) = inl is
-    by None h (inr lack) = inr (refl, lack)
-    by (Some other) h found = let same : fault ≡ other = cc in inl (ap Some (sym same))
+    by : (refusal : Option Fault) → IfSome refusal (IsErrOfSlot OutOfMemory) → refusal ≡ None
+    by None h = refl
+    by (Some other) h = absurd cc
 
 -- a slot that had a tenant was closed
 pub has_closed : (slot : ℕ) (old new : KeptWorld) (result : Result (Unit {0}) Fault) → OnOk result (Closes slot old new) → IsOk result → HasClosed open_setup HasOpenCluster slot old new

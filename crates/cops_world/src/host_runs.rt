@@ -12,7 +12,7 @@ ghost use Rattle.cops_world.specs.Worlds.{HasOpenCluster, open_setup};
 
 use crate::{Act, HostReply, Reply, World};
 use cops_script::{Tenancy, as_reply};
-use cops_types::{Config, Fault, Tenant};
+use cops_types::{Config, Fault, RequestError, Tenant};
 use std::alloc::{AllocError, Global};
 
 /// What happens at a slot.
@@ -58,7 +58,8 @@ fn admit_at(world: &mut World, slot: u64, tenant: Tenant) -> HostReply
     let name = tenant.name;
     match world.admit_at(slot, tenant) {
         Ok(()) => HostReply::Admitted(name),
-        Err(fault) => HostReply::Denied(fault),
+        Err(RequestError::Refused(fault)) => HostReply::Denied(fault),
+        Err(RequestError::OutOfMemory) => HostReply::Denied(RequestError::OutOfMemory.told()),
     }
 }
 

@@ -15,7 +15,7 @@ ghost use Rattle.cops_world.specs.SlotLives.{AllPaired, IsGivenTo, IsLivedAlone,
 
 use crate::{Doing, HostEvent, Reply, World};
 use cops_script::{Tenancy, as_reply, with_tenant_alone};
-use cops_types::{Config, Fault, OpenTenants, Tenant};
+use cops_types::{Config, OpenTenants, RequestError, Tenant};
 use std::alloc::{AllocError, Global};
 
 /// A life of a slot: its tenant, and the replies to it.
@@ -56,8 +56,8 @@ fn give(tenants: &mut OpenTenants, slot: u64, tenant: &Tenant) -> Result<bool, A
 {
     match tenants.admit_at(slot, *tenant) {
         Ok(()) => Ok(true),
-        Err(Fault::OutOfMemory) => Err(AllocError),
-        Err(_) => Ok(false),
+        Err(RequestError::Refused(_)) => Ok(false),
+        Err(RequestError::OutOfMemory) => Err(AllocError),
     }
 }
 

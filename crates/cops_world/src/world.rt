@@ -1,5 +1,5 @@
 //! All tenants of a cluster in one process.
-ghost use Rattle.std.specs.Prelude.{◌≡◌, ◌≢◌, ◌<◌, ◌⊎◌, ℕ, true, false, is_some, Err, IfErr, IfOk, IfSome, IfNone, IsOk, IsTrue, IsFalse, None, Ok, OnErr, OnOk, Some, length, map, nat_le, nat_lt};
+ghost use Rattle.std.specs.Prelude.{◌≡◌, ◌≢◌, ◌<◌, ℕ, true, false, is_some, Err, IfOk, IfSome, IfNone, IsOk, IsTrue, IsFalse, None, Ok, OnErr, OnOk, Some, length, map, nat_le, nat_lt};
 ghost use Rattle.cops_types.specs.TenantConfig.{TenantConfig, tenant_config};
 ghost use Rattle.cops_node.specs.Clusters.{IsCluster, shape_of};
 ghost use Rattle.cops_node.specs.Parts.{AuditFits, site_in};
@@ -526,21 +526,21 @@ impl World {
     }
 
     /// Gives a slot to a tenant, which begins with an empty cluster and without actors: at all nodes, or
-    /// at none. Fails with `NameTaken` if an open tenant has that name or token, then with `NoSlot` if
-    /// the slot has a tenant or is none of the 64, then with `OutOfMemory` if memory runs out.
-    pub fn admit_at(&mut self, slot: u64, tenant: Tenant) -> Result<(), Fault>
+    /// at none. Is refused with `NameTaken` if an open tenant has that name or token, then with `NoSlot`
+    /// if the slot has a tenant or is none of the 64. Memory can run out only otherwise.
+    pub fn admit_at(&mut self, slot: u64, tenant: Tenant) -> Result<(), RequestError>
         requires { IsTrue (is_tenant tenant) }
         ensures ok { OnOk result (Admits slot tenant self.old self.new) }
-        ensures refused { IfSome (admission_refusal self.old.setup.tenants slot tenant) (λ fault. result ≡ Err fault) }
-        ensures faults { IfErr result (λ fault. (admission_refusal self.old.setup.tenants slot tenant ≡ Some fault) ⊎ (fault ≡ OutOfMemory)) }
+        ensures refused { IfSome (admission_refusal self.old.setup.tenants slot tenant) (λ fault. result ≡ Err (RequestError.Refused fault)) }
+        ensures faults { IfRefusal result (λ fault. admission_refusal self.old.setup.tenants slot tenant ≡ Some fault) }
         ensures err { OnErr result (StaysOpen self.old self.new) }
     {
         let first_clock = tenant.first_clock;
         let quota = tenant.quota;
         self.tenants.admit_at(slot, tenant)?;
-        if let Err(fault) = self.nodes.admit(slot, first_clock, quota) {
+        if let Err(error) = self.nodes.admit(slot, first_clock, quota) {
             let _closed = self.tenants.close(slot);
-            return Err(fault);
+            return Err(error);
         }
         Ok(())
     }
@@ -556,18 +556,18 @@ impl World {
     }
 
     /// Gives the least free slot to a tenant, as `admit_at` does, and returns it.
-    pub fn admit(&mut self, tenant: Tenant) -> Result<u64, Fault>
+    pub fn admit(&mut self, tenant: Tenant) -> Result<u64, RequestError>
         requires { IsTrue (is_tenant tenant) }
         ensures least { IfOk result (λ slot. slot ≡ next_slot self.old.setup.tenants) }
         ensures ok { IfOk result (λ slot. Admits slot tenant self.old self.new) }
-        ensures refused { IfSome (admission_refusal self.old.setup.tenants (next_slot self.old.setup.tenants) tenant) (λ fault. result ≡ Err fault) }
-        ensures faults { IfErr result (λ fault. (admission_refusal self.old.setup.tenants (next_slot self.old.setup.tenants) tenant ≡ Some fault) ⊎ (fault ≡ OutOfMemory)) }
+        ensures refused { IfSome (admission_refusal self.old.setup.tenants (next_slot self.old.setup.tenants) tenant) (λ fault. result ≡ Err (RequestError.Refused fault)) }
+        ensures faults { IfRefusal result (λ fault. admission_refusal self.old.setup.tenants (next_slot self.old.setup.tenants) tenant ≡ Some fault) }
         ensures err { OnErr result (StaysOpen self.old self.new) }
     {
         let slot = self.next_slot();
         match self.admit_at(slot, tenant) {
             Ok(()) => Ok(slot),
-            Err(fault) => Err(fault),
+            Err(error) => Err(error),
         }
     }
 
@@ -697,7 +697,7 @@ impl Tenancy for World {
         }
     }
 
-    fn admit(&mut self, tenant: Tenant) -> Result<u64, Fault> {
+    fn admit(&mut self, tenant: Tenant) -> Result<u64, RequestError> {
         World::admit(self, tenant)
     }
 

@@ -1,12 +1,13 @@
-use Rattle.std.proofs.Common.{ap, inr, sym, subst, ◌∙◌}
+use Rattle.std.proofs.Common.{◌≡◌, ap, sym, subst, ◌∙◌}
 use Rattle.std.proofs.Math.ListN.{length-set}
 use Rattle.std.specs.List.{list_any}
-use Rattle.std.specs.Prelude.{List, Option, Some, length}
+use Rattle.std.specs.Prelude.{Err, IfSome, List, Option, Some, length}
 use Rattle.cops_types.specs.declared.configs.Tenant.{Tenant}
+use Rattle.cops_types.specs.OpenSlots.{admission_refusal}
 use Rattle.cops_node.specs.Parts.{is_taken}
-use Rattle.cops_node.proofs.LifeLemmas.{only_lack}
+use Rattle.cops_node.proofs.LifeLemmas.{unrefused}
 use Rattle.cops_world.specs.Worlds.{Admits, IsKeptWorld, KeptWorld, StaysOpen}
-use Rattle.cops_world.proofs.WorldLives.{admits, closed_again, stays_open, taken_nowhere, was_given, whole_back, whole_given, within_given}
+use Rattle.cops_world.proofs.WorldLives.{IsErrOfUnit, admits, closed_again, no_refusal, stays_open, taken_nowhere, was_given, whole_back, whole_given, within_given}
 use Rattle.cops_world.proofs.world.World.admit_at.Goals as goal
 
 pub invariant_of-self-in-Err : goal.invariant_of-self-in-Err
@@ -26,6 +27,11 @@ invariant_of-self-in-Err c =
       tabled = c.self.invariant.tabled ∙ sym (ap length same);
     }
 
+pub returns-in-Err-clause-refused : goal.returns-in-Err-clause-refused
+returns-in-Err-clause-refused c =
+    subst (λ (k : KeptWorld). IfSome (admission_refusal k.setup.tenants c.args.slot c.args.tenant) (IsErrOfUnit c.in-Err.error)) c.self.view_is
+    (no_refusal (IsErrOfUnit c.in-Err.error) c.self.inside.tenants c.args.slot c.args.tenant c.in_ok-admit_at.field-0 c.in_ok-admit_at.ensures.refused)
+
 pub returns-in-Err-clause-faults : goal.returns-in-Err-clause-faults
 returns-in-Err-clause-faults c =
     let slot = c.args.slot in
@@ -35,7 +41,7 @@ returns-in-Err-clause-faults c =
     let whole = c.self.invariant.whole in
     let may = was_given inside.tenants slot tenant c.in_ok-admit_at.field-0 c.in_ok-admit_at.ensures.refused in
     let free = taken_nowhere old.setup slot may inside.nodes.nodes whole.sites_are.each in
-    inr (only_lack (list_any (is_taken slot) inside.nodes.nodes) c.in-Err.fault free c.in-Err.ensures.answer)
+    unrefused (λ fault. admission_refusal c.args.self.now.setup.tenants slot tenant ≡ Some fault) (list_any (is_taken slot) inside.nodes.nodes) (Err c.in-Err.error) free c.in-Err.ensures.answer
 
 pub returns-in-Err-clause-err : goal.returns-in-Err-clause-err
 returns-in-Err-clause-err c =
