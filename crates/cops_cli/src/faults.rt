@@ -153,10 +153,9 @@ impl From<clap::Error> for CliFault {
     ghost from_gives = { RefusesWords };
 
     fn from(error: clap::Error) -> CliFault {
-        if error.kind() == ErrorKind::OutOfMemory {
-            CliFault::OutOfMemory
-        } else {
-            CliFault::CommandLine(error)
+        match error.kind() {
+            ErrorKind::OutOfMemory => CliFault::OutOfMemory,
+            _ => CliFault::CommandLine(error),
         }
     }
 }

@@ -83,6 +83,11 @@ where
     Ok(listener)
 }
 
+/// Returns a value that threads share. Fails with `AllocError` if memory runs out.
+fn shared<T: Drop>(alloc: Global, value: T) -> Result<Arc<T, Global>, AllocError> {
+    Ok(Arc::new(alloc, value)?)
+}
+
 /// Lets a line of standard input end the service that listens here. So many lines have come before.
 fn stop_of<R>(
     rt: &R,
@@ -98,10 +103,7 @@ where
         let _ = eprintln!(rt; "cops: the listener failed");
         return Err(CliFault::ReadFault);
     };
-    let stop = match Arc::new(alloc, stop) {
-        Ok(stop) => stop,
-        Err(refused) => return Err(CliFault::from(AllocError::from(refused))),
-    };
+    let stop = shared(alloc, stop)?;
     if follow_input(rt, &stop, lines).is_err() {
         let _ = eprintln!(rt; "cops: cannot start a thread");
         return Err(CliFault::ReadFault);
@@ -141,7 +143,7 @@ where
     let served = serve_with(rt, alloc, config, &listener, options, &stop, &told, moments);
     match served {
         Ok(served) => told_end(rt, served),
-        Err(fault) => Err(CliFault::of_service(fault)),
+        Err(error) => Err(CliFault::of_service(error.told())),
     }
 }
 

@@ -6,6 +6,7 @@ use Rattle.std.specs.Option.{option_or}
 use Rattle.std.proofs.lemmas.Bool.{leb-false, lt-ltb}
 use Rattle.std.proofs.lemmas.Grind.{flat_map-append}
 use Rattle.cops_types.specs.declared.faults.Fault.{Fault}
+use Rattle.cops_types.specs.declared.request_errors.RequestError.{RequestError}
 use Rattle.cops_types.specs.declared.faults.Fault.TheVariants.{OutOfMemory, Syntax, BadKey, ValueTooLong}
 use Rattle.cops_types.specs.Key.{is_key}
 use Rattle.cops_types.specs.Search.{first_refusal}
@@ -51,9 +52,9 @@ place_there : (found : Option ℕ) (place : ℕ) (exists : Bool) (slot dc : ℕ)
 place_there None place exists slot dc e = cc
 place_there (Some s) place true slot dc e = (let same : dc ≡ place = ap (λ r. place_in r place) e in same, refl)
   where
-    place_in : Result (ℕ × ℕ) Fault → ℕ → ℕ
+    place_in : Result (ℕ × ℕ) RequestError → ℕ → ℕ
     place_in (Ok p) other = p.1
-    place_in (Err fault) other = other
+    place_in (Err error) other = other
 place_there (Some s) place false slot dc e = cc
 
 -- a client that was greeted is at a data centre that exists

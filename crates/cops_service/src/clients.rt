@@ -10,7 +10,7 @@ ghost use Rattle.cops_service.specs.Conversing.{Converses};
 
 use crate::lines::{Incoming, Line, Outgoing};
 use cops_node::Nodes;
-use cops_types::{Config, Fault, Sink, Source};
+use cops_types::{Config, RequestError, Sink, Source};
 use cops_wire::{Connection, Ended, Moments};
 use std::alloc::Global;
 use std::io::{Read, Write};
@@ -19,7 +19,7 @@ use std::time::Clock;
 /// The end of a conversation, with its reader and writer.
 #[derive(Drop)]
 pub(crate) struct Conversed<R, O> {
-    pub(crate) ended: Result<Ended, Fault>,
+    pub(crate) ended: Result<Ended, RequestError>,
     pub(crate) source: Source<R>,
     pub(crate) sink: Sink<O>,
 }
@@ -62,7 +62,7 @@ pub(crate) fn serve_line<C: Clock, N: Nodes, M: Moments>(
     line: &Line<'_, C>,
     nodes: &mut N,
     moments: &mut M,
-) -> Result<Ended, Fault>
+) -> Result<Ended, RequestError>
     requires shape { N.shape nodes.old ≡ shape_of config.now }
     requires sizes { IsTrue (are_sizes config.now) }
     ensures converses { Converses (KeepsShape N.shape N.Answers) M.Gives config.now nodes.old nodes.new moments.old moments.new }

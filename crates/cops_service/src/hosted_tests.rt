@@ -90,7 +90,7 @@ fn refusal(answer: Result<SlotReply, AllocError>) -> Option<Fault> {
         Ok(SlotReply::Refused(fault)) => Some(fault),
         Ok(SlotReply::Own(_)) => Some(Fault::Torn),
         Ok(SlotReply::Admitted | SlotReply::Closed) => None,
-        Err(error) => Some(Fault::from(error)),
+        Err(_) => Some(Fault::OutOfMemory),
     }
 }
 

@@ -12,7 +12,7 @@ use crate::hosting_tests::assert_clocks;
 use crate::tests::{closed, config};
 use crate::{Cluster, HostedDesk, LifeDesk, ServiceSeat, hosting_tests};
 use cops_node::{HostedNode, Node, NodeId, has_clocks};
-use cops_types::{Config, Fault, Machine};
+use cops_types::{Config, Fault, Machine, RequestError};
 use std::alloc::{AllocError, Global};
 use std::process::Abort;
 use std::sync::Wait;
@@ -76,7 +76,10 @@ fn closed_again<M: Machine + Drop>(
     match cluster.close(alloc, seat) {
         Ok(Some(machines)) => machines,
         Ok(None) => panic!(rt; "a turn is open"),
-        Err((cluster, seat)) => closed(rt, alloc, cluster, seat),
+        Err(back) => {
+            let (cluster, seat) = back.value;
+            closed(rt, alloc, cluster, seat)
+        }
     }
 }
 
@@ -252,8 +255,8 @@ fn turned<R: Wait + Abort>(
     let id = NodeId { dc: 0, shard: 0 };
     match seat.step(rt, cluster, id, 0, 0, ()) {
         Ok(turns) => turns,
-        Err(fault) => {
-            assert!(rt; fault == Fault::OutOfMemory);
+        Err(error) => {
+            assert!(rt; error == RequestError::OutOfMemory);
             seat.step(rt, cluster, id, 0, 0, ()).expect(rt, "memory")
         }
     }

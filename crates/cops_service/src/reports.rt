@@ -1,5 +1,5 @@
 //! A service's reports to its operator.
-use cops_types::Fault;
+use cops_types::{Fault, RequestError};
 use cops_wire::Ended;
 use std::net::SocketAddr;
 use std::sync::atomic::{AtomicU64, Ordering};
@@ -47,17 +47,24 @@ pub(crate) struct Course {
 }
 
 /// Returns why a connection ended, unless it ended cleanly.
-pub(crate) fn cause_of(ended: &Result<Ended, Fault>, course: Course) -> Option<Cause> {
+pub(crate) fn cause_of(ended: &Result<Ended, RequestError>, course: Course) -> Option<Cause> {
     match ended {
         Ok(Ended::Clean) => None,
         Ok(Ended::Torn) if course.saw_end => Some(Cause::CutOff),
         Ok(Ended::Torn) => Some(Cause::BrokenFrame),
-        Err(Fault::OutOfMemory) => Some(Cause::OutOfMemory),
-        Err(Fault::ReadFault) if !course.is_idle => Some(Cause::ReadingFailed),
-        Err(Fault::WriteFault) if !course.is_idle => Some(Cause::WritingFailed),
-        Err(Fault::ReadFault | Fault::WriteFault) => Some(Cause::Idle),
-        Err(Fault::Syntax) if course.saw_end => Some(Cause::CutOff),
-        Err(_) => Some(Cause::Refused),
+        Err(RequestError::OutOfMemory) => Some(Cause::OutOfMemory),
+        Err(RequestError::Refused(fault)) => Some(cause_of_fault(*fault, course)),
+    }
+}
+
+/// Returns why a connection ended with this fault.
+fn cause_of_fault(fault: Fault, course: Course) -> Cause {
+    match fault {
+        Fault::ReadFault | Fault::WriteFault if course.is_idle => Cause::Idle,
+        Fault::ReadFault => Cause::ReadingFailed,
+        Fault::WriteFault => Cause::WritingFailed,
+        Fault::Syntax if course.saw_end => Cause::CutOff,
+        _ => Cause::Refused,
     }
 }
 

@@ -27,7 +27,7 @@ use crate::tallies::Tally;
 use crate::waiting::Waiting;
 use cops_gate::ClusterSeat;
 use cops_node::{Node, Nodes};
-use cops_types::{Config, Fault};
+use cops_types::{Config, RequestError};
 use cops_wire::{Ended, Moments};
 use crossbeam_channel::Receiver;
 use std::alloc::{AllocError, Global};
@@ -111,7 +111,7 @@ fn conclude<R: Clock, L: Reports>(
     accepted: &Accepted,
     tally: Tally,
     course: Course,
-    ended: &Result<Ended, Fault>,
+    ended: &Result<Ended, RequestError>,
 ) {
     // The first frame answers the greeting, and the last one of a torn connection no request.
     let is_torn = matches!(ended, Ok(Ended::Torn));

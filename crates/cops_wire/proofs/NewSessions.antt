@@ -4,7 +4,7 @@ use Rattle.std.specs.Prelude.{◌⊎◌, slice_get, Option, Some, Ok, Err, IsTru
 use Rattle.std.proofs.lemmas.Option.{slice_get-get_or}
 use Rattle.cops_types.specs.declared.configs.Config.{Config}
 use Rattle.cops_types.specs.declared.configs.Tenant.{Tenant}
-use Rattle.cops_types.specs.declared.faults.Fault.{Fault}
+use Rattle.cops_types.specs.declared.request_errors.RequestError.{RequestError}
 use Rattle.cops_types.specs.HeadLines.{are_sizes}
 use Rattle.cops_types.specs.TenantConfig.{tenant_config}
 use Rattle.cops_node.specs.Clusters.{shape_of}
@@ -68,11 +68,11 @@ conversed Calls Gives config remaining greeted_remaining new_remaining contents 
 -- ---- if something failed
 
 -- why a greeting was refused or stopped, and what of its answer was written
-pub greeted_in_part : (tenants : List Tenant) (dcs : ℕ) (remaining new_remaining contents new_contents : Option (List ℕ)) (kept : KeptBytes) (waiting : List Message) (fault : Fault) (same read write : Type 0)
+pub greeted_in_part : (tenants : List Tenant) (dcs : ℕ) (remaining new_remaining contents new_contents : Option (List ℕ)) (kept : KeptBytes) (waiting : List Message) (error : RequestError) (same read write : Type 0)
     → (same → new_contents ≡ contents)
-    → (Greets tenants dcs remaining new_remaining contents new_contents kept waiting (Err fault) ⊎ IsStopped fault same (same × read) (write × GreetsInPart tenants dcs remaining new_remaining contents new_contents kept))
+    → (Greets tenants dcs remaining new_remaining contents new_contents kept waiting (Err error) ⊎ IsStopped error same (same × read) (write × GreetsInPart tenants dcs remaining new_remaining contents new_contents kept))
     → IsGreetedInPart tenants dcs remaining contents new_contents
-greeted_in_part tenants dcs remaining new_remaining contents new_contents kept waiting fault same read write is (inl greets) =
+greeted_in_part tenants dcs remaining new_remaining contents new_contents kept waiting error same read write is (inl greets) =
     inr (
       new_remaining,
       kept,
@@ -82,16 +82,16 @@ greeted_in_part tenants dcs remaining new_remaining contents new_contents kept w
         written = (
           [],
           record {
-            written = spelling (greeting_reply (Err fault));
-            whole = ap (λ a. spelling (greeting_reply a)) (sym greets.answer_is) ∙ sym (append-nil (spelling (greeting_reply (Err fault))));
+            written = spelling (greeting_reply (Err error));
+            whole = ap (λ a. spelling (greeting_reply a)) (sym greets.answer_is) ∙ sym (append-nil (spelling (greeting_reply (Err error))));
             appended = greets.written;
           },
         );
       },
     )
-greeted_in_part tenants dcs remaining new_remaining contents new_contents kept waiting fault same read write is (inr (inl stopped)) = inl (is stopped.1)
-greeted_in_part tenants dcs remaining new_remaining contents new_contents kept waiting fault same read write is (inr (inr (inl stopped))) = inl (is stopped.1.0)
-greeted_in_part tenants dcs remaining new_remaining contents new_contents kept waiting fault same read write is (inr (inr (inr stopped))) = inr (new_remaining, kept, stopped.1.1)
+greeted_in_part tenants dcs remaining new_remaining contents new_contents kept waiting error same read write is (inr (inl stopped)) = inl (is stopped.1)
+greeted_in_part tenants dcs remaining new_remaining contents new_contents kept waiting error same read write is (inr (inr (inl stopped))) = inl (is stopped.1.0)
+greeted_in_part tenants dcs remaining new_remaining contents new_contents kept waiting error same read write is (inr (inr (inr stopped))) = inr (new_remaining, kept, stopped.1.1)
 
 pub conversed_in_part : {N M : Type 0} (Calls : N → NodeId → ℕ → ℕ → NodeCall → NodeReply → N → Type 0) (Gives : M → ℕ → M → Type 0) (config : Config) (remaining greeted_remaining contents greeted_contents new_contents : Option (List ℕ))
     (nodes new_nodes : N) (moments new_moments : M) (slot dc : ℕ) (tenant : Tenant) (kept : KeptBytes) (waiting : List Message) (hello : Message) (session new_session_kept : KeptSession)

@@ -1,6 +1,8 @@
 //! Requests that are answered in place, in the bytes that were read.
 ghost use Rattle.std.specs.Prelude.{◌≡◌, ◌⊎◌, [], ◌++◌, IfOk, IfErr, OnOk, OnErr};
 ghost use Rattle.cops_types.specs.Counts.{HasRisen};
+ghost use Rattle.cops_types.specs.declared.faults.Fault.TheVariants.{WriteFault};
+ghost use Rattle.cops_types.specs.declared.request_errors.RequestError.TheVariants.{OutOfMemory, Refused};
 ghost use Rattle.cops_types.specs.Sink.{sink_failures, sink_writer};
 ghost use Rattle.cops_session.specs.Kept.{IsOfSizes};
 ghost use Rattle.cops_wire.specs.Requests.{KeepsShape, HasAnswered, backend};
@@ -16,7 +18,7 @@ use crate::requests::{answer, answer_get_at, answer_put};
 use crate::serving::{LONG, answer_messages, is_asked, send};
 use cops_node::Nodes;
 use cops_session::Session;
-use cops_types::{Fault, Key, Sink};
+use cops_types::{Key, RequestError, Sink};
 use std::alloc::{AllocError, Global};
 use std::io::Write;
 
@@ -159,11 +161,11 @@ fn answer_frames<N: Nodes, M: Moments, W: Write>(
     keys: &mut Vec<Key>,
     out: &mut Vec<u8>,
     sink: &mut Sink<W>,
-) -> Result<Option<Parted>, Fault>
+) -> Result<Option<Parted>, RequestError>
     requires fits { IsOfSizes (N.shape nodes.old).data_centres (N.shape nodes.old).shards session.old.setting }
     ensures ok { IfOk result (IsWalked (split_of bytes.now) bytes.now (GathersFront (HasAnswered (KeepsShape N.shape N.Answers) M.Gives) (backend session.old nodes.old moments.old) (backend session.new nodes.new moments.new) (split_of bytes.now).messages (W.contents (sink_writer sink.old)) (W.contents (sink_writer sink.new)) out.old.items out.new.items)) }
     ensures same { OnOk result (sink_failures sink.new ≡ sink_failures sink.old) }
-    ensures err { IfErr result (λ fault. (fault ≡ Fault.OutOfMemory) ⊎ ((fault ≡ Fault.WriteFault) × HasRisen (sink_failures sink.old) (sink_failures sink.new))) }
+    ensures err { IfErr result (λ error. (error ≡ OutOfMemory) ⊎ ((error ≡ Refused WriteFault) × HasRisen (sink_failures sink.old) (sink_failures sink.new))) }
     ensures front { OnErr result (GathersSome (HasAnswered (KeepsShape N.shape N.Answers) M.Gives) (backend session.old nodes.old moments.old) (backend session.new nodes.new moments.new) (split_of bytes.now).messages (W.contents (sink_writer sink.old)) (W.contents (sink_writer sink.new)) out.old.items) }
     ensures setting { session.new.setting ≡ session.old.setting }
     ensures shape { N.shape nodes.new ≡ N.shape nodes.old }
@@ -201,12 +203,12 @@ fn answer_in_place<N: Nodes, M: Moments, W: Write>(
     keys: &mut Vec<Key>,
     out: &mut Vec<u8>,
     sink: &mut Sink<W>,
-) -> Result<bool, Fault>
+) -> Result<bool, RequestError>
     requires fits { IsOfSizes (N.shape nodes.old).data_centres (N.shape nodes.old).shards session.old.setting }
     requires empty { decoder.old.rest ≡ [] }
     ensures ok { IfOk result (IsTakenUp (piece.now) decoder.new (λ messages all. GathersFront (HasAnswered (KeepsShape N.shape N.Answers) M.Gives) (backend session.old nodes.old moments.old) (backend session.new nodes.new moments.new) messages (W.contents (sink_writer sink.old)) (W.contents (sink_writer sink.new)) out.old.items out.new.items all)) }
     ensures same { OnOk result (sink_failures sink.new ≡ sink_failures sink.old) }
-    ensures err { IfErr result (λ fault. (fault ≡ Fault.OutOfMemory) ⊎ ((fault ≡ Fault.WriteFault) × HasRisen (sink_failures sink.old) (sink_failures sink.new))) }
+    ensures err { IfErr result (λ error. (error ≡ OutOfMemory) ⊎ ((error ≡ Refused WriteFault) × HasRisen (sink_failures sink.old) (sink_failures sink.new))) }
     ensures front { OnErr result (GathersSome (HasAnswered (KeepsShape N.shape N.Answers) M.Gives) (backend session.old nodes.old moments.old) (backend session.new nodes.new moments.new) (split_of (piece.now)).messages (W.contents (sink_writer sink.old)) (W.contents (sink_writer sink.new)) out.old.items) }
     ensures setting { session.new.setting ≡ session.old.setting }
     ensures shape { N.shape nodes.new ≡ N.shape nodes.old }
@@ -229,11 +231,11 @@ fn answer_behind<N: Nodes, M: Moments, W: Write>(
     piece: &[u8],
     out: &mut Vec<u8>,
     sink: &mut Sink<W>,
-) -> Result<bool, Fault>
+) -> Result<bool, RequestError>
     requires fits { IsOfSizes (N.shape nodes.old).data_centres (N.shape nodes.old).shards session.old.setting }
     ensures ok { IfOk result (IsTakenUp (decoder.old.rest ++ piece.now) decoder.new (λ messages all. GathersFront (HasAnswered (KeepsShape N.shape N.Answers) M.Gives) (backend session.old nodes.old moments.old) (backend session.new nodes.new moments.new) messages (W.contents (sink_writer sink.old)) (W.contents (sink_writer sink.new)) out.old.items out.new.items all)) }
     ensures same { OnOk result (sink_failures sink.new ≡ sink_failures sink.old) }
-    ensures err { IfErr result (λ fault. (fault ≡ Fault.OutOfMemory) ⊎ ((fault ≡ Fault.WriteFault) × HasRisen (sink_failures sink.old) (sink_failures sink.new))) }
+    ensures err { IfErr result (λ error. (error ≡ OutOfMemory) ⊎ ((error ≡ Refused WriteFault) × HasRisen (sink_failures sink.old) (sink_failures sink.new))) }
     ensures front { OnErr result (GathersSome (HasAnswered (KeepsShape N.shape N.Answers) M.Gives) (backend session.old nodes.old moments.old) (backend session.new nodes.new moments.new) (split_of (decoder.old.rest ++ piece.now)).messages (W.contents (sink_writer sink.old)) (W.contents (sink_writer sink.new)) out.old.items) }
     ensures setting { session.new.setting ≡ session.old.setting }
     ensures shape { N.shape nodes.new ≡ N.shape nodes.old }
@@ -262,11 +264,11 @@ fn answer_on<N: Nodes, M: Moments, W: Write>(
     keys: &mut Vec<Key>,
     out: &mut Vec<u8>,
     sink: &mut Sink<W>,
-) -> Result<bool, Fault>
+) -> Result<bool, RequestError>
     requires fits { IsOfSizes (N.shape nodes.old).data_centres (N.shape nodes.old).shards session.old.setting }
     ensures ok { IfOk result (IsTakenUp (decoder.old.rest ++ piece.now) decoder.new (λ messages all. GathersFront (HasAnswered (KeepsShape N.shape N.Answers) M.Gives) (backend session.old nodes.old moments.old) (backend session.new nodes.new moments.new) messages (W.contents (sink_writer sink.old)) (W.contents (sink_writer sink.new)) out.old.items out.new.items all)) }
     ensures same { OnOk result (sink_failures sink.new ≡ sink_failures sink.old) }
-    ensures err { IfErr result (λ fault. (fault ≡ Fault.OutOfMemory) ⊎ ((fault ≡ Fault.WriteFault) × HasRisen (sink_failures sink.old) (sink_failures sink.new))) }
+    ensures err { IfErr result (λ error. (error ≡ OutOfMemory) ⊎ ((error ≡ Refused WriteFault) × HasRisen (sink_failures sink.old) (sink_failures sink.new))) }
     ensures front { OnErr result (GathersSome (HasAnswered (KeepsShape N.shape N.Answers) M.Gives) (backend session.old nodes.old moments.old) (backend session.new nodes.new moments.new) (split_of (decoder.old.rest ++ piece.now)).messages (W.contents (sink_writer sink.old)) (W.contents (sink_writer sink.new)) out.old.items) }
     ensures setting { session.new.setting ≡ session.old.setting }
     ensures shape { N.shape nodes.new ≡ N.shape nodes.old }
@@ -292,11 +294,11 @@ fn answer_cut<N: Nodes, M: Moments, W: Write>(
     keys: &mut Vec<Key>,
     out: &mut Vec<u8>,
     sink: &mut Sink<W>,
-) -> Result<bool, Fault>
+) -> Result<bool, RequestError>
     requires fits { IsOfSizes (N.shape nodes.old).data_centres (N.shape nodes.old).shards session.old.setting }
     ensures ok { IfOk result (IsTakenUp (decoder.old.rest ++ piece.now) decoder.new (λ messages all. GathersFront (HasAnswered (KeepsShape N.shape N.Answers) M.Gives) (backend session.old nodes.old moments.old) (backend session.new nodes.new moments.new) messages (W.contents (sink_writer sink.old)) (W.contents (sink_writer sink.new)) out.old.items out.new.items all)) }
     ensures same { OnOk result (sink_failures sink.new ≡ sink_failures sink.old) }
-    ensures err { IfErr result (λ fault. (fault ≡ Fault.OutOfMemory) ⊎ ((fault ≡ Fault.WriteFault) × HasRisen (sink_failures sink.old) (sink_failures sink.new))) }
+    ensures err { IfErr result (λ error. (error ≡ OutOfMemory) ⊎ ((error ≡ Refused WriteFault) × HasRisen (sink_failures sink.old) (sink_failures sink.new))) }
     ensures front { OnErr result (GathersSome (HasAnswered (KeepsShape N.shape N.Answers) M.Gives) (backend session.old nodes.old moments.old) (backend session.new nodes.new moments.new) (split_of (decoder.old.rest ++ piece.now)).messages (W.contents (sink_writer sink.old)) (W.contents (sink_writer sink.new)) out.old.items) }
     ensures setting { session.new.setting ≡ session.old.setting }
     ensures shape { N.shape nodes.new ≡ N.shape nodes.old }
@@ -327,11 +329,11 @@ fn answer_taken<N: Nodes, M: Moments, W: Write>(
     keys: &mut Vec<Key>,
     out: &mut Vec<u8>,
     sink: &mut Sink<W>,
-) -> Result<bool, Fault>
+) -> Result<bool, RequestError>
     requires fits { IsOfSizes (N.shape nodes.old).data_centres (N.shape nodes.old).shards session.old.setting }
     ensures ok { IfOk result (IsTakenUp (decoder.old.rest ++ piece.now) decoder.new (λ messages all. GathersFront (HasAnswered (KeepsShape N.shape N.Answers) M.Gives) (backend session.old nodes.old moments.old) (backend session.new nodes.new moments.new) messages (W.contents (sink_writer sink.old)) (W.contents (sink_writer sink.new)) out.old.items out.new.items all)) }
     ensures same { OnOk result (sink_failures sink.new ≡ sink_failures sink.old) }
-    ensures err { IfErr result (λ fault. (fault ≡ Fault.OutOfMemory) ⊎ ((fault ≡ Fault.WriteFault) × HasRisen (sink_failures sink.old) (sink_failures sink.new))) }
+    ensures err { IfErr result (λ error. (error ≡ OutOfMemory) ⊎ ((error ≡ Refused WriteFault) × HasRisen (sink_failures sink.old) (sink_failures sink.new))) }
     ensures front { OnErr result (GathersSome (HasAnswered (KeepsShape N.shape N.Answers) M.Gives) (backend session.old nodes.old moments.old) (backend session.new nodes.new moments.new) (split_of (decoder.old.rest ++ piece.now)).messages (W.contents (sink_writer sink.old)) (W.contents (sink_writer sink.new)) out.old.items) }
     ensures setting { session.new.setting ≡ session.old.setting }
     ensures shape { N.shape nodes.new ≡ N.shape nodes.old }
@@ -360,11 +362,11 @@ pub(crate) fn answer_piece<N: Nodes, M: Moments, W: Write>(
     keys: &mut Vec<Key>,
     out: &mut Vec<u8>,
     sink: &mut Sink<W>,
-) -> Result<bool, Fault>
+) -> Result<bool, RequestError>
     requires fits { IsOfSizes (N.shape nodes.old).data_centres (N.shape nodes.old).shards session.old.setting }
     ensures ok { IfOk result (IsTakenUp (decoder.old.rest ++ piece.now) decoder.new (λ messages all. WritesReplyFront (HasAnswered (KeepsShape N.shape N.Answers) M.Gives) (backend session.old nodes.old moments.old) (backend session.new nodes.new moments.new) messages (W.contents (sink_writer sink.old)) (W.contents (sink_writer sink.new)) all)) }
     ensures same { OnOk result (sink_failures sink.new ≡ sink_failures sink.old) }
-    ensures err { IfErr result (λ fault. (fault ≡ Fault.OutOfMemory) ⊎ ((fault ≡ Fault.WriteFault) × HasRisen (sink_failures sink.old) (sink_failures sink.new))) }
+    ensures err { IfErr result (λ error. (error ≡ OutOfMemory) ⊎ ((error ≡ Refused WriteFault) × HasRisen (sink_failures sink.old) (sink_failures sink.new))) }
     ensures front { OnErr result (WritesSomeReplies (HasAnswered (KeepsShape N.shape N.Answers) M.Gives) (backend session.old nodes.old moments.old) (backend session.new nodes.new moments.new) (split_of (decoder.old.rest ++ piece.now)).messages (W.contents (sink_writer sink.old)) (W.contents (sink_writer sink.new))) }
     ensures setting { session.new.setting ≡ session.old.setting }
     ensures shape { N.shape nodes.new ≡ N.shape nodes.old }

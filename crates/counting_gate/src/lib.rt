@@ -7,7 +7,7 @@ ghost use Rattle.cops_gate.specs.Single.{single_home};
 mod counter;
 
 use cops_gate::{Gate, GateSeat};
-use cops_types::Fault;
+use cops_types::RequestError;
 pub use counter::{Ask, Counter};
 use std::sync::Wait;
 
@@ -16,7 +16,7 @@ pub fn two_turns<R: Wait>(
     rt: &R,
     gate: &Gate<Counter>,
     seat: &mut GateSeat<Counter>,
-) -> Result<(u64, u64), Fault>
+) -> Result<(u64, u64), RequestError>
     requires { seat.old.gate ≡ single_home gate.now }
     ensures { IfOk result (λ r. r.0 < r.1) }
 {

@@ -1,7 +1,7 @@
 use super::exchanges::{
     CLIENT, SERVER, assert_refused, assert_served, bytes_of, converse, exchange, serve,
 };
-use cops_types::Fault;
+use cops_types::{Fault, RequestError};
 use cops_wire::Ended;
 use std::alloc::Global;
 use std::io::{self, ErrorKind, Read, Write};
@@ -217,7 +217,7 @@ fn assert_write_fault(rt: &impl Abort, alloc: Global, writes_to_failure: u64) {
         writes_to_failure,
     };
     let (end, trickle) = exchange(rt, alloc, client.as_slice(), trickle);
-    assert!(rt; matches!(end, Err(Fault::WriteFault)));
+    assert!(rt; matches!(end, Err(RequestError::Refused(Fault::WriteFault))));
     assert_eq!(rt; trickle.taken.len() as u64, writes_to_failure);
     assert!(rt; server.as_slice().starts_with(trickle.taken.as_slice()));
 }
@@ -242,7 +242,7 @@ impl Read for Deaf {
 #[test]
 fn a_reader_that_fails(rt: HostRuntime) {
     let (end, replies) = exchange(&rt, rt.alloc(), Deaf, Vec::new(rt.alloc()));
-    assert!(&rt; matches!(end, Err(Fault::ReadFault)));
+    assert!(&rt; matches!(end, Err(RequestError::Refused(Fault::ReadFault))));
     assert_eq!(rt; replies.len(), 0);
 }
 
@@ -259,6 +259,6 @@ fn a_whole_conversation(rt: HostRuntime) {
 fn a_conversation_that_is_refused(rt: HostRuntime) {
     let client = bytes_of(&rt, rt.alloc(), "00000001 02");
     let (end, replies) = converse(&rt, rt.alloc(), client.as_slice(), Vec::new(rt.alloc()));
-    assert!(&rt; matches!(end, Err(Fault::Syntax)));
+    assert!(&rt; matches!(end, Err(RequestError::Refused(Fault::Syntax))));
     assert_eq!(rt; replies.as_slice(), [0, 0, 0, 2, 255, 1].as_slice());
 }

@@ -3,7 +3,7 @@ ghost use Rattle.std.specs.Prelude.{◌≡◌};
 
 use crate::one_tenant::{one_node, session};
 use cops_node::Cluster0;
-use cops_types::{Fault, Sink, Source};
+use cops_types::{Fault, RequestError, Sink, Source};
 use cops_wire::{Connection, Ended, Moments};
 use std::alloc::Global;
 use std::io::{Read, Write};
@@ -77,7 +77,7 @@ pub(crate) fn exchange<R: Read + Drop, W: Write>(
     alloc: Global,
     reader: R,
     writer: W,
-) -> (Result<Ended, Fault>, W) {
+) -> (Result<Ended, RequestError>, W) {
     let config = one_node(rt, alloc);
     let mut nodes = Cluster0::new(alloc, &config).expect(rt, "memory");
     let mut session = session(alloc, &config, 1);
@@ -85,7 +85,7 @@ pub(crate) fn exchange<R: Read + Drop, W: Write>(
     let mut connection = Connection::new(alloc, Source::new(reader), Sink::new(writer));
     let ended = match connection.greet(&config.tenants, config.data_centres) {
         Ok(_) => connection.serve(&mut session, &mut nodes, &mut moments),
-        Err(fault) => Err(fault),
+        Err(error) => Err(error),
     };
     let (_, sink) = connection.into_inner();
     (ended, sink.into_inner())
@@ -96,7 +96,7 @@ pub(crate) fn serve(
     rt: &impl Abort,
     alloc: Global,
     client: &[u8],
-) -> (Result<Ended, Fault>, Vec<u8>) {
+) -> (Result<Ended, RequestError>, Vec<u8>) {
     exchange(rt, alloc, client, Vec::new(alloc))
 }
 
@@ -106,7 +106,7 @@ pub(crate) fn converse<R: Read + Drop, W: Write>(
     alloc: Global,
     reader: R,
     writer: W,
-) -> (Result<Ended, Fault>, W) {
+) -> (Result<Ended, RequestError>, W) {
     let config = one_node(rt, alloc);
     let mut nodes = Cluster0::new(alloc, &config).expect(rt, "memory");
     let mut moments = Still { moment: 0 };
@@ -143,7 +143,7 @@ pub(crate) fn assert_refused(
     let (end, replies) = serve(rt, alloc, bytes_of(rt, alloc, client).as_slice());
     match end {
         Ok(_) => panic!(rt; "the greeting was taken"),
-        Err(other) => assert!(rt; other == fault),
+        Err(error) => assert!(rt; error == RequestError::Refused(fault)),
     }
     assert_bytes(rt, alloc, replies.as_slice(), server);
 }

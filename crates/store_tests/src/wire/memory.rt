@@ -2,7 +2,7 @@
 //! are a prefix of the replies. Run with the Nth allocation failing, for each N.
 use super::exchanges::{CLIENT, SERVER, bytes_of, exchange};
 use crate::slate::Slate;
-use cops_types::Fault;
+use cops_types::RequestError;
 use cops_wire::{Decoder, Ended, Message, encode};
 use std::process::Abort;
 
@@ -55,7 +55,7 @@ fn refused_memory_leaves_a_front(rt: HostRuntime) {
     let server = bytes_of(&rt, rt.alloc(), SERVER);
     let (end, slate) = exchange(&rt, rt.alloc(), client.as_slice(), Slate::new());
     let replies = slate.written();
-    assert!(&rt; matches!(end, Ok(Ended::Clean) | Err(Fault::OutOfMemory)));
+    assert!(&rt; matches!(end, Ok(Ended::Clean) | Err(RequestError::OutOfMemory)));
     assert!(&rt; tells_of_memory(replies) || server.as_slice().starts_with(replies));
     assert!(&rt; end.is_err() || tells_of_memory(replies) || replies.len() == server.len());
 }
