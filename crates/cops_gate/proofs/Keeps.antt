@@ -730,7 +730,7 @@ module _ {M C R P : Type 0} (turns : M → ℕ → ℕ → C → R → M → Typ
             let made = all_by_it s.views id v r.log r.counted final.1.1 complete (λ j w wj is. (r.each_seat j w wj).seated is) r.covered in
             let number : v.number ≡ id = (k.owns.0 numbered).0 in (
               all_seen (v.number ∷ v.account.joined) r.log v.seen k.seen made
-              (λ j met. ⊎_elim (λ this. subst (λ i. turns_of i r.log ≡ turns_of i v.seen) (sym (this ∙ number)) (k.owns.0 numbered).1) (λ earlier. k.joined j earlier) met),
+                  (λ j met. ⊎_elim (λ this. subst (λ i. turns_of i r.log ≡ turns_of i v.seen) (sym (this ∙ number)) (k.owns.0 numbered).1) (λ earlier. k.joined j earlier) met),
               made,
             )),
         (λ n x first h known ticket serving there.
