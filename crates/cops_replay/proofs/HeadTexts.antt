@@ -27,8 +27,8 @@ use Rattle.cops_replay.proofs.WholeMigrations.{whole}
 -- ---- the lines of the text of a head
 
 -- the text is that of these lines, each with its newline
-text_is : (config : Config) → flat_map ended (layout_line ∷ written_head config) ≡ head_text config
-text_is config =
+pub head_text_is : (config : Config) → flat_map ended (layout_line ∷ written_head config) ≡ head_text config
+head_text_is config =
     let first = ended layout_line in
     let cluster = ended (cluster_line config) in
     let tenants = flat_map tenant_text config.tenants in
@@ -39,7 +39,7 @@ text_is config =
 -- of a head that some lines have, whatever comes after it
 pub lines_of_text : (lines rest : List (List ℕ)) (config : Config) (more : List ℕ) → head_of lines ≡ Whole config rest → lines_of (head_text config ++ more) ≡ layout_line ∷ (written_head config ++ lines_of more)
 lines_of_text lines rest config more e =
-    ap (λ text. lines_of (text ++ more)) (sym (text_is config)) ∙ lines_of-more (layout_line ∷ written_head config) more (lacks_from_test newline layout_line refl, head_unbroken lines rest config e)
+    ap (λ text. lines_of (text ++ more)) (sym (head_text_is config)) ∙ lines_of-more (layout_line ∷ written_head config) more (lacks_from_test newline layout_line refl, head_unbroken lines rest config e)
 
 -- the head is read back, in today's layout
 pub text_reads_back : (lines rest : List (List ℕ)) (config : Config) (more : List ℕ) → head_of lines ≡ Whole config rest → head_by Today (lines_of (head_text config ++ more)) ≡ Whole config (lines_of more)

@@ -30,6 +30,7 @@ use Rattle.cops_model.specs.Setups.{next_slot}
 use Rattle.cops_script.specs.Script.{said_to}
 use Rattle.cops_script.proofs.OpenSets.{may_be_given}
 use Rattle.cops_replay.specs.OpenAudits.{left_config, open_tenants, with_tenants}
+use Rattle.cops_replay.proofs.AuditTexts.{each_at}
 use Rattle.cops_replay.proofs.HeadsBack.{IsToken, head_read, parsed_token, tenant_written, written_head, written_tenant}
 
 -- ---- tenants of a head
@@ -308,3 +309,16 @@ open_head lines rest config head =
     let leads = head_leads config (open_tenants tenants) is.sizes (omega (arith, few, all)) (fit_open tenants can.fit)
     (record { names = apart_open (λ t. t.name) tenants can.apart.names; tokens = apart_open (λ t. t.token) tenants can.apart.tokens }) in
     ap head_of (sym (append-nil (written_head (left_config config rest)))) ∙ head_read (written_head (left_config config rest)) [] 1 AtStart (left_config config rest) leads
+
+-- and those of a head with one of them alone
+pub lone_head : (lines rest : List (List ℕ)) (config : Config) (place : ℕ) (tenant : Tenant) → head_of lines ≡ Whole config rest → slice_get (left_config config rest).tenants place ≡ Some tenant →
+    head_of (written_head (with_tenants config (tenant ∷ []))) ≡ Whole (with_tenants config (tenant ∷ [])) []
+lone_head lines rest config place tenant head at =
+    let is = of_head lines rest config head in
+    let begun = begun_with config.tenants in
+    let tenants = tenants_past begun (said_to begun rest) in
+    let can = past_stands begun rest (begun_stands config is) in
+    let fit = each_at IsFit (open_tenants tenants) place tenant (fit_open tenants can.fit) at in
+    let lone = with_tenants config (tenant ∷ []) in
+    let leads = head_leads config (tenant ∷ []) is.sizes (omega arith) (fit, tt) (record { names = (refl, tt); tokens = (refl, tt) }) in
+    ap head_of (sym (append-nil (written_head lone))) ∙ head_read (written_head lone) [] 1 AtStart lone leads

@@ -64,14 +64,11 @@ module _ (config : TenantConfig) (limit : config.quota.deps ≤ 1024) (name : Li
       joined [] ys h k = k
       joined (x ∷ xs) ys h k = (h.0, joined xs ys h.1 k)
 
--- no record's line is too long
-abbrev AreShort : Config → (TenantConfig → ℕ → List SoloNode) → Type 0
-AreShort config nodes =
-    (slot : ℕ) (tenant : Tenant) → slice_get config.tenants slot ≡ Some tenant → AllByRecursion (λ (told : Record). IsTrue (nat_le (length (record_line tenant.name told)) longest_record)) (his_records config nodes slot tenant)
-
--- of the tenants who are open behind a script
-left_short : (lines rest : List (List ℕ)) (config : Config) → head_of lines ≡ Whole config rest → AreFormed (left_config config rest) (left_nodes config rest) → AreShort (left_config config rest) (left_nodes config rest)
-left_short lines rest config head formed place tenant e =
+-- of a tenant who is open behind a script
+short_at : (lines rest : List (List ℕ)) (config : Config) (place : ℕ) (tenant : Tenant) → head_of lines ≡ Whole config rest → slice_get (left_config config rest).tenants place ≡ Some tenant →
+    AllFormed (his_records (left_config config rest) (left_nodes config rest) place tenant) →
+    AllByRecursion (λ (told : Record). IsTrue (nat_le (length (record_line tenant.name told)) longest_record)) (his_records (left_config config rest) (left_nodes config rest) place tenant)
+short_at lines rest config place tenant head e formed =
     let left = left_config config rest in
     let stands = open_head lines rest config head in
     let his = tenant_config left tenant in
@@ -84,7 +81,7 @@ left_short lines rest config head formed place tenant e =
     let same : config_at (with_all_lives config said) life ≡ his = config_of_life config rest slot tenant (open_there tenants place tenant e) in
     let few : AllByRecursion (HasFewInAudit his) (left_nodes config rest his place) =
     subst (λ (c : TenantConfig). AllByRecursion (HasFewInAudit his) (cluster_of c acts).nodes) (sym same) (audits_few his (shards_of (written_head left) left [] stands) acts) in
-    nodes_short his (few_deps (written_head left) left [] place tenant stands e) tenant.name named his.shards 0 (left_nodes config rest his place) (formed place tenant e) few
+    nodes_short his (few_deps (written_head left) left [] place tenant stands e) tenant.name named his.shards 0 (left_nodes config rest his place) formed few
 
 -- each record has a line if it has a form and its line is not too long
 lines_of_both : (tenant : List ℕ) (records : List Record) → AllByRecursion (λ (told : Record). IsTrue (is_record told)) records →
@@ -92,7 +89,11 @@ lines_of_both : (tenant : List ℕ) (records : List Record) → AllByRecursion (
 lines_of_both tenant [] formed short = tt
 lines_of_both tenant (told ∷ records) formed short = (record { formed = formed.0; short = short.0 }, lines_of_both tenant records formed.1 short.1)
 
--- so each record has a line
+-- so each of its records has a line
+pub lines_at : (lines rest : List (List ℕ)) (config : Config) (place : ℕ) (tenant : Tenant) → head_of lines ≡ Whole config rest → slice_get (left_config config rest).tenants place ≡ Some tenant →
+    AllFormed (his_records (left_config config rest) (left_nodes config rest) place tenant) → AllByRecursion (HasLine tenant.name) (his_records (left_config config rest) (left_nodes config rest) place tenant)
+lines_at lines rest config place tenant head e formed =
+    lines_of_both tenant.name (his_records (left_config config rest) (left_nodes config rest) place tenant) formed (short_at lines rest config place tenant head e formed)
+
 pub left_lines : (lines rest : List (List ℕ)) (config : Config) → head_of lines ≡ Whole config rest → AreFormed (left_config config rest) (left_nodes config rest) → HaveLines (left_config config rest) (left_nodes config rest)
-left_lines lines rest config head formed place tenant e =
-    lines_of_both tenant.name (his_records (left_config config rest) (left_nodes config rest) place tenant) (formed place tenant e) (left_short lines rest config head formed place tenant e)
+left_lines lines rest config head formed place tenant e = lines_at lines rest config place tenant head e (formed place tenant e)

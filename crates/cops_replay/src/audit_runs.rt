@@ -15,7 +15,7 @@ ghost use Rattle.cops_replay.specs.Audits.{HasShape, ReplaysSame};
 ghost use Rattle.cops_replay.specs.AuditText.{audit_text};
 ghost use Rattle.cops_replay.specs.AuditRuns.{HasItsTenants, IsOfWriting, ReplaysSameFor, WritesAudit, WritesAuditFront, audit_out, open_config, open_nodes};
 ghost use Rattle.cops_replay.specs.OpenAudits.{open_slots, open_tenants};
-ghost use Rattle.cops_replay.specs.WrittenAudits.{AreFormed, SaysSameFor};
+ghost use Rattle.cops_replay.specs.WrittenAudits.{AreFormed, AreFormedFor, SaysSameFor};
 
 use crate::audits::write_audit_at;
 use cops_script::{BadConfig, RunFault};
@@ -121,6 +121,10 @@ pub fn audit_text<R: Read, O: Write>(
     // So does a replay of the text for any tenant.
     ensures says_same { OnOk result (IfSome (R.remaining (source_reader source.old)) (λ bytes.
         (text : List ℕ) → audit_out bytes ≡ Written text → SaysSameFor (head_of (lines_of bytes)) text)) }
+
+    // Each record in it has the form of a line, and so a tenant's part can be cut out of it.
+    ensures formed { OnOk result (IfSome (R.remaining (source_reader source.old)) (λ bytes.
+        AreFormedFor (head_of (lines_of bytes)))) }
 
     // A bad head is refused, and nothing is written then.
     ensures bad_head { IfErr result (λ fault. IfRunRefused fault (λ bad.

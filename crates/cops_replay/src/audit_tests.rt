@@ -7,7 +7,7 @@ use std::alloc::Global;
 use std::process::Abort;
 
 /// Acme's slot is gama's at the end, and zeta has left again.
-const ACME_GOES: &[u8] = b"cluster 1 1 5000 1
+pub(crate) const ACME_GOES: &[u8] = b"cluster 1 1 5000 1
 tenant acme 00000000-0000-0000-0000-000000000001 0 100 10000 10 4 20 8 1000
 tenant beta 00000000-0000-0000-0000-000000000002 0 100 10000 10 4 20 8 1000
 begin

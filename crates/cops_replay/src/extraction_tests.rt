@@ -6,7 +6,7 @@ use cops_types::{Sink, Source};
 use std::alloc::Global;
 use std::process::Abort;
 
-const GAMA: &[u8] = b"layout 2
+pub(crate) const GAMA: &[u8] = b"layout 2
 cluster 1 1 5000 1
 tenant gama 00000000-0000-0000-0000-000000000003 0 100 10000 10 4 20 8 1000
 begin

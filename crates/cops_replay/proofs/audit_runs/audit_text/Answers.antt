@@ -1,5 +1,6 @@
 use Rattle.std.proofs.lemmas.Result.{on_ok_weaker}
 use Rattle.cops_replay.proofs.AuditRunLemmas.{all_audited, all_replay_same, all_say_same, front_audited, never_read, never_refused, none_audited, on_err_any, on_ok_any, tenants_read}
+use Rattle.cops_replay.proofs.OwnAuditRuns.{all_formed_for}
 use Rattle.cops_replay.proofs.audit_runs.audit_text.Goals as goal
 
 pub returns-in-Err-clause-err : goal.returns-in-Err-clause-err
@@ -28,3 +29,6 @@ returns-clause-replays g c = on_ok_any _ c.write_world-result.result (all_replay
 
 pub returns-clause-says_same : goal.returns-clause-says_same
 returns-clause-says_same g c = on_ok_weaker c.write_world-result.result (all_say_same c.in-Ok.world _ c.in-Ok.ensures.ok c.write_world-result.ensures.replays) c.write_world-result.ensures.formed
+
+pub returns-clause-formed : goal.returns-clause-formed
+returns-clause-formed g c = on_ok_weaker c.write_world-result.result (all_formed_for c.in-Ok.world _ c.in-Ok.ensures.ok) c.write_world-result.ensures.formed

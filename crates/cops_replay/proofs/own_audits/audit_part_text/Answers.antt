@@ -1,0 +1,37 @@
+use Rattle.std.proofs.Common.{Err, ap}
+use Rattle.cops_replay.proofs.AuditRunLemmas.{tenants_read}
+use Rattle.cops_replay.proofs.OwnAuditRuns.{all_own_say_same, all_own_written, bad_refused, err_refused, no_own_front, nothing_kept, some_own_written, was_read, was_write}
+use Rattle.cops_replay.proofs.own_audits.audit_part_text.Goals as goal
+
+pub returns-in-Err-clause-err : goal.returns-in-Err-clause-err
+returns-in-Err-clause-err g c = no_own_front c.args.tenant.now _ _
+
+pub returns-in-Err-clause-refused : goal.returns-in-Err-clause-refused
+returns-in-Err-clause-refused g c = bad_refused c.args.tenant.now _ c.in-Err.fault c.part_fault.result c.part_fault.ensures c.in-Err.ensures.bad_head
+
+pub returns-in-Err-clause-unwritten : goal.returns-in-Err-clause-unwritten
+returns-in-Err-clause-unwritten g c = nothing_kept _ c.part_fault.result
+
+pub returns-in-Err-clause-read_fault : goal.returns-in-Err-clause-read_fault
+returns-in-Err-clause-read_fault g c is = c.in-Err.ensures.read_fault (ap Err (was_read c.in-Err.fault c.part_fault.result c.part_fault.ensures is))
+
+pub returns-in-Err-clause-write_fault : goal.returns-in-Err-clause-write_fault
+returns-in-Err-clause-write_fault g c is = absurd (c.in-Err.ensures.write_fault (ap Err (was_write c.in-Err.fault c.part_fault.result c.part_fault.ensures is)))
+
+pub write_own-result-requires : goal.write_own-result-requires
+write_own-result-requires g c = tenants_read c.in-Ok.world _ _ c.in-Ok.ensures.read
+
+pub returns-clause-ok : goal.returns-clause-ok
+returns-clause-ok g c = all_own_written c.in-Ok.world c.args.tenant.now _ _ c.write_own-result.result _ c.in-Ok.ensures.ok c.write_own-result.ensures.ok
+
+pub returns-clause-err : goal.returns-clause-err
+returns-clause-err g c = some_own_written c.in-Ok.world c.args.tenant.now _ _ c.write_own-result.result _ c.in-Ok.ensures.ok c.write_own-result.ensures.front
+
+pub returns-clause-says_same : goal.returns-clause-says_same
+returns-clause-says_same g c = all_own_say_same c.in-Ok.world c.args.tenant.now _ _ c.write_own-result.result _ c.in-Ok.ensures.ok c.write_own-result.ensures.ok c.write_own-result.ensures.replays
+
+pub returns-clause-refused : goal.returns-clause-refused
+returns-clause-refused g c = err_refused c.in-Ok.world c.args.tenant.now _ c.in-Ok.ensures.ok c.write_own-result.result c.write_own-result.ensures.refused
+
+pub returns-clause-read_fault : goal.returns-clause-read_fault
+returns-clause-read_fault g c is = absurd (c.write_own-result.ensures.read_fault is)
