@@ -15,7 +15,7 @@ use Rattle.clap.specs.Faults.{check_fault, defaults_fault, entered_fault, fault_
 use Rattle.clap.specs.declared.parser.matches.ArgMatches.{ArgMatches}
 use Rattle.clap.specs.declared.parser.matches.ArgMatches.TheViews.{out-ArgMatches}
 use Rattle.clap.proofs.OnLiterals.{clap_on_literals}
-use Rattle.cops_cli.specs.CommandLine.{IsSpelledBy, cops, subcommand_named, tenant_word, with_tenant_word}
+use Rattle.cops_cli.specs.CommandLine.{IsSpelledBy, cops, given_tenant, subcommand_named, tenant_word, with_given_tenant, with_tenant_word}
 
 pub is_simple_cops : is_simple cops ≡ true
 unfolding clap_on_literals
@@ -83,6 +83,15 @@ named_with_tenant word (Some p) rows named with_rows =
     let name : p.0 ≡ word = ap (λ o. unwrap_or o []) named in
     let its : p.1 ≡ rows = ap (λ o. unwrap_or o []) with_rows in
     ap₂ (λ (n : Text) (r : List Row). Some (with_tenant_word (n, r))) name its
+
+-- the same for a tenant that may be left out
+pub named_with_given : (word : Text) (found : Option (Text × List Row)) (rows : List Row) → option_map (λ (p : Text × List Row). p.0) found ≡ Some word → option_map (λ (p : Text × List Row). p.1) found ≡ Some rows
+    → option_map with_given_tenant found ≡ Some (word, given_tenant rows)
+named_with_given word None rows named with_rows = absurd (none_is_some named)
+named_with_given word (Some p) rows named with_rows =
+    let name : p.0 ≡ word = ap (λ o. unwrap_or o []) named in
+    let its : p.1 ≡ rows = ap (λ o. unwrap_or o []) with_rows in
+    ap₂ (λ (n : Text) (r : List Row). Some (with_given_tenant (n, r))) name its
 
 -- a subcommand that is named with a tenant is named
 pub word_of_named : (word other tenant : Text) (found : Option (Text × List Row)) → option_map (λ (p : Text × List Row). p.0) found ≡ Some word → option_map with_tenant_word found ≡ Some (other, tenant) → word ≡ other

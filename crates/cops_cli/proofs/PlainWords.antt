@@ -7,7 +7,7 @@ use Rattle.clap.specs.Kinds.{HasKind, Kinds, or_else}
 use Rattle.clap.specs.Lexer.{long_of, long_of_rest, short_of, short_of_rest, strip_byte}
 use Rattle.clap.specs.Faults.{bundle_fault, check_fault, defaults_fault, flag_word_fault, level_fault, settle_fault, step_fault, word_fault}
 use Rattle.clap.specs.Simple.{Shape, built, entered, names_of}
-use Rattle.clap.specs.Walk.{Held, Rule, Step, after_step, finished, idle, long_or_other, nothing_held, settled, short_or_plain, stop_after, trailing, value, walk_from, word_met}
+use Rattle.clap.specs.Walk.{Held, Rule, Step, Walk, after_step, finished, idle, long_or_other, nothing_held, option, plain_word, settled, short_or_plain, stop_after, trailing, value, walk_from, walked, word_met}
 use Rattle.clap.specs.Words.{Text, fault_of, kind_of}
 use Rattle.clap.proofs.OnLiterals.{clap_on_literals}
 use Rattle.clap.specs.declared.error.Error.{Error}
@@ -47,6 +47,19 @@ module _ (word : Text) (none : strip_byte 45 word ≡ None) (other : bytes_eq wo
       ap (λ (b : Bool). cond b (h, trailing 1) (long_or_other c idle word (long_of word) h)) other
       ∙ ap (λ o. long_or_other c idle word o h) (no_long word none)
       ∙ ap (λ o. short_or_plain c idle word o h) (no_short word none)
+
+  -- the same if an option waits for it
+  passes_option : (s : Shape) (id : Text) (h : Held) → word_fault s [] false (option id) word h ≡ []
+  passes_option s id h =
+      ap (λ (b : Bool). cond b [] (flag_word_fault s.rules s.args_override_self (long_of word) word h)) other
+      ∙ ap (λ o. flag_word_fault s.rules s.args_override_self o word h) (no_long word none)
+      ∙ ap (λ o. option_map_or (λ flags. bundle_fault s.rules s.args_override_self flags h) o []) (no_short word none)
+
+  is_option_value : (c : List Rule) (id : Text) (h : Held) → word_met c [] false (option id) 1 word h ≡ plain_word c (option id) word h
+  is_option_value c id h =
+      ap (λ (b : Bool). cond b (h, trailing 1) (long_or_other c (option id) word (long_of word) h)) other
+      ∙ ap (λ o. long_or_other c (option id) word o h) (no_long word none)
+      ∙ ap (λ o. short_or_plain c (option id) word o h) (no_short word none)
 
 -- one word after a command without subcommands: what is wrong with it, and what it is
 abbrev leaf_of : Shape → Text → Kinds → Held × Step → Kinds
@@ -117,6 +130,41 @@ serve_leaf : (word : Text) → leaf_of (sub_of 6) word [] (nothing_held, value) 
 unfolding clap_on_literals
 serve_leaf word = refl
 
+-- the word after the option of `audit`
+abbrev only_walk : Walk
+only_walk = walked (sub_of 2).rules [] (walk_from nothing_held) (codes "--tenant")
+
+abbrev only_of : Shape → Text → Kinds → Held × Step → Kinds
+only_of s word wrong met =
+    let end = (after_step s.rules word only_walk met.0 met.1).held in
+    or_else (or_else (or_else wrong (step_fault s 1 met.0 met.1)) [])
+    (or_else [] (or_else (settle_fault s.rules s.args_override_self end)
+    (or_else (defaults_fault (settled s.rules end).rows s.rules)
+    (check_fault s (finished s.rules end) false))))
+
+abbrev only_top : Text → Kinds → Kinds
+only_top word below =
+    let a = built cops in
+    let words = codes "audit" ∷ codes "--tenant" ∷ word ∷ [] in
+    level_fault a.top (names_of a) nothing_held words (is_some (entered a (stop_after a.top.rules (names_of a) words))) below
+
+only_top_is : (program word : Text) → fault_of cops (program ∷ codes "audit" ∷ codes "--tenant" ∷ word ∷ []) ≡ only_top word (level_fault (sub_of 2) [] nothing_held (codes "--tenant" ∷ word ∷ []) false [])
+unfolding clap_on_literals
+only_top_is program word = refl
+
+only_rest : (word : Text) → only_top word [] ≡ []
+unfolding clap_on_literals
+only_rest word = refl
+
+only_is : (word : Text) → level_fault (sub_of 2) [] nothing_held (codes "--tenant" ∷ word ∷ []) false []
+    ≡ only_of (sub_of 2) word (word_fault (sub_of 2) [] false (option (codes "tenant")) word only_walk.held) (word_met (sub_of 2).rules [] false (option (codes "tenant")) 1 word only_walk.held)
+unfolding clap_on_literals
+only_is word = refl
+
+only_leaf : (word : Text) → only_of (sub_of 2) word [] (plain_word (sub_of 2).rules (option (codes "tenant")) word only_walk.held) ≡ []
+unfolding clap_on_literals
+only_leaf word = refl
+
 leaf_passes : (s : Shape) (word : Text) → strip_byte 45 word ≡ None → bytes_eq word (45 ∷ 45 ∷ []) ≡ false → leaf_of s word [] (nothing_held, value) ≡ [] → level_fault s [] nothing_held (word ∷ []) false [] ≡ []
 leaf_passes s word none other leaf = leaf_is s word ∙ ap₂ (leaf_of s word) (passes word none other s nothing_held) (is_value word none other s.rules nothing_held) ∙ leaf
 
@@ -147,6 +195,13 @@ pub serve_passes : (program word : Text) → IsTrue (is_plain word) → fault_of
 serve_passes program word plain =
     let none = hyphens_differ word plain in
     serve_top program word ∙ ap (top_of (codes "serve") word) (leaf_passes (sub_of 6) word none.0 none.1 (serve_leaf word)) ∙ serve_rest word
+
+pub only_passes : (program word : Text) → IsTrue (is_plain word) → fault_of cops (program ∷ codes "audit" ∷ codes "--tenant" ∷ word ∷ []) ≡ []
+only_passes program word plain =
+    let none = hyphens_differ word plain in
+    let waits = passes_option word none.0 none.1 (sub_of 2) (codes "tenant") only_walk.held in
+    let is = is_option_value word none.0 none.1 (sub_of 2).rules (codes "tenant") only_walk.held in
+    only_top_is program word ∙ ap (only_top word) (only_is word ∙ ap₂ (only_of (sub_of 2) word) waits is ∙ only_leaf word) ∙ only_rest word
 
 pub run_passes : (program : Text) → fault_of cops (program ∷ codes "run" ∷ []) ≡ []
 unfolding clap_on_literals
@@ -180,7 +235,10 @@ plain_passes (program ∷ command ∷ word ∷ []) plain = elim plain.1 [
     ]
   ]
 ]
-plain_passes (program ∷ command ∷ word ∷ more ∷ rest) plain = absurd plain
+plain_passes (program ∷ command ∷ name ∷ word ∷ []) plain =
+    subst (λ (text : Text). fault_of cops (program ∷ text ∷ name ∷ word ∷ []) ≡ []) (sym plain.1)
+    (subst (λ (text : Text). fault_of cops (program ∷ codes "audit" ∷ text ∷ word ∷ []) ≡ []) (sym plain.2) (only_passes program word plain.0))
+plain_passes (program ∷ command ∷ name ∷ word ∷ more ∷ rest) plain = absurd plain
 
 -- ---- how words are refused
 

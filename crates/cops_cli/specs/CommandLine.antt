@@ -21,8 +21,12 @@ tenant = record (new_rule (codes "TENANT")) { required = true }
 abbrev pub solo : App
 solo = with_rule (new_app (codes "solo")) tenant
 
+-- the name of a tenant, which may be given
+abbrev pub only_tenant : Rule
+only_tenant = record (new_rule (codes "tenant")) { long = Some (codes "tenant"); value_names = 1 }
+
 abbrev pub audit : App
-audit = new_app (codes "audit")
+audit = with_rule (new_app (codes "audit")) only_tenant
 
 abbrev pub replay : App
 replay = with_rule (new_app (codes "replay")) tenant
@@ -94,6 +98,17 @@ with_tenant_word found = (found.0, tenant_word found.1)
 abbrev pub alone_named : List Text → Option (Text × Text)
 alone_named words = option_map with_tenant_word (subcommand_of cops words)
 
+-- the tenant that the words after `audit` name, if they name one
+abbrev pub given_tenant : List Row → Option Text
+given_tenant rows = first_of (codes "tenant") rows
+
+abbrev pub with_given_tenant : Text × List Row → Text × Option Text
+with_given_tenant found = (found.0, given_tenant found.1)
+
+-- the subcommand that words name, with the tenant that may be given
+abbrev pub audit_named : List Text → Option (Text × Option Text)
+audit_named words = option_map with_given_tenant (subcommand_of cops words)
+
 -- the address that the words after `serve` name
 abbrev pub address_in : List Row → Text
 address_in rows = unwrap_or (first_of (codes "ADDRESS") rows) []
@@ -126,7 +141,7 @@ pub record IsServedBy (words : List Text) (service : Service) : Type 0 where
 abbrev pub IsAskedBy : List Text → Task → Type 0
 IsAskedBy words Run = subcommand_named words ≡ Some (codes "run")
 IsAskedBy words (Solo name) = alone_named words ≡ Some (codes "solo", name.now)
-IsAskedBy words Audit = subcommand_named words ≡ Some (codes "audit")
+IsAskedBy words (Audit name) = audit_named words ≡ Some (codes "audit", option_map (λ tenant. tenant.now) name)
 IsAskedBy words (Replay name) = alone_named words ≡ Some (codes "replay", name.now)
 IsAskedBy words (Extract name) = alone_named words ≡ Some (codes "extract", name.now)
 IsAskedBy words Migrate = subcommand_named words ≡ Some (codes "migrate")
@@ -137,10 +152,11 @@ abbrev pub is_plain : Text → Bool
 is_plain [] = true
 is_plain (byte ∷ bytes) = not (byte == 45)
 
--- the program's name and a command without options, with its tenant or its address if it has one
+-- the program's name and a command, with its tenant or its address if it has one; the only option is that of `audit`
 abbrev pub ArePlain : List Text → Type 0
 ArePlain (program ∷ command ∷ []) = (command ≡ codes "run") ⊎ ((command ≡ codes "audit") ⊎ (command ≡ codes "migrate"))
 ArePlain (program ∷ command ∷ word ∷ []) = IsTrue (is_plain word) × ((command ≡ codes "solo") ⊎ ((command ≡ codes "replay") ⊎ ((command ≡ codes "extract") ⊎ (command ≡ codes "serve"))))
+ArePlain (program ∷ command ∷ name ∷ word ∷ []) = IsTrue (is_plain word) × (command ≡ codes "audit") × (name ≡ codes "--tenant")
 ArePlain other = ⊥
 
 -- clap refuses the words for a reason that it has at these words

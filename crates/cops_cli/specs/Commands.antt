@@ -1,5 +1,5 @@
 -- What each command of `cops` may end with, between a reader and a writer.
-use Rattle.std.specs.Prelude.{◌≡◌, ◌⊎◌, ◌^◌, ⊤, ℕ, List, Option, Result, Ok, Err, IfSome}
+use Rattle.std.specs.Prelude.{◌≡◌, ◌⊎◌, ◌^◌, ⊤, ℕ, List, Option, Some, None, Result, Ok, Err, IfSome}
 use Rattle.std.specs.Io.KnownBytes.{Appends, IsAtEnd, Keeps}
 use Rattle.cops_types.specs.declared.configs.Config.{Config}
 use Rattle.cops_types.specs.declared.sinks.Sink.{Sink}
@@ -18,6 +18,7 @@ use Rattle.cops_service.specs.Left.{AreLeft}
 use Rattle.cops_replay.specs.AuditRuns.{WritesAudit, WritesAuditFront}
 use Rattle.cops_replay.specs.AuditText.{audit_of, his_nodes}
 use Rattle.cops_replay.specs.MigratedText.{migration_of}
+use Rattle.cops_replay.specs.OwnAudits.{RefusesOwnAuditOf, WritesOwnAudit, WritesOwnAuditFront}
 use Rattle.cops_replay.specs.OwnParts.{RefusesPartOf, WritesPart, WritesPartFront}
 use Rattle.cops_replay.specs.ReplayText.{IsReplayOf, RefusesReplayOf, ReplaysFront}
 use Rattle.cops_replay.specs.WrittenAudits.{AllReplaySame, HaveLines, SaysSame}
@@ -116,6 +117,15 @@ answering_alone name = record { does = ReadsAll (WritesSolo name); begins = Writ
 abbrev pub auditing : CommandRules
 auditing = record { does = ReadsAll WritesAudit; begins = WritesSomeOf WritesAuditFront; refuses = refuses_script }
 
+abbrev pub refuses_own : List ℕ → Streams → Streams → CliFault → Type 0
+refuses_own name old new (BadHead line) = RefusesAll (λ bytes. RefusesOwnAuditOf name bytes (part.BadConfig (record { line = line }))) old new
+refuses_own name old new UnknownTenant = RefusesAll (λ bytes. RefusesOwnAuditOf name bytes part.UnknownTenant) old new
+refuses_own name old new other = ⊥
+
+-- the part of a script's audit that is the tenant's own
+abbrev pub auditing_alone : List ℕ → CommandRules
+auditing_alone name = record { does = ReadsAll (WritesOwnAudit name); begins = WritesSomeOf (WritesOwnAuditFront name); refuses = refuses_own name }
+
 abbrev pub refuses_records : List ℕ → Streams → Streams → CliFault → Type 0
 refuses_records name old new (BadHead line) = RefusesAll (λ bytes. RefusesReplayOf name bytes (replay.BadConfig (record { line = line }))) old new
 refuses_records name old new UnknownTenant = RefusesAll (λ bytes. RefusesReplayOf name bytes replay.UnknownTenant) old new
@@ -196,7 +206,8 @@ serving = record { does = WritesServed; begins = WritesServedFront; refuses = re
 abbrev pub command_of : Task → CommandRules
 command_of Run = answering
 command_of (Solo name) = answering_alone name.now
-command_of Audit = auditing
+command_of (Audit None) = auditing
+command_of (Audit (Some name)) = auditing_alone name.now
 command_of (Replay name) = replaying name.now
 command_of (Extract name) = extracting name.now
 command_of Migrate = migrating

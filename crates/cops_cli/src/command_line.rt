@@ -1,10 +1,10 @@
 //! Reads the command line.
-ghost use Rattle.std.specs.Prelude.{◌≡◌, ◌⊎◌, [], codes, map, false, IfOk, IfErr, OnOk};
+ghost use Rattle.std.specs.Prelude.{◌≡◌, ◌⊎◌, [], codes, map, option_map, false, IfOk, IfErr, OnOk};
 ghost use Rattle.clap.specs.Matches.{found_of};
 ghost use Rattle.clap.specs.Walk.{rows_of};
 ghost use Rattle.clap.specs.Words.{app_of, fault_of, new_app, one_of, rule_of};
 ghost use Rattle.clap.specs.declared.builder.command.Command.TheViews.{out-Command};
-ghost use Rattle.cops_cli.specs.CommandLine.{ArePlain, IsAskedBy, IsRefusedAs, IsServiceIn, IsSpelledBy, address, audit, cops, extract, flag, migrate, number, numbered_serve, replay, run, serve, solo, tenant, tenant_word, with_audit, with_extract, with_migrate, with_replay, with_run, with_solo};
+ghost use Rattle.cops_cli.specs.CommandLine.{ArePlain, IsAskedBy, IsRefusedAs, IsServiceIn, IsSpelledBy, address, audit, cops, extract, flag, given_tenant, migrate, number, numbered_serve, only_tenant, replay, run, serve, solo, tenant, tenant_word, with_audit, with_extract, with_migrate, with_replay, with_run, with_solo};
 
 use crate::faults::CliFault;
 use crate::help_texts::{
@@ -31,8 +31,8 @@ pub(crate) enum Task<'a> {
     Run,
     /// Answers a script for one tenant alone.
     Solo(&'a str),
-    /// Writes the audit of a script.
-    Audit,
+    /// Writes the audit of a script, or the part of the tenant with this name.
+    Audit(Option<&'a str>),
     /// Replays one tenant's records of an audit.
     Replay(&'a str),
     /// Extracts one tenant's part of an audit.
@@ -44,6 +44,8 @@ pub(crate) enum Task<'a> {
 }
 
 const TENANT: &str = "TENANT";
+
+const ONLY_TENANT: &str = "tenant";
 
 const ADDRESS: &str = "ADDRESS";
 
@@ -98,13 +100,27 @@ fn solo_command<'a>(alloc: Global) -> Result<Command<'a>, AllocError>
         .arg(tenant)
 }
 
-fn audit_command<'a>(alloc: Global) -> Command<'a>
-    ensures app { app_of result ≡ audit }
-    ensures no_globals { (out-Command result).has_globals ≡ false }
+/// The name of a tenant, which may be left out.
+fn only_tenant_argument<'a>(alloc: Global) -> Arg<'a>
+    ensures rule { rule_of result ≡ only_tenant }
+    ensures local { result.global ≡ false }
 {
+    Arg::new(alloc, ONLY_TENANT)
+        .help("Write this tenant's part alone")
+        .long(ONLY_TENANT)
+        .value_name("NAME")
+}
+
+/// With the name of a tenant, if one is given.
+fn audit_command<'a>(alloc: Global) -> Result<Command<'a>, AllocError>
+    ensures app { IfOk result (λ command. app_of command ≡ audit) }
+    ensures no_globals { IfOk result (λ command. (out-Command command).has_globals ≡ false) }
+{
+    let only = only_tenant_argument(alloc);
     Command::new(alloc, "audit")
         .about("Writes the audit of the script on standard input")
         .after_help(AUDIT_HELP)
+        .arg(only)
 }
 
 /// With the name of a tenant.
@@ -255,7 +271,7 @@ fn solo_commands<'a>(alloc: Global) -> Result<Command<'a>, AllocError>
 fn audit_commands<'a>(alloc: Global) -> Result<Command<'a>, AllocError>
     ensures { IfOk result (λ command. app_of command ≡ with_audit) }
 {
-    let audit = audit_command(alloc);
+    let audit = audit_command(alloc)?;
     solo_commands(alloc)?.subcommand(audit)
 }
 
@@ -297,6 +313,13 @@ fn tenant_in<'a>(matches: &ArgMatches<'a>) -> &'a str
     matches.get_str(TENANT).unwrap_or("")
 }
 
+/// Returns the tenant that the words after `audit` name, if they name one.
+fn given_tenant_in<'a>(matches: &ArgMatches<'a>) -> Option<&'a str>
+    ensures { option_map (λ name. name.now) result ≡ given_tenant (rows_of (found_of matches.now)) }
+{
+    matches.get_str(ONLY_TENANT)
+}
+
 /// Returns the number under this id, or another one if there is none.
 fn number_in(matches: &ArgMatches, id: &str, other: u64) -> u64
     ensures { IsSpelledBy (one_of id.now (rows_of (found_of matches.now))) result }
@@ -317,12 +340,15 @@ fn service_in<'a>(serve: &ArgMatches<'a>) -> Service<'a>
     }
 }
 
-/// Reads the words, of which the first is the program's name. Fails if clap refuses them, or memory runs out.
+/// Reads the words, of which the first is the program's name. Fails if clap refuses them, or memory
+/// runs out.
 pub(crate) fn read_words<'a, S: AsStr>(alloc: Global, words: &'a [S]) -> Result<Task<'a>, CliFault>
     ensures asked { IfOk result (IsAskedBy (map S.text words.now)) }
     ensures taken { OnOk result (fault_of cops (map S.text words.now) ≡ []) }
-    ensures refused { IfErr result (λ fault. (fault ≡ CliFault.OutOfMemory) ⊎ IsRefusedAs (map S.text words.now) fault) }
-    ensures plain { ArePlain (map S.text words.now) → IfErr result (λ fault. fault ≡ CliFault.OutOfMemory) }
+    ensures refused { IfErr result (λ fault.
+        (fault ≡ CliFault.OutOfMemory) ⊎ IsRefusedAs (map S.text words.now) fault) }
+    ensures plain { ArePlain (map S.text words.now) →
+        IfErr result (λ fault. fault ≡ CliFault.OutOfMemory) }
 {
     let matches = command_line(alloc)?.try_get_matches_from(words)?;
     if let Some(solo) = matches.subcommand_matches("solo") {
@@ -344,7 +370,7 @@ pub(crate) fn read_words<'a, S: AsStr>(alloc: Global, words: &'a [S]) -> Result<
         return Ok(Task::Migrate);
     }
     match matches.subcommand_matches("audit") {
-        Some(_audit) => Ok(Task::Audit),
+        Some(audit) => Ok(Task::Audit(given_tenant_in(audit))),
         None => Ok(Task::Run),
     }
 }

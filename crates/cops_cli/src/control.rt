@@ -113,8 +113,8 @@ impl Hosted for HostRuntime {
     }
 }
 
-/// Starts a thread that follows standard input, of which so many lines have come. Nobody joins it: it ends with the
-/// process. Fails if it can't be started.
+/// Starts a thread that follows standard input, of which so many lines have come. Nobody joins it:
+/// it ends with the process. Fails if it can't be started.
 pub(crate) fn follow_input<R: Threads + Hosted>(
     rt: &R,
     stop: &Arc<Stop, Global>,

@@ -8,7 +8,8 @@ use cops_types::Source;
 use std::io;
 use std::io::Read;
 
-/// A reader that gives one byte a turn, so that nothing behind the head is read with it, and counts lines.
+/// A reader that gives one byte a turn, so that nothing behind the head is read with it, and counts
+/// lines.
 #[derive(Drop)]
 pub(crate) struct ByteReader<'a, I: Read> {
     source: &'a mut Source<I>,
@@ -33,7 +34,8 @@ impl<I: Read> Read for ByteReader<'_, I> {
 
     fn read(&mut self, buf: &mut [u8]) -> io::Result<usize>
         ensures bound { ReadsAtMost result buf.new }
-        ensures bytes { ReadConsumes (I.remaining (source_reader self.old.source.now)) (I.remaining (source_reader self.new.source.now)) result buf.new }
+        ensures bytes { ReadConsumes (I.remaining (source_reader self.old.source.now))
+            (I.remaining (source_reader self.new.source.now)) result buf.new }
         ensures one { IfOk result (λ count. count ≤ 1) }
     {
         let most = buf.len().min(1);

@@ -1,7 +1,10 @@
 //! The text of `--help` for each command, below its arguments.
 
 pub(crate) const COPS_HELP: &str =
-    "'cops COMMAND --help' says what a command reads and writes, and how it ends.";
+    "'cops COMMAND --help' says what a command reads and writes, and how it ends.
+
+A command that reads a file for more than two seconds says on standard error,
+once a second, how many lines it has read, if that is a terminal.";
 
 pub(crate) const RUN_HELP: &str =
     "Reads a script from standard input: a head, and then one event a line. A line
@@ -48,6 +51,8 @@ pub(crate) const AUDIT_HELP: &str =
 Writes its audit to standard output: the layout, a head with the tenants that
 are open at the end, and then each of their node calls with its reply, one a
 line.
+With --tenant it writes this tenant's part alone, as 'cops extract' cuts it out
+of the audit. No other tenant's name, token or line is in it.
 
 Status  Standard error              When
 0                                   all was read, and the audit is written
@@ -55,12 +60,14 @@ Status  Standard error              When
 1       cops: E26                   reading failed
 1       cops: E27                   writing failed
 2       cops: configuration line N  the head is bad; nothing is written
+2       cops: E02                   all was read, and no tenant NAME is open at
+                                    the end; nothing is written
 2       this, or what is wrong      --help was given, or the arguments are wrong
 
 With status 1 a prefix of the audit may have been written.
 
 Example:
-  cops audit < demo/tenants.script";
+  cops audit --tenant acme < demo/tenants.script";
 
 pub(crate) const REPLAY_HELP: &str =
     "Reads an audit of layout 1 or 2 from standard input, and computes this tenant's
@@ -139,15 +146,15 @@ Standard error says where it listens, what it served, and before E26 why.
 Status  Standard error              When
 0                                   the audit is written
 1       cops: E19                   a turn of a node was never ended
-1       cops: E23                   memory was refused
+1       cops: E23                   out of memory
 1       cops: E26                   standard input or the listener failed, nothing
                                     can listen there, or a thread didn't start
 1       cops: E27                   writing failed
 2       cops: configuration line N  the head is bad; nothing is written
-2       this, or what is wrong      help was asked for, or cops takes no such words
+2       this, or what is wrong      --help was given, or the arguments are wrong
 
-With status 1 a front of the audit may be written; all of it if the listener
-failed.
+With status 1 a prefix of the audit may have been written; all of it if the
+listener failed.
 
 Example:
   head -4 demo/tenants.script | cops serve 127.0.0.1:7000 --connections 1 > audit.txt

@@ -1,4 +1,5 @@
-//! The program `cops`. It answers a script, writes its audit, replays an audit, extracts a part of it or migrates it, or serves clients.
+//! The program `cops`. It answers a script, writes its audit, replays an audit, extracts a part of
+//! it or migrates it, or serves clients.
 #![tactic(auto)]
 
 ghost use Rattle.std.specs.Prelude.{◌≡◌};
@@ -12,13 +13,15 @@ mod heads;
 mod help_texts;
 mod moments;
 mod program;
+mod progress;
 mod serve;
 
 use control::Hosted;
 use cops_types::{Sink, Source};
 use faults::CliFault;
 use program::answer;
-use std::io::ErrorKind;
+use progress::{Progress, WatchedReader};
+use std::io::{ErrorKind, IsTerminal};
 use std::net::{Net, TcpListener, TcpStream};
 use std::process::ExitCode;
 use std::rt::Env;
@@ -37,14 +40,27 @@ fn words_of<R: Env + AllocGlobal>(rt: &R) -> Result<Vec<String>, CliFault> {
     words.collect(rt.alloc()).map_err(|_| CliFault::OutOfMemory)
 }
 
-/// Runs the command that the words name.
-fn run<R>(rt: &R) -> Result<(), CliFault>
+/// Returns `true` unless the words ask for a service, which reads a head alone.
+fn reads_a_file(words: &[String]) -> bool {
+    match words.get(1) {
+        Some(command) => command.as_str() != "serve",
+        None => true,
+    }
+}
+
+/// Runs the command that the words name, and reports its progress if asked to.
+fn run<R>(rt: &R, shows_progress: bool) -> Result<(), CliFault>
 where
     R: Env + Input + Print + Eprint + AllocGlobal + Hosted,
     R: Net<Listener = TcpListener, Stream = TcpStream> + Threads + Wait + Clock + Sync,
 {
     let words = words_of(rt)?;
-    let mut source = Source::new(rt.reader());
+    let progress = if shows_progress && reads_a_file(words.as_slice()) {
+        Progress::new(rt)
+    } else {
+        None
+    };
+    let mut source = Source::new(WatchedReader::new(rt.reader(), progress));
     let mut sink = Sink::new(io::writer(rt));
     answer(rt, rt.alloc(), words.as_slice(), &mut source, &mut sink)
 }
@@ -62,5 +78,7 @@ fn end<R: Eprint>(rt: &R, outcome: Result<(), CliFault>) -> ExitCode
 }
 
 fn main(rt: HostRuntime) -> ExitCode {
-    end(&rt, run(&rt))
+    // On a terminal alone, and not for input that is typed.
+    let shows_progress = rt.stderr().is_terminal() && !rt.stdin().is_terminal();
+    end(&rt, run(&rt, shows_progress))
 }

@@ -2,8 +2,8 @@
 use cops_wire::Moments;
 use std::time::{Clock, Duration};
 
-/// Milliseconds since 1970. It reads the system's clock once, and adds the time of a monotonic clock, so it doesn't jump
-/// when the system's clock is set.
+/// Milliseconds since 1970. It reads the system's clock once, and adds the time of a monotonic
+/// clock, so it doesn't jump when the system's clock is set.
 #[derive_where(Clone, Copy)]
 pub(crate) struct SteadyMoments<'a, R: Clock> {
     clock: &'a R,

@@ -1,14 +1,14 @@
 //! The program over any reader and any writer.
 ghost use Rattle.std.specs.Prelude.{◌≡◌, ◌⊎◌, map, IfErr, IsErrAnd};
 ghost use Rattle.cops_cli.specs.CommandLine.{ArePlain};
-ghost use Rattle.cops_cli.specs.Commands.{EndsTask, MayEnd, RefusesTask, answering, answering_alone, auditing, command_of, extracting, migrating, replaying, streams};
+ghost use Rattle.cops_cli.specs.Commands.{EndsTask, MayEnd, RefusesTask, answering, answering_alone, auditing, auditing_alone, command_of, extracting, migrating, replaying, streams};
 ghost use Rattle.cops_cli.specs.Faults.{IsOfWords};
 
 use crate::command_line::{Task, read_words};
 use crate::control::Hosted;
 use crate::faults::CliFault;
 use crate::serve::serve;
-use cops_replay::{audit_text, extract_text, migrate_text, replay_text};
+use cops_replay::{audit_part_text, audit_text, extract_text, migrate_text, replay_text};
 use cops_types::{Sink, Source};
 use cops_world::{run_script, solo_script};
 use std::alloc::Global;
@@ -25,7 +25,9 @@ fn run<R: Read, O: Write>(
     source: &mut Source<R>,
     sink: &mut Sink<O>,
 ) -> Result<(), CliFault>
-    ensures { MayEnd answering (streams R.remaining O.contents source.old sink.old) (streams R.remaining O.contents source.new sink.new) result }
+    ensures { MayEnd answering
+        (streams R.remaining O.contents source.old sink.old)
+        (streams R.remaining O.contents source.new sink.new) result }
 {
     run_script(alloc, source, sink)?;
     Ok(())
@@ -38,7 +40,9 @@ fn solo<R: Read, O: Write>(
     sink: &mut Sink<O>,
     tenant: &str,
 ) -> Result<(), CliFault>
-    ensures { MayEnd (answering_alone tenant.now) (streams R.remaining O.contents source.old sink.old) (streams R.remaining O.contents source.new sink.new) result }
+    ensures { MayEnd (answering_alone tenant.now)
+        (streams R.remaining O.contents source.old sink.old)
+        (streams R.remaining O.contents source.new sink.new) result }
 {
     solo_script(alloc, source, sink, tenant.as_bytes())?;
     Ok(())
@@ -50,9 +54,26 @@ fn audit<R: Read, O: Write>(
     source: &mut Source<R>,
     sink: &mut Sink<O>,
 ) -> Result<(), CliFault>
-    ensures { MayEnd auditing (streams R.remaining O.contents source.old sink.old) (streams R.remaining O.contents source.new sink.new) result }
+    ensures { MayEnd auditing
+        (streams R.remaining O.contents source.old sink.old)
+        (streams R.remaining O.contents source.new sink.new) result }
 {
     audit_text(alloc, source, sink)?;
+    Ok(())
+}
+
+/// Writes one tenant's part of the audit of a script.
+fn audit_alone<R: Read, O: Write>(
+    alloc: Global,
+    source: &mut Source<R>,
+    sink: &mut Sink<O>,
+    tenant: &str,
+) -> Result<(), CliFault>
+    ensures { MayEnd (auditing_alone tenant.now)
+        (streams R.remaining O.contents source.old sink.old)
+        (streams R.remaining O.contents source.new sink.new) result }
+{
+    audit_part_text(alloc, source, sink, tenant.as_bytes())?;
     Ok(())
 }
 
@@ -63,7 +84,9 @@ fn replay<R: Read, O: Write>(
     sink: &mut Sink<O>,
     tenant: &str,
 ) -> Result<(), CliFault>
-    ensures { MayEnd (replaying tenant.now) (streams R.remaining O.contents source.old sink.old) (streams R.remaining O.contents source.new sink.new) result }
+    ensures { MayEnd (replaying tenant.now)
+        (streams R.remaining O.contents source.old sink.old)
+        (streams R.remaining O.contents source.new sink.new) result }
 {
     replay_text(alloc, source, sink, tenant.as_bytes())?;
     Ok(())
@@ -76,7 +99,9 @@ fn extract<R: Read, O: Write>(
     sink: &mut Sink<O>,
     tenant: &str,
 ) -> Result<(), CliFault>
-    ensures { MayEnd (extracting tenant.now) (streams R.remaining O.contents source.old sink.old) (streams R.remaining O.contents source.new sink.new) result }
+    ensures { MayEnd (extracting tenant.now)
+        (streams R.remaining O.contents source.old sink.old)
+        (streams R.remaining O.contents source.new sink.new) result }
 {
     extract_text(alloc, source, sink, tenant.as_bytes())?;
     Ok(())
@@ -88,7 +113,9 @@ fn migrate<R: Read, O: Write>(
     source: &mut Source<R>,
     sink: &mut Sink<O>,
 ) -> Result<(), CliFault>
-    ensures { MayEnd migrating (streams R.remaining O.contents source.old sink.old) (streams R.remaining O.contents source.new sink.new) result }
+    ensures { MayEnd migrating
+        (streams R.remaining O.contents source.old sink.old)
+        (streams R.remaining O.contents source.new sink.new) result }
 {
     migrate_text(alloc, source, sink)?;
     Ok(())
@@ -105,12 +132,15 @@ fn perform<T, R: Read, O: Write>(
 where
     T: Net<Listener = TcpListener, Stream = TcpStream> + Threads + Wait + Clock + Sync,
     T: Hosted + Eprint,
-    ensures { MayEnd (command_of task.entry) (streams R.remaining O.contents source.old sink.old) (streams R.remaining O.contents source.new sink.new) result }
+    ensures { MayEnd (command_of task.entry)
+        (streams R.remaining O.contents source.old sink.old)
+        (streams R.remaining O.contents source.new sink.new) result }
 {
     match task {
         Task::Run => run(alloc, source, sink),
         Task::Solo(tenant) => solo(alloc, source, sink, tenant),
-        Task::Audit => audit(alloc, source, sink),
+        Task::Audit(None) => audit(alloc, source, sink),
+        Task::Audit(Some(tenant)) => audit_alone(alloc, source, sink, tenant),
         Task::Replay(tenant) => replay(alloc, source, sink, tenant),
         Task::Extract(tenant) => extract(alloc, source, sink, tenant),
         Task::Migrate => migrate(alloc, source, sink),
@@ -130,8 +160,12 @@ where
     T: Net<Listener = TcpListener, Stream = TcpStream> + Threads + Wait + Clock + Sync,
     T: Hosted + Eprint,
     // The words are refused, and nothing is read or written; or the command that they ask for ends.
-    ensures ends { IsErrAnd result (RefusesTask (map S.text words.now) (streams R.remaining O.contents source.old sink.old) (streams R.remaining O.contents source.new sink.new))
-        ⊎ EndsTask (map S.text words.now) (streams R.remaining O.contents source.old sink.old) (streams R.remaining O.contents source.new sink.new) result }
+    ensures ends { IsErrAnd result (RefusesTask (map S.text words.now)
+        (streams R.remaining O.contents source.old sink.old)
+        (streams R.remaining O.contents source.new sink.new))
+        ⊎ EndsTask (map S.text words.now)
+        (streams R.remaining O.contents source.old sink.old)
+        (streams R.remaining O.contents source.new sink.new) result }
 
     // Plain words are never refused.
     ensures plain { ArePlain (map S.text words.now) → IfErr result (λ ended. IsOfWords ended → ⊥) }

@@ -126,7 +126,8 @@ where
     requires clocks { IsTrue (are_clocks config.now) }
     ensures left { IfOk result (λ served. AreLeft (new_nodes config.now).nodes served.nodes.items) }
     ensures threads { IfOk result (λ served. served.end ≢ ServiceEnd.NoThread) }
-    ensures stopped { IfErr result (λ fault. (fault ≡ CliFault.OutOfMemory) ⊎ (fault ≡ CliFault.ReadFault) ⊎ (fault ≡ CliFault.Torn)) }
+    ensures stopped { IfErr result (λ fault.
+        (fault ≡ CliFault.OutOfMemory) ⊎ (fault ≡ CliFault.ReadFault) ⊎ (fault ≡ CliFault.Torn)) }
 {
     let listener = listen(rt, service.address)?;
     let stop = stop_of(rt, alloc, &listener, lines)?;
@@ -180,18 +181,26 @@ fn conclude<R: Eprint, O: Write>(
 ) -> Result<(), CliFault>
     requires sizes { IsTrue (are_sizes config.now) }
     requires nodes { AreNodesOf config.now served.now.nodes.items }
-    ensures ok { OnOk result (Appends (O.contents (sink_writer sink.old)) (O.contents (sink_writer sink.new)) (audit_of config.now served.now.nodes.items)) }
-    ensures front { AppendsFront (O.contents (sink_writer sink.old)) (O.contents (sink_writer sink.new)) (audit_of config.now served.now.nodes.items) }
+    ensures ok { OnOk result (Appends (O.contents (sink_writer sink.old)) (O.contents (sink_writer sink.new))
+        (audit_of config.now served.now.nodes.items)) }
+    ensures front { AppendsFront (O.contents (sink_writer sink.old)) (O.contents (sink_writer sink.new))
+        (audit_of config.now served.now.nodes.items) }
     ensures done { OnOk result (served.now.end ≡ ServiceEnd.Done) }
-    ensures stopped { IfErr result (λ fault. (fault ≡ CliFault.OutOfMemory) ⊎ (fault ≡ CliFault.WriteFault) ⊎ (fault ≡ CliFault.ReadFault)) }
-    ensures lost { IsErrOf result CliFault.ReadFault → Appends (O.contents (sink_writer sink.old)) (O.contents (sink_writer sink.new)) (audit_of config.now served.now.nodes.items) }
-    ensures write_fault { IsErrOf result CliFault.WriteFault → HasRisen (sink_failures sink.old) (sink_failures sink.new) }
+    ensures stopped { IfErr result (λ fault.
+        (fault ≡ CliFault.OutOfMemory) ⊎ (fault ≡ CliFault.WriteFault) ⊎ (fault ≡ CliFault.ReadFault)) }
+    ensures lost { IsErrOf result CliFault.ReadFault →
+        Appends (O.contents (sink_writer sink.old)) (O.contents (sink_writer sink.new))
+        (audit_of config.now served.now.nodes.items) }
+    ensures write_fault { IsErrOf result CliFault.WriteFault →
+        HasRisen (sink_failures sink.old) (sink_failures sink.new) }
 
     // A replay of each tenant's records finds them all the same; of the text too, as `write_audit`
     // says it.
     ensures replays { AllReplaySame config.now (his_nodes config.now served.now.nodes.items) }
-    ensures says_same { (lines rest : List (List ℕ)) → head_of lines ≡ Whole config.now rest → HaveLines config.now (his_nodes config.now served.now.nodes.items) →
-        SaysSame config.now (his_nodes config.now served.now.nodes.items) (audit_of config.now served.now.nodes.items) }
+    ensures says_same { (lines rest : List (List ℕ)) → head_of lines ≡ Whole config.now rest →
+        HaveLines config.now (his_nodes config.now served.now.nodes.items) →
+        SaysSame config.now (his_nodes config.now served.now.nodes.items)
+        (audit_of config.now served.now.nodes.items) }
 {
     match write_audit(alloc, sink, config, served.nodes.as_slice()) {
         Ok(()) => (),
@@ -217,7 +226,9 @@ pub(crate) fn serve<R, I: Read, O: Write>(
 where
     R: Net<Listener = TcpListener, Stream = TcpStream> + Threads + Wait + Clock + Sync,
     R: Hosted + Eprint,
-    ensures { MayEnd serving (streams I.remaining O.contents source.old sink.old) (streams I.remaining O.contents source.new sink.new) result }
+    ensures { MayEnd serving
+        (streams I.remaining O.contents source.old sink.old)
+        (streams I.remaining O.contents source.new sink.new) result }
 {
     let mut head = Source::new(ByteReader::new(source));
     let config = match read_config(alloc, &mut head) {

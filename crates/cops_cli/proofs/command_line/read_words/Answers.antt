@@ -1,10 +1,10 @@
-use Rattle.std.proofs.Common.{rules, [], subst, ◌≡◌, ◌∙◌, inl, inr, ap, List, map, codes, Some, option_map, sym}
+use Rattle.std.proofs.Common.{rules, [], subst, ◌≡◌, ◌∙◌, inl, inr, ap, List, map, codes, Option, Some, option_map, sym}
 use Rattle.clap.specs.Kinds.{HasKind}
 use Rattle.clap.specs.Matches.{found_of, subcommand_name_of}
 use Rattle.clap.specs.Walk.{rows_of}
 use Rattle.clap.specs.Words.{App, Row, Text, app_of, fault_of, is_simple, is_simple_and_free, subcommand_of, subcommand_rows_of}
 use Rattle.cops_cli.specs.CommandLine.{cops}
-use Rattle.cops_cli.proofs.CommandLineFacts.{false_is_true, is_found, is_free_cops, is_simple_cops, name_in, named_with_tenant, serve_is_named, subcommands}
+use Rattle.cops_cli.proofs.CommandLineFacts.{false_is_true, is_found, is_free_cops, is_simple_cops, name_in, named_with_given, named_with_tenant, serve_is_named, subcommands}
 use Rattle.cops_cli.proofs.PlainWords.{err_as, only_lack, plain_passes, refused_as}
 use Rattle.cops_cli.proofs.command_line.read_words.Goals as goal
 
@@ -105,7 +105,10 @@ returns-in-Some-subcommand_matches-5-clause-asked g c =
     let is_cops : app_of _ ≡ cops = c.in_ok-command_line.ensures in
     let found : subcommand_rows_of m ≡ subcommand_of cops texts = (c.in_ok-matches.ensures.matches (ap is_simple is_cops ∙ is_simple_cops)).1 ∙ ap (λ (a : App). subcommand_of a texts) is_cops in
     let named : subcommand_name_of m ≡ Some (codes "audit") = search rules in
-    ap (option_map (λ (p : Text × List Row). p.0)) (sym found) ∙ sym (name_in m) ∙ named
+    let rows = rows_of (found_of c.in-Some-subcommand_matches-5.audit.now) in
+    named_with_given (codes "audit") (subcommand_of cops texts) rows (ap (option_map (λ (p : Text × List Row). p.0)) (sym found) ∙ sym (name_in m) ∙ named)
+    (ap (option_map (λ (p : Text × List Row). p.1)) (sym found) ∙ c.in-Some-subcommand_matches-5.ensures.rows)
+    ∙ ap (λ (t : Option Text). Some (codes "audit", t)) (sym c.given_tenant_in.ensures)
 
 pub returns-in-Some-subcommand_matches-5-clause-taken : goal.returns-in-Some-subcommand_matches-5-clause-taken
 returns-in-Some-subcommand_matches-5-clause-taken g c = subst (λ (a : App). fault_of a (map g.S.AsStr.text c.args.words.now) ≡ []) c.in_ok-command_line.ensures (c.in_ok-matches.ensures.kinds (ap is_simple_and_free c.in_ok-command_line.ensures ∙ is_free_cops))

@@ -1,0 +1,87 @@
+//! Progress of long runs, on standard error.
+ghost use Rattle.std.specs.Prelude.{◌≡◌};
+ghost use Rattle.std.specs.Io.{ReadsAtMost};
+ghost use Rattle.std.specs.Io.KnownBytes.{ReadConsumes};
+
+use std::io;
+use std::io::Read;
+use std::time::{Clock, Duration};
+
+/// How long a run is silent at first, in seconds.
+const SILENCE: u64 = 2;
+
+/// The time between reports, in seconds.
+const INTERVAL: u64 = 1;
+
+/// Counts the lines that a run has read, and reports their number once a second.
+#[derive(Drop)]
+pub(crate) struct Progress<'a, T> {
+    rt: &'a T,
+    lines: u64,
+    // The time of the next report on the monotonic clock.
+    due: Duration,
+}
+
+impl<'a, T: Clock> Progress<'a, T> {
+    /// Returns `None` if the clock can't be read.
+    pub(crate) fn new(rt: &'a T) -> Option<Self> {
+        match rt.monotonic() {
+            Ok(now) => Some(Progress {
+                rt,
+                lines: 0,
+                due: now.saturating_add(Duration::from_secs(SILENCE)),
+            }),
+            Err(_) => None,
+        }
+    }
+}
+
+impl<T: Clock + Eprint> Progress<'_, T> {
+    // Counts the lines that end in these bytes, and reports if a report is due. A failure to report
+    // is ignored.
+    fn note(&mut self, bytes: &[u8]) {
+        let ends = bytes.iter().filter(|byte| **byte == b'\n').count();
+        self.lines = self.lines.saturating_add(ends as u64);
+        let Ok(now) = self.rt.monotonic() else {
+            return;
+        };
+        if now < self.due {
+            return;
+        }
+        self.due = now.saturating_add(Duration::from_secs(INTERVAL));
+        let _ = eprintln!(self.rt; "cops: {} lines", self.lines);
+    }
+}
+
+/// A reader that gives another one's bytes, and reports the number of lines among them if there is a
+/// `Progress`.
+#[derive(Drop)]
+pub(crate) struct WatchedReader<'a, T, I> {
+    reader: I,
+    progress: Option<Progress<'a, T>>,
+}
+
+impl<'a, T, I> WatchedReader<'a, T, I> {
+    pub(crate) fn new(reader: I, progress: Option<Progress<'a, T>>) -> Self
+        ensures { result.reader ≡ reader }
+    {
+        WatchedReader { reader, progress }
+    }
+}
+
+impl<T: Clock + Eprint, I: Read> Read for WatchedReader<'_, T, I> {
+    ghost remaining = { λ watched. I.remaining watched.reader };
+
+    fn read(&mut self, buf: &mut [u8]) -> io::Result<usize>
+        // The bytes are those of the reader.
+        ensures bound { ReadsAtMost result buf.new }
+        ensures bytes { ReadConsumes (I.remaining self.old.reader) (I.remaining self.new.reader)
+            result buf.new }
+    {
+        let read = self.reader.read(buf);
+        if let (Some(progress), Ok(count)) = (&mut self.progress, &read) {
+            progress.note(&buf[..*count]);
+        }
+        read
+    }
+}
