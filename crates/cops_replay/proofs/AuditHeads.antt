@@ -20,7 +20,7 @@ use Rattle.cops_types.proofs.WordLemmas.{both}
 use Rattle.cops_types.specs.Slots.{AreNamed}
 use Rattle.cops_script.proofs.HeadRuns as today
 use Rattle.cops_replay.specs.declared.layouts.Layout.{Layout}
-use Rattle.cops_replay.specs.declared.layouts.Layout.TheVariants.{Today, Early, Old}
+use Rattle.cops_replay.specs.declared.layouts.Layout.TheVariants.{Today, Early}
 use Rattle.cops_replay.specs.declared.replay_machine.ReplayScript.{ReplayScript}
 use Rattle.cops_replay.specs.declared.replay_machine.ReplayStage.{ReplayStage}
 use Rattle.cops_replay.specs.declared.replay_machine.ReplayStage.TheVariants.{OldHead, Head, Running}
@@ -46,17 +46,14 @@ take_all (suc n) (x ∷ xs) h = ap (λ l. x ∷ l) (take_all n xs (omega arith))
 abbrev pub lines_before : Layout → ℕ
 lines_before Today = 1
 lines_before Early = 0
-lines_before Old = 0
 
 abbrev pub reading_by : Layout → List (List ℕ) → ℕ → Front → HeadReading
 reading_by Today lines number front = reading_from lines number front
 reading_by Early lines number front = old_reading_from lines number front
-reading_by Old lines number front = old_reading_from lines number front
 
 short_by : (layout : Layout) (front : Front) (line : List ℕ) (next : Front) → front_by layout front line ≡ Some next → length line ≤ 16384
 short_by Today front line next e = (let short = front_after-short front line next e in omega (arith, short))
 short_by Early front line next e = old_front_after-short front line next e
-short_by Old front line next e = old_front_after-short front line next e
 
 -- a long line is no line of a head, cut or not
 pub cut_in_head : (layout : Layout) (front : Front) (line : List ℕ) → front_by layout front (cut_line longest_record line) ≡ front_by layout front line
@@ -92,22 +89,18 @@ old_bad_end (Begun config) number still = absurd (true≢false still)
 pub read_once : (layout : Layout) (front : Front) (number : ℕ) (line : List ℕ) (lines : List (List ℕ)) (next : Front) → is_begun front ≡ false → front_by layout front line ≡ Some next → reading_by layout (line ∷ lines) number front ≡ reading_by layout lines (number + 1) next
 read_once Today front number line lines next still e = today.read_once front number line lines next still e
 read_once Early front number line lines next still e = old_read_once front number line lines next still e
-read_once Old front number line lines next still e = old_read_once front number line lines next still e
 
 pub bad_first : (layout : Layout) (front : Front) (number : ℕ) (line : List ℕ) (lines : List (List ℕ)) → is_begun front ≡ false → front_by layout front line ≡ None → reading_by layout (line ∷ lines) number front ≡ BadAt number
 bad_first Today front number line lines still e = today.bad_first front number line lines still e
 bad_first Early front number line lines still e = old_bad_first front number line lines still e
-bad_first Old front number line lines still e = old_bad_first front number line lines still e
 
 pub bad_end : (layout : Layout) (front : Front) (number : ℕ) → is_begun front ≡ false → reading_by layout [] number front ≡ BadAt number
 bad_end Today front number still = today.bad_end front number still
 bad_end Early front number still = old_bad_end front number still
-bad_end Old front number still = old_bad_end front number still
 
 pub read_whole : (layout : Layout) (lines : List (List ℕ)) (number : ℕ) (config : Config) → reading_by layout lines number (Begun config) ≡ Whole config lines
 read_whole Today lines number config = refl
 read_whole Early lines number config = refl
-read_whole Old lines number config = refl
 
 -- ---- one more line, and the tenants
 
@@ -133,7 +126,6 @@ old_grows (Begun old) line next f = absurd f
 pub grows_by : (layout : Layout) (front : Front) (line : List ℕ) (next : Front) → front_by layout front line ≡ Some next → Grows front next
 grows_by Today front line next e = grows front line next (front_after-is front line next e)
 grows_by Early front line next e = old_grows front line next (old_front_after-is front line next e)
-grows_by Old front line next e = old_grows front line next (old_front_after-is front line next e)
 
 -- the front has taken so many lines, and its tenants have names
 pub record IsCounted (layout : Layout) (front : Front) (count : ℕ) : Type 0 where
@@ -144,7 +136,6 @@ pub record IsCounted (layout : Layout) (front : Front) (count : ℕ) : Type 0 wh
 before_few : (layout : Layout) → lines_before layout ≤ 1
 before_few Today = omega arith
 before_few Early = omega arith
-before_few Old = omega arith
 
 min_is : (n : ℕ) → n ≤ 2 ^ 64 - 1 → min n (2 ^ 64 - 1) ≡ n
 min_is n small = min-eq_left small
@@ -188,7 +179,6 @@ start layout = record { counts = omega arith; small = tt; named = tt }
 abbrev pub tells : Layout → ℕ → List ℕ → Bool
 tells Today count line = false
 tells Early count line = nat_eq count 0 && bytes_eq line layout_line
-tells Old count line = false
 
 -- none of these, that come next, does
 abbrev pub TellsNot : Layout → ℕ → List (List ℕ) → Type 0
@@ -202,7 +192,6 @@ pub tells_not : (layout : Layout) (count : ℕ) (lines : List (List ℕ)) → 0 
 tells_not layout count [] h = tt
 tells_not Today count (line ∷ lines) h = refl
 tells_not Early count (line ∷ lines) h = not_first count (bytes_eq (cut_line longest_record line) layout_line) h
-tells_not Old count (line ∷ lines) h = refl
 
 -- ---- runs
 
@@ -220,9 +209,6 @@ module _ (name : List ℕ) where
   in_stage Today (Running replay) front count n line text new here apart h = absurd here
   in_stage Early (Head head) front count n line text new here apart h = absurd here
   in_stage Early (Running replay) front count n line text new here apart h = absurd here
-  in_stage Old (OldHead head) front count n line text new here apart h = absurd here
-  in_stage Old (Head head) front count n line text new here apart h = absurd here
-  in_stage Old (Running replay) front count n line text new here apart h = absurd here
 
   module _ (layout : Layout) where
     -- a run that begins in the head ends in it, or past it

@@ -70,10 +70,6 @@ take_whole (x ∷ xs) (suc n) h = ap (λ l. x ∷ l) (take_whole xs n (omega ari
 
 -- ---- texts of lists, cut at an element
 
-pub flat_map_cut : {A : Type 0} (f : A → List ℕ) (xs : List A) (i : ℕ) (x : A) → slice_get xs i ≡ Some x → flat_map f xs ≡ flat_map f (take i xs) ++ (f x ++ flat_map f (drop (suc i) xs))
-flat_map_cut f xs i x e =
-    ap (flat_map f) (cut_at xs i x e) ∙ flat_map-append f (take i xs) (x ∷ drop (suc i) xs) ∙ ap (λ l. flat_map f (take i xs) ++ l) (flat_map-cons f x (drop (suc i) xs))
-
 pub flat_map_one_more : {A : Type 0} (f : A → List ℕ) (xs : List A) (i : ℕ) (x : A) → slice_get xs i ≡ Some x → flat_map f (take (i + 1) xs) ≡ flat_map f (take i xs) ++ f x
 flat_map_one_more f xs i x e =
     ap (flat_map f) (take_one_more xs i x e) ∙ flat_map-append f (take i xs) (x ∷ []) ∙ ap (λ l. flat_map f (take i xs) ++ l) (flat_map-cons f x [] ∙ append-nil (f x))

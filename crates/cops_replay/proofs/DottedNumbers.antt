@@ -5,8 +5,7 @@ use Rattle.std.specs.List.{join_with_byte}
 use Rattle.std.specs.Option.{option_map}
 use Rattle.cops_types.specs.Words.{no_words, number_of, parts_at}
 use Rattle.cops_types.proofs.WordLemmas.{Lacks, decimal_lacks, dot_foreign, no_number, parts-last, parts-more, parts_back, some_part}
-use Rattle.cops_replay.specs.RecordChecks.{both_numbers}
-use Rattle.cops_replay.specs.RecordWords.{numbers_of}
+use Rattle.cops_replay.specs.RecordWords.{both_numbers, numbers_of}
 use Rattle.cops_replay.proofs.PartLemmas.{lacks_all}
 
 none_second : (first second : Option ℕ) → second ≡ None → None ≡ both_numbers first second

@@ -14,10 +14,11 @@ use Rattle.cops_model.specs.declared.calls.NodeCall.{NodeCall}
 use Rattle.cops_model.specs.declared.calls.NodeCall.TheVariants.{Put, Commit}
 use Rattle.cops_model.specs.declared.calls.NodeReply.{NodeReply}
 use Rattle.cops_model.specs.declared.calls.NodeReply.TheVariants.{Stored}
+use Rattle.cops_replay.specs.declared.reading.Asked.{Asked}
 use Rattle.cops_replay.specs.declared.Record.{Record}
 use Rattle.cops_replay.specs.declared.layouts.Layout.TheVariants.{Early}
 use Rattle.cops_replay.specs.OldRecords.{early_version_of, is_early, last_early_clock, old_nodes, old_record_in}
-use Rattle.cops_replay.specs.RecordLines.{at_end, bare_reply, call_of_verb, read_ack, read_call, read_check, read_commit, read_entry, read_found, read_get, read_gone, read_line, read_mark, read_pull, read_pulled, read_put, read_removed, read_reply, read_stored, read_told, reply_of_verb, sign_of, whole}
+use Rattle.cops_replay.specs.RecordLines.{at_end, bare_reply, call_of_verb, read_ack, read_asked, read_call, read_check, read_commit, read_entry, read_found, read_get, read_gone, read_line, read_mark, read_pull, read_pulled, read_put, read_removed, read_reply, read_stored, reply_of_verb, sign_of, whole}
 use Rattle.cops_replay.specs.RecordWords.{Read, Versions, all_pairs_of, deps_of, key_in, kept_if, name_of, near_of, next_as, node_of, pair_of, pair_of_parts, pairs_of, then_read, value_in, version_in, wanted_of}
 use Rattle.cops_replay.specs.ReplayText.{longest_record, told_of}
 
@@ -205,16 +206,19 @@ reply words = past EarlyReply (reply_of_verb v) (next_as Some words) reply_verb
 
 -- ---- a line
 
-told : (words : List (List ℕ)) → GivesRead EarlyTold (read_told v words)
-told words =
-    past EarlyTold _ (next_as node_of words) (λ node w1. past EarlyTold _ (next_as number_of w1) (λ moment w2. gives_then EarlyCall EarlyTold _ (read_call v w2) (call w2) (λ call w3 c. past EarlyTold _ (next_as sign_of w3) (λ sign w4.
-    gives_then EarlyReply EarlyTold _ (read_reply v w4) (reply w4) (λ reply w5 r. (c, r))))))
+abbrev EarlyAsked : (List ℕ × Asked) → Type 0
+EarlyAsked asked = EarlyCall asked.1.call
+
+asked : (words : List (List ℕ)) → GivesRead EarlyAsked (read_asked v words)
+asked words =
+    past EarlyAsked _ (next_as name_of words) (λ tenant w0. past EarlyAsked _ (next_as node_of w0) (λ node w1. past EarlyAsked _ (next_as number_of w1) (λ moment w2.
+    gives_then EarlyCall EarlyAsked _ (read_call v w2) (call w2) (λ call w3 c. past EarlyAsked _ (next_as sign_of w3) (λ sign w4. c)))))
 
 abbrev EarlyRead : (List ℕ × Record) → Type 0
 EarlyRead read = EarlyTold read.1
 
 line : (words : List (List ℕ)) → GivesRead EarlyRead (read_line v words)
-line words = past EarlyRead _ (next_as name_of words) (λ tenant w1. gives_then EarlyTold EarlyRead _ (read_told v w1) (told w1) (λ told w2 early. early))
+line words = gives_then EarlyAsked EarlyRead _ (read_asked v words) (asked words) (λ asked w1 c. gives_then EarlyReply EarlyRead _ (read_reply v w1) (reply w1) (λ reply w2 r. (c, r)))
 
 ended : {A : Type 0} (P : A → Type 0) (x : A) (words : List (List ℕ)) → P x → Gives P (at_end x words)
 ended P x [] p = p

@@ -27,7 +27,7 @@ use Rattle.cops_replay.specs.Replaying.{fresh_nodes, nodes_after}
 use Rattle.cops_replay.specs.ReplayText.{FindsBy, IsEarlyLine, IsRefusedBy, IsReplayBy, has_great_clock, head_by, is_great_in, longest_record, starts_great_in, told_of}
 use Rattle.cops_replay.specs.VersionLayouts.{layout_1, version_under}
 use Rattle.cops_replay.proofs.EarlySteps.{by_its_rules, by_rules_of_today}
-use Rattle.cops_replay.specs.RecordLines.{call_of_verb, read_ack, read_call, read_check, read_commit, read_entry, read_found, read_get, read_line, read_mark, read_pulled, read_put, read_reply, read_stored, read_told, record_by, record_in, reply_of_verb, sign_of, whole}
+use Rattle.cops_replay.specs.RecordLines.{call_of_verb, read_ack, read_asked, read_call, read_check, read_commit, read_entry, read_found, read_get, read_line, read_mark, read_pulled, read_put, read_reply, read_stored, record_by, record_in, reply_of_verb, sign_of, whole}
 use Rattle.cops_replay.specs.RecordWords.{Read, Versions, all_pairs_of, deps_of, key_in, kept_if, name_of, near_of, node_of, next_as, numbers_of, pair_of, pair_of_parts, pairs_of, then_read, value_in, version_in, wanted_of}
 
 -- the first reads nothing, or what the second does
@@ -165,13 +165,12 @@ module _ (v w : Versions) (versions : (word : List ℕ) → Below (v word) (w wo
 
   -- ---- a line
 
-  told : (words : List (List ℕ)) → Below (read_told v words) (read_told w words)
-  told words =
-      below_same _ _ (next_as node_of words) (λ node w1. below_same _ _ (next_as number_of w1) (λ moment w2. below_then _ _ (read_call v w2) (read_call w w2) (call w2) (λ call w3. below_same _ _ (next_as sign_of w3) (λ sign w4.
-      below_then _ _ (read_reply v w4) (read_reply w w4) (reply w4) (λ reply w5. same _)))))
+  asked : (words : List (List ℕ)) → Below (read_asked v words) (read_asked w words)
+  asked words =
+      below_same _ _ (next_as name_of words) (λ tenant w0. below_same _ _ (next_as node_of w0) (λ node w1. below_same _ _ (next_as number_of w1) (λ moment w2. below_then _ _ (read_call v w2) (read_call w w2) (call w2) (λ call w3. same _))))
 
   line : (words : List (List ℕ)) → Below (read_line v words) (read_line w words)
-  line words = below_same _ _ (next_as name_of words) (λ tenant w1. below_then _ _ (read_told v w1) (read_told w w1) (told w1) (λ told w2. same _))
+  line words = below_then _ _ (read_asked v words) (read_asked w words) (asked words) (λ asked w1. below_then _ _ (read_reply v w1) (read_reply w w1) (reply w1) (λ reply w2. same _))
 
   whole_line : (a b : Read (List ℕ × Record)) → Below a b → Below (whole a) (whole b)
   whole_line a b (inl e) = inl (ap whole e)

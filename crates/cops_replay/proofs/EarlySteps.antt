@@ -24,7 +24,7 @@ use Rattle.cops_model.specs.Step.{CallEffect, acknowledge, audited, commit_refus
 use Rattle.cops_replay.specs.declared.Record.{Record}
 use Rattle.cops_replay.specs.declared.Replayed.{Replayed}
 use Rattle.cops_replay.specs.declared.layouts.Layout.{Layout}
-use Rattle.cops_replay.specs.declared.layouts.Layout.TheVariants.{Today, Early, Old}
+use Rattle.cops_replay.specs.declared.layouts.Layout.TheVariants.{Today, Early}
 use Rattle.cops_replay.specs.OldRecords.{last_early_clock}
 use Rattle.cops_replay.specs.Replaying.{AgreesWith, fresh_nodes, nodes_after, turn_of}
 use Rattle.cops_replay.specs.ReplayText.{FindsBy, starts_great_in}
@@ -225,12 +225,6 @@ module _ (config : TenantConfig) (first : EarlyClock config.first_clock) where
 
 -- ---- a tenant's lines, from new nodes
 
--- no file is replayed in the layout in which only clocks that are too great are looked for
-same_rules : (config : TenantConfig) (passed : ℕ) (nodes : List SoloNode) (lines : List (List ℕ)) (found : Replayed) → FindsBy Old Today config passed nodes lines found → FindsBy Old Old config passed nodes lines found
-same_rules config passed nodes [] found finds = finds
-same_rules config passed nodes (line ∷ lines) found (inl (told, is, agrees, more)) = inl (told, is, agrees, same_rules config (passed + 1) (nodes_after config told nodes) lines found more)
-same_rules config passed nodes (line ∷ lines) found (inr differs) = inr differs
-
 first_early : (tenant : Tenant) → IsFalse (starts_great_in Early tenant) → EarlyClock tenant.first_clock
 first_early tenant h = let low : tenant.first_clock ≤ last_early_clock = grind (arith, nat_tests, h) in low
 
@@ -240,7 +234,6 @@ pub by_its_rules : (layout : Layout) (config : Config) (tenant : Tenant) (lines 
 by_its_rules Today config tenant lines found starts finds = finds
 by_its_rules Early config tenant lines found starts finds =
     by_old_rules (tenant_config config tenant) (first_early tenant starts) 0 (fresh_nodes (tenant_config config tenant)) lines found (nodes_new (config.data_centres * config.shards) config.data_centres) finds
-by_its_rules Old config tenant lines found starts finds = same_rules (tenant_config config tenant) 0 (fresh_nodes (tenant_config config tenant)) lines found finds
 
 -- and what the rules of layout 1 find, today's rules find
 pub by_rules_of_today : (config : Config) (tenant : Tenant) (lines : List (List ℕ)) (found : Replayed) → IsFalse (starts_great_in Early tenant) →

@@ -26,7 +26,7 @@ use Rattle.cops_replay.specs.declared.extraction_machine.PartScript.{PartScript}
 use Rattle.cops_replay.specs.declared.extraction_machine.PartStage.{PartStage}
 use Rattle.cops_replay.specs.declared.extraction_machine.PartStage.TheVariants.{OldHead, Head, Records}
 use Rattle.cops_replay.specs.declared.layouts.Layout.{Layout}
-use Rattle.cops_replay.specs.declared.layouts.Layout.TheVariants.{Today, Early, Old}
+use Rattle.cops_replay.specs.declared.layouts.Layout.TheVariants.{Today, Early}
 use Rattle.cops_replay.specs.declared.old_heads.OldHeadSoFar.{OldHeadSoFar}
 use Rattle.cops_replay.specs.declared.refusals.PartRefusal.{PartRefusal}
 use Rattle.cops_replay.specs.declared.refusals.PartRefusal.TheVariants.{BadConfig, UnknownTenant}
@@ -80,9 +80,6 @@ in_stage Today (OldHead head) front count n line text new here apart h = absurd 
 in_stage Today Records front count n line text new here apart h = absurd here
 in_stage Early (Head head) front count n line text new here apart h = absurd here
 in_stage Early Records front count n line text new here apart h = absurd here
-in_stage Old (OldHead head) front count n line text new here apart h = absurd here
-in_stage Old (Head head) front count n line text new here apart h = absurd here
-in_stage Old Records front count n line text new here apart h = absurd here
 
 -- the first line, if it tells today's layout
 first_answered : (stage : PartStage) (n line text : List ℕ) (new : PartStage) → IsPartHead Early AtStart 0 stage → bytes_eq line layout_line ≡ true → extraction_answers_in n stage line text new → (text ≡ []) × IsPartHead Today AtStart 1 new
@@ -114,9 +111,6 @@ refused_in_stage Today (OldHead head) next count name line refusal here refused 
 refused_in_stage Today Records next count name line refusal here refused = absurd here
 refused_in_stage Early (Head head) next count name line refusal here refused = absurd here
 refused_in_stage Early Records next count name line refusal here refused = absurd here
-refused_in_stage Old (OldHead head) next count name line refusal here refused = absurd here
-refused_in_stage Old (Head head) next count name line refusal here refused = absurd here
-refused_in_stage Old Records next count name line refusal here refused = absurd here
 
 bad_after : (layout : Layout) (stage : PartStage) (next : Front) (count : ℕ) (refusal : PartRefusal) → IsPartHead layout next count stage → extraction_refuses_end_in stage refusal → IsCutOff count refusal
 bad_after Today (Head head) next count refusal here r = subst (λ (k : ℕ). IsCutOff k refusal) here.1 r
@@ -125,16 +119,12 @@ bad_after Today (OldHead head) next count refusal here r = absurd here
 bad_after Today Records next count refusal here r = absurd here
 bad_after Early (Head head) next count refusal here r = absurd here
 bad_after Early Records next count refusal here r = absurd here
-bad_after Old (OldHead head) next count refusal here r = absurd here
-bad_after Old (Head head) next count refusal here r = absurd here
-bad_after Old Records next count refusal here r = absurd here
 
 not_ended : (layout : Layout) (stage : PartStage) (next : Front) (count : ℕ) (last : List ℕ) → IsPartHead layout next count stage → EndsPart stage last → ⊥
 not_ended layout (OldHead head) next count last here ends = ends
 not_ended layout (Head head) next count last here ends = ends
 not_ended Today Records next count last here ends = here
 not_ended Early Records next count last here ends = here
-not_ended Old Records next count last here ends = here
 
 last_silent : (stage : PartStage) (last : List ℕ) → EndsPart stage last → last ≡ []
 last_silent (OldHead head) last ends = absurd ends

@@ -10,7 +10,7 @@ use Rattle.cops_types.specs.Slots.{slot_of_name}
 use Rattle.cops_types.specs.TenantConfig.{TenantConfig, tenant_config}
 use Rattle.cops_model.specs.SoloNode.{SoloNode}
 use Rattle.cops_replay.specs.declared.layouts.Layout.{Layout}
-use Rattle.cops_replay.specs.declared.layouts.Layout.TheVariants.{Today, Early, Old}
+use Rattle.cops_replay.specs.declared.layouts.Layout.TheVariants.{Today, Early}
 use Rattle.cops_replay.specs.declared.Record.{Record}
 use Rattle.cops_replay.specs.declared.Replayed.{Replayed}
 use Rattle.cops_replay.specs.declared.refusals.ReplayRefusal.{ReplayRefusal}
@@ -93,7 +93,6 @@ module _ (name : List ℕ) (layout : Layout) (lines : List (List ℕ)) where
 starts_alike : (layout : Layout) (c d : Config) (t u : Tenant) → tenant_config c t ≡ tenant_config d u → starts_great_in layout t ≡ starts_great_in layout u
 starts_alike Today c d t u same = refl
 starts_alike Early c d t u same = ap (λ (config : TenantConfig). nat_lt last_early_clock config.first_clock) same
-starts_alike Old c d t u same = refl
 
 -- lines are replayed as they are cut
 finds_cut : (layout rules : Layout) (config : TenantConfig) (passed : ℕ) (nodes : List SoloNode) (lines : List (List ℕ)) (found : Replayed) → FindsBy layout rules config passed nodes lines found →

@@ -67,10 +67,6 @@ Puts-ends first text more whole old mid done fault new e p q =
     subst (λ l. PutsText {T = Unit {0}} l old (Err fault) new) (append_assoc first text more ∙ sym e)
     (Puts-more (first ++ text) more old fault new (Puts-then first text old mid done (Err fault) new p q))
 
--- it waits now
-pub Puts-kept : (text waiting now : List ℕ) (contents : Option (List ℕ)) (failures : ℕ) (done : Unit {0}) → now ≡ waiting ++ text → PutsText {T = Unit {0}} text (page waiting contents failures) (Ok done) (page now contents failures)
-Puts-kept text waiting now contents failures done e = (record { written = []; whole = sym e; appended = Appends-nil contents }, refl)
-
 -- a line that was put, and what is written then
 pub Puts-line : (text waiting now : List ℕ) (contents : Option (List ℕ)) (failures : ℕ) (r : Result (Unit {0}) Fault) (new : Page) → now ≡ waiting ++ text →
     PutsText {T = Unit {0}} [] (page now contents failures) r new → PutsText {T = Unit {0}} text (page waiting contents failures) r new

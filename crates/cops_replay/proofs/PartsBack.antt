@@ -20,13 +20,12 @@ use Rattle.cops_types.proofs.WordLemmas.{Lacks, bytes_from_test, lacks_from_test
 use Rattle.cops_model.specs.MainTheorem.{with_tenant_alone}
 use Rattle.cops_script.proofs.ApartTenants.{found_at, short_name}
 use Rattle.cops_replay.specs.declared.layouts.Layout.{Layout}
-use Rattle.cops_replay.specs.declared.layouts.Layout.TheVariants.{Today, Early, Old}
+use Rattle.cops_replay.specs.declared.layouts.Layout.TheVariants.{Today, Early}
 use Rattle.cops_replay.specs.declared.refusals.ReplayRefusal.{ReplayRefusal}
 use Rattle.cops_replay.specs.AuditText.{ended, layout_line}
 use Rattle.cops_replay.specs.OpenAudits.{with_tenants}
 use Rattle.cops_replay.specs.OwnLines.{alone_lines}
 use Rattle.cops_replay.specs.OwnParts.{IsPartOf, layout_lines, lone_head_lines}
-use Rattle.cops_replay.specs.Replayings.{is_replayed}
 use Rattle.cops_replay.specs.ReplayParts.{HasPart, seen_lines}
 use Rattle.cops_replay.specs.ReplayRules.{front_by}
 use Rattle.cops_replay.specs.ReplayText.{IsReplayOf, RefusesReplayOf, head_by, layout_of, longest_record}
@@ -42,12 +41,10 @@ use Rattle.cops_replay.proofs.RecordRuns.{same_own}
 abbrev last_in : Layout → ℕ
 last_in Today = last_clock
 last_in Early = last_old_clock
-last_in Old = last_old_clock
 
 last_small : (layout : Layout) → last_in layout < 2 ^ 64
 last_small Today = omega arith
 last_small Early = omega arith
-last_small Old = omega arith
 
 record IsGood (layout : Layout) (tenant : Tenant) : Type 0 where
   token : IsToken tenant.token
@@ -103,9 +100,6 @@ good_next Today (Begun config) line next g e = absurd (let clash : ⊥ = cc in c
 good_next Early AtStart line next g e = let f = old_front_after-is AtStart line next e in good_start Early line f.0 next f.1 f.2 e
 good_next Early (Within config) line next g e = good_old Early refl config line next g (old_front_after-is (Within config) line next e)
 good_next Early (Begun config) line next g e = absurd (let clash : ⊥ = cc in clash)
-good_next Old AtStart line next g e = let f = old_front_after-is AtStart line next e in good_start Old line f.0 next f.1 f.2 e
-good_next Old (Within config) line next g e = good_old Old refl config line next g (old_front_after-is (Within config) line next e)
-good_next Old (Begun config) line next g e = absurd (let clash : ⊥ = cc in clash)
 
 -- what holds of all lines holds of those after the head
 record IsGoodHead (P : List ℕ → Type 0) (layout : Layout) (config : Config) (rest : List (List ℕ)) : Type 0 where
@@ -141,19 +135,16 @@ good_head : (P : List ℕ → Type 0) (layout : Layout) (lines : List (List ℕ)
 good_head P Today [] config rest all e = absurd (let clash : ⊥ = cc in clash)
 good_head P Today (line ∷ lines) config rest all e = good_read P Today config rest lines 2 AtStart tt all.1 e
 good_head P Early lines config rest all e = good_read P Early config rest lines 1 AtStart tt all e
-good_head P Old lines config rest all e = good_read P Old config rest lines 1 AtStart tt all e
 
 -- ---- the head of a part is read back
 
 joins_by : (layout : Layout) (config : Config) (tenant : Tenant) → tenant_in_to (last_in layout) (written_tenant tenant) ≡ Some tenant → front_by layout (Within (with_tenants config [])) (written_tenant tenant) ≡ Some (Within (with_tenant_alone config tenant))
 joins_by Today config tenant e = ap (option_and_then (head_with (with_tenants config []))) e
 joins_by Early config tenant e = ap (option_and_then (head_with (with_tenants config []))) e
-joins_by Old config tenant e = ap (option_and_then (head_with (with_tenants config []))) e
 
 begins_by : (layout : Layout) (config : Config) → front_by layout (Within config) begin_line ≡ Some (Begun config)
 begins_by Today config = refl
 begins_by Early config = refl
-begins_by Old config = refl
 
 module _ (config : Config) (tenant : Tenant) (others : List (List ℕ)) where
   lone_read : (layout : Layout) (number : ℕ) → AreGood layout config → IsGood layout tenant → reading_by layout (lone_head_lines config tenant ++ others) number AtStart ≡ Whole (with_tenant_alone config tenant) others
@@ -169,12 +160,10 @@ module _ (config : Config) (tenant : Tenant) (others : List (List ℕ)) where
   head_back : (layout : Layout) → AreGood layout config → IsGood layout tenant → head_by layout ((layout_lines layout ++ lone_head_lines config tenant) ++ others) ≡ Whole (with_tenant_alone config tenant) others
   head_back Today g t = lone_read Today 2 g t
   head_back Early g t = lone_read Early 1 g t
-  head_back Old g t = lone_read Old 1 g t
 
-  layout_back : (layout : Layout) → is_replayed layout ≡ true → layout_of ((layout_lines layout ++ lone_head_lines config tenant) ++ others) ≡ layout
-  layout_back Today is = ap (λ b. cond b Today Early) (same_bytes layout_line)
-  layout_back Early is = refl
-  layout_back Old is = absurd (let clash : ⊥ = cc in clash)
+  layout_back : (layout : Layout) → layout_of ((layout_lines layout ++ lone_head_lines config tenant) ++ others) ≡ layout
+  layout_back Today = ap (λ b. cond b Today Early) (same_bytes layout_line)
+  layout_back Early = refl
 
 lone_lacks : (layout : Layout) (config : Config) (tenant : Tenant) → AreGood layout config → IsGood layout tenant → AllByRecursion (Lacks newline) (lone_head_lines config tenant)
 lone_lacks layout config tenant g t = (cluster_lacks config g.sizes, (tenant_lacks (last_in layout) (last_small layout) tenant t.within, (lacks_from_test newline begin_line refl, tt)))
@@ -182,7 +171,6 @@ lone_lacks layout config tenant g t = (cluster_lacks config g.sizes, (tenant_lac
 head_lacks : (layout : Layout) (config : Config) (tenant : Tenant) → AreGood layout config → IsGood layout tenant → AllByRecursion (Lacks newline) (layout_lines layout ++ lone_head_lines config tenant)
 head_lacks Today config tenant g t = (lacks_from_test newline layout_line refl, lone_lacks Today config tenant g t)
 head_lacks Early config tenant g t = lone_lacks Early config tenant g t
-head_lacks Old config tenant g t = lone_lacks Old config tenant g t
 
 -- ---- the lines of a part
 
@@ -222,14 +210,6 @@ module _ (name : List ℕ) where
       by_own false e rest = rest
 
 -- ---- a part of a file
-
-told_layout : (lines : List (List ℕ)) → is_replayed (layout_of lines) ≡ true
-told_layout [] = refl
-told_layout (line ∷ lines) = by_line (bytes_eq line layout_line)
-  where
-    by_line : (t : Bool) → is_replayed (cond t Today Early) ≡ true
-    by_line true = refl
-    by_line false = refl
 
 first_found : (name : List ℕ) (tenant : Tenant) → bytes_eq tenant.name name ≡ true → slot_of_name (tenant ∷ []) name ≡ Some 0
 first_found name tenant e = rw e refl
@@ -271,7 +251,7 @@ module _ (name bytes part : List ℕ) (p : IsPartOf name bytes part) where
     records = own;
     slot = 0;
     tenant = p.tenant;
-    layout_is = ap layout_of part_lines ∙ layout_back p.config p.tenant own layout (told_layout (lines_of bytes));
+    layout_is = ap layout_of part_lines ∙ layout_back p.config p.tenant own layout;
     head = ap (head_by layout) part_lines ∙ head_back p.config p.tenant own layout good.good its;
     there = first_found name p.tenant named;
     tenant_is = refl;

@@ -13,7 +13,7 @@ use Rattle.cops_types.specs.Words.{first_word, newline}
 use Rattle.cops_node.specs.Clusters.{nodes_of}
 use Rattle.cops_script.proofs.CutLemmas.{same_first_at}
 use Rattle.cops_replay.specs.declared.layouts.Layout.{Layout}
-use Rattle.cops_replay.specs.declared.layouts.Layout.TheVariants.{Today, Early, Old}
+use Rattle.cops_replay.specs.declared.layouts.Layout.TheVariants.{Today, Early}
 use Rattle.cops_replay.specs.declared.Record.{Record}
 use Rattle.cops_replay.specs.declared.Replayed.{Replayed}
 use Rattle.cops_replay.specs.declared.Replayed.TheVariants.{Same, FirstDifference}
@@ -55,7 +55,6 @@ told_cut layout line = same_cut {A = Option Record} (λ b l. cond b (option_map 
 pub great_cut : (layout : Layout) (line : List ℕ) → is_great_in layout (cut_line longest_record line) ≡ is_great_in layout line
 great_cut Today line = refl
 great_cut Early line = same_cut {A = Bool} (λ b l. b && is_none (old_record_in l) && is_old_record l) false (λ l. refl) line
-great_cut Old line = refl
 
 pub same_own : (name line : List ℕ) → length name ≤ 16 → bytes_eq (first_word (cut_line longest_record line)) name ≡ bytes_eq (first_word line) name
 same_own name line short = same_first_at longest_record (omega arith) name line short

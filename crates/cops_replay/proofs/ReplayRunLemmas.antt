@@ -23,7 +23,7 @@ use Rattle.cops_script.proofs.ApartTenants.{found_at}
 use Rattle.cops_script.proofs.HeadRuns.{real_lines}
 use Rattle.cops_script.proofs.ApartTenants.{name_of, short_name}
 use Rattle.cops_replay.specs.declared.layouts.Layout.{Layout}
-use Rattle.cops_replay.specs.declared.layouts.Layout.TheVariants.{Today, Early, Old}
+use Rattle.cops_replay.specs.declared.layouts.Layout.TheVariants.{Today, Early}
 use Rattle.cops_replay.specs.declared.old_heads.OldHeadSoFar.{OldHeadSoFar}
 use Rattle.cops_replay.specs.declared.refusals.ReplayRefusal.{ReplayRefusal}
 use Rattle.cops_replay.specs.declared.refusals.ReplayRefusal.TheVariants.{BadConfig, UnknownTenant, ClockTooGreat}
@@ -182,7 +182,6 @@ module _ (name : List ℕ) where
     not_ended layout (Head head) front count last here ends = ends
     not_ended Today (Running replay) front count last here ends = here
     not_ended Early (Running replay) front count last here ends = here
-    not_ended Old (Running replay) front count last here ends = here
 
     -- ---- ends at the end
 
@@ -282,9 +281,6 @@ module _ (name : List ℕ) where
     in_head_line Today (Running replay) next later line refusal here refused = absurd here
     in_head_line Early (Head head) next later line refusal here refused = absurd here
     in_head_line Early (Running replay) next later line refusal here refused = absurd here
-    in_head_line Old (OldHead head) next later line refusal here refused = absurd here
-    in_head_line Old (Head head) next later line refusal here refused = absurd here
-    in_head_line Old (Running replay) next later line refusal here refused = absurd here
 
     module _ (layout : Layout) (front : List (List ℕ)) (next : Front) (later : ℕ) (n : IsCounted layout next later) (still : is_begun next ≡ false)
         (reads : (others : List (List ℕ)) → head_by layout (front ++ others) ≡ reading_by layout others (later + 1) next) where
@@ -317,9 +313,6 @@ module _ (name : List ℕ) where
       bad_after Today (Running replay) refusal here r = absurd here
       bad_after Early (Head head) refusal here r = absurd here
       bad_after Early (Running replay) refusal here r = absurd here
-      bad_after Old (OldHead head) refusal here r = absurd here
-      bad_after Old (Head head) refusal here r = absurd here
-      bad_after Old (Running replay) refusal here r = absurd here
 
       refused_after : (refusal : ReplayRefusal) → IsBadAfter later refusal → IsRefusedBy layout name (front ++ []) refusal
       refused_after (BadConfig bad) number = reads [] ∙ bad_end layout next (later + 1) still ∙ ap BadAt (sym (number ∙ counted-small layout next later n))

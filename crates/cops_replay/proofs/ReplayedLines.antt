@@ -9,7 +9,7 @@ use Rattle.cops_types.specs.Refusal.{refused_if}
 use Rattle.cops_types.specs.TenantConfig.{TenantConfig}
 use Rattle.cops_node.specs.Clusters.{nodes_of}
 use Rattle.cops_replay.specs.declared.layouts.Layout.{Layout}
-use Rattle.cops_replay.specs.declared.layouts.Layout.TheVariants.{Today, Early, Old}
+use Rattle.cops_replay.specs.declared.layouts.Layout.TheVariants.{Today, Early}
 use Rattle.cops_replay.specs.declared.Record.{Record}
 use Rattle.cops_replay.specs.AskedLines.{record_told}
 use Rattle.cops_replay.specs.OldRecords.{is_old_record, old_record_in, versions_in}
@@ -29,7 +29,6 @@ no_read false c = refl
 pub great_long : (layout : Layout) (line : List ℕ) → nat_le (length line) longest_record ≡ false → great_clock_of layout line ≡ None
 great_long Today line h = refl
 great_long Early line h = ap (λ (b : Bool). refused_if (b && is_none (old_record_in line) && is_old_record line) fault.ClockTooGreat) h
-great_long Old line h = refl
 
 -- not in one that was read
 pub great_read : (layout : Layout) (line : List ℕ) (read : List ℕ × Record) → record_by (versions_in layout) line ≡ Some read → great_clock_of layout line ≡ None
@@ -37,7 +36,6 @@ great_read Today line read e = refl
 great_read Early line read e =
     ap (λ (r : Option (List ℕ × Record)). refused_if (nat_le (length line) longest_record && is_none r && is_old_record line) fault.ClockTooGreat) e
     ∙ ap (λ (b : Bool). refused_if b fault.ClockTooGreat) (no_read (nat_le (length line) longest_record) (is_old_record line))
-great_read Old line read e = refl
 
 pub great_unread : (line : List ℕ) (old : Bool) → IsTrue (nat_le (length line) longest_record) → record_by (versions_in Early) line ≡ None → old ≡ is_old_record line → great_clock_of Early line ≡ refused_if old fault.ClockTooGreat
 great_unread line old short unread is =

@@ -9,7 +9,9 @@ use Rattle.cops_types.specs.Refusal.{refused_if}
 use Rattle.cops_types.specs.Version.{Timestamp}
 use Rattle.cops_types.specs.Words.{parts_at}
 use Rattle.cops_replay.specs.declared.layouts.Layout.{Layout}
-use Rattle.cops_replay.specs.declared.layouts.Layout.TheVariants.{Today, Early, Old}
+use Rattle.cops_replay.specs.declared.layouts.Layout.TheVariants.{Today, Early}
+use Rattle.cops_replay.specs.declared.layouts.VersionSet.{VersionSet}
+use Rattle.cops_replay.specs.declared.layouts.VersionSet.TheVariants.{Layout2, Both, Layout1}
 use Rattle.cops_replay.specs.declared.Record.{Record}
 use Rattle.cops_replay.specs.RecordLines.{record_by}
 use Rattle.cops_replay.specs.RecordWords.{kept_if, numbers_of, version_in}
@@ -33,14 +35,19 @@ abbrev pub old_version_of : List ℕ → Option Timestamp
 old_version_of word =
     option_and_then (λ both. kept_if (nat_le both.0 last_old_clock && nat_lt both.1 old_nodes) (version_of_number (both.0 * old_nodes + both.1))) (numbers_of (parts_at 46 word))
 
+abbrev pub versions_by : VersionSet → List ℕ → Option Timestamp
+versions_by Layout2 word = version_in word
+versions_by Both word = early_version_of word
+versions_by Layout1 word = old_version_of word
+
+-- those that are read in a file of this layout
 abbrev pub versions_in : Layout → List ℕ → Option Timestamp
 versions_in Today word = version_in word
 versions_in Early word = early_version_of word
-versions_in Old word = old_version_of word
 
 -- layout 1 has a record with this line
 abbrev pub is_old_record : List ℕ → Bool
-is_old_record line = is_some (record_by (versions_in Old) line)
+is_old_record line = is_some (record_by (versions_by Layout1) line)
 
 -- the tenant's name and the record, if layout 1 has one with this line and no clock is too great for layout 2
 abbrev pub old_record_in : List ℕ → Option (List ℕ × Record)

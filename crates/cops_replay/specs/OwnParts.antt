@@ -10,7 +10,7 @@ use Rattle.cops_types.specs.Lines.{lines_of}
 use Rattle.cops_types.specs.Sink.{AppendsFront}
 use Rattle.cops_types.specs.Slots.{slot_of_name}
 use Rattle.cops_replay.specs.declared.layouts.Layout.{Layout}
-use Rattle.cops_replay.specs.declared.layouts.Layout.TheVariants.{Today, Early, Old}
+use Rattle.cops_replay.specs.declared.layouts.Layout.TheVariants.{Today, Early}
 use Rattle.cops_replay.specs.declared.refusals.PartRefusal.{PartRefusal}
 use Rattle.cops_replay.specs.declared.refusals.PartRefusal.TheVariants.{BadConfig, UnknownTenant}
 use Rattle.cops_replay.specs.AuditText.{ended, layout_line}
@@ -23,7 +23,6 @@ use Rattle.cops_replay.specs.ReplayText.{head_by, layout_of}
 abbrev pub layout_lines : Layout → List (List ℕ)
 layout_lines Today = layout_line ∷ []
 layout_lines Early = []
-layout_lines Old = []
 
 -- a head whose only tenant is this one, in its one form
 abbrev pub lone_head_lines : Config → Tenant → List (List ℕ)

@@ -12,7 +12,7 @@ use Rattle.cops_types.specs.Slots.{slot_of_name}
 use Rattle.cops_types.specs.TenantConfig.{tenant_config}
 use Rattle.cops_types.specs.Words.{first_word}
 use Rattle.cops_replay.specs.declared.layouts.Layout.{Layout}
-use Rattle.cops_replay.specs.declared.layouts.Layout.TheVariants.{Today, Early, Old}
+use Rattle.cops_replay.specs.declared.layouts.Layout.TheVariants.{Today, Early}
 use Rattle.cops_replay.specs.declared.old_heads.OldHeadSoFar.{OldHeadSoFar}
 use Rattle.cops_replay.specs.declared.refusals.ReplayRefusal.{ReplayRefusal}
 use Rattle.cops_replay.specs.declared.refusals.ReplayRefusal.TheVariants.{BadConfig, UnknownTenant, ClockTooGreat}
@@ -29,7 +29,6 @@ use Rattle.cops_replay.specs.ReplayText.{is_great_in, replayed_text, starts_grea
 abbrev pub front_by : Layout → Front → List ℕ → Option Front
 front_by Today front line = front_after front line
 front_by Early front line = old_front_after front line
-front_by Old front line = old_front_after front line
 
 abbrev pub front_with_by : Layout → Option Front → List ℕ → Option Front
 front_with_by layout front line = option_and_then (λ front. front_by layout front line) front

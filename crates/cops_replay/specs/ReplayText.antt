@@ -18,7 +18,7 @@ use Rattle.cops_types.specs.TenantConfig.{TenantConfig, tenant_config}
 use Rattle.cops_types.specs.Words.{newline}
 use Rattle.cops_model.specs.SoloNode.{SoloNode}
 use Rattle.cops_replay.specs.declared.layouts.Layout.{Layout}
-use Rattle.cops_replay.specs.declared.layouts.Layout.TheVariants.{Today, Early, Old}
+use Rattle.cops_replay.specs.declared.layouts.Layout.TheVariants.{Today, Early}
 use Rattle.cops_replay.specs.declared.Record.{Record}
 use Rattle.cops_replay.specs.declared.Replayed.{Replayed}
 use Rattle.cops_replay.specs.declared.Replayed.TheVariants.{Same, FirstDifference}
@@ -53,7 +53,6 @@ has_great_clock line = nat_le (length line) longest_record && is_none (old_recor
 abbrev pub is_great_in : Layout → List ℕ → Bool
 is_great_in Today line = false
 is_great_in Early line = has_great_clock line
-is_great_in Old line = false
 
 abbrev pub great_clock_of : Layout → List ℕ → Option Fault
 great_clock_of layout line = refused_if (is_great_in layout line) fault.ClockTooGreat
@@ -66,7 +65,6 @@ IsEarlyLine line = (told : Record) × (told_of Early line ≡ Some told)
 abbrev pub starts_great_in : Layout → Tenant → Bool
 starts_great_in Today tenant = false
 starts_great_in Early tenant = nat_lt last_early_clock tenant.first_clock
-starts_great_in Old tenant = false
 
 -- in either, if these are the lines of the tenant's records
 abbrev pub is_too_great_in : Layout → Tenant → List (List ℕ) → Bool
@@ -111,7 +109,6 @@ abbrev pub head_by : Layout → List (List ℕ) → HeadReading
 head_by Today [] = BadAt 1
 head_by Today (line ∷ lines) = reading_from lines 2 AtStart
 head_by Early lines = old_head_of lines
-head_by Old lines = old_head_of lines
 
 -- the lines are an audit in this layout whose head has a tenant of this name, none of whose clocks is too great, and the text is the result of a
 -- replay of its lines by the layout's own rules

@@ -5,7 +5,7 @@ use Rattle.cops_types.specs.Counts.{counted}
 use Rattle.cops_types.specs.TenantConfig.{TenantConfig}
 use Rattle.cops_node.specs.Clusters.{Cluster, nodes_of}
 use Rattle.cops_replay.specs.declared.layouts.Layout.{Layout}
-use Rattle.cops_replay.specs.declared.layouts.Layout.TheVariants.{Today, Early, Old}
+use Rattle.cops_replay.specs.declared.layouts.Layout.TheVariants.{Today, Early}
 use Rattle.cops_replay.specs.declared.Record.{Record}
 use Rattle.cops_replay.specs.declared.Replayed.{Replayed}
 use Rattle.cops_replay.specs.declared.Replayed.TheVariants.{Same, FirstDifference}
@@ -21,15 +21,8 @@ pub record Standing : Type 0 where
   pub passed : ℕ
   pub found : Option ℕ
 
--- the layouts of files that are replayed
-abbrev pub is_replayed : Layout → Bool
-is_replayed Today = true
-is_replayed Early = true
-is_replayed Old = false
-
--- the nodes are of a cluster with these sizes, and the layout is a file's
-pub record IsOfItsFile (layout : Layout) (config : Config) (nodes : Cluster) : Type 0 where
-  pub layout_is : IsTrue (is_replayed layout)
+-- the nodes are of a cluster with these sizes
+pub record HasSizesOf (config : Config) (nodes : Cluster) : Type 0 where
   pub data_centres : nodes.shape.data_centres ≡ config.data_centres
   pub shards : nodes.shape.shards ≡ config.shards
 

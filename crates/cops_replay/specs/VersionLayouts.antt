@@ -16,7 +16,7 @@ use Rattle.cops_model.specs.Place.{Place, node_number, own_number, place_of}
 use Rattle.cops_model.specs.SoloNode.{SoloNode, new_node}
 use Rattle.cops_model.specs.Step.{CallEffect, audited, effect, put_with_version, unchanged}
 use Rattle.cops_replay.specs.declared.layouts.Layout.{Layout}
-use Rattle.cops_replay.specs.declared.layouts.Layout.TheVariants.{Today, Early, Old}
+use Rattle.cops_replay.specs.declared.layouts.Layout.TheVariants.{Today, Early}
 use Rattle.cops_replay.specs.declared.Record.{Record}
 use Rattle.cops_replay.specs.OldRecords.{old_nodes}
 use Rattle.cops_replay.specs.RecordWords.{kept_if, numbers_of}
@@ -58,11 +58,10 @@ module _ (layout : VersionLayout) where
 
 -- ---- records of a file
 
--- the turn of the record's node, by the rules of the file's layout; `Old` is that of no file
+-- the turn of the record's node, by the rules of the file's layout
 abbrev pub turn_in : Layout → TenantConfig → Record → List SoloNode → CallEffect
 turn_in Today config told nodes = turn_of config told nodes
 turn_in Early config told nodes = node_step_under layout_1 (place_of config told.node) told.moment told.call (slice_index_or nodes (node_number config.shards told.node) (new_node config.data_centres))
-turn_in Old config told nodes = turn_of config told nodes
 
 -- the record's node exists, its call fits that node, and the reply is the one computed by these rules
 abbrev pub AgreesIn : Layout → TenantConfig → Record → List SoloNode → Type 0

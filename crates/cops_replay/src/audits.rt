@@ -1,5 +1,5 @@
 //! Audits as text.
-ghost use Rattle.std.specs.Prelude.{◌≡◌, ◌<◌, ◌++◌, ◌⊎◌, ℕ, List, map, flat_map, length, IfOk, OnOk, IfErr, IsErrOf, IsTrue, Some};
+ghost use Rattle.std.specs.Prelude.{◌≡◌, ◌<◌, ◌++◌, ◌⊎◌, ℕ, List, map, length, IfOk, OnOk, IfErr, IsErrOf, IsTrue, Some};
 ghost use Rattle.std.specs.List.{AllByRecursion, range_with_len};
 ghost use Rattle.std.specs.Io.KnownBytes.{Appends};
 ghost use Rattle.cops_types.specs.declared.faults.Fault.TheVariants.{OutOfMemory, WriteFault};
@@ -13,13 +13,13 @@ ghost use Rattle.cops_node.specs.Parts.{AuditFits, place_at, solo_of};
 ghost use Rattle.cops_model.specs.Place.{place_of};
 ghost use Rattle.cops_replay.specs.declared.Record.{Record};
 ghost use Rattle.cops_replay.specs.Audits.{record_of, records_of};
-ghost use Rattle.cops_replay.specs.AuditText.{AreNodesOf, audit_of, config_text, ended, head_text, his_nodes, records_text, tenants_text, tenant_text};
+ghost use Rattle.cops_replay.specs.AuditText.{AreNodesOf, audit_of, ended, head_text, his_nodes, records_text, tenants_text};
 ghost use Rattle.cops_replay.specs.OpenAudits.{AreNodesAt, audit_at, nodes_at, with_tenants};
 ghost use Rattle.cops_replay.specs.Pages.{PutsText, page};
 ghost use Rattle.cops_replay.specs.RecordText.{has_form, is_record, record_line};
 ghost use Rattle.cops_replay.specs.WrittenAudits.{AllReplaySame, AreFormed, HaveLines, SaysSame};
 
-use crate::heads::{push_begin, push_cluster, push_layout, push_tenant};
+use crate::heads::push_head;
 use crate::pages::{drain, drain_full};
 use crate::row_lines::push_row;
 use cops_node::{AuditRow, Node, NodeId};
@@ -132,58 +132,7 @@ fn put_records<W: Write>(
     Ok(())
 }
 
-/// Appends the line of a tenant.
-fn put_tenant_line<W: Write>(
-    out: &mut Vec<u8>,
-    sink: &mut Sink<W>,
-    tenant: &Tenant,
-) -> Result<(), Fault>
-    ensures { PutsText (tenant_text tenant.now)
-        (page out.old.items (W.contents (sink_writer sink.old)) (sink_failures sink.old)) result
-        (page out.new.items (W.contents (sink_writer sink.new)) (sink_failures sink.new)) }
-{
-    push_tenant(out, tenant)?;
-    drain_full(out, sink)
-}
-
-/// Appends the lines of all tenants.
-fn put_tenant_lines<W: Write>(
-    out: &mut Vec<u8>,
-    sink: &mut Sink<W>,
-    tenants: &[Tenant],
-) -> Result<(), Fault>
-    ensures { PutsText (flat_map tenant_text tenants.now)
-        (page out.old.items (W.contents (sink_writer sink.old)) (sink_failures sink.old)) result
-        (page out.new.items (W.contents (sink_writer sink.new)) (sink_failures sink.new)) }
-{
-    for tenant in tenants {
-        if let Err(fault) = put_tenant_line(out, sink, tenant) {
-            return Err(fault);
-        }
-    }
-    Ok(())
-}
-
-/// Appends the head of these tenants, as in a script.
-fn put_config<W: Write>(
-    out: &mut Vec<u8>,
-    sink: &mut Sink<W>,
-    config: &Config,
-    tenants: &[Tenant],
-) -> Result<(), Fault>
-    ensures { PutsText (config_text (with_tenants config.now tenants.now))
-        (page out.old.items (W.contents (sink_writer sink.old)) (sink_failures sink.old)) result
-        (page out.new.items (W.contents (sink_writer sink.new)) (sink_failures sink.new)) }
-{
-    push_cluster(out, config)?;
-    if let Err(fault) = put_tenant_lines(out, sink, tenants) {
-        return Err(fault);
-    }
-    push_begin(out)?;
-    Ok(())
-}
-
-/// Appends the line of the layout, and then the head.
+/// Appends the line of the layout, and then the head of these tenants.
 fn put_head<W: Write>(
     out: &mut Vec<u8>,
     sink: &mut Sink<W>,
@@ -194,15 +143,15 @@ fn put_head<W: Write>(
         (page out.old.items (W.contents (sink_writer sink.old)) (sink_failures sink.old)) result
         (page out.new.items (W.contents (sink_writer sink.new)) (sink_failures sink.new)) }
 {
-    push_layout(out)?;
-    put_config(out, sink, config, tenants)
+    push_head(out, config, tenants)?;
+    drain_full(out, sink)
 }
 
 /// Writes the audit of a configuration's nodes for these tenants, each of which has the slot of its
 /// place: the line of the layout, the head in its one form, and then a line for each call, by
 /// tenant, then by node, then by place in the audit.
 ///
-/// Buffers at most a few kilobytes, beside one line and the room that a line may take. Does not
+/// Buffers the head or a few kilobytes, beside one line and the room that a line may take. Does not
 /// flush the writer. On `Err` a prefix of the audit may have been written.
 pub(crate) fn write_audit_at<W: Write>(
     alloc: Global,
@@ -261,7 +210,7 @@ fn first_slots(alloc: Global, count: usize) -> Result<Vec<u64>, AllocError>
 /// head in its one form, and then a line for each call, by tenant, then by node, then by place in
 /// the audit.
 ///
-/// Buffers at most a few kilobytes, beside one line and the room that a line may take. Does not
+/// Buffers the head or a few kilobytes, beside one line and the room that a line may take. Does not
 /// flush the writer. On `Err` a prefix of the audit may have been written.
 pub fn write_audit<W: Write>(
     alloc: Global,

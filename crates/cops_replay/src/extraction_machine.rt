@@ -69,7 +69,7 @@ fn push_layout_of(out: &mut Vec<u8>, layout: Layout) -> Result<(), AllocError>
 {
     match layout {
         Layout::Today => push_layout(out),
-        Layout::Early | Layout::Old => Ok(()),
+        Layout::Early => Ok(()),
     }
 }
 

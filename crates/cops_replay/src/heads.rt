@@ -1,7 +1,8 @@
 //! The lines of an audit before its records, in their one form: tokens in lower case, with hyphens.
 ghost use Rattle.std.specs.Prelude.{◌≡◌, ◌∷◌, ◌++◌, OnOk, decimal, flat_map};
 ghost use Rattle.cops_types.specs.HeadLines.{begin_line, cluster_line};
-ghost use Rattle.cops_replay.specs.AuditText.{ended, layout_line, tenant_text};
+ghost use Rattle.cops_replay.specs.AuditText.{ended, head_text, layout_line, tenant_text};
+ghost use Rattle.cops_replay.specs.OpenAudits.{with_tenants};
 
 use cops_types::texts::push_number;
 use cops_types::{Config, Tenant};
@@ -75,5 +76,30 @@ pub(crate) fn push_tenant(out: &mut Vec<u8>, tenant: &Tenant) -> Result<(), Allo
     out.extend_from_slice(token.as_bytes())?;
     push_numbers(out, &limits)?;
     out.push(b'\n')?;
+    Ok(())
+}
+
+/// Appends the lines of tenants.
+fn push_tenants(out: &mut Vec<u8>, tenants: &[Tenant]) -> Result<(), AllocError>
+    ensures { OnOk result (out.new.items ≡ out.old.items ++ flat_map tenant_text tenants.now) }
+{
+    for tenant in tenants {
+        push_tenant(out, tenant)?;
+    }
+    Ok(())
+}
+
+/// Appends the head of an audit of layout 2 with a configuration's sizes and these tenants.
+pub(crate) fn push_head(
+    out: &mut Vec<u8>,
+    config: &Config,
+    tenants: &[Tenant],
+) -> Result<(), AllocError>
+    ensures { OnOk result (out.new.items ≡ out.old.items ++ head_text (with_tenants config.now tenants.now)) }
+{
+    push_layout(out)?;
+    push_cluster(out, config)?;
+    push_tenants(out, tenants)?;
+    push_begin(out)?;
     Ok(())
 }

@@ -9,13 +9,22 @@ pub(crate) const LAST_OLD_CLOCK: u64 = (1 << 56) - 1;
 /// The greatest clock of layout 2 that has a next one.
 pub(crate) const LAST_EARLY_CLOCK: u64 = (1 << 48) - 2;
 
-/// The layout in which the versions of a record are read.
+/// The layout of a file.
 #[derive(Clone, Copy, Debug, PartialEq, Eq)]
 pub(crate) enum Layout {
-    /// Today's versions, of layout 2.
+    /// Layout 2.
     Today,
-    /// The versions of layout 1 that layout 2 has too, with a next one.
+    /// Layout 1, of which only versions are read that layout 2 has too, with a next one.
     Early,
-    /// Each version of layout 1, as today's version of the same number.
-    Old,
+}
+
+/// The versions that a word may write.
+#[derive(Clone, Copy, Debug, PartialEq, Eq)]
+pub(crate) enum VersionSet {
+    /// Those of layout 2.
+    Layout2,
+    /// Those of layout 1 that layout 2 has too, with a next one.
+    Both,
+    /// Those of layout 1, each as the version of layout 2 of the same number.
+    Layout1,
 }

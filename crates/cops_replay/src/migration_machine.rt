@@ -1,21 +1,20 @@
 //! The machine that migrates an audit of layout 1, line by line.
-ghost use Rattle.std.specs.Prelude.{◌≡◌, ◌++◌, flat_map, IfErr, IfNone, IfOk, IfSome, None, OnOk, Some};
+ghost use Rattle.std.specs.Prelude.{◌≡◌, ◌++◌, IfErr, IfNone, IfOk, IfSome, None, OnOk, Some};
 ghost use Rattle.cops_types.specs.Head.{AtStart};
 ghost use Rattle.cops_script.specs.LineAnswers.{Answers, IfRefused};
-ghost use Rattle.cops_replay.specs.AuditText.{ended, head_text, tenant_text};
+ghost use Rattle.cops_replay.specs.AuditText.{ended};
 ghost use Rattle.cops_replay.specs.declared.migration_machine.OldPart.TheVariants.{Head};
 ghost use Rattle.cops_replay.specs.MigratedHeads.{MigratedHeadAnswers};
 ghost use Rattle.cops_replay.specs.MigratedText.{record_fault};
 ghost use Rattle.cops_replay.specs.MigrationRules.{OldHeadEnds, OldHeadGoesOn, OldHeadIsRefused, RecordRefuses, part_answers, part_refuses};
 
-use crate::checking::is_record;
-use crate::heads::{push_begin, push_cluster, push_layout, push_tenant};
-use crate::layouts::{LAST_EARLY_CLOCK, Layout};
+use crate::heads::push_head;
+use crate::layouts::{LAST_EARLY_CLOCK, VersionSet};
 use crate::migrations::{BadLine, MigrationRefusal};
-use crate::reading::old_fault;
+use crate::reading::{is_record, old_fault};
 use crate::replayings::LONGEST_RECORD;
 use cops_script::{BadConfig, LineMachine, Stop};
-use cops_types::{Config, ConfigReader, Fault, HeadLine, OldConfigReader, Tenant};
+use cops_types::{Config, ConfigReader, Fault, HeadLine, OldConfigReader};
 use std::alloc::{AllocError, Global};
 
 /// The progress of an audit of layout 1: in its head, or after this many records.
@@ -41,27 +40,6 @@ pub(crate) fn new_old_audit() -> OldAudit
         part: OldPart::Head(ConfigReader::layout_1()),
         lines: 0,
     }
-}
-
-/// Appends the lines of tenants.
-fn push_tenants(out: &mut Vec<u8>, tenants: &[Tenant]) -> Result<(), AllocError>
-    ensures { OnOk result (out.new.items ≡ out.old.items ++ flat_map tenant_text tenants.now) }
-{
-    for tenant in tenants {
-        push_tenant(out, tenant)?;
-    }
-    Ok(())
-}
-
-/// Appends the head of an audit of layout 2.
-fn push_head(out: &mut Vec<u8>, config: &Config) -> Result<(), AllocError>
-    ensures { OnOk result (out.new.items ≡ out.old.items ++ head_text config.now) }
-{
-    push_layout(out)?;
-    push_cluster(out, config)?;
-    push_tenants(out, config.tenants.as_slice())?;
-    push_begin(out)?;
-    Ok(())
 }
 
 /// Reads the line of this number in a head of layout 1. Returns the configuration if the line ends
@@ -95,16 +73,17 @@ fn read_old_head(
 }
 
 /// Returns why a line cannot be migrated as a record, if it cannot.
-fn record_fault(line: &[u8]) -> Option<Fault>
-    ensures { result ≡ record_fault line.now }
+fn record_fault(alloc: Global, line: &[u8]) -> Result<Option<Fault>, AllocError>
+    ensures { IfOk result (λ fault. fault ≡ record_fault line.now) }
 {
     if line.len() > LONGEST_RECORD {
-        return Some(Fault::Syntax);
+        return Ok(Some(Fault::Syntax));
     }
-    if is_record(Layout::Early, line) {
-        return None;
+    let early = is_record(alloc, VersionSet::Both, line)?;
+    if early {
+        return Ok(None);
     }
-    Some(old_fault(line))
+    Ok(Some(old_fault(alloc, line)?))
 }
 
 /// Appends a line, with its newline.
@@ -117,12 +96,17 @@ pub(crate) fn push_line(out: &mut Vec<u8>, line: &[u8]) -> Result<(), AllocError
 }
 
 /// Appends the line of this number, with its newline, if it is a record.
-fn move_record(line: &[u8], number: u64, out: &mut Vec<u8>) -> Result<(), Stop<MigrationRefusal>>
+fn move_record(
+    alloc: Global,
+    line: &[u8],
+    number: u64,
+    out: &mut Vec<u8>,
+) -> Result<(), Stop<MigrationRefusal>>
     ensures moved { OnOk result (record_fault line.now ≡ None) }
     ensures text { OnOk result (out.new.items ≡ out.old.items ++ ended line.now) }
     ensures err { IfErr result (λ stop. IfRefused stop (RecordRefuses line.now number)) }
 {
-    match record_fault(line) {
+    match record_fault(alloc, line)? {
         None => {
             push_line(out, line)?;
             Ok(())
@@ -150,7 +134,7 @@ fn answer_head(
     match read_old_head(alloc, reader, line, number)? {
         None => Ok(false),
         Some(config) => {
-            push_head(out, &config)?;
+            push_head(out, &config, config.tenants.as_slice())?;
             Ok(true)
         }
     }
@@ -177,7 +161,7 @@ fn answer_line(
             Ok(())
         }
         OldPart::Records(count) => {
-            move_record(line, number, out)?;
+            move_record(alloc, line, number, out)?;
             *count = count.saturating_add(1);
             Ok(())
         }

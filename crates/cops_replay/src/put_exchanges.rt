@@ -10,7 +10,7 @@ ghost use Rattle.cops_replay.specs.Room.{IsNoMoreThan, IsRoomFor, call_room, ent
 use crate::put_words::{put_ack, put_entered, put_numbered, put_stored, put_value, put_versioned};
 use cops_node::{NodeCall, NodeReply, Wanted};
 use cops_types::placed::{put_byte, put_deps, put_key, put_version, put_word};
-use cops_types::{Deps, Entry, Fault, Key, Near, OwnedDeps, OwnedValue, Value, Version};
+use cops_types::{Entry, Fault, Key, OwnedDeps, OwnedNear, OwnedValue, Version};
 use std::alloc::AllocError;
 
 /// No value and no list is longer: memory could not hold it.
@@ -87,7 +87,7 @@ fn put_wanted(bytes: &mut [u8], at: usize, wanted: &Wanted) -> usize
 }
 
 /// Writes a get.
-fn put_get(bytes: &mut [u8], at: usize, key: &Key, wanted: &Wanted) -> usize
+pub(crate) fn put_get(bytes: &mut [u8], at: usize, key: &Key, wanted: &Wanted) -> usize
     requires { at + 165 ≤ length bytes.old }
     ensures text { take result bytes.new ≡ take at bytes.old ++ spaced (call_words (Get key.now wanted.now)) }
     ensures end { result ≤ at + 165 }
@@ -100,7 +100,14 @@ fn put_get(bytes: &mut [u8], at: usize, key: &Key, wanted: &Wanted) -> usize
 }
 
 /// Writes a put.
-fn put_put(bytes: &mut [u8], at: usize, key: &Key, value: &Value, deps: &Deps, near: &Near) -> usize
+pub(crate) fn put_put(
+    bytes: &mut [u8],
+    at: usize,
+    key: &Key,
+    value: &OwnedValue,
+    deps: &OwnedDeps,
+    near: &OwnedNear,
+) -> usize
     requires { at + stored_room value.now deps.now near.now + 165 ≤ length bytes.old }
     ensures text { take result bytes.new ≡ take at bytes.old ++ spaced (call_words (Put key.now value.now deps.now near.now)) }
     ensures end { result ≤ at + stored_room value.now deps.now near.now + 165 }
@@ -109,11 +116,11 @@ fn put_put(bytes: &mut [u8], at: usize, key: &Key, value: &Value, deps: &Deps, n
     let of_key = put_word(bytes, at, b"put ");
     let after_key = put_key(bytes, of_key, key);
     let of_value = put_byte(bytes, after_key, b' ');
-    put_stored(bytes, of_value, value.owned(), deps.owned(), near.owned())
+    put_stored(bytes, of_value, value, deps, near)
 }
 
 /// Writes a check.
-fn put_check(bytes: &mut [u8], at: usize, key: &Key, version: Version) -> usize
+pub(crate) fn put_check(bytes: &mut [u8], at: usize, key: &Key, version: Version) -> usize
     requires { at + 165 ≤ length bytes.old }
     ensures text { take result bytes.new ≡ take at bytes.old ++ spaced (call_words (DepCheck key.now version)) }
     ensures end { result ≤ at + 165 }
@@ -134,7 +141,9 @@ pub(crate) fn put_call(bytes: &mut [u8], at: usize, call: &NodeCall) -> usize
 {
     match call {
         NodeCall::Get(key, wanted) => put_get(bytes, at, key, wanted),
-        NodeCall::Put(key, value, deps, near) => put_put(bytes, at, key, value, deps, near),
+        NodeCall::Put(key, value, deps, near) => {
+            put_put(bytes, at, key, value.owned(), deps.owned(), near.owned())
+        }
         NodeCall::DepCheck(key, version) => put_check(bytes, at, key, *version),
         NodeCall::Pull(dc) => put_numbered(bytes, at, b"pull", *dc),
         NodeCall::Commit(entry) => put_entered(bytes, at, b"commit", entry),

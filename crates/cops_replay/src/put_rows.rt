@@ -3,20 +3,19 @@ ghost use Rattle.cops_types.specs.Founds.{found_in};
 ghost use Rattle.std.specs.Prelude.{◌≡◌, ◌≤◌, ◌+◌, ◌*◌, ◌++◌, length, take, IsTrue};
 ghost use Rattle.cops_types.specs.Words.{spaced};
 ghost use Rattle.cops_node.specs.Rows.{exchange_of};
-ghost use Rattle.cops_model.specs.declared.calls.NodeCall.TheVariants.{DepCheck, Get, Put};
 ghost use Rattle.cops_model.specs.declared.calls.NodeReply.TheVariants.{Found};
-ghost use Rattle.cops_model.specs.declared.calls.Wanted.TheVariants.{Exactly, Latest};
 ghost use Rattle.cops_replay.specs.AuditText.{ended};
 ghost use Rattle.cops_replay.specs.RecordText.{call_words, has_form, is_call, is_record, is_reply, record_line, reply_words};
 ghost use Rattle.cops_replay.specs.Room.{IsNoMoreThan, IsRoomFor, entry_room, line_room, packed_record, packing_room};
 
 use crate::put_exchanges::{
-    put_call, put_found, put_reply, room_of_call, room_of_entry, room_of_reply,
+    put_call, put_check, put_found, put_get, put_put, put_reply, room_of_call, room_of_entry,
+    room_of_reply,
 };
-use crate::put_words::{put_ack, put_entered, put_front, put_numbered, put_stored, put_versioned};
-use cops_node::{NodeId, Packing};
-use cops_types::placed::{put_byte, put_version, put_word};
-use cops_types::{Entry, Name, ShortKey, Version};
+use crate::put_words::{put_ack, put_entered, put_front, put_numbered, put_versioned};
+use cops_node::{NodeId, Packing, Wanted};
+use cops_types::placed::{put_byte, put_word};
+use cops_types::{Entry, Name};
 
 /// Returns the most room that the values and the lists of a call and its reply take.
 fn room_of_packing(packing: &Packing) -> usize
@@ -48,82 +47,6 @@ pub(crate) fn room_of(packing: &Packing) -> usize
         .saturating_add(430)
 }
 
-/// Writes the put of an entry.
-fn put_put(bytes: &mut [u8], at: usize, entry: &Entry) -> usize
-    requires { at + entry_room entry.now + 165 ≤ length bytes.old }
-    ensures text { take result bytes.new ≡ take at bytes.old ++ spaced (call_words (Put entry.now.key entry.now.value entry.now.deps entry.now.near)) }
-    ensures end { result ≤ at + entry_room entry.now + 165 }
-    ensures formed { IsTrue (is_call (Put entry.now.key entry.now.value entry.now.deps entry.now.near)) }
-{
-    let of_key = put_word(bytes, at, b"put ");
-    let after_key = entry.put_key(bytes, of_key);
-    let of_value = put_byte(bytes, after_key, b' ');
-    put_stored(bytes, of_value, entry.value(), entry.deps(), entry.near())
-}
-
-/// Writes a get of the latest version of an entry's key.
-fn put_latest(bytes: &mut [u8], at: usize, entry: &Entry) -> usize
-    requires { at + 165 ≤ length bytes.old }
-    ensures text { take result bytes.new ≡ take at bytes.old ++ spaced (call_words (Get entry.now.key Latest)) }
-    ensures end { result ≤ at + 165 }
-    ensures formed { IsTrue (is_call (Get entry.now.key Latest)) }
-{
-    let of_key = put_word(bytes, at, b"get ");
-    let after_key = entry.put_key(bytes, of_key);
-    put_word(bytes, after_key, b" latest")
-}
-
-/// Writes a get of an entry's version.
-fn put_exact(bytes: &mut [u8], at: usize, entry: &Entry) -> usize
-    requires { at + 165 ≤ length bytes.old }
-    ensures text { take result bytes.new ≡ take at bytes.old ++ spaced (call_words (Get entry.now.key (Exactly entry.now.version))) }
-    ensures end { result ≤ at + 165 }
-    ensures formed { IsTrue (is_call (Get entry.now.key (Exactly entry.now.version))) }
-{
-    let of_key = put_word(bytes, at, b"get ");
-    let after_key = entry.put_key(bytes, of_key);
-    let of_version = put_byte(bytes, after_key, b' ');
-    put_version(bytes, of_version, entry.version())
-}
-
-/// Writes a get of the latest version of a key.
-fn put_absent(bytes: &mut [u8], at: usize, key: &ShortKey) -> usize
-    requires { at + 165 ≤ length bytes.old }
-    ensures text { take result bytes.new ≡ take at bytes.old ++ spaced (call_words (Get key.now Latest)) }
-    ensures end { result ≤ at + 165 }
-    ensures formed { IsTrue (is_call (Get key.now Latest)) }
-{
-    let of_key = put_word(bytes, at, b"get ");
-    let after_key = key.put(bytes, of_key);
-    put_word(bytes, after_key, b" latest")
-}
-
-/// Writes a get of a version.
-fn put_get(bytes: &mut [u8], at: usize, key: &ShortKey, version: Version) -> usize
-    requires { at + 165 ≤ length bytes.old }
-    ensures text { take result bytes.new ≡ take at bytes.old ++ spaced (call_words (Get key.now (Exactly version))) }
-    ensures end { result ≤ at + 165 }
-    ensures formed { IsTrue (is_call (Get key.now (Exactly version))) }
-{
-    let of_key = put_word(bytes, at, b"get ");
-    let after_key = key.put(bytes, of_key);
-    let of_version = put_byte(bytes, after_key, b' ');
-    put_version(bytes, of_version, version)
-}
-
-/// Writes a check of a version.
-fn put_check(bytes: &mut [u8], at: usize, key: &ShortKey, version: Version) -> usize
-    requires { at + 165 ≤ length bytes.old }
-    ensures text { take result bytes.new ≡ take at bytes.old ++ spaced (call_words (DepCheck key.now version)) }
-    ensures end { result ≤ at + 165 }
-    ensures formed { IsTrue (is_call (DepCheck key.now version)) }
-{
-    let of_key = put_word(bytes, at, b"check ");
-    let after_key = key.put(bytes, of_key);
-    let of_version = put_byte(bytes, after_key, b' ');
-    put_version(bytes, of_version, version)
-}
-
 /// Writes that an entry was found.
 fn put_found_entry(bytes: &mut [u8], at: usize, entry: &Entry) -> usize
     requires { at + entry_room entry.now + 165 ≤ length bytes.old }
@@ -142,13 +65,20 @@ fn put_row_call(bytes: &mut [u8], at: usize, packing: &Packing) -> usize
     ensures formed { IsTrue (is_call (exchange_of packing.now).call) }
 {
     match packing {
-        Packing::PutStored(entry) => put_put(bytes, at, entry),
-        Packing::LatestFound(entry) => put_latest(bytes, at, entry),
-        Packing::ExactFound(entry) => put_exact(bytes, at, entry),
-        Packing::LatestAbsent(key) => put_absent(bytes, at, key),
-        Packing::NotCome(key, version) => put_get(bytes, at, key, *version),
-        Packing::WasCommitted(key, version) => put_check(bytes, at, key, *version),
-        Packing::WasNotCommitted(key, version) => put_check(bytes, at, key, *version),
+        Packing::PutStored(entry) => {
+            let key = entry.key();
+            put_put(bytes, at, &key, entry.value(), entry.deps(), entry.near())
+        }
+        Packing::LatestFound(entry) => put_get(bytes, at, &entry.key(), &Wanted::Latest),
+        Packing::ExactFound(entry) => {
+            put_get(bytes, at, &entry.key(), &Wanted::Exactly(entry.version()))
+        }
+        Packing::LatestAbsent(key) => put_get(bytes, at, &key.key(), &Wanted::Latest),
+        Packing::NotCome(key, version) => {
+            put_get(bytes, at, &key.key(), &Wanted::Exactly(*version))
+        }
+        Packing::WasCommitted(key, version) => put_check(bytes, at, &key.key(), *version),
+        Packing::WasNotCommitted(key, version) => put_check(bytes, at, &key.key(), *version),
         Packing::EntryPulled(dc, _) => put_numbered(bytes, at, b"pull", *dc),
         Packing::NothingPulled(dc) => put_numbered(bytes, at, b"pull", *dc),
         Packing::EntryCommitted(entry) => put_entered(bytes, at, b"commit", entry),

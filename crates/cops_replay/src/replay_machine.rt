@@ -15,7 +15,6 @@ ghost use Rattle.cops_script.specs.GoodHeads.{HeadContinues};
 ghost use Rattle.cops_replay.specs.declared.layouts.Layout.TheVariants.{Early, Today};
 ghost use Rattle.cops_replay.specs.OldHeads.{OldHeadContinues};
 ghost use Rattle.cops_replay.specs.ReplayRules.{HeadRefusesBy, IsHeadBy, IsNotBegun, RefusesOwn, ReplaysOwn, StartsFor, tells_today};
-ghost use Rattle.cops_replay.specs.Replayings.{is_replayed};
 ghost use Rattle.cops_replay.specs.ReplayText.{replayed_text, starts_great_in};
 
 use crate::Replayed;
@@ -85,7 +84,7 @@ fn starts_great(layout: Layout, tenant: &Tenant) -> bool
 {
     match layout {
         Layout::Early => tenant.first_clock > LAST_EARLY_CLOCK,
-        Layout::Today | Layout::Old => false,
+        Layout::Today => false,
     }
 }
 
@@ -96,7 +95,6 @@ fn begin_replay(
     config: &Config,
     name: &[u8],
 ) -> Result<Replay, Stop<ReplayRefusal>>
-    requires layout { IsTrue (is_replayed layout) }
     requires sizes { IsTrue (are_sizes config.now) }
     requires clocks { (slot : ℕ) (tenant : TenantLine) → slice_get config.now.tenants slot ≡ Some tenant → IsFalse (starts_great_in layout tenant) →
         IsTrue (are_clocks (with_tenant_alone config.now tenant)) }

@@ -9,17 +9,16 @@ ghost use Rattle.cops_node.specs.Parts.{are_clocks};
 ghost use Rattle.cops_model.specs.MainTheorem.{with_tenant_alone};
 ghost use Rattle.cops_replay.specs.declared.layouts.Layout.TheVariants.{Early};
 ghost use Rattle.cops_replay.specs.Replays.{IsAlone};
-ghost use Rattle.cops_replay.specs.Replayings.{IsBeforeRecords, IsLineReplayed, IsRecordCounted, IsReplayedLine, MayAgree, found_of, is_replayed};
+ghost use Rattle.cops_replay.specs.Replayings.{IsBeforeRecords, IsLineReplayed, IsRecordCounted, IsReplayedLine, MayAgree, found_of};
 ghost use Rattle.cops_replay.specs.ReplayText.{great_clock_of, longest_record};
 
 use crate::Replayed;
-use crate::checking::is_record;
-use crate::layouts::Layout;
-use crate::line_words::LineWords;
-use crate::reading::next_asked;
+use crate::layouts::{Layout, VersionSet};
+use crate::reading::{is_record, next_asked};
 use crate::replaying::{ask, with_tenant_alone};
 use crate::reply_texts::is_told;
 use cops_node::Cluster0;
+use cops_types::words::Words;
 use cops_types::{Config, Fault};
 use std::alloc::{AllocError, Global};
 use std::marker::Model;
@@ -36,29 +35,33 @@ pub struct Replay {
     nodes: Cluster0,
     passed: u64,
     found: Option<u64>,
+    /// Scratch space for the text of a reply.
+    place: Vec<u8>,
 }
 
 impl Model for Replay {
-    ghost use Rattle.cops_replay.specs.Replayings.{IsOfItsFile, Standing};
+    ghost use Rattle.cops_replay.specs.Replayings.{HasSizesOf, Standing};
 
     ghost Value = { Standing };
 
     ghost view = { λ r. record { layout = r.layout; nodes = r.nodes; passed = r.passed; found = r.found } };
 
-    ghost invariant = { λ r. IsOfItsFile r.layout r.alone r.nodes };
+    ghost invariant = { λ r. HasSizesOf r.alone r.nodes };
 }
 
 /// Returns `true` if a short line of layout 1 is a record that today's layout has too. Fails if
 /// only a clock is too great.
-fn is_early(line: &[u8]) -> Result<bool, Fault>
+fn is_early(alloc: Global, line: &[u8]) -> Result<bool, Fault>
     requires short { IsTrue (nat_le (length line.now) longest_record) }
     ensures early { IfOk result (λ early. MayAgree Early line.now early) }
     ensures great { IsAnswer (great_clock_of Early line.now) result }
 {
-    if is_record(Layout::Early, line) {
+    let early = is_record(alloc, VersionSet::Both, line)?;
+    if early {
         return Ok(true);
     }
-    if is_record(Layout::Old, line) {
+    let old = is_record(alloc, VersionSet::Layout1, line)?;
+    if old {
         return Err(Fault::ClockTooGreat);
     }
     Ok(false)
@@ -66,8 +69,7 @@ fn is_early(line: &[u8]) -> Result<bool, Fault>
 
 /// Returns `true` if the line may be a record that agrees: if it is one in today's layout, it is
 /// the same in its own.
-fn may_agree(layout: Layout, line: &[u8]) -> Result<bool, Fault>
-    requires { IsTrue (is_replayed layout) }
+fn may_agree(alloc: Global, layout: Layout, line: &[u8]) -> Result<bool, Fault>
     ensures may { IfOk result (λ may. MayAgree layout line.now may) }
     ensures great { IsAnswer (great_clock_of layout line.now) result }
 {
@@ -76,17 +78,17 @@ fn may_agree(layout: Layout, line: &[u8]) -> Result<bool, Fault>
     }
     match layout {
         Layout::Today => Ok(true),
-        Layout::Early => is_early(line),
-        Layout::Old => unreachable!(),
+        Layout::Early => is_early(alloc, line),
     }
 }
 
 /// Executes the call of a line again if its node exists and the call fits it. Returns `true` if the
-/// reply is the one in the line.
+/// reply is the one in the line. `place` is scratch space.
 fn agrees(
     alloc: Global,
     nodes: &mut Cluster0,
     config: &Config,
+    place: &mut Vec<u8>,
     line: &[u8],
 ) -> Result<bool, AllocError>
     requires data_centres { nodes.old.shape.data_centres ≡ config.now.data_centres }
@@ -94,17 +96,19 @@ fn agrees(
     ensures replayed { IfOk result (λ agrees. (tenant : TenantConfig) → IsAlone tenant nodes.old → IsLineReplayed tenant line.now nodes.old agrees nodes.new) }
     ensures shape { nodes.new.shape ≡ nodes.old.shape }
 {
-    let mut words = LineWords::of(line);
-    let Some(asked) = next_asked(alloc, &mut words)? else {
+    let mut words = Words::of(line);
+    let Some(found) = next_asked(alloc, VersionSet::Layout2, &mut words)? else {
         return Ok(false);
     };
     let Some(text) = words.rest() else {
         return Ok(false);
     };
+    let (_name, asked) = found;
     let Some(reply) = ask(nodes, config, asked)? else {
         return Ok(false);
     };
-    Ok(is_told(&reply, text))
+    let same = is_told(place, &reply, text)?;
+    Ok(same)
 }
 
 impl Replay {
@@ -115,7 +119,6 @@ impl Replay {
         config: &Config,
         slot: u64,
     ) -> Result<Self, AllocError>
-        requires layout { IsTrue (is_replayed layout) }
         requires sizes { IsTrue (are_sizes config.now) }
         requires slot { slot < length config.now.tenants }
         requires clocks { (tenant : Tenant) → slice_get config.now.tenants slot ≡ Some tenant → IsTrue (are_clocks (with_tenant_alone config.now tenant)) }
@@ -130,6 +133,7 @@ impl Replay {
             nodes,
             passed: 0,
             found: None,
+            place: Vec::new(alloc),
         })
     }
 
@@ -150,7 +154,7 @@ impl Replay {
         ensures passed { self.new.passed ≡ self.old.passed }
         ensures found { self.new.found ≡ self.old.found }
     {
-        agrees(alloc, &mut self.nodes, &self.alone, line)
+        agrees(alloc, &mut self.nodes, &self.alone, &mut self.place, line)
     }
 
     /// Records whether the next record agreed.
@@ -178,7 +182,7 @@ impl Replay {
         ensures replayed { OnOk result (IsReplayedLine line.now self.old self.new) }
         ensures great { IsAnswer (great_clock_of self.old.layout line.now) result }
     {
-        let may_agree = may_agree(self.layout, line)?;
+        let may_agree = may_agree(alloc, self.layout, line)?;
         if self.is_over() {
             return Ok(());
         }

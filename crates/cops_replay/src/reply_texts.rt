@@ -1,16 +1,13 @@
 //! Tests whether a text is that of a reply.
-ghost use Rattle.std.specs.Prelude.{◌≡◌, ◌↔◌, IfSome, IsTrue, Some};
-ghost use Rattle.std.specs.Option.{option_map};
-ghost use Rattle.cops_types.specs.Behind.{behind};
-ghost use Rattle.cops_types.specs.FaultText.{fault_text};
-ghost use Rattle.cops_types.specs.Words.{spaced};
+ghost use Rattle.std.specs.Prelude.{◌≡◌, ◌↔◌, ◌≤◌, ◌+◌, length, IfOk, IsTrue, Some};
 ghost use Rattle.cops_replay.specs.AskedLines.{reply_told};
-ghost use Rattle.cops_replay.specs.RecordText.{checked_text, has_form, is_reply, reply_words};
+ghost use Rattle.cops_replay.specs.RecordText.{has_form};
+ghost use Rattle.cops_replay.specs.Room.{IsNoMoreThan, IsRoomFor, reply_room};
 
-use crate::told_words::{behind_entered, behind_found, behind_numbered, behind_versioned};
+use crate::put_exchanges::{make_room, put_reply, room_of_reply};
 use cops_node::NodeReply;
 use cops_types::Fault;
-use cops_types::prefixes::behind_bytes;
+use std::alloc::AllocError;
 
 /// Returns `true` if an audit may have the reply.
 pub(crate) fn has_form(reply: &NodeReply) -> bool
@@ -25,63 +22,35 @@ pub(crate) fn has_form(reply: &NodeReply) -> bool
     }
 }
 
-/// Returns the bytes after whether a version has been committed.
-fn behind_checked(text: &[u8], committed: bool) -> Option<&[u8]>
-    ensures { option_map (λ rest. rest.now) result ≡ behind (checked_text committed) text.now }
+/// Returns the most room that the text of a reply takes.
+fn room_of_text(reply: &NodeReply) -> usize
+    ensures enough { IsRoomFor (reply_room reply.now + 165) result }
+    ensures no_more { IsNoMoreThan (reply_room reply.now + 165) result }
 {
-    if committed {
-        behind_bytes(text, b"yes")
-    } else {
-        behind_bytes(text, b"no")
-    }
+    room_of_reply(reply).saturating_add(165)
 }
 
-/// Returns the bytes after a fault.
-fn behind_fault(text: &[u8], fault: Fault) -> Option<&[u8]>
-    ensures { option_map (λ rest. rest.now) result ≡ behind (fault_text fault) text.now }
-{
-    behind_bytes(text, &fault.text())
-}
-
-/// Returns the bytes after a reply, if the text begins with it.
-fn behind_reply<'a>(text: &'a [u8], reply: &NodeReply) -> Option<&'a [u8]>
-    ensures text { option_map (λ rest. rest.now) result ≡ behind (spaced (reply_words reply.now)) text.now }
-    ensures formed { IfSome result (λ _. IsTrue (has_form reply.now) → IsTrue (is_reply reply.now)) }
-{
-    match reply {
-        NodeReply::Found(found) => behind_found(
-            text,
-            b"found",
-            found.version(),
-            found.value(),
-            found.deps(),
-        ),
-        NodeReply::Absent => behind_bytes(text, b"absent"),
-        NodeReply::Gone(now) => behind_numbered(text, b"gone", *now),
-        NodeReply::NotYet => behind_bytes(text, b"notyet"),
-        NodeReply::Stored(version) => behind_versioned(text, b"stored", *version),
-        NodeReply::Checked(committed) => behind_checked(text, *committed),
-        NodeReply::Pulled(entry) => behind_entered(text, b"entry", entry),
-        NodeReply::Nothing => behind_bytes(text, b"nothing"),
-        NodeReply::Committed => behind_bytes(text, b"committed"),
-        NodeReply::Already => behind_bytes(text, b"already"),
-        NodeReply::OutOfOrder(mark) => behind_versioned(text, b"outoforder", *mark),
-        NodeReply::Acked => behind_bytes(text, b"acked"),
-        NodeReply::NotFront => behind_bytes(text, b"notfront"),
-        NodeReply::Removed(count) => behind_numbered(text, b"removed", *count),
-        NodeReply::Refused(fault) => behind_fault(text, *fault),
-    }
-}
-
-/// Returns `true` if a text is exactly that of the reply.
-pub(crate) fn is_told(reply: &NodeReply, text: &[u8]) -> bool
+/// Returns `true` if a text is exactly that of the reply, which is written over `place`.
+fn is_text_of(place: &mut [u8], reply: &NodeReply, text: &[u8]) -> bool
+    requires form { IsTrue (has_form reply.now) }
+    requires room { reply_room reply.now + 165 ≤ length place.old }
     ensures { IsTrue result ↔ (reply_told text.now ≡ Some reply.now) }
 {
+    let end = put_reply(place, 0, reply);
+    &place[..end] == text
+}
+
+/// Returns `true` if a text is exactly that of the reply. `place` is scratch space.
+pub(crate) fn is_told(
+    place: &mut Vec<u8>,
+    reply: &NodeReply,
+    text: &[u8],
+) -> Result<bool, AllocError>
+    ensures { IfOk result (λ told. IsTrue told ↔ (reply_told text.now ≡ Some reply.now)) }
+{
     if !has_form(reply) {
-        return false;
+        return Ok(false);
     }
-    match behind_reply(text, reply) {
-        Some(rest) => rest.is_empty(),
-        None => false,
-    }
+    make_room(place, room_of_text(reply))?;
+    Ok(is_text_of(place.as_mut_slice(), reply, text))
 }

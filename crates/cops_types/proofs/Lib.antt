@@ -1,4 +1,3 @@
-pub mod BehindLemmas
 pub mod ContextRule
 pub mod Examples
 pub mod FaultLemmas

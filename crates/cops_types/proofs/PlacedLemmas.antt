@@ -4,7 +4,7 @@ use Rattle.std.specs.Prelude.{decimal}
 use Rattle.std.proofs.Math.Seq.{take-append-add}
 use Rattle.std.proofs.lemmas.Fmt.{decimal_digit, decimal_step}
 use Rattle.std.proofs.lemmas.List.{take-append-drop, take-append-le, take-take}
-use Rattle.cops_types.specs.Placed.{last_four, last_two}
+use Rattle.cops_types.specs.Placed.{last_four}
 
 -- the first bytes of what is copied over a list stand behind what stood before
 pub front_placed : (at count : ℕ) (bytes cells copied rest : List ℕ) → at ≤ length bytes → count ≤ length cells → copied ≡ cells → take (at + count) (take at bytes ++ (copied ++ rest)) ≡ take at bytes ++ take count cells
@@ -102,20 +102,3 @@ decimal_three n low high =
 pub decimal_four : (n : ℕ) → 1000 ≤ n → n < 10000 → decimal n ≡ glyph (n / 1000) ∷ glyph (n / 100) ∷ glyph (n / 10) ∷ glyph n ∷ []
 decimal_four n low high =
     decimal_of_four n low high ∙ (λ i. last_glyph (n / 1000) i ++ (last_glyph (n / 100) i ++ (last_glyph (n / 10) i ++ last_glyph n i)))
-
--- ---- digits two by two
-
-pub last_four_twice : (n : ℕ) → last_four n ≡ last_two (n / 100) ++ last_two n
-last_four_twice n =
-    let thousands : n / 1000 % 10 ≡ n / 100 / 10 % 10 = omega arith in
-    (λ i. decimal (thousands i) ++ (decimal (n / 100 % 10) ++ (decimal (n / 10 % 10) ++ decimal (n % 10))))
-    ∙ sym (append_assoc (decimal (n / 100 / 10 % 10)) (decimal (n / 100 % 10)) (last_two n))
-
-pub decimal_of_two : (n : ℕ) → 10 ≤ n → n < 100 → decimal n ≡ last_two n
-decimal_of_two n low high =
-    let only : n / 10 ≡ n / 10 % 10 = omega arith in
-    decimal_last n low (omega arith) ∙ ap (λ m. decimal m ++ decimal (n % 10)) only
-
--- the last two digits, byte by byte
-pub last_two_glyphs : (n : ℕ) → last_two n ≡ (48 + n / 10 % 10) ∷ (48 + n % 10) ∷ []
-last_two_glyphs n = (λ i. decimal_digit (n / 10 % 10) (omega arith) i ++ decimal_digit (n % 10) (omega arith) i)

@@ -1,4 +1,3 @@
-pub mod Behind
 pub mod BigEndian
 pub mod BytesForms
 pub mod Context

@@ -4,7 +4,3 @@ use Rattle.std.specs.Prelude.{ℕ, ◌/◌, ◌%◌, List, ◌++◌, decimal}
 -- the last four decimal digits, padded with zeros
 abbrev pub last_four : ℕ → List ℕ
 last_four number = decimal (number / 1000 % 10) ++ (decimal (number / 100 % 10) ++ (decimal (number / 10 % 10) ++ decimal (number % 10)))
-
--- the last two, padded in the same way
-abbrev pub last_two : ℕ → List ℕ
-last_two number = decimal (number / 10 % 10) ++ decimal (number % 10)

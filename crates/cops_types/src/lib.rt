@@ -26,7 +26,6 @@ mod packed;
 mod pair_lists;
 mod pairs;
 pub mod placed;
-pub mod prefixes;
 mod quotas;
 mod records;
 mod request_errors;

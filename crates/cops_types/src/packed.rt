@@ -3,8 +3,6 @@ ghost use Rattle.std.specs.Prelude.{◌≡◌, ◌<◌, ◌≤◌, ◌+◌, ◌*
 ghost use Rattle.std.specs.List.{HoldsAt, list_all};
 ghost use Rattle.std.specs.List.Sorted.{IsSearchInRange, IsPartitionPoint};
 ghost use Rattle.std.specs.declared.cmp.Ordering.TheVariants.{Less, Equal, Greater};
-ghost use Rattle.std.specs.Option.{option_map};
-ghost use Rattle.cops_types.specs.Behind.{behind};
 ghost use Rattle.cops_types.specs.Key.{key_cmp, key_eq};
 ghost use Rattle.cops_types.specs.Packed.{SHORT, has_short_key};
 ghost use Rattle.cops_types.specs.PackedRows.{pairs_of};
@@ -20,7 +18,6 @@ use crate::keys::Key;
 use crate::pair_lists::place_of;
 use crate::pairs::Pair;
 use crate::placed::{put_byte, put_front, put_pairs, put_version};
-use crate::prefixes::{behind_byte, behind_bytes, behind_pairs, behind_version};
 use crate::versions::Version;
 use std::alloc::{AllocError, Global};
 use std::cmp::Ordering;
@@ -159,18 +156,6 @@ impl ShortPair {
         put_version(bytes, version, self.version)
     }
 
-    /// Returns the bytes after the key, a colon and the version.
-    #[inline(always)]
-    #[tactic(auto, using(crate::proofs::BehindLemmas::behind_both, crate::proofs::BehindLemmas::behind_more))]
-    fn behind<'a>(&self, bytes: &'a [u8]) -> Option<&'a [u8]>
-        ensures text { option_map (λ rest. rest.now) result ≡ behind (pair_text self.now) bytes.now }
-        ensures formed { IfSome result (λ _. IsTrue (is_pair self.now)) }
-    {
-        let colon = behind_bytes(bytes, &self.bytes[..usize::from(self.len)])?;
-        let version = behind_byte(colon, b':')?;
-        behind_version(version, self.version)
-    }
-
     /// Compares the key with another.
     #[inline(always)]
     pub(crate) fn key_order(&self, key: &Key) -> Ordering
@@ -283,34 +268,6 @@ fn put_short(bytes: &mut [u8], at: usize, pairs: &[ShortPair]) -> usize
         [first, rest @ ..] => {
             let end = first.put(bytes, at);
             put_more_short(bytes, end, rest)
-        }
-    }
-}
-
-/// Returns the bytes after the pairs, each of which follows a comma.
-#[tactic(auto, using(crate::proofs::BehindLemmas::behind_both, crate::proofs::BehindLemmas::behind_more))]
-fn behind_more_short<'a>(bytes: &'a [u8], pairs: &[ShortPair]) -> Option<&'a [u8]>
-    ensures text { option_map (λ rest. rest.now) result ≡ behind (more_text pairs.now) bytes.now }
-    ensures formed { IfSome result (λ _. IsTrue (list_all is_pair pairs.now)) }
-{
-    let mut rest = bytes;
-    for pair in pairs {
-        let after = behind_byte(rest, b',')?;
-        rest = pair.behind(after)?;
-    }
-    Some(rest)
-}
-
-/// Returns the bytes after the pairs separated by commas, or after a hyphen for none.
-fn behind_short<'a>(bytes: &'a [u8], pairs: &[ShortPair]) -> Option<&'a [u8]>
-    ensures text { option_map (λ rest. rest.now) result ≡ behind (list_text pairs.now) bytes.now }
-    ensures formed { IfSome result (λ _. IsTrue (list_all is_pair pairs.now)) }
-{
-    match pairs {
-        [] => behind_byte(bytes, b'-'),
-        [first, more @ ..] => {
-            let rest = first.behind(bytes)?;
-            behind_more_short(rest, more)
         }
     }
 }
@@ -503,18 +460,6 @@ impl PackedPairs {
             Rows::One(pair) => pair.put(bytes, at),
             Rows::Short(pairs) => put_short(bytes, at, pairs.as_slice()),
             Rows::Full(pairs) => put_pairs(bytes, at, pairs.as_slice()),
-        }
-    }
-
-    /// Returns the bytes after the pairs separated by commas, or after a hyphen for none.
-    pub(crate) fn behind<'a>(&self, bytes: &'a [u8]) -> Option<&'a [u8]>
-        ensures text { option_map (λ rest. rest.now) result ≡ behind (list_text self.now) bytes.now }
-        ensures formed { IfSome result (λ _. IsTrue (list_all is_pair self.now)) }
-    {
-        match &self.rows {
-            Rows::One(pair) => pair.behind(bytes),
-            Rows::Short(pairs) => behind_short(bytes, pairs.as_slice()),
-            Rows::Full(pairs) => behind_pairs(bytes, pairs.as_slice()),
         }
     }
 

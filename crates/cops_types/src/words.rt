@@ -175,6 +175,14 @@ impl<'a> Words<'a> {
         Some(word)
     }
 
+    /// Returns the text of the remaining words, if there are any.
+    pub fn rest(&self) -> Option<&'a [u8]>
+        ensures some { IfSome result (λ text. self.now ≡ parts_at space text.now) }
+        ensures none { IfNone result (self.now ≡ []) }
+    {
+        self.rest
+    }
+
     /// Returns `true` if no word remains.
     pub fn is_empty(&self) -> bool
         ensures { result ≡ no_words self.now }

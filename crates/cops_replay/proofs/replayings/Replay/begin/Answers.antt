@@ -25,7 +25,6 @@ invariant_of-result c =
     let at = tenant_at c.args.config.now.tenants c.args.slot c.requires.slot in
     let new = c.in_ok-nodes.ensures.nodes in
     (record {
-      layout_is = c.requires.layout;
       data_centres = ap (λ (k : Cluster). k.shape.data_centres) new;
       shards = ap (λ (k : Cluster). k.shape.shards) new;
     })

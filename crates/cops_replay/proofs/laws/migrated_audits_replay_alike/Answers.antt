@@ -1,0 +1,26 @@
+use Rattle.cops_replay.proofs.EarlyRecords.{replayed_as_old, replayed_today}
+use Rattle.cops_replay.proofs.HeadTexts.{refuses_alike, replays_alike, text_is_todays, text_reads_back}
+use Rattle.cops_replay.proofs.HeadsInBoth.{alike}
+use Rattle.cops_replay.proofs.WholeMigrations.{whole}
+use Rattle.cops_replay.proofs.laws.migrated_audits_replay_alike.Goals as goal
+
+pub returns-clause-whole : goal.returns-clause-whole
+returns-clause-whole c = whole
+
+pub returns-clause-alike : goal.returns-clause-alike
+returns-clause-alike c = alike
+
+pub returns-clause-layout : goal.returns-clause-layout
+returns-clause-layout c = text_is_todays
+
+pub returns-clause-back : goal.returns-clause-back
+returns-clause-back c = text_reads_back
+
+pub returns-clause-moved : goal.returns-clause-moved
+returns-clause-moved c = λ name old moved config records text at to clocks early. (replayed_today name old moved config records at to clocks early text, replayed_as_old name old moved config records at to clocks early text)
+
+pub returns-clause-replays : goal.returns-clause-replays
+returns-clause-replays c = λ bytes config lines name text is. replays_alike bytes config lines is name text
+
+pub returns-clause-refuses : goal.returns-clause-refuses
+returns-clause-refuses c = λ bytes config lines name refusal is. refuses_alike bytes config lines is name refusal

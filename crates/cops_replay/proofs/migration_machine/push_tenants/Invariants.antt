@@ -1,7 +1,0 @@
-use Rattle.std.proofs.Common.{◌≡◌, ◌++◌, take}
-use Rattle.std.specs.Prelude.{flat_map}
-use Rattle.cops_replay.specs.AuditText.{tenant_text}
-use Rattle.cops_replay.proofs.migration_machine.push_tenants.Given as goal
-
-abbrev pub invariant-loop-tenant : goal.invariant-loop-tenant
-invariant-loop-tenant l = l.out.items ≡ l.fn.out.items ++ flat_map tenant_text (take l.tenant-index l.tenants)
