@@ -95,8 +95,8 @@ fn write_own<O: Write>(
     };
     match write_slot(alloc, sink, world, slot, *tenant) {
         Ok(()) => Ok(()),
-        Err(Fault::OutOfMemory) => Err(RunFault::OutOfMemory),
-        Err(_) => Err(RunFault::WriteFault),
+        Err(Fault::WriteFault) => Err(RunFault::WriteFault),
+        Err(_) => Err(RunFault::OutOfMemory),
     }
 }
 
