@@ -41,7 +41,12 @@ fn nothing_cleaned() -> Cleaned
 
 impl Tables {
     // Makes room for one more record of the slot's key, and for its garbage-collection entry.
-    pub(crate) fn reserve(&mut self, alloc: Global, slot: usize, key: &Key) -> Result<(), AllocError>
+    pub(crate) fn reserve(
+        &mut self,
+        alloc: Global,
+        slot: usize,
+        key: &Key,
+    ) -> Result<(), AllocError>
         requires { slot < length self.old.table }
         ensures shelf { (used : InUse) (due : List DueEntry) → IsShelf used due (chains_at slot self.old.table) → IsShelf used due (chains_at slot self.new.table) }
         ensures due { self.new.due.slots ≡ self.old.due.slots }

@@ -116,8 +116,8 @@ fn tenants_share_a_queue(rt: HostRuntime) {
     let first = entry(&rt, alloc, b"x", 1);
     outbox.push(0, &first, 1).expect(&rt, "room");
     let second = entry(&rt, alloc, b"x", 2);
-    assert_eq!(
-        rt; outbox.push(0, &second, 1),
+    assert_eq!(rt;
+        outbox.push(0, &second, 1),
         Err(RequestError::Refused(Fault::OutboxFull))
     );
     outbox.push(1, &first, 1).expect(&rt, "room");
