@@ -14,12 +14,12 @@ invariant_of-seated g c =
 pub returns-in-Some-clause-left : goal.returns-in-Some-clause-left
 returns-in-Some-clause-left g c =
     are_left c.in_ok-cluster.cluster c.into_seat-seat.result c.in-Some.nodes.items _ c.in_ok-cluster.ensures.openings
-    (at_some c.in_ok-close.field-0 c.in-Some.nodes (λ machines. Ends IsMachineTurn home_in c.in_ok-cluster.cluster c.into_seat-seat.result machines.items) c.in-Some.is c.in_ok-close.ensures.machines)
+    (at_some c.in_ok-left.left c.in-Some.nodes (λ machines. Ends IsMachineTurn home_in c.in_ok-cluster.cluster c.into_seat-seat.result machines.items) c.in-Some.is c.in_ok-left.ensures.machines)
 
 pub returns-in-Some-clause-together : goal.returns-in-Some-clause-together
 returns-in-Some-clause-together g c =
     are_left_together c.in_ok-cluster.cluster c.into_seat-seat.result c.in-Some.nodes.items _ c.in_ok-cluster.ensures.openings
-    (at_some c.in_ok-close.field-0 c.in-Some.nodes (λ machines. Ends IsMachineTurn home_in c.in_ok-cluster.cluster c.into_seat-seat.result machines.items) c.in-Some.is c.in_ok-close.ensures.machines)
+    (at_some c.in_ok-left.left c.in-Some.nodes (λ machines. Ends IsMachineTurn home_in c.in_ok-cluster.cluster c.into_seat-seat.result machines.items) c.in-Some.is c.in_ok-left.ensures.machines)
 
 pub returns-in-Some-clause-served : goal.returns-in-Some-clause-served
 returns-in-Some-clause-served g c = λ started.
@@ -27,6 +27,6 @@ returns-in-Some-clause-served g c = λ started.
       | inl none ↦ absurd (started none)
       | inr seen ↦
           are_served g.T.Moments.Gives c.args.moments c.args.config.now c.in_ok-cluster.cluster (max c.args.options.workers 1) c.into_seat-seat.result c.in-Some.nodes.items c.in_ok-cluster.ensures.openings c.in_ok-cluster.ensures.shards
-          (at_some c.in_ok-close.field-0 c.in-Some.nodes (λ machines. Ends IsMachineTurn home_in c.in_ok-cluster.cluster c.into_seat-seat.result machines.items) c.in-Some.is c.in_ok-close.ensures.machines)
+          (at_some c.in_ok-left.left c.in-Some.nodes (λ machines. Ends IsMachineTurn home_in c.in_ok-cluster.cluster c.into_seat-seat.result machines.items) c.in-Some.is c.in_ok-left.ensures.machines)
           (subst (λ seat. HasSeenCrew g.T.Moments.Gives c.args.moments c.args.config.now c.in_ok-cluster.cluster (max c.args.options.workers 1) seat) (sym c.into_seat-seat.ensures.same) seen)
     ]

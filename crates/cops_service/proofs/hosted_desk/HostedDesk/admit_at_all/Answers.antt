@@ -4,7 +4,7 @@ use Rattle.cops_node.specs.declared.hosted.SlotReply.TheVariants.{Admitted}
 use Rattle.cops_service.specs.Gates.{openings}
 use Rattle.cops_service.specs.HostedDesks.{CallsFirst, IsClosedAtFirst, IsHostCall}
 use Rattle.cops_service.proofs.HostedDesks.{calls_more}
-use Rattle.cops_service.proofs.hosting.HostedDesk.admit_at_all.Goals as goal
+use Rattle.cops_service.proofs.hosted_desk.HostedDesk.admit_at_all.Goals as goal
 
 pub loop-number-init : goal.loop-number-init
 loop-number-init g c = (refl, refl, refl)

@@ -2,7 +2,7 @@ use Rattle.std.proofs.Common.{◌≡◌}
 use Rattle.cops_node.specs.declared.hosted.SlotCall.TheVariants.{Admit}
 use Rattle.cops_node.specs.declared.hosted.SlotReply.TheVariants.{Admitted}
 use Rattle.cops_service.specs.HostedDesks.{CallsFirst}
-use Rattle.cops_service.proofs.hosting.HostedDesk.admit_at_all.Given as goal
+use Rattle.cops_service.proofs.hosted_desk.HostedDesk.admit_at_all.Given as goal
 
 abbrev pub invariant-loop-number : goal.invariant-loop-number
 invariant-loop-number g l =

@@ -1,6 +1,6 @@
 use Rattle.std.proofs.Common.{◌≡◌}
 use Rattle.cops_service.specs.HostedDesks.{IsClosedAtFirst}
-use Rattle.cops_service.proofs.hosting.HostedDesk.close_at_first.Given as goal
+use Rattle.cops_service.proofs.hosted_desk.HostedDesk.close_at_first.Given as goal
 
 abbrev pub invariant-loop-number : goal.invariant-loop-number
 invariant-loop-number g l =

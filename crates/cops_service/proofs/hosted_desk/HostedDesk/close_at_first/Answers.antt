@@ -3,7 +3,7 @@ use Rattle.cops_node.specs.declared.hosted.SlotCall.TheVariants.{Close}
 use Rattle.cops_service.specs.Gates.{openings}
 use Rattle.cops_service.specs.HostedDesks.{IsClosedAtFirst, IsHostCall, told_at_slot}
 use Rattle.cops_service.proofs.HostedDesks.{calls_more}
-use Rattle.cops_service.proofs.hosting.HostedDesk.close_at_first.Goals as goal
+use Rattle.cops_service.proofs.hosted_desk.HostedDesk.close_at_first.Goals as goal
 
 pub loop-number-init : goal.loop-number-init
 loop-number-init g c = (refl, refl, refl)
