@@ -8,4 +8,4 @@ abbrev pub invariant-loop-number : goal.invariant-loop-number
 invariant-loop-number g l =
     (l.self.cluster.now ≡ l.fn.self.cluster.now)
     × (l.self.seat.ghost_name ≡ l.fn.self.seat.ghost_name)
-    × CallsFirst l.fn.self.cluster.now l.slot (Admit l.life l.tenant.now) (λ reply. reply ≡ Admitted) l.number l.fn.self.seat.now l.self.seat.now
+    × CallsFirst l.fn.self.cluster.now l.slot (Admit l.life l.tenant) (λ reply. reply ≡ Admitted) l.number l.fn.self.seat.now l.self.seat.now
