@@ -50,6 +50,9 @@ pub fn extract_text<R: Read, O: Write>(
         ⊎ HasRisenBy (source_reads source.old) (source_reads source.new) 4294967296 }
     ensures write_fault { IsErrOf result RunFault.WriteFault → HasRisen (sink_failures sink.old) (sink_failures sink.new) }
 {
-    let mut script: PartScript = new_part_script(alloc, tenant)?;
+    let Ok(script) = new_part_script(alloc, tenant) else {
+        return Err(RunFault::OutOfMemory);
+    };
+    let mut script: PartScript = script;
     run_lines(&mut script, alloc, TURNS, LONGEST_RECORD, source, sink)
 }
