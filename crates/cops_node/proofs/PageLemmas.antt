@@ -194,15 +194,22 @@ module _ (pages : List (Option Page)) (slot rows k last : ℕ) (alone : AreNumbe
       let less = second_skip.3 in
       omega arith
 
-pub skip_is_earlier : (pages : List (Option Page)) (slot rows k last : ℕ) (page : Page) → IsPageChain pages slot rows k last → 0 < k → page_at pages last ≡ Some page → 0 < page.number → IsEarlier pages slot k page.skip
-skip_is_earlier pages slot rows k last page h some read more =
-    let n = some_pages k some in
-    let many = n.1 in
-    let chain = subst (λ x. IsPageChain pages slot rows x last) n.1 h in
-    let number = chain_number pages slot rows n.0 last page chain read in
-    let m = skipped pages slot rows n.0 last page chain read (omega arith) in
-    let less = m.1 in
-    inr (m.0, omega arith, m.2)
+  pub far_is_earlier : IsEarlier pages slot k near.skip
+  far_is_earlier =
+      let n = some_pages k some in
+      let many = n.1 in
+      let m = first_skip n.0 n.1 in
+      let less = m.1 in
+      let chain = chain_at pages slot rows n.0 last m.0 page.skip alone (subst (λ x. IsPageChain pages slot rows x last) n.1 h) (omega arith) m.2 in
+      let number = page_number pages slot m.0 page.skip near m.2 near_read in
+      let f = skipped pages slot chain.0 m.0 page.skip near chain.1 near_read (omega arith) in
+      let fewer = f.1 in
+      inr (f.0, omega arith, f.2)
+
+-- a list of pages is one slot's
+pub one_owner : (pages : List (Option Page)) (slot rows slot' rows' k last : ℕ) → IsPageChain pages slot rows k last → IsPageChain pages slot' rows' k last → 0 < k → slot ≡ slot'
+one_owner pages slot rows slot' rows' zero last h h' some = absurd (omega arith)
+one_owner pages slot rows slot' rows' (suc n) last h h' some = sym h.0.2 ∙ ap (λ (p : Page). p.slot) (some_same h.0.0 h'.0.0 (sym h.0.1 ∙ h'.0.1)) ∙ h'.0.2
 
 -- ---- a page with other calls
 

@@ -121,7 +121,7 @@ fn skip_behind(pages: &Slab<Page>, list: &PageList) -> usize
     }
     let far = &pages[near.skip];
     if last.number - near.number == near.number - far.number {
-        last.skip
+        near.skip
     } else {
         list.last
     }

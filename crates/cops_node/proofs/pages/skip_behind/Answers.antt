@@ -1,5 +1,6 @@
-use Rattle.std.proofs.Common.{arith}
-use Rattle.cops_node.proofs.PageLemmas.{earlier_last, far_below, far_there, skip_is_earlier}
+use Rattle.std.proofs.Common.{arith, subst}
+use Rattle.cops_node.specs.Pages.{AreNumbered}
+use Rattle.cops_node.proofs.PageLemmas.{earlier_last, far_below, far_is_earlier, far_there, one_owner}
 use Rattle.cops_node.proofs.pages.skip_behind.Goals as goal
 
 pub returns-then-last-eq0 : goal.returns-then-last-eq0
@@ -17,4 +18,6 @@ overflow_sub-near c =
 
 pub returns-then-last-near : goal.returns-then-last-near
 returns-then-last-near c = λ slot rows h.
-    skip_is_earlier c.args.pages.now.slots slot rows c.args.list.now.pages c.args.list.now.last c.index-last.result.now h (let test = c.if-list-eq0.false in omega arith) c.index-last.ensures (let test = c.if-last-eq0.false in omega arith)
+    let same = one_owner c.args.pages.now.slots c.requires.0 c.requires.1 slot rows c.args.list.now.pages c.args.list.now.last c.requires.2 h (let test = c.if-list-eq0.false in omega arith) in
+    far_is_earlier c.args.pages.now.slots slot rows c.args.list.now.pages c.args.list.now.last (subst (AreNumbered c.args.pages.now.slots) same c.requires.3) h c.index-last.result.now c.index-near.result.now (let test = c.if-list-eq0.false in omega arith)
+    c.index-last.ensures (let test = c.if-last-eq0.false in omega arith) c.index-near.ensures (let test = c.if-near-eq0.false in omega arith)
