@@ -1,6 +1,6 @@
 -- What is done by a line whose reply is not written keeps to the rules.
-use Rattle.std.proofs.Common.{◌≡◌, ℕ, Bool, true, false, not, List, refl, sym, subst, ◌∙◌}
-use Rattle.std.specs.Prelude.{IsFalse, IsTrue, Option, Some, None, Result}
+use Rattle.std.proofs.Common.{◌≡◌, ℕ, Bool, List, refl, sym, subst, ◌∙◌}
+use Rattle.std.specs.Prelude.{Option, Some, None, Result}
 use Rattle.std.specs.declared.alloc.AllocError.{AllocError}
 use Rattle.cops_types.specs.declared.configs.Tenant.{Tenant}
 use Rattle.cops_types.specs.declared.faults.Fault.TheVariants.{Syntax, UnknownTenant}
@@ -19,16 +19,10 @@ use Rattle.cops_model.specs.Setups.{Setup}
 use Rattle.cops_script.specs.Acting.{HasActed, told_act}
 use Rattle.cops_script.specs.Answers.{ToHost, ToTenant, is_lack}
 use Rattle.cops_script.specs.Doing.{IsDone}
-use Rattle.cops_script.specs.SilentRules.{HasLacked, IsDoneSo, IsDoneWhole}
+use Rattle.cops_script.specs.SilentRules.{IsDoneSo, IsDoneWhole}
 use Rattle.cops_script.proofs.MachineLemmas.{stays_as_it_is}
 
 module _ {W : Type 0} (setup : W → Setup) (StandsFor : W → ℕ → SoloCluster → Type 0) where
-  -- whether memory was there says how it was done
-  pub done_either : (old new : W) (said : Said) (lacking : Bool) → IsDoneSo setup StandsFor lacking old said new →
-      (IsTrue (not lacking) → IsDoneWhole setup StandsFor old said new) × (IsFalse (not lacking) → HasLacked setup StandsFor old said new)
-  done_either old new said true done = (λ e. absurd cc, λ e. done)
-  done_either old new said false done = (λ e. done, λ e. absurd cc)
-
   -- no tenant has the name
   pub done_by_nobody : (old : W) (line word : List ℕ) (tenants : List (Option Tenant)) (searched : Option ℕ) → tenants ≡ (setup old).tenants → word ≡ first_word line → searched ≡ open_slot_of_name tenants word → searched ≡ None →
       IsDoneWhole setup StandsFor old (said_found line (open_slot_of_name (setup old).tenants (first_word line))) old

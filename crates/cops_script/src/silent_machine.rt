@@ -1,9 +1,10 @@
 //! The machine that executes all lines behind the head of a script, and writes nothing.
-ghost use Rattle.std.specs.Prelude.{◌≡◌, IsFalse, IsTrue};
+ghost use Rattle.std.specs.Prelude.{◌≡◌, IsFalse, IsTrue, OnErr, OnOk};
 ghost use Rattle.cops_types.specs.OpenSlots.{open_slot_of_name};
 ghost use Rattle.cops_types.specs.Words.{first_word};
 ghost use Rattle.cops_script.specs.ActLines.{act_in};
 ghost use Rattle.cops_model.specs.Events.{is_out_of_memory};
+ghost use Rattle.cops_model.specs.declared.replies.Reply.TheVariants.{Refused};
 ghost use Rattle.cops_script.specs.Said.{said_found, said_by, said_in};
 ghost use Rattle.cops_model.specs.Setups.{is_open_at};
 ghost use Rattle.cops_script.specs.Acting.{told_act};
@@ -24,65 +25,79 @@ use std::alloc::{AllocError, Global};
 #[derive(Clone, Copy)]
 pub struct SilentLines;
 
-/// Returns whether memory ran out during an act. A step shows what a node answered, whatever that was.
-fn is_out_of_memory(answered: &Result<Reply, AllocError>) -> bool
-    ensures { result ≡ is_out_of_memory (told_act answered.now) }
+/// Fails if a fault says that memory ran out.
+fn unless_out_of_memory(fault: Fault) -> Result<(), AllocError>
+    ensures done { OnOk result (IsFalse (is_out_of_memory (Refused fault))) }
+    ensures lacked { OnErr result (IsTrue (is_out_of_memory (Refused fault))) }
+{
+    match fault {
+        Fault::OutOfMemory => Err(AllocError),
+        _ => Ok(()),
+    }
+}
+
+/// Fails if memory ran out during an act. A step shows what a node answered, whatever that was.
+fn unless_act_lacked(answered: &Result<Reply, AllocError>) -> Result<(), AllocError>
+    ensures done { OnOk result (IsFalse (is_out_of_memory (told_act answered.now))) }
+    ensures lacked { OnErr result (IsTrue (is_out_of_memory (told_act answered.now))) }
 {
     match answered {
-        Ok(Reply::Refused(fault)) => *fault == Fault::OutOfMemory,
-        Ok(_) => false,
-        Err(_) => true,
+        Ok(Reply::Refused(fault)) => unless_out_of_memory(*fault),
+        Ok(_) => Ok(()),
+        Err(error) => Err(*error),
     }
 }
 
-/// Returns whether a reply to the host says so.
-fn is_lack(reply: &HostReply) -> bool
-    ensures { result ≡ is_lack (ToHost reply.now) }
+/// Fails if a reply to the host says that memory ran out.
+fn unless_host_lacked(reply: &HostReply) -> Result<(), AllocError>
+    ensures done { OnOk result (IsFalse (is_lack (ToHost reply.now))) }
+    ensures lacked { OnErr result (IsTrue (is_lack (ToHost reply.now))) }
 {
     match reply {
-        HostReply::Denied(fault) => *fault == Fault::OutOfMemory,
-        _ => false,
+        HostReply::Denied(fault) => unless_out_of_memory(*fault),
+        _ => Ok(()),
     }
 }
 
-/// Lets the tenant who is open at the slot do what the line says. Returns `false` only if memory ran out.
-fn act_for<W: Tenancy>(world: &mut W, slot: u64, line: &[u8]) -> bool
+/// Lets the tenant who is open at the slot do what the line says. Fails with `AllocError` if memory
+/// runs out.
+fn act_for<W: Tenancy>(world: &mut W, slot: u64, line: &[u8]) -> Result<(), AllocError>
     requires { IsTrue (is_open_at (W.setup world.old) slot) }
-    ensures done { IsTrue result → IsDoneWhole W.setup W.StandsFor world.old (said_by slot (act_in (first_word line.now) line.now)) world.new }
-    ensures lacked { IsFalse result → HasLacked W.setup W.StandsFor world.old (said_by slot (act_in (first_word line.now) line.now)) world.new }
+    ensures done { OnOk result (IsDoneWhole W.setup W.StandsFor world.old (said_by slot (act_in (first_word line.now) line.now)) world.new) }
+    ensures lacked { OnErr result (HasLacked W.setup W.StandsFor world.old (said_by slot (act_in (first_word line.now) line.now)) world.new) }
 {
     let Some(act) = parse_act(line) else {
-        return true;
+        return Ok(());
     };
     let answered = world.act(slot, &act);
-    !is_out_of_memory(&answered)
+    unless_act_lacked(&answered)
 }
 
-/// Lets the tenant whom a line names do what it says. Returns `false` only if memory ran out.
-fn act_tenant<W: Tenancy>(world: &mut W, word: &[u8], line: &[u8]) -> bool
+/// Lets the tenant whom a line names do what it says. Fails with `AllocError` if memory runs out.
+fn act_tenant<W: Tenancy>(world: &mut W, word: &[u8], line: &[u8]) -> Result<(), AllocError>
     requires { word.now ≡ first_word line.now }
-    ensures done { IsTrue result → IsDoneWhole W.setup W.StandsFor world.old (said_found line.now (open_slot_of_name (W.setup world.old).tenants (first_word line.now))) world.new }
-    ensures lacked { IsFalse result → HasLacked W.setup W.StandsFor world.old (said_found line.now (open_slot_of_name (W.setup world.old).tenants (first_word line.now))) world.new }
+    ensures done { OnOk result (IsDoneWhole W.setup W.StandsFor world.old (said_found line.now (open_slot_of_name (W.setup world.old).tenants (first_word line.now))) world.new) }
+    ensures lacked { OnErr result (HasLacked W.setup W.StandsFor world.old (said_found line.now (open_slot_of_name (W.setup world.old).tenants (first_word line.now))) world.new) }
 {
     let Some(slot) = world.tenants().slot_of_name(word) else {
-        return true;
+        return Ok(());
     };
     act_for(world, slot, line)
 }
 
-/// Does what a line after the head says. Returns `false` only if memory ran out.
-fn act<W: Tenancy>(world: &mut W, line: &[u8]) -> bool
-    ensures done { IsTrue result → IsDoneWhole W.setup W.StandsFor world.old (said_in (W.setup world.old).tenants line.now) world.new }
-    ensures lacked { IsFalse result → HasLacked W.setup W.StandsFor world.old (said_in (W.setup world.old).tenants line.now) world.new }
+/// Does what a line after the head says. Fails with `AllocError` if memory runs out.
+fn act<W: Tenancy>(world: &mut W, line: &[u8]) -> Result<(), AllocError>
+    ensures done { OnOk result (IsDoneWhole W.setup W.StandsFor world.old (said_in (W.setup world.old).tenants line.now) world.new) }
+    ensures lacked { OnErr result (HasLacked W.setup W.StandsFor world.old (said_in (W.setup world.old).tenants line.now) world.new) }
 {
     let (word, _rest) = split_word(line);
     if word == b"+".as_slice() {
         let reply = admit(world, line);
-        return !is_lack(&reply);
+        return unless_host_lacked(&reply);
     }
     if word == b"-".as_slice() {
         let reply = close(world, line);
-        return !is_lack(&reply);
+        return unless_host_lacked(&reply);
     }
     act_tenant(world, word, line)
 }
@@ -109,9 +124,7 @@ impl<W: Tenancy + Drop> Body<W> for SilentLines {
         line: &[u8],
         _out: &mut Vec<u8>,
     ) -> Result<(), Stop<BadConfig>> {
-        if !act(world, line) {
-            return Err(Stop::OutOfMemory);
-        }
+        act(world, line)?;
         Ok(())
     }
 

@@ -1,11 +1,12 @@
 use Rattle.std.proofs.Common.{◌∙◌, ap, sym, true, false}
+use Rattle.std.proofs.lemmas.Result.{on_err_weaker, on_ok_weaker}
 use Rattle.cops_types.specs.OpenSlots.{open_slot_of_name}
 use Rattle.cops_script.proofs.MachineLemmas.{open_found}
 use Rattle.cops_script.proofs.SilentMachine.{done_by, done_by_nobody}
 use Rattle.cops_script.proofs.silent_machine.act_tenant.Goals as goal
 
 pub returns-in_default-clause-done : goal.returns-in_default-clause-done
-returns-in_default-clause-done g c = λ fine.
+returns-in_default-clause-done g c =
     done_by_nobody g.W.Tenancy.setup g.W.Tenancy.StandsFor c.args.world.now c.args.line.now c.args.word.now c.tenants.result.now c.slot_of_name.result c.tenants.ensures c.requires c.slot_of_name.ensures c.in_default.is
 
 pub act_for-requires : goal.act_for-requires
@@ -15,10 +16,10 @@ act_for-requires g c =
 
 pub returns : goal.returns
 returns g c = record {
-  done = λ fine.
+  done = on_ok_weaker c.act_for.result (λ done.
       done_by g.W.Tenancy.setup g.W.Tenancy.StandsFor c.args.world.now c.act_for.new.world c.args.line.now c.args.word.now c.tenants.result.now c.slot_of_name.result c.in-Some.slot false
-      c.tenants.ensures c.requires c.slot_of_name.ensures c.in-Some.is (c.act_for.ensures.done fine);
-  lacked = λ lacks.
+      c.tenants.ensures c.requires c.slot_of_name.ensures c.in-Some.is done) c.act_for.ensures.done;
+  lacked = on_err_weaker c.act_for.result (λ done.
       done_by g.W.Tenancy.setup g.W.Tenancy.StandsFor c.args.world.now c.act_for.new.world c.args.line.now c.args.word.now c.tenants.result.now c.slot_of_name.result c.in-Some.slot true
-      c.tenants.ensures c.requires c.slot_of_name.ensures c.in-Some.is (c.act_for.ensures.lacked lacks);
+      c.tenants.ensures c.requires c.slot_of_name.ensures c.in-Some.is done) c.act_for.ensures.lacked;
 }
