@@ -56,7 +56,7 @@ module _ (config : TenantConfig) (name : List ℕ) (moment : ℕ) (Q : SoloClust
 
         by_actor : (found : Option Actor) → find_actor name c ≡ found → ActorStops config name moment found c d → Q d
         by_actor (Some (OfSession s)) found stops = by_left s stops.running stops.directed found stops.runs stops.calls stops.left
-        by_actor (Some (OfCarrier k)) found stops = subst Q (sym stops.left) (cases.carrier_dropped c k found q)
+        by_actor (Some (OfCarrier k)) found stops = subst Q (sym stops.3) (cases.carrier_dropped c k found q)
         by_actor None found stops = absurd stops
 
     pub by_stops : (more : ℕ) (c d : SoloCluster) → Q c → StepsStop more config name moment c d → Q d

@@ -25,7 +25,7 @@ use Rattle.cops_model.specs.Carrier.{pair_of_entry}
 use Rattle.cops_model.specs.Request.{Action, Fetch, Write, attempt_of, begins_again, next}
 use Rattle.cops_model.specs.Session.{Session, Running, is_open, is_busy, has_repeats, obs_of, request_of, request_begun, get_refusal, is_spent}
 use Rattle.cops_model.specs.Transaction.{ReadRequest, gets, read_of, final_reads}
-use Rattle.cops_model.specs.Causal.{Traced, Effect, Wrote, Returned, pair_read, returned_by, answers_consistently}
+use Rattle.cops_model.specs.Causal.{Traced, Effect, Wrote, Returned, returned_by, answers_consistently}
 use Rattle.cops_model.specs.Cluster.{SoloCluster, Actor, OfSession, OfCarrier, new_cluster, find_session, call_node}
 use Rattle.cops_causal.proofs.ActorsKeep.{actor_found, session_actor, Stands}
 use Rattle.cops_types.proofs.KeyTests.{key_eq-false}
@@ -36,7 +36,7 @@ use Rattle.cops_causal.proofs.ContextPasts.{IsRead}
 use Rattle.cops_causal.proofs.Convergence.{latest_of_some, of_entries, orderly_at}
 use Rattle.cops_session.proofs.DistinctKeys.{IsDistinct, no_repeats}
 use Rattle.cops_session.proofs.FreshReads.{IsFreshAs, IsFresh}
-use Rattle.cops_causal.proofs.Histories.{past_in, puts_of, flat_map-Among}
+use Rattle.cops_causal.proofs.Histories.{pair_read, past_in, puts_of, flat_map-Among}
 use Rattle.cops_causal.proofs.Moves.{Leads, Both, head_passes}
 use Rattle.cops_causal.proofs.NodeAnswers.{IsReady}
 use Rattle.cops_node.proofs.NodeTurns.{entries, Change, IsRefused, Answers, Joined, Taken, IsReply}

@@ -23,12 +23,12 @@ use Rattle.cops_model.specs.declared.requests.Progress.TheVariants as session_pr
 use Rattle.cops_model.specs.Request.{Fetch, Write, key_home}
 use Rattle.cops_model.specs.Session.{Session, Running, is_open, obs_of, session_after, context_extended}
 use Rattle.cops_model.specs.Transaction.{ReadRequest, gets, read_of}
-use Rattle.cops_model.specs.Causal.{Traced, Wrote, Returned, pair_read, returned_by}
+use Rattle.cops_model.specs.Causal.{Traced, Wrote, Returned, returned_by}
 use Rattle.cops_model.specs.Cluster.{SoloCluster}
 use Rattle.cops_causal.proofs.Closure.{IsHere, IsFoundHere, RepliesAreHere, IsActorAtHome, IsAtHome, PastsAreHere}
 use Rattle.cops_causal.proofs.ClosureMoves.{entry_cases}
 use Rattle.cops_causal.proofs.ClosureSteps.{operation_home, numbers-extended}
-use Rattle.cops_causal.proofs.Histories.{puts_of, past_in, flat_map-Among}
+use Rattle.cops_causal.proofs.Histories.{pair_read, puts_of, past_in, flat_map-Among}
 use Rattle.cops_types.proofs.Elements.{Among, Among-right, Every-at, Among-map}
 use Rattle.cops_node.proofs.NodeTurns.{entries, Stores}
 use Rattle.cops_causal.proofs.NodeEffects.{node_of, Called}

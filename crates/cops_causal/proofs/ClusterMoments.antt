@@ -1,6 +1,6 @@
 -- No timestamp of a cluster is past all those that were passed.
 use Rattle.std.proofs.Common.{◌≡◌, ℕ, ◌+◌, ◌*◌, ◌≤◌, Bool, true, false, cond, List, [], ◌∷◌, ◌++◌, refl, sym, ◌∙◌, ap, subst, arith}
-use Rattle.std.specs.Prelude.{Option, Some, None, max, length}
+use Rattle.std.specs.Prelude.{Option, Some, None, filter_map, max, length}
 use Rattle.std.specs.List.{AllByRecursion, cons_option}
 use Rattle.cops_types.specs.declared.faults.Fault.{Fault}
 use Rattle.cops_types.specs.TenantConfig.{TenantConfig}
@@ -22,8 +22,8 @@ use Rattle.cops_session.proofs.RequestReplies.{get-next, call_of}
 use Rattle.cops_model.specs.Carrier.{new_carrier}
 use Rattle.cops_model.specs.declared.acts.Act.{Act}
 use Rattle.cops_model.specs.declared.acts.Act.TheVariants.{Open, Create, Delete, Put, Get, Show, Carry, Step, Done, Collect}
-use Rattle.cops_model.specs.Cluster.{ActEffect, Actor, OfCarrier, OfSession, SoloCluster, actor_step, actor_steps, call_node, cluster_step, find_session, most_steps, new_cluster, on_found, on_session, unless_refused, with_actor, session_stepped}
-use Rattle.cops_model.specs.Restarts.{moment_in, moments_in}
+use Rattle.cops_model.specs.Cluster.{ActEffect, Actor, OfCarrier, OfSession, SoloCluster, actor_step, actor_steps, call_node, cluster_step, find_session, most_steps, new_cluster, on_session, unless_refused, with_actor, session_stepped}
+use Rattle.cops_model.specs.Restarts.{moment_in}
 use Rattle.cops_causal.proofs.ActorsKeep.{actor_found, session_actor, Stands, bare, carried_to, changed, joined}
 use Rattle.cops_causal.proofs.NodeEffects.{node_of}
 use Rattle.cops_causal.proofs.NodeMoments.{turn_moment, get_gone, call_leaves}
@@ -31,6 +31,10 @@ use Rattle.cops_causal.proofs.Past.{new_nodes}
 use Rattle.cops_causal.proofs.ActorSteps.{as_session, by_step, by_steps}
 use Rattle.cops_causal.proofs.RequestSteps.{only_runs, run}
 use Rattle.cops_model.specs.Causal.{Traced}
+
+-- the timestamps that acts pass
+abbrev pub moments_in : List Act → List ℕ
+moments_in acts = filter_map moment_in acts
 
 -- ---- the words
 
@@ -207,10 +211,10 @@ module _ (config : TenantConfig) (most : ℕ) where
   unless_within (Some fault) c turn is passed = is
   unless_within None c turn is passed = passed
 
-  on_within : (name : List ℕ) (c : SoloCluster) (act : Session → ActEffect) → IsWithin config most c → ((s : Session) → find_session name c ≡ Some s → Within (act s)) → Within (on_session name c act)
+  on_within : (name : List ℕ) (c : SoloCluster) (act : Session → ActEffect) → IsWithin config most c → ((s : Session) → find_session name c ≡ Some s → Within (act s)) → Within (on_session (find_session name c) c act)
   on_within name c act is there = by_found (find_session name c) there
     where
-      by_found : (found : Option Session) → ((s : Session) → found ≡ Some s → Within (act s)) → Within (on_found found c act)
+      by_found : (found : Option Session) → ((s : Session) → found ≡ Some s → Within (act s)) → Within (on_session found c act)
       by_found (Some s) there = there s refl
       by_found None there = is
 

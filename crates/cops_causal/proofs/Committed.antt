@@ -1,6 +1,6 @@
 -- After every list of acts, if a record was committed all of its past was.
 use Rattle.std.proofs.Common.{◌≡◌, ℕ, ◌+◌, ◌*◌, ◌<◌, true, List, [], ◌∷◌, map, inl, inr, refl, sym, ◌∙◌, ap, subst, arith}
-use Rattle.std.specs.Prelude.{Some, None, nat_lt, not, ◌==◌}
+use Rattle.std.specs.Prelude.{IsTrue, Some, None, nat_lt, not, ◌==◌}
 use Rattle.std.specs.List.{list_all}
 use Rattle.std.proofs.lemmas.Bool.Decides.{nat_tests}
 use Rattle.cops_types.specs.declared.pairs.Pair.{Pair}
@@ -29,7 +29,7 @@ use Rattle.cops_node.proofs.NodeTurns.{entries, Stores}
 use Rattle.cops_causal.proofs.NodeEffects.{node_of, call_changes, entries_grow}
 use Rattle.cops_types.proofs.PairSets.{Among-holds, holds-Among}
 use Rattle.cops_causal.proofs.Provenance.{IsTraced, IsPutEntry, IsSession}
-use Rattle.cops_model.specs.Laws.{committed_entries, is_committed_in, AreCommittedPasts, AtEachNode}
+use Rattle.cops_model.specs.Laws.{committed_entries, is_committed_in, AtEachNode}
 use Rattle.cops_repl.proofs.CarrierStages.{Stage}
 use Rattle.cops_causal.proofs.ClosureSessions.{get_home, put_home}
 use Rattle.cops_causal.proofs.Past.{new_nodes}
@@ -180,7 +180,8 @@ closed_at_first config =
     }
 
 -- of a cluster with whose records their pasts are
-pub committed_at : (config : TenantConfig) (c : SoloCluster) (ts : List Traced) → PastsAreHere config c.nodes ts → AtEachNode config (λ dc shard. AreCommittedPasts ts (is_committed_in config c dc) (committed_entries config c dc shard))
+pub committed_at : (config : TenantConfig) (c : SoloCluster) (ts : List Traced) → PastsAreHere config c.nodes ts →
+    AtEachNode config (λ dc shard. IsTrue (list_all (λ (e : Entry). list_all (is_committed_in config c dc) (past_of_put ts (pair_of_entry e))) (committed_entries config c dc shard)))
 committed_at config c ts pasts dc shard within_dc within_shard =
     all_true (λ e. list_all (is_committed_in config c dc) (past_of_put ts (pair_of_entry e))) (committed_entries config c dc shard) (λ e at_e.
     all_true (is_committed_in config c dc) (past_of_put ts (pair_of_entry e)) (λ q past.

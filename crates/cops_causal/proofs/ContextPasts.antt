@@ -12,9 +12,9 @@ use Rattle.cops_types.specs.Pairs.{holds, greatest_per_key}
 use Rattle.cops_types.proofs.ContextRule.{all_of-push, near_of-put}
 use Rattle.cops_types.proofs.PairLists.{greatest_per_key-absorbs}
 use Rattle.cops_types.specs.Version.{Timestamp}
-use Rattle.cops_model.specs.Causal.{Traced, Operation, Effect, Wrote, Returned, put_by, pair_read, past_after, past_of_put, deps_of}
+use Rattle.cops_model.specs.Causal.{Traced, Operation, Effect, Wrote, Returned, put_by, past_after, past_of_put, deps_of}
 use Rattle.cops_types.proofs.KeyTests.{key_eq-refl}
-use Rattle.cops_causal.proofs.Histories.{given, puts_of, in_context, past_in, past_after-push, past_of_put-push, with_pasts, past_after-within, within-past_after, past_of_put-Among, Among-flat_map}
+use Rattle.cops_causal.proofs.Histories.{given, pair_read, puts_of, in_context, past_in, past_after-push, past_of_put-push, with_pasts, past_after-within, within-past_after, past_of_put-Among, Among-flat_map}
 use Rattle.cops_types.proofs.Elements.{Among, Among-left, Among-right, Among-cases}
 use Rattle.cops_types.proofs.PairSets.{at, Within, greatest-within, greatest_per_key-same, pair_eq-refl, holds-Among}
 use Rattle.cops_types.proofs.Nearness.{IsCovered, Covers, covers-observed}

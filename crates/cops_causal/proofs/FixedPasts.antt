@@ -6,13 +6,13 @@ use Rattle.cops_types.specs.declared.pairs.Pair.{Pair}
 use Rattle.cops_types.proofs.Elements.{Among, Every-at, slice_get-Among, slice_get-within}
 use Rattle.cops_types.proofs.PairSets.{Among-holds}
 use Rattle.cops_types.proofs.Successive.{EachAfter, get-at, get-in_front, get-left, get-map, map-get}
-use Rattle.cops_model.specs.Causal.{Effect, Operation, Returned, Traced, Wrote, pair_read, put_by, returned_by}
+use Rattle.cops_model.specs.Causal.{Effect, Operation, Returned, Traced, Wrote, put_by, returned_by}
 use Rattle.cops_model.specs.Precedence.{AreLeastPasts}
 use Rattle.cops_causal.specs.ClientLaws.{AreOfPuts, HaveDistinctVersions, IsOfPut, IsTrueRead, pair_of_read, reads_in}
 use Rattle.cops_causal.specs.Transcript.{Ended, history_in, operations_in}
 use Rattle.cops_causal.proofs.Answering.{IsNext}
 use Rattle.cops_causal.proofs.Convergence.{Among-place}
-use Rattle.cops_causal.proofs.Histories.{Among-flat_map, flat_map-Among, puts_of}
+use Rattle.cops_causal.proofs.Histories.{Among-flat_map, flat_map-Among, pair_read, puts_of}
 use Rattle.cops_causal.proofs.LeastPasts.{least_pasts_of, op_of, operations-traced}
 
 -- a pair that was returned is of a read with a value

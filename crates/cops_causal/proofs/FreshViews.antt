@@ -22,9 +22,9 @@ use Rattle.cops_model.specs.declared.calls.NodeReply.TheVariants.{Stored as Stor
 use Rattle.cops_model.specs.declared.requests.Answer.{Answer}
 use Rattle.cops_model.specs.declared.requests.Answer.TheVariants as answer_is
 use Rattle.cops_model.specs.declared.requests.Progress.TheVariants as session_progress
-use Rattle.cops_model.specs.Log.{Call, Directed, Ended, Late, LogStep, Replied, Restart, first_fault, replies_of}
+use Rattle.cops_model.specs.Log.{Call, Directed, Ended, Late, LogStep, Replied, Restart, call_or, first_fault, replies_of}
 use Rattle.cops_model.specs.Place.{node_number, place_of}
-use Rattle.cops_model.specs.Request.{Action, Fetch, Request, Write, answer, answer_in, attempt_of, begins_again, call_or_answer, complete, next, request_calls, unless_fault}
+use Rattle.cops_model.specs.Request.{Action, Fetch, Request, Write, answer, answer_in, attempt_of, begins_again, complete, next, request_calls, unless_fault}
 use Rattle.cops_model.specs.Session.{Running, Session, get_refusal, has_repeats, is_busy, is_open, is_spent, obs_of, request_of, session_after}
 use Rattle.cops_model.specs.SoloNode.{SoloNode}
 use Rattle.cops_model.specs.Transaction.{ReadRequest, final_reads, gets, last_read, wanted_version}
@@ -220,7 +220,7 @@ complete_never config request (StoredAt version ∷ rs) key value reads e = cc
 complete_never config request rs key value reads e = cc
 
 chosen_never : (spent : Bool) (fault : Option Fault) (found : Option Directed) (a : Answer) (reads : List Read) → (a ≡ answer_is.Values reads → ⊥) →
-    answer_in (cond spent (Ended (answer_is.Refused Overrun)) (unless_fault fault (call_or_answer found a))) ≡ Some (answer_is.Values reads) → ⊥
+    answer_in (cond spent (Ended (answer_is.Refused Overrun)) (unless_fault fault (call_or found a))) ≡ Some (answer_is.Values reads) → ⊥
 chosen_never true fault found a reads never e = cc
 chosen_never false (Some fault) found a reads never e = cc
 chosen_never false None (Some call) a reads never e = cc

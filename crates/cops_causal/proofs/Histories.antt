@@ -1,14 +1,19 @@
 -- How the pasts change as an operation joins the history.
 use Rattle.std.proofs.Common.{◌≡◌, ℕ, Bool, true, false, cond, ◌&&◌, List, [], ◌∷◌, ◌++◌, inl, inr, refl, sym, ◌∙◌, ap, subst, append-nil}
-use Rattle.std.specs.Prelude.{◌==◌}
+use Rattle.std.specs.Prelude.{◌==◌, if◌then◌else◌, is_some}
 use Rattle.std.specs.List.{list_any, flat_map}
 use Rattle.std.proofs.lemmas.Grind.{flat_map-append}
+use Rattle.cops_types.specs.declared.contexts.ReadParts.{ReadParts as Read}
 use Rattle.cops_types.specs.declared.pairs.Pair.{Pair}
 use Rattle.cops_types.specs.Key.{key_eq}
 use Rattle.cops_types.specs.Pairs.{holds}
 use Rattle.cops_model.specs.Causal.{Traced, Operation, Effect, Wrote, Returned, leads_to, put_by, returned_by, past_after, past_of_put}
 use Rattle.cops_types.proofs.Elements.{or_cases, or_left, or_right, Among, Among-left, Among-right, Among-cases, any_intro, any_elim}
 use Rattle.cops_types.proofs.PairSets.{holds-Among, Among-holds, Within, pair_eq-true}
+
+-- the pair of a read that found a value
+abbrev pub pair_read : Read → List Pair
+pair_read read = if is_some read.value then record { key = read.key; version = read.version } ∷ [] else []
 
 -- an element of a flat_map is of one part, and the other way round
 pub Among-flat_map : {A B : Type 0} (f : B → List A) (ys : List B) (x : A) (y : B) → Among y ys → Among x (f y) → Among x (flat_map f ys)

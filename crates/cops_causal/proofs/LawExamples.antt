@@ -21,19 +21,20 @@ use Rattle.cops_model.specs.declared.acts.Act.TheVariants as act
 use Rattle.cops_model.specs.declared.replies.Reply.{Reply}
 use Rattle.cops_model.specs.declared.replies.Reply.TheVariants as reply
 use Rattle.cops_model.specs.Causal.{Effect, Operation, Returned, Wrote, put_by}
-use Rattle.cops_model.specs.Cluster.{SoloCluster}
+use Rattle.cops_model.specs.Cluster.{SoloCluster, actor_step}
 use Rattle.cops_model.specs.Events.{cluster_of, solo_replies}
-use Rattle.cops_model.specs.Laws.{AreConsistent, AreConvergent, AreQueuesEmpty, AreSettled, entries_of, latest_entry, node_in}
+use Rattle.cops_model.specs.Laws.{AreConsistent, AreConvergent, AreSettled, entries_of, latest_entry, node_in}
 use Rattle.cops_model.specs.Precedence.{AreLeastPasts, PutsAt}
 use Rattle.cops_model.specs.Precedence as precedence
 use Rattle.cops_model.specs.Request.{Action, Fetch, Write}
-use Rattle.cops_model.specs.Restarts.{ActorStep, ends_when_due, reply_to, steps_of}
+use Rattle.cops_model.specs.Restarts.{ActorStep, ends_when_due, steps_of}
 use Rattle.cops_model.specs.SoloNode.{SoloNode, new_node}
 use Rattle.cops_model.specs.Told.{operations_told}
 use Rattle.cops_causal.specs.ClientLaws.{AllAnswer, AreAbovePasts, AreOfPuts, HaveDistinctVersions, KeepsClientLaws, ShowsTrueLists}
 use Rattle.cops_causal.specs.Transcript.{Ended, history_in, operations_in, transcript}
 use Rattle.cops_causal.specs.Views.{ShowsPasts}
 use Rattle.cops_causal.proofs.LawChecks.{distinct_by, least_by, of_puts_by, of_puts_pass}
+use Rattle.cops_causal.proofs.Settled.{AreQueuesEmpty}
 
 -- ---- the words
 
@@ -197,7 +198,7 @@ early_is_refused : AreLeastPasts (operations_in early) → ⊥
 early_is_refused least =
     let got = get bob (read y 2 2 [] ∷ []) in
     let wrote = put alice y 2 2 in
-    let before = precedence.Returned 1 0 (pair y 2) (wrote.operation, refl, refl) (got.operation, refl, refl) in
+    let before = precedence.Returned 1 0 (pair y 2) got.operation (wrote.operation, refl, refl) refl refl in
     let no : false ≡ true = (least.1 0 (record { operation = got.operation; past = [] }) refl (pair y 2)).1 (1, (wrote.operation, refl, refl), before) in cc
 
 early_put : (place : ℕ) (p : Pair) → PutsAt (operations_in early) place p → place ≡ 1
@@ -218,8 +219,8 @@ twice_is_refused least =
     let got = get carol (read x 1 5 (pair y 1 ∷ []) ∷ []) in
     let first = put alice y 2 1 in
     let second = put alice x 1 5 in
-    let context = precedence.Earlier 2 3 (omega arith) (first.operation, second.operation, refl, refl, refl, refl) in
-    let before = precedence.Between 2 3 1 context (precedence.Returned 3 1 (pair x 5) (second.operation, refl, refl) (got.operation, refl, refl)) in
+    let context = precedence.Earlier 2 3 first.operation second.operation (omega arith) refl refl refl refl in
+    let before = precedence.Between 2 3 1 context (precedence.Returned 3 1 (pair x 5) got.operation (second.operation, refl, refl) refl refl) in
     let no : false ≡ true = (least.1 1 (record { operation = got.operation; past = pair x 5 ∷ [] }) refl (pair y 1)).1 (2, (first.operation, refl, refl), before) in cc
 
 twice_keeps_the_rest : AllAnswer twice × AreOfPuts twice × AreAbovePasts (history_in twice) × AreConsistent (history_in twice)
@@ -491,6 +492,10 @@ waiting = cluster_of small (act.Open alice 0 ∷ act.Create alice ∷ act.Get al
 
 abbrev late_step : ActorStep
 late_step = record { name = alice; moment = 5002; from = waiting }
+
+-- the reply to a step
+abbrev reply_to : TenantConfig → ActorStep → Reply
+reply_to config step = (actor_step config step.name step.moment step.from).reply
 
 late_step_restarts : reply_to small late_step ≡ reply.Restarted 1
 late_step_restarts = refl

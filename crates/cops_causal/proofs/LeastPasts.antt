@@ -12,7 +12,7 @@ use Rattle.cops_types.proofs.KeyTests.{key_eq-true, key_eq-refl}
 use Rattle.cops_types.proofs.PairSets.{Within, holds-Among, Among-holds}
 use Rattle.cops_types.proofs.Successive.{EachAfter, each_after-push, each_after-at, Place, place_of, get-left, get-in_front, map-get, get-map}
 use Rattle.cops_model.specs.Causal.{Operation, Traced, put_by, returned_by, leads_to, past_after, traced, traced_from}
-use Rattle.cops_model.specs.Precedence.{PutsAt, ReturnsAt, AreInOneContext, Precedes, Earlier, Returned, Between, AreLeastPasts}
+use Rattle.cops_model.specs.Precedence.{PutsAt, Precedes, Earlier, Returned, Between, AreLeastPasts}
 use Rattle.cops_causal.proofs.Answering.{IsNext}
 use Rattle.cops_causal.proofs.Histories.{given, past_after-Among, Among-past_after, flat_map-Among, Among-flat_map}
 
@@ -78,9 +78,9 @@ module _ (ts : List Traced) (past_is : EachAfter IsTracedBy [] ts) (next : EachA
   leads-precedes : (i j : ℕ) (u t : Traced) → at_place i u → at_place j t → i < j → leads_to u.operation t.operation ≡ true → Precedes ops i j
   leads-precedes i j u t at_i at_j less leads =
       elim (or_cases (key_eq a.session b.session && a.context == b.context) (list_any (holds (returned_by b.effect)) (put_by a.effect)) leads) [
-        | inl same ↦ Earlier i j less (a, b, map-get op_of ts i u at_i, map-get op_of ts j t at_j, key_eq-true a.session b.session (and_left (key_eq a.session b.session) (a.context == b.context) same), (Decides-eqb a.context b.context).0 (and_right (key_eq a.session b.session) (a.context == b.context) same))
+        | inl same ↦ Earlier i j a b less (map-get op_of ts i u at_i) (map-get op_of ts j t at_j) (key_eq-true a.session b.session (and_left (key_eq a.session b.session) (a.context == b.context) same)) ((Decides-eqb a.context b.context).0 (and_right (key_eq a.session b.session) (a.context == b.context) same))
         | inr read ↦ any_elim (holds (returned_by b.effect)) (put_by a.effect) (λ q puts returns.
-            Returned i j q (a, map-get op_of ts i u at_i, Among-holds (put_by a.effect) q puts) (b, map-get op_of ts j t at_j, returns)) read
+            Returned i j q b (a, map-get op_of ts i u at_i, Among-holds (put_by a.effect) q puts) (map-get op_of ts j t at_j) returns) read
       ]
     where
       a : Operation
@@ -137,34 +137,34 @@ module _ (ts : List Traced) (past_is : EachAfter IsTracedBy [] ts) (next : EachA
   gives-led i j u t at_i at_j less leads p there =
       subst (Among p) (sym (past-before j t at_j)) (Among-past_after (place j t at_j).before t.operation p u (before-has j t at_j i u at_i less) leads there)
 
-  gives-earlier : (i j : ℕ) → i < j → AreInOneContext ops i j → Gives i j
-  gives-earlier i j less is u t at_i at_j =
-      let a = same_place i u is.0 at_i is.2 in
-      let b = same_place j t is.1 at_j is.3 in
-      let sessions : u.operation.session ≡ t.operation.session = ap (λ (o : Operation). o.session) a ∙ is.4 ∙ ap (λ (o : Operation). o.session) (sym b) in
-      let contexts : u.operation.context ≡ t.operation.context = ap (λ (o : Operation). o.context) a ∙ is.5 ∙ ap (λ (o : Operation). o.context) (sym b) in
+  gives-earlier : (i j : ℕ) (one other : Operation) → i < j → slice_get ops i ≡ Some one → slice_get ops j ≡ Some other → one.session ≡ other.session → one.context ≡ other.context → Gives i j
+  gives-earlier i j one other less at_one at_other of_session of_context u t at_i at_j =
+      let a = same_place i u one at_i at_one in
+      let b = same_place j t other at_j at_other in
+      let sessions : u.operation.session ≡ t.operation.session = ap (λ (o : Operation). o.session) a ∙ of_session ∙ ap (λ (o : Operation). o.session) (sym b) in
+      let contexts : u.operation.context ≡ t.operation.context = ap (λ (o : Operation). o.context) a ∙ of_context ∙ ap (λ (o : Operation). o.context) (sym b) in
       let same = and_true (key_eq u.operation.session t.operation.session) (u.operation.context == t.operation.context)
       (ap (key_eq u.operation.session) (sym sessions) ∙ key_eq-refl u.operation.session) ((Decides-eqb u.operation.context t.operation.context).1 contexts) in
       gives-led i j u t at_i at_j less
       (or_left (key_eq u.operation.session t.operation.session && u.operation.context == t.operation.context) (list_any (holds (returned_by t.operation.effect)) (put_by u.operation.effect)) same)
 
-  gives-returned : (i j : ℕ) (q : Pair) → PutsAt ops i q → ReturnsAt ops j q → Gives i j
-  gives-returned i j q puts returns u t at_i at_j =
+  gives-returned : (i j : ℕ) (q : Pair) (reader : Operation) → PutsAt ops i q → slice_get ops j ≡ Some reader → IsTrue (holds (returned_by reader.effect) q) → Gives i j
+  gives-returned i j q reader puts at_reader returns u t at_i at_j =
       let put = subst (λ (o : Operation). Among q (put_by o.effect)) (sym (same_place i u puts.0 at_i puts.1)) (holds-Among (put_by puts.0.effect) q puts.2) in
-      let read = subst (λ (o : Operation). Among q (returned_by o.effect)) (sym (same_place j t returns.0 at_j returns.1)) (holds-Among (returned_by returns.0.effect) q returns.2) in
+      let read = subst (λ (o : Operation). Among q (returned_by o.effect)) (sym (same_place j t reader at_j at_reader)) (holds-Among (returned_by reader.effect) q returns) in
       gives-led i j u t at_i at_j (put-earlier i j u t at_i at_j q put read)
       (or_right (key_eq u.operation.session t.operation.session && u.operation.context == t.operation.context) (list_any (holds (returned_by t.operation.effect)) (put_by u.operation.effect))
       (any_intro (holds (returned_by t.operation.effect)) q (put_by u.operation.effect) put (Among-holds (returned_by t.operation.effect) q read)))
 
   -- the later of two related places is one of the history
   later_at : (i j : ℕ) → Precedes ops i j → (t : Traced) × at_place j t
-  later_at i j (Earlier one other less is) = let found = get-map op_of ts other is.1 is.3 in (found.0, found.1)
-  later_at i j (Returned one other pair puts returns) = let found = get-map op_of ts other returns.0 returns.1 in (found.0, found.1)
+  later_at i j (Earlier one other first second less at_first at_second of_session of_context) = let found = get-map op_of ts other second at_second in (found.0, found.1)
+  later_at i j (Returned one other pair reader puts at_reader returns) = let found = get-map op_of ts other reader at_reader in (found.0, found.1)
   later_at i j (Between one third other first second) = later_at third other second
 
   precedes-gives : (i j : ℕ) → Precedes ops i j → Gives i j
-  precedes-gives i j (Earlier one other less is) = gives-earlier one other less is
-  precedes-gives i j (Returned one other pair puts returns) = gives-returned one other pair puts returns
+  precedes-gives i j (Earlier one other first second less at_first at_second of_session of_context) = gives-earlier one other first second less at_first at_second of_session of_context
+  precedes-gives i j (Returned one other pair reader puts at_reader returns) = gives-returned one other pair reader puts at_reader returns
   precedes-gives i j (Between one third other first second) = λ u t at_i at_j p there.
       let v = later_at one third first in
       precedes-gives third other second v.0 t v.1 at_j p (Among-right p (put_by v.0.operation.effect) v.0.past (precedes-gives one third first u v.0 at_i v.1 p there))

@@ -28,7 +28,7 @@ use Rattle.cops_model.specs.declared.acts.Act.TheVariants.{Step}
 use Rattle.cops_model.specs.declared.replies.Reply.{Reply}
 use Rattle.cops_model.specs.declared.replies.Reply.TheVariants.{Refused}
 use Rattle.cops_model.specs.Causal.{Traced, Operation, effect_of, stepped_actor, past_after}
-use Rattle.cops_model.specs.Cluster.{ActEffect, Actor, OfCarrier, OfSession, SoloCluster, actor_refusal, actor_step, call_node, carrier_stepped, find_actor, find_session, has_node, on_found, on_session, reply_of_answer, reply_of_collect, reply_of_delivery, reply_with, session_stepped, unless_refused, with_actor, with_new_actor, without_actor}
+use Rattle.cops_model.specs.Cluster.{ActEffect, Actor, OfCarrier, OfSession, SoloCluster, actor_refusal, actor_step, call_node, carrier_stepped, find_actor, find_session, has_node, on_session, reply_of_answer, reply_of_collect, reply_of_delivery, reply_with, session_stepped, unless_refused, with_actor, with_new_actor, without_actor}
 use Rattle.cops_model.specs.Lacks.{request_dropped}
 use Rattle.cops_causal.proofs.ActorSteps.{as_session, by_step}
 use Rattle.cops_causal.proofs.EndedOperations.{operation_by, operation_ended}
@@ -113,7 +113,7 @@ head_passes true fault checks e = cc
 head_passes false fault checks e = (refl, e)
 
 session_found : (found : Option Session) (cluster : SoloCluster) (act : Session → ActEffect) (G : ActEffect → Type 0) → G (reply_with (Refused UnknownName) cluster) → ((s : Session) → found ≡ Some s → G (act s)) →
-    G (on_found found cluster act)
+    G (on_session found cluster act)
 session_found (Some s) cluster act G none some = some s refl
 session_found None cluster act G none some = none
 
@@ -188,7 +188,7 @@ module _ {config : TenantConfig} {P : SoloCluster → List Traced → Type 0} (k
       plainly c ts act (reply_with reply (with_new_actor name actor c)) plain (joins free.0 (none_there (find_actor name c) free.1)))
 
   pub session_act : (act : Act) (name : List ℕ) (c : SoloCluster) (ts : List Traced) (turn : Session → ActEffect) → P c ts →
-      ((s : Session) → find_session name c ≡ Some s → Holds c ts act (turn s)) → Holds c ts act (on_session name c turn)
+      ((s : Session) → find_session name c ≡ Some s → Holds c ts act (turn s)) → Holds c ts act (on_session (find_session name c) c turn)
   session_act act name c ts turn p found = session_found (find_session name c) c turn (Holds c ts act) p found
 
   -- ---- steps

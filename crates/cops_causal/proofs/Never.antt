@@ -28,7 +28,7 @@ use Rattle.cops_model.specs.declared.acts.Act.TheVariants.{Open, Create, Delete,
 use Rattle.cops_model.specs.declared.replies.Reply.{Reply}
 use Rattle.cops_model.specs.declared.replies.Reply.TheVariants as reply
 use Rattle.cops_model.specs.Causal.{Traced}
-use Rattle.cops_model.specs.Cluster.{ActEffect, OfCarrier, SoloCluster, actor_step, actor_steps, call_node, carrier_stepped, cluster_step, collect_at, find_actor, find_session, has_node, most_steps, new_cluster, on_found, on_session, reply_of_collect, reply_of_progress, unless_refused}
+use Rattle.cops_model.specs.Cluster.{ActEffect, OfCarrier, SoloCluster, actor_step, actor_steps, call_node, carrier_stepped, cluster_step, collect_at, find_actor, find_session, has_node, most_steps, new_cluster, on_session, reply_of_collect, reply_of_progress, unless_refused}
 use Rattle.cops_model.specs.Events.{is_out_of_memory, replies_from, solo_replies}
 use Rattle.cops_model.specs.Laws.{is_expected}
 use Rattle.cops_causal.proofs.AfterActs.{cluster_step_keeps}
@@ -82,10 +82,10 @@ guarded checks c turn fine passed = by_first (first_refusal checks) refl
     by_first None is = passed
     by_first (Some fault) is = first_fine checks fine fault is
 
-found_fine : (name : List ℕ) (c : SoloCluster) (act : Session → ActEffect) → ((s : Session) → IsFine (act s).reply) → IsFine (on_session name c act).reply
+found_fine : (name : List ℕ) (c : SoloCluster) (act : Session → ActEffect) → ((s : Session) → IsFine (act s).reply) → IsFine (on_session (find_session name c) c act).reply
 found_fine name c act fine = by_found (find_session name c)
   where
-    by_found : (o : Option Session) → IsFine (on_found o c act).reply
+    by_found : (o : Option Session) → IsFine (on_session o c act).reply
     by_found None = refl
     by_found (Some s) = fine s
 

@@ -1,7 +1,7 @@
 -- That a request ran out of attempts is said of transactions that begin again, and of nothing else.
 use Rattle.std.proofs.Common.{◌≡◌, ℕ, ◌+◌, Bool, true, false, cond, List, [], ◌∷◌, ◌++◌, map, length, inl, inr, ◌⊎◌, refl, sym, ◌∙◌, ap, subst, arith}
 use Rattle.std.specs.Prelude.{Option, Some, None, nat_lt, slice_get}
-use Rattle.std.specs.Option.{option_or}
+use Rattle.std.specs.Option.{option_map, option_or}
 use Rattle.std.proofs.lemmas.Bool.Decides.{nat_tests}
 use Rattle.cops_types.specs.declared.faults.Fault.{Fault}
 use Rattle.cops_types.specs.declared.faults.Fault.TheVariants.{Overrun, DependenciesFull, Torn}
@@ -14,20 +14,20 @@ use Rattle.cops_model.specs.declared.calls.NodeCall.TheVariants.{Get, DepCheck, 
 use Rattle.cops_model.specs.declared.calls.NodeCall.TheVariants as node_call
 use Rattle.cops_model.specs.declared.calls.NodeReply.{NodeReply}
 use Rattle.cops_model.specs.declared.calls.NodeReply.TheVariants as node_reply
-use Rattle.cops_model.specs.Log.{LogStep, Replied, Directed, Call, Ended, is_asked, fault_in, first_fault}
+use Rattle.cops_model.specs.Log.{LogStep, Replied, Directed, Call, Ended, call_or, is_asked, fault_in, first_fault}
 use Rattle.cops_model.specs.Place.{place_of}
 use Rattle.cops_model.specs.SoloNode.{SoloNode}
 use Rattle.cops_node.proofs.NodeTurns.{Change, IsRefused, Answers, Joined, Taken, IsRefusal, is_node_fault}
 use Rattle.cops_model.specs.declared.requests.Answer.{Answer}
 use Rattle.cops_model.specs.declared.requests.Answer.TheVariants as answer_is
-use Rattle.cops_model.specs.Request.{Attempt, Fetch, answer, answer_in, attempt_of, begins_again, call_or_answer, key_home, next, unless_fault, values_or_full}
+use Rattle.cops_model.specs.Request.{Attempt, Fetch, answer, answer_in, attempt_of, begins_again, key_home, next, unless_fault, values_or_full}
 use Rattle.cops_model.specs.Session.{shown}
 use Rattle.cops_model.specs.Transaction.{ReadRequest, gets, final_reads}
 use Rattle.cops_session.proofs.ReplyCounts.{attempt-push}
 use Rattle.cops_session.proofs.RequestReplies.{replies_in, get_request, put_request, call_of, get-next, get-stepped, put-stored, put-refused, unspent}
 use Rattle.cops_model.specs.declared.deliveries.Delivery.{Delivery}
 use Rattle.cops_model.specs.declared.deliveries.Delivery.TheVariants as delivery
-use Rattle.cops_model.specs.Carrier.{Stream, call_or_end, end_by, fault_or_end, finished_delivery, first_end, is_foreign, stream_calls, unless_end}
+use Rattle.cops_model.specs.Carrier.{Stream, end_by, end_of, finished_delivery, first_end, is_foreign, stream_calls, unless_end}
 use Rattle.cops_model.specs.Carrier as carrier
 use Rattle.cops_repl.proofs.CarrierCalls.{carrier_replies, carrier-next}
 use Rattle.cops_repl.proofs.CarrierStages.{carrier-stepped}
@@ -93,7 +93,7 @@ module _ (config : TenantConfig) (dc : ℕ) where
 
   module _ (obs : List Observation) (keys : List (List ℕ)) where
     answer_other : (rs : List NodeReply) (fault : Option Fault) (found : Option Directed) → IsOther fault →
-        answer_in (unless_fault fault (call_or_answer found (values_or_full config.quota.deps obs (final_reads keys rs)))) ≡ Some (answer_is.Refused Overrun) → ⊥
+        answer_in (unless_fault fault (call_or found (values_or_full config.quota.deps obs (final_reads keys rs)))) ≡ Some (answer_is.Refused Overrun) → ⊥
     answer_other rs (Some fault) found other e = let same : fault ≡ Overrun = cc in subst (λ f. IsOther (Some f)) same other
     answer_other rs None (Some call) other e = cc
     answer_other rs None None other e = by_room (can_observe config.quota.deps obs (observations_of (final_reads keys rs))) e
@@ -108,7 +108,7 @@ module _ (config : TenantConfig) (dc : ℕ) where
         answer config (get_request dc obs keys) (log ++ record { moment = moment; outcome = Replied reply } ∷ []) ≡ Some (answer_is.Refused Overrun) → ⊥
     get_goes_on log moment directed reply open_still e other stays overrun =
         answer_other rs (first_fault (map (call_of config dc) (gets keys rs)) rs) (slice_get (map (call_of config dc) (gets keys rs)) (length rs)) (first_other (gets keys rs) rs are)
-        (subst (λ b. answer_in (cond b (Ended (answer_is.Refused Overrun)) (unless_fault (first_fault (map (call_of config dc) (gets keys rs)) rs) (call_or_answer (slice_get (map (call_of config dc) (gets keys rs)) (length rs)) (values_or_full config.quota.deps obs (final_reads keys rs)))))
+        (subst (λ b. answer_in (cond b (Ended (answer_is.Refused Overrun)) (unless_fault (first_fault (map (call_of config dc) (gets keys rs)) rs) (call_or (slice_get (map (call_of config dc) (gets keys rs)) (length rs)) (values_or_full config.quota.deps obs (final_reads keys rs)))))
         ≡ Some (answer_is.Refused Overrun)) within overrun)
       where
         step : LogStep
@@ -175,7 +175,7 @@ or_other_end (Some ending) b first second = first
 
 module _ (shards : ℕ) (stream : Stream) where
   abbrev end_of_reply : NodeCall → NodeReply → Option Delivery
-  end_of_reply call reply = fault_or_end shards stream call reply (fault_in call reply)
+  end_of_reply call reply = end_of shards stream call reply
 
   own_end_other : (call : NodeCall) (reply : NodeReply) → IsOtherEnd (end_by shards stream call reply)
   own_end_other (Pull dc) node_reply.Nothing = tt
@@ -196,7 +196,7 @@ module _ (shards : ℕ) (stream : Stream) where
   end_other : (call : NodeCall) (reply : NodeReply) → IsOther (fault_in call reply) → IsOtherEnd (end_of_reply call reply)
   end_other call reply other = by_fault (fault_in call reply) other
     where
-      by_fault : (o : Option Fault) → IsOther o → IsOtherEnd (fault_or_end shards stream call reply o)
+      by_fault : (o : Option Fault) → IsOther o → IsOtherEnd (option_or (option_map delivery.Refused o) (end_by shards stream call reply))
       by_fault (Some fault) other = fault_end_other fault other
       by_fault None other = own_end_other call reply
 
@@ -224,7 +224,7 @@ module _ (shards : ℕ) (stream : Stream) where
       let rs = carrier_replies log in
       chosen (first_end shards stream (stream_calls shards stream rs) rs) (slice_get (stream_calls shards stream rs) (length rs)) (first_end_other (stream_calls shards stream rs) rs z) e
     where
-      chosen : (ends : Option Delivery) (found : Option Directed) → IsOtherEnd ends → unless_end ends (call_or_end found (finished_delivery (carrier_replies log))) ≡ Ended ending → IsOtherEnd (Some ending)
+      chosen : (ends : Option Delivery) (found : Option Directed) → IsOtherEnd ends → unless_end ends (call_or found (finished_delivery (carrier_replies log))) ≡ Ended ending → IsOtherEnd (Some ending)
       chosen (Some d) found other e = let same : d ≡ ending = cc in subst (λ x. IsOtherEnd (Some x)) same other
       chosen None (Some call) other e = cc
       chosen None None other e = let same : finished_delivery (carrier_replies log) ≡ ending = cc in subst (λ x. IsOtherEnd (Some x)) same (complete_other (carrier_replies log))

@@ -1,7 +1,7 @@
 -- After every list of acts, what is stored was put, and its deps are exactly those of its put.
 use Rattle.std.proofs.Common.{◌≡◌, ℕ, ◌+◌, ◌*◌, ◌<◌, true, List, [], ◌∷◌, map, inl, inr, refl, sym, subst, arith, replicate, length}
 use Rattle.std.specs.Prelude.{Some, None, slice_index_or}
-use Rattle.std.specs.List.{AllByRecursion, list_all}
+use Rattle.std.specs.List.{AllByRecursion, list_all, list_any}
 use Rattle.std.proofs.lemmas.Bool.Decides.{leb_tells}
 use Rattle.std.proofs.lemmas.List.{length-replicate, get_or-replicate, get_or_past}
 use Rattle.cops_types.specs.declared.records.EntryParts.{EntryParts as Entry}
@@ -20,7 +20,7 @@ use Rattle.cops_types.specs.Pairs.{holds}
 use Rattle.cops_causal.proofs.Histories.{flat_map-Among}
 use Rattle.cops_types.proofs.Elements.{and_true, any_intro}
 use Rattle.cops_types.proofs.PairSets.{Among-holds}
-use Rattle.cops_model.specs.Laws.{committed_entries, AreExactDeps, AtEachNode, was_put}
+use Rattle.cops_model.specs.Laws.{committed_entries, AreExactDeps, AtEachNode}
 use Rattle.cops_causal.proofs.Moves.{IsKept, history_after}
 use Rattle.cops_node.proofs.NodeTurns.{entries}
 use Rattle.cops_causal.proofs.NodeEffects.{node_of, call_changes}
@@ -140,11 +140,11 @@ exact_deps : (ts : List Traced) (es : List Entry) → AllByRecursion (IsPutEntry
 exact_deps ts [] are = refl
 exact_deps ts (e ∷ es) are = λ i. are.0.put.deps_are i ∷ exact_deps ts es are.1 i
 
-all_put : (ts : List Traced) (es : List Entry) → AllByRecursion (IsPutEntry ts) es → list_all (λ (e : Entry). was_put ts (pair_of_entry e)) es ≡ true
+all_put : (ts : List Traced) (es : List Entry) → AllByRecursion (IsPutEntry ts) es → list_all (λ (e : Entry). list_any (λ (t : Traced). holds (put_by t.operation.effect) (pair_of_entry e)) ts) es ≡ true
 all_put ts [] are = refl
 all_put ts (e ∷ es) are =
     let by = flat_map-Among (λ (t : Traced). put_by t.operation.effect) ts (pair_of_entry e) are.0.put.was in
-    and_true (was_put ts (pair_of_entry e)) (list_all (λ (e : Entry). was_put ts (pair_of_entry e)) es)
+    and_true (list_any (λ (t : Traced). holds (put_by t.operation.effect) (pair_of_entry e)) ts) (list_all (λ (e : Entry). list_any (λ (t : Traced). holds (put_by t.operation.effect) (pair_of_entry e)) ts) es)
     (any_intro (λ (t : Traced). holds (put_by t.operation.effect) (pair_of_entry e)) by.0 ts by.1 (Among-holds (put_by by.0.operation.effect) (pair_of_entry e) by.2)) (all_put ts es are.1)
 
 -- of a cluster in which all is traced

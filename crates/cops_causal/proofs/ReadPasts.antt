@@ -12,12 +12,12 @@ use Rattle.cops_types.proofs.VersionOrder.{version_le-refl, version_le-trans, ve
 use Rattle.cops_model.specs.declared.calls.NodeReply.{NodeReply}
 use Rattle.cops_model.specs.Log.{first_fault}
 use Rattle.cops_model.specs.Transaction.{gets, wanted_version, last_read, final_reads}
-use Rattle.cops_model.specs.Causal.{Traced, Operation, Returned, pair_read, returned_by, past_after, past_of_put, is_not_older, answers_consistently}
+use Rattle.cops_model.specs.Causal.{Traced, Operation, Returned, returned_by, past_after, past_of_put, is_not_older, answers_consistently}
 use Rattle.cops_types.proofs.KeyTests.{key_eq-true}
 use Rattle.cops_causal.proofs.ContextPasts.{IsRead}
 use Rattle.cops_session.proofs.DistinctKeys.{IsDistinct, one_read}
 use Rattle.cops_session.proofs.FreshReads.{IsFresh, IsLast, firsts, laters, first-above, last-is}
-use Rattle.cops_causal.proofs.Histories.{past_in, with_pasts, past_after-within, flat_map-Among, Among-flat_map}
+use Rattle.cops_causal.proofs.Histories.{pair_read, past_in, with_pasts, past_after-within, flat_map-Among, Among-flat_map}
 use Rattle.cops_types.proofs.Elements.{Among, Among-cases, Every-at, all_true, map-Among}
 use Rattle.cops_types.proofs.PairSets.{at, le-version_of, version_of-grows, greatest-within}
 use Rattle.cops_causal.proofs.Provenance.{IsPut, IsFound, IsHistory, past-of-closed}

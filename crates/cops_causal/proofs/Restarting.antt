@@ -2,7 +2,7 @@
 use Rattle.std.proofs.Common.{◌≡◌, ℕ, ◌+◌, ◌≤◌, ◌<◌, Bool, true, false, cond, not, ◌||◌, List, [], ◌∷◌, ◌++◌, map, length, inl, inr, refl, sym, ◌∙◌, ap, subst, arith}
 use Rattle.std.specs.Prelude.{Option, Some, None, zero, suc, max, filter, nat_lt, slice_get}
 use Rattle.std.specs.List.{AllByRecursion, list_all, list_any}
-use Rattle.std.specs.Option.{option_and_then}
+use Rattle.std.specs.Option.{option_and_then, option_map, option_map_or}
 use Rattle.std.proofs.lemmas.Bool.Decides.{nat_tests}
 use Rattle.std.proofs.lemmas.List.Elements.{filter_map-append}
 use Rattle.cops_types.specs.declared.contexts.ReadParts.{ReadParts as Read}
@@ -22,13 +22,13 @@ use Rattle.cops_model.specs.declared.calls.NodeCall.TheVariants as node_call
 use Rattle.cops_model.specs.declared.calls.NodeReply.{NodeReply}
 use Rattle.cops_model.specs.declared.calls.NodeReply.TheVariants.{Gone}
 use Rattle.cops_model.specs.declared.calls.Wanted.TheVariants.{Latest, Exactly}
-use Rattle.cops_model.specs.Log.{Call, Directed, Ended, LogStep, Next, Replied, Restart, fault_in, first_fault, replies_of, first_moment}
+use Rattle.cops_model.specs.Log.{Call, Directed, Ended, LogStep, Next, Replied, Restart, call_or, fault_in, first_fault, replies_of}
 use Rattle.cops_model.specs.Place.{node_number, place_of}
 use Rattle.cops_model.specs.SoloNode.{SoloNode}
 use Rattle.cops_node.proofs.NodeTurns.{entries}
 use Rattle.cops_model.specs.declared.requests.Answer.{Answer}
 use Rattle.cops_model.specs.declared.requests.Answer.TheVariants as answer_is
-use Rattle.cops_model.specs.Request.{Action, Attempt, Fetch, Write, answer, attempt_of, begins_again, call_after, call_or_answer, complete, is_late, request_calls, unless_fault, unless_late}
+use Rattle.cops_model.specs.Request.{Action, Attempt, Fetch, Write, answer, attempt_of, begins_again, call_after, complete, is_late, request_calls, unless_fault, unless_late}
 use Rattle.cops_model.specs.Request as request
 use Rattle.cops_model.specs.Session.{Session, Running, obs_of, request_of, has_restarted, moment_at}
 use Rattle.cops_model.specs.Session as session
@@ -43,12 +43,12 @@ use Rattle.cops_model.specs.declared.acts.Act.{Act}
 use Rattle.cops_model.specs.declared.acts.Act.TheVariants.{Step, Done}
 use Rattle.cops_model.specs.Causal.{Traced}
 use Rattle.cops_model.specs.Cluster.{SoloCluster, OfSession, OfCarrier, find_actor, find_session, call_node, reply_of_progress, reply_of_delivery, carrier_stepped, actor_step, goes_on, most_steps, new_cluster}
-use Rattle.cops_model.specs.Restarts.{ActorStep, attempt_start, ends_attempt, ends_when_due, has_passed, moment_in, moments_in, steps_from, steps_of}
+use Rattle.cops_model.specs.Restarts.{ActorStep, attempt_start, ends_attempt, ends_when_due, moment_in, steps_from, steps_of}
 use Rattle.cops_causal.proofs.ActorsKeep.{actor_found, session_actor}
 use Rattle.cops_causal.proofs.Attempts.{Every-front, IsTimed, IsActorTimed, IsReadSince, NewerRecordsAreSince, reads_before, timed_kept, timed_at_first}
 use Rattle.cops_causal.proofs.Closure.{home_in, IsHere}
 use Rattle.cops_causal.proofs.ClosureSteps.{mine}
-use Rattle.cops_causal.proofs.ClusterMoments.{IsAscending, IsActorWithin, IsWithin, AreUpTo, actor_step_within}
+use Rattle.cops_causal.proofs.ClusterMoments.{IsAscending, IsActorWithin, IsWithin, AreUpTo, actor_step_within, moments_in}
 use Rattle.cops_causal.proofs.Convergence.{found_by}
 use Rattle.cops_causal.proofs.Moves.{IsKept, Both, kept_both, actor_step_keeps, history_after}
 use Rattle.cops_causal.proofs.NodeAnswers.{reply_asked}
@@ -112,6 +112,10 @@ unread [] = refl
 unread (key ∷ keys) = refl
 
 -- ---- a step that ends an attempt
+
+-- the timestamp of the first step, if there is one
+abbrev first_moment : List LogStep → Option ℕ
+first_moment steps = option_map (λ (first : LogStep). first.moment) (slice_get steps 0)
 
 abbrev pub Timed : TenantConfig → SoloCluster → List Traced → Type 0
 Timed config = Both (IsSound config) (IsTimed config)
@@ -282,7 +286,7 @@ module _ (config : TenantConfig) (some : 0 < config.shards) (c : SoloCluster) (t
     late_test true n never e = refl
     late_test false n never e = absurd (never e)
 
-    calls_or_ends : (spent : Bool) (fault : Option Fault) (found : Option Directed) (a : Answer) → cond spent (Ended (answer_is.Refused Overrun)) (unless_fault fault (call_or_answer found a)) ≡ Restart → ⊥
+    calls_or_ends : (spent : Bool) (fault : Option Fault) (found : Option Directed) (a : Answer) → cond spent (Ended (answer_is.Refused Overrun)) (unless_fault fault (call_or found a)) ≡ Restart → ⊥
     calls_or_ends true fault found a e = cc
     calls_or_ends false (Some fault) found a e = cc
     calls_or_ends false None (Some call) a e = cc
@@ -372,10 +376,13 @@ module _ (config : TenantConfig) (some : 0 < config.shards) where
     abbrev HasReached : SoloCluster → Type 0
     HasReached c = (most : ℕ) → AreUpTo config most moments → IsWithin config most c
 
+    abbrev has_passed : Option ℕ → Bool
+    has_passed start = option_map_or (λ (start : ℕ). list_any (nat_lt (start + config.trans_time)) moments) start false
+
     one_due : (c : SoloCluster) (ts : List Traced) → Timed config c ts → HasReached c → ends_when_due config moments (record { name = name; moment = moment; from = c }) ≡ true
     one_due c ts inv reached = by_end (ends_attempt (actor_step config name moment c).reply) refl
       where
-        passed : (due : IsDue config c name moment) → has_passed config.trans_time moments (Some due.start) ≡ true
+        passed : (due : IsDue config c name moment) → has_passed (Some due.start) ≡ true
         passed due = by_any (list_any (nat_lt (due.start + config.trans_time)) moments) refl
           where
             by_any : (b : Bool) → list_any (nat_lt (due.start + config.trans_time)) moments ≡ b → b ≡ true
@@ -386,9 +393,9 @@ module _ (config : TenantConfig) (some : 0 < config.shards) where
                 let high = due.past most (reached most low) (given most low) in
                 absurd (omega (arith, high))
 
-        by_end : (b : Bool) → ends_attempt (actor_step config name moment c).reply ≡ b → cond b (has_passed config.trans_time moments (attempt_start name c)) true ≡ true
+        by_end : (b : Bool) → ends_attempt (actor_step config name moment c).reply ≡ b → cond b (has_passed (attempt_start name c)) true ≡ true
         by_end false ends = refl
-        by_end true ends = let due = step_due config some c ts inv.0 inv.1 name moment ends in ap (has_passed config.trans_time moments) due.starts ∙ passed due
+        by_end true ends = let due = step_due config some c ts inv.0 inv.1 name moment ends in ap has_passed due.starts ∙ passed due
 
     steps_due : (more : ℕ) (c : SoloCluster) (ts : List Traced) → Timed config c ts → HasReached c → list_all (ends_when_due config moments) (steps_from more config name moment c) ≡ true
     steps_due zero c ts inv reached = and_true (ends_when_due config moments (record { name = name; moment = moment; from = c })) true (one_due c ts inv reached) refl

@@ -15,12 +15,12 @@ use Rattle.cops_model.specs.declared.calls.NodeId.{NodeId}
 use Rattle.cops_model.specs.declared.calls.NodeReply.{NodeReply}
 use Rattle.cops_model.specs.Log.{Directed, Call}
 use Rattle.cops_model.specs.Place.{node_number, own_number, place_of}
-use Rattle.cops_model.specs.SoloNode.{new_node}
+use Rattle.cops_model.specs.SoloNode.{new_node, queue}
 use Rattle.cops_model.specs.Carrier.{Stream, ack_call, check, commit_call, pull}
 use Rattle.cops_model.specs.Request.{next}
 use Rattle.cops_model.specs.Causal.{Traced}
 use Rattle.cops_model.specs.Cluster.{SoloCluster, new_cluster, has_node, call_node}
-use Rattle.cops_model.specs.Laws.{AreQueuesEmpty, AreSettled, node_in}
+use Rattle.cops_model.specs.Laws.{AreSettled, node_in, AtEachNode}
 use Rattle.cops_repl.proofs.CarrierStages.{Stage}
 use Rattle.cops_types.proofs.Elements.{Among, Among-left, Among-filter, Every-append, Every-at, and_left, and_right}
 use Rattle.cops_node.proofs.Chains.{IsFront}
@@ -156,6 +156,11 @@ whole_front front whole is long e at = subst (Among e) (is.whole_is ∙ ap (λ e
     nothing : (es : List Entry) → length es ≤ 0 → es ≡ []
     nothing [] e = refl
     nothing (x ∷ es) e = absurd (omega arith)
+
+-- no queue has an entry for another data centre
+abbrev pub AreQueuesEmpty : TenantConfig → SoloCluster → Type 0
+AreQueuesEmpty config c =
+    AtEachNode config (λ dc shard. (to : ℕ) → to < config.data_centres → to ≢ dc → queue (place_of config (record { dc = dc; shard = shard })) to (node_in config c dc shard) ≡ [])
 
 module _ (config : TenantConfig) (some : 0 < config.shards) (c : SoloCluster) (streamed : IsStreamed config c) (placed : AreEquivalent config c []) (idle : AreQueuesEmpty config c) (shard : ℕ) (in_shards : shard < config.shards) where
   abbrev number : ℕ → ℕ

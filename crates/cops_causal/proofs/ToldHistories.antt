@@ -1,12 +1,12 @@
 -- The operations that a tenant derives from its acts and replies are those of its cluster.
 use Rattle.std.proofs.Common.{◌≡◌, ℕ, Bool, not, List, [], ◌∷◌, refl, sym, ◌∙◌, ap, subst}
-use Rattle.std.specs.Prelude.{Option, Some, None, max, nat_lt, length}
+use Rattle.std.specs.Prelude.{Option, Some, None, if◌then◌else◌, max, nat_lt, length}
 use Rattle.std.specs.List.{list_all}
 use Rattle.std.specs.Option.{option_map, option_and_then}
 use Rattle.cops_types.specs.declared.faults.Fault.{Fault}
 use Rattle.cops_types.specs.declared.faults.Fault.TheVariants.{Syntax, BadKey, ValueTooLong, NoSuchPlace}
 use Rattle.cops_types.specs.Context.{all_of, near_of}
-use Rattle.cops_types.specs.Key.{is_key}
+use Rattle.cops_types.specs.Key.{is_key, key_eq}
 use Rattle.cops_types.specs.Search.{first_refusal}
 use Rattle.cops_types.specs.TenantConfig.{TenantConfig}
 use Rattle.cops_types.specs.Value.{is_value}
@@ -26,13 +26,21 @@ use Rattle.cops_model.specs.declared.acts.Act.TheVariants.{Open, Create, Delete,
 use Rattle.cops_model.specs.declared.replies.Reply.{Reply}
 use Rattle.cops_model.specs.declared.replies.Reply.TheVariants.{Opened, Created, Deleted, Started, Lists}
 use Rattle.cops_model.specs.Causal.{Operation, Effect, effect_of, stepped_actor}
-use Rattle.cops_model.specs.Cluster.{ActEffect, Actor, OfCarrier, OfSession, SoloCluster, actor_refusal, actor_step, actor_steps, call_node, carrier_stepped, cluster_step, collect_at, find_actor, find_session, has_node, has_stream, most_steps, on_found, reply_with, session_in, session_stepped, unless_refused, with_actor, with_new_actor}
-use Rattle.cops_model.specs.Told.{Contexts, contexts_after, operation_of, operation_told, with_context}
+use Rattle.cops_model.specs.Cluster.{ActEffect, Actor, OfCarrier, OfSession, SoloCluster, actor_refusal, actor_step, actor_steps, call_node, carrier_stepped, cluster_step, collect_at, find_actor, find_session, has_node, has_stream, most_steps, on_session, reply_with, session_in, session_stepped, unless_refused, with_actor, with_new_actor}
+use Rattle.cops_model.specs.Told.{Contexts, contexts_after, operation_told}
 use Rattle.cops_causal.proofs.ActorsKeep.{EachActor, actor_found, each-with_actor, each-with_new, each-without, session_actor}
 use Rattle.cops_causal.proofs.AfterActs.{context_run, operation_by-context}
 use Rattle.cops_causal.proofs.ToldOperations.{Runs, actor_step_runs, actor_steps_run}
 use Rattle.cops_causal.proofs.ActorSteps.{by_step, by_steps}
 use Rattle.cops_causal.proofs.EndedOperations.{operation_by, operation_ended}
+
+-- the contexts, with this one at the session
+abbrev pub with_context : List ℕ → ℕ → Contexts → Contexts
+with_context session number contexts name = if key_eq name session then Some number else contexts name
+
+-- the operation with this effect, if the session's context is known
+abbrev pub operation_of : Contexts → Effect → List ℕ → Option Operation
+operation_of contexts effect session = option_map (λ number. record { session = session; context = number; effect = effect }) (contexts session)
 
 -- the context of what an actor runs
 abbrev pub context_in : Actor → Option ℕ
@@ -111,7 +119,7 @@ pub by_refusal : (refusal : Option Fault) (c : SoloCluster) (turn : ActEffect) (
 by_refusal (Some fault) c turn G refused passed = refused fault
 by_refusal None c turn G refused passed = passed
 
-pub by_session : (found : Option Session) (c : SoloCluster) (act : Session → ActEffect) (G : ActEffect → Type 0) → G (on_found None c act) → ((s : Session) → found ≡ Some s → G (act s)) → G (on_found found c act)
+pub by_session : (found : Option Session) (c : SoloCluster) (act : Session → ActEffect) (G : ActEffect → Type 0) → G (on_session None c act) → ((s : Session) → found ≡ Some s → G (act s)) → G (on_session found c act)
 by_session (Some s) c act G none some = some s refl
 by_session None c act G none some = none
 
@@ -128,7 +136,7 @@ module _ (config : TenantConfig) (contexts : Contexts) (c : SoloCluster) (knows 
 
   -- a session whose request stays
   stays : (name : List ℕ) (after : Session → Session) (reply : Session → Reply) (refusal : Session → Option Fault) → ((s : Session) → (after s).running ≡ s.running) →
-      Knows contexts (on_found (find_session name c) c (λ s. unless_refused (refusal s) c (reply_with (reply s) (with_actor name (OfSession (after s)) c)))).after
+      Knows contexts (on_session (find_session name c) c (λ s. unless_refused (refusal s) c (reply_with (reply s) (with_actor name (OfSession (after s)) c)))).after
   stays name after reply refusal same =
       by_session (find_session name c) c (λ s. unless_refused (refusal s) c (reply_with (reply s) (with_actor name (OfSession (after s)) c))) (λ turn. Knows contexts turn.after) knows
       (λ s found. by_refusal (refusal s) c (reply_with (reply s) (with_actor name (OfSession (after s)) c)) (λ turn. Knows contexts turn.after) (λ fault. knows)
@@ -150,7 +158,7 @@ knows_after config contexts (Put name number key value) c knows =
     let G : ActEffect → Type 0 = KnowsAfter contexts act in
     let begins : Session → ActEffect = λ s. reply_with Started (with_actor name (OfSession (request_begun number (Write key value) s)) c) in
     let asked : Session → ActEffect = λ s. unless_refused (session_put_refusal config number key s) c (begins s) in
-    by_refusal (first_refusal ((not (is_key key), BadKey) ∷ (not (is_value value), ValueTooLong) ∷ [])) c (on_found (find_session name c) c asked) G (λ fault. knows)
+    by_refusal (first_refusal ((not (is_key key), BadKey) ∷ (not (is_value value), ValueTooLong) ∷ [])) c (on_session (find_session name c) c asked) G (λ fault. knows)
     (by_session (find_session name c) c asked G knows
     (λ s found. by_refusal (session_put_refusal config number key s) c (begins s) G (λ fault. knows) (begun config contexts c knows name number (request_begun number (Write key value) s) refl)))
 knows_after config contexts (Get name number keys) c knows =
@@ -158,7 +166,7 @@ knows_after config contexts (Get name number keys) c knows =
     let G : ActEffect → Type 0 = KnowsAfter contexts act in
     let begins : Session → ActEffect = λ s. reply_with Started (with_actor name (OfSession (request_begun number (Fetch keys) s)) c) in
     let asked : Session → ActEffect = λ s. unless_refused (get_refusal config number keys s) c (begins s) in
-    by_refusal (first_refusal ((nat_lt (length keys) 1, Syntax) ∷ (not (list_all is_key keys), BadKey) ∷ [])) c (on_found (find_session name c) c asked) G (λ fault. knows)
+    by_refusal (first_refusal ((nat_lt (length keys) 1, Syntax) ∷ (not (list_all is_key keys), BadKey) ∷ [])) c (on_session (find_session name c) c asked) G (λ fault. knows)
     (by_session (find_session name c) c asked G knows
     (λ s found. by_refusal (get_refusal config number keys s) c (begins s) G (λ fault. knows) (begun config contexts c knows name number (request_begun number (Fetch keys) s) refl)))
 knows_after config contexts (Show name number) c knows =

@@ -20,7 +20,7 @@ use Rattle.cops_model.specs.declared.acts.Act.TheVariants.{Open, Create, Delete,
 use Rattle.cops_model.specs.declared.replies.Reply.{Reply}
 use Rattle.cops_model.specs.declared.replies.Reply.TheVariants.{Opened, Created, Deleted, Started, Lists, Refused, Working}
 use Rattle.cops_model.specs.Causal.{Operation, Effect, effect_of, stepped_actor}
-use Rattle.cops_model.specs.Cluster.{ActEffect, Actor, OfCarrier, OfSession, SoloCluster, actor_refusal, actor_step, actor_steps, call_node, cluster_step, collect_at, find_actor, find_session, has_node, has_stream, most_steps, on_found, on_session, reply_of_delivery, reply_with, session_in, unless_refused, with_actor, with_new_actor}
+use Rattle.cops_model.specs.Cluster.{ActEffect, Actor, OfCarrier, OfSession, SoloCluster, actor_refusal, actor_step, actor_steps, call_node, cluster_step, collect_at, find_actor, find_session, has_node, has_stream, most_steps, on_session, reply_of_delivery, reply_with, session_in, unless_refused, with_actor, with_new_actor}
 use Rattle.cops_causal.proofs.AfterActs.{actor_step_context, context_run, operation_by-context}
 use Rattle.cops_causal.proofs.Moves.{plain_collect, plain_answer, plain_carrier}
 use Rattle.cops_causal.proofs.ActorSteps.{by_step, by_steps}
@@ -87,7 +87,7 @@ plain_unless : (refusal : Option Fault) (c : SoloCluster) (turn : ActEffect) →
 plain_unless None c turn plain = plain
 plain_unless (Some fault) c turn plain = refl
 
-plain_on : (found : Option Session) (c : SoloCluster) (act : Session → ActEffect) → ((s : Session) → effect_of (act s).reply ≡ None) → effect_of (on_found found c act).reply ≡ None
+plain_on : (found : Option Session) (c : SoloCluster) (act : Session → ActEffect) → ((s : Session) → effect_of (act s).reply ≡ None) → effect_of (on_session found c act).reply ≡ None
 plain_on None c act plain = refl
 plain_on (Some s) c act plain = plain s
 
@@ -107,14 +107,14 @@ module _ (config : TenantConfig) (c : SoloCluster) where
   plain_put name number key value =
       let begins : Session → ActEffect = λ s. reply_with Started (with_actor name (OfSession (request_begun number (Write key value) s)) c) in
       let asked : Session → ActEffect = λ s. unless_refused (session_put_refusal config number key s) c (begins s) in
-      plain_unless (first_refusal ((not (is_key key), BadKey) ∷ (not (is_value value), ValueTooLong) ∷ [])) c (on_session name c asked)
+      plain_unless (first_refusal ((not (is_key key), BadKey) ∷ (not (is_value value), ValueTooLong) ∷ [])) c (on_session (find_session name c) c asked)
       (plain_on (find_session name c) c asked (λ s. plain_unless (session_put_refusal config number key s) c (begins s) refl))
 
   plain_get : (name : List ℕ) (number : ℕ) (keys : List (List ℕ)) → effect_of (cluster_step config (Get name number keys) c).reply ≡ None
   plain_get name number keys =
       let begins : Session → ActEffect = λ s. reply_with Started (with_actor name (OfSession (request_begun number (Fetch keys) s)) c) in
       let asked : Session → ActEffect = λ s. unless_refused (get_refusal config number keys s) c (begins s) in
-      plain_unless (first_refusal ((nat_lt (length keys) 1, Syntax) ∷ (not (list_all is_key keys), BadKey) ∷ [])) c (on_session name c asked)
+      plain_unless (first_refusal ((nat_lt (length keys) 1, Syntax) ∷ (not (list_all is_key keys), BadKey) ∷ [])) c (on_session (find_session name c) c asked)
       (plain_on (find_session name c) c asked (λ s. plain_unless (get_refusal config number keys s) c (begins s) refl))
 
   plain_show : (name : List ℕ) (number : ℕ) → effect_of (cluster_step config (Show name number) c).reply ≡ None

@@ -26,15 +26,15 @@ use Rattle.cops_model.specs.Session.{Running, Session, context_created, context_
 use Rattle.cops_model.specs.Session as session
 use Rattle.cops_model.specs.Carrier.{Carrier, Stream, new_carrier}
 use Rattle.cops_model.specs.Causal.{Effect, Operation, effect_of, stepped_actor}
-use Rattle.cops_model.specs.Cluster.{ActEffect, Actor, OfCarrier, OfSession, SoloCluster, actor_refusal, actor_step, actor_steps, call_node, carrier_stepped, cluster_step, collect_at, find_actor, find_session, has_node, has_stream, most_steps, on_found, reply_with, session_stepped, unless_refused, with_actor, with_new_actor}
+use Rattle.cops_model.specs.Cluster.{ActEffect, Actor, OfCarrier, OfSession, SoloCluster, actor_refusal, actor_step, actor_steps, call_node, carrier_stepped, cluster_step, collect_at, find_actor, find_session, has_node, has_stream, most_steps, on_session, reply_with, session_stepped, unless_refused, with_actor, with_new_actor}
 use Rattle.cops_model.specs.Goes.{Turns}
 use Rattle.cops_model.specs.Lacks.{Lacks, request_dropped}
-use Rattle.cops_model.specs.Told.{Contexts, contexts_after, operation_of, operation_told, operations_told, operations_told_from, with_context}
+use Rattle.cops_model.specs.Told.{Contexts, contexts_after, operation_told, operations_told, operations_told_from}
 use Rattle.cops_causal.specs.Transcript.{Begun, Ended, Requests, ended_told, ended_with, operations_in, requests_after, transcript, transcript_from, with_request}
 use Rattle.cops_causal.proofs.ActorsKeep.{EachActor, actor_found, each-with_actor, each-with_new, each-without, session_actor}
 use Rattle.cops_causal.proofs.ActorSteps.{by_step, by_steps}
 use Rattle.cops_causal.proofs.AfterTurns.{by_lack}
-use Rattle.cops_causal.proofs.ToldHistories.{by_refusal, by_session}
+use Rattle.cops_causal.proofs.ToldHistories.{by_refusal, by_session, operation_of, with_context}
 
 -- what the actor's request was begun with is known
 abbrev pub IsBegunAs : Requests → List ℕ → Actor → Type 0
@@ -105,7 +105,7 @@ module _ (config : TenantConfig) (requests : Requests) (c : SoloCluster) (begun 
 
   -- a session whose request stays
   stays : (name : List ℕ) (after : Session → Session) (reply : Session → Reply) (refusal : Session → Option Fault) → ((s : Session) → (after s).running ≡ s.running) →
-      AreBegun requests (on_found (find_session name c) c (λ s. unless_refused (refusal s) c (reply_with (reply s) (with_actor name (OfSession (after s)) c)))).after
+      AreBegun requests (on_session (find_session name c) c (λ s. unless_refused (refusal s) c (reply_with (reply s) (with_actor name (OfSession (after s)) c)))).after
   stays name after reply refusal same =
       by_session (find_session name c) c (λ s. unless_refused (refusal s) c (reply_with (reply s) (with_actor name (OfSession (after s)) c))) (λ turn. AreBegun requests turn.after) begun
       (λ s found. by_refusal (refusal s) c (reply_with (reply s) (with_actor name (OfSession (after s)) c)) (λ turn. AreBegun requests turn.after) (λ fault. begun)
@@ -132,7 +132,7 @@ begun_after config requests (Put name number key value) c begun =
     let G : ActEffect → Type 0 = BegunAfter requests act in
     let starts : Session → ActEffect = λ s. reply_with Started (with_actor name (OfSession (request_begun number (Write key value) s)) c) in
     let asked : Session → ActEffect = λ s. unless_refused (session_put_refusal config number key s) c (starts s) in
-    by_refusal (first_refusal ((not (is_key key), BadKey) ∷ (not (is_value value), ValueTooLong) ∷ [])) c (on_found (find_session name c) c asked) G (λ fault. begun)
+    by_refusal (first_refusal ((not (is_key key), BadKey) ∷ (not (is_value value), ValueTooLong) ∷ [])) c (on_session (find_session name c) c asked) G (λ fault. begun)
     (by_session (find_session name c) c asked G begun
     (λ s found. by_refusal (session_put_refusal config number key s) c (starts s) G (λ fault. begun) (begins config requests c begun name number (Write key value) s)))
 begun_after config requests (Get name number keys) c begun =
@@ -140,7 +140,7 @@ begun_after config requests (Get name number keys) c begun =
     let G : ActEffect → Type 0 = BegunAfter requests act in
     let starts : Session → ActEffect = λ s. reply_with Started (with_actor name (OfSession (request_begun number (Fetch keys) s)) c) in
     let asked : Session → ActEffect = λ s. unless_refused (get_refusal config number keys s) c (starts s) in
-    by_refusal (first_refusal ((nat_lt (length keys) 1, Syntax) ∷ (not (list_all is_key keys), BadKey) ∷ [])) c (on_found (find_session name c) c asked) G (λ fault. begun)
+    by_refusal (first_refusal ((nat_lt (length keys) 1, Syntax) ∷ (not (list_all is_key keys), BadKey) ∷ [])) c (on_session (find_session name c) c asked) G (λ fault. begun)
     (by_session (find_session name c) c asked G begun
     (λ s found. by_refusal (get_refusal config number keys s) c (starts s) G (λ fault. begun) (begins config requests c begun name number (Fetch keys) s)))
 begun_after config requests (Show name number) c begun =

@@ -17,7 +17,7 @@ use Rattle.cops_model.specs.declared.acts.Act.{Act}
 use Rattle.cops_model.specs.declared.replies.Reply.{Reply}
 use Rattle.cops_model.specs.Request.{Action, Fetch, Write}
 use Rattle.cops_model.specs.Carrier.{pair_of_entry}
-use Rattle.cops_model.specs.Causal.{Effect, Operation, Returned, Traced, Wrote, deps_of, pair_read, put_by, returned_by, traced}
+use Rattle.cops_model.specs.Causal.{Effect, Operation, Returned, Traced, Wrote, deps_of, put_by, returned_by, traced}
 use Rattle.cops_model.specs.Cluster.{SoloCluster, new_cluster}
 use Rattle.cops_model.specs.Goes.{Goes}
 use Rattle.cops_model.specs.Laws.{AreConsistent, IsCausal}
@@ -28,7 +28,7 @@ use Rattle.cops_causal.specs.ClientLaws.{AnswersTo, AreAbovePasts, HaveDistinctV
 use Rattle.cops_causal.specs.Transcript.{Ended, history_in, operations_in, transcript}
 use Rattle.cops_causal.proofs.AfterTurns.{after_turns}
 use Rattle.cops_causal.proofs.Answering.{IsAnswering, IsNext, answering_at_first, answering_kept}
-use Rattle.cops_causal.proofs.Histories.{Among-flat_map, flat_map-Among}
+use Rattle.cops_causal.proofs.Histories.{Among-flat_map, flat_map-Among, pair_read}
 use Rattle.cops_causal.proofs.LeastPasts.{IsTracedBy, before-at, before-has, next-before, op_of, operations-traced, traced_by}
 use Rattle.cops_causal.proofs.Moves.{Both, kept_both}
 use Rattle.cops_causal.proofs.NodeEffects.{node_of}

@@ -1,7 +1,7 @@
 -- The replies of requests and carriers so far bring no unexpected end.
 use Rattle.std.proofs.Common.{◌≡◌, ℕ, Bool, true, false, cond, List, [], ◌∷◌, map, length, ◌⊎◌, inl, inr, refl, sym, ◌∙◌, subst}
 use Rattle.std.specs.Prelude.{Option, Some, None, nat_lt, slice_get}
-use Rattle.std.specs.Option.{option_or}
+use Rattle.std.specs.Option.{option_map, option_or}
 use Rattle.cops_types.specs.declared.faults.Fault.{Fault}
 use Rattle.cops_types.specs.declared.faults.Fault.TheVariants.{Overrun, DependenciesFull}
 use Rattle.cops_types.specs.declared.records.EntryParts.{EntryParts as Entry}
@@ -11,16 +11,17 @@ use Rattle.cops_model.specs.declared.calls.NodeCall.{NodeCall}
 use Rattle.cops_model.specs.declared.calls.NodeCall.TheVariants.{Get, DepCheck, Pull, Commit}
 use Rattle.cops_model.specs.declared.calls.NodeReply.{NodeReply}
 use Rattle.cops_model.specs.declared.calls.NodeReply.TheVariants as node_reply
-use Rattle.cops_model.specs.Log.{Directed, Ended, LogStep, Next, fault_in, first_fault, is_asked, replies_of}
+use Rattle.cops_model.specs.Log.{Directed, Ended, LogStep, Next, call_or, fault_in, first_fault, is_asked, replies_of}
 use Rattle.cops_model.specs.declared.requests.Answer.{Answer}
 use Rattle.cops_model.specs.declared.requests.Answer.TheVariants as answer_is
-use Rattle.cops_model.specs.Request.{Action, Write, Fetch, attempt_of, values_or_full, call_or_answer, unless_fault, answer_in, answer}
+use Rattle.cops_model.specs.Request.{Action, Write, Fetch, attempt_of, values_or_full, unless_fault, answer_in, answer}
 use Rattle.cops_model.specs.Session.{shown}
 use Rattle.cops_model.specs.Transaction.{ReadRequest, gets, final_reads}
 use Rattle.cops_model.specs.declared.deliveries.Delivery.{Delivery}
+use Rattle.cops_model.specs.declared.deliveries.Delivery.TheVariants as delivery
 use Rattle.cops_model.specs.declared.deliveries.Progress.{Progress as CarrierProgress}
 use Rattle.cops_model.specs.declared.deliveries.Progress.TheVariants as carrier_progress
-use Rattle.cops_model.specs.Carrier.{Stream, call_or_end, carrier_next, end_by, fault_or_end, finished_delivery, first_end, is_foreign, pull, stream_calls, unless_end}
+use Rattle.cops_model.specs.Carrier.{Stream, carrier_next, end_by, end_of, finished_delivery, first_end, is_foreign, pull, stream_calls, unless_end}
 use Rattle.cops_model.specs.Carrier as carrier
 use Rattle.cops_model.specs.Cluster.{reply_of_answer, reply_of_progress, reply_of_delivery}
 use Rattle.cops_model.specs.Laws.{is_expected_of_node}
@@ -56,7 +57,7 @@ IsFineAnswer a = is_usual (reply_of_answer a) ≡ true
 
 module _ (config : TenantConfig) (dc : ℕ) (obs : List Observation) (keys : List (List ℕ)) where
   chosen_fine : (rs : List NodeReply) (spent : Bool) (fault : Option Fault) (found : Option Directed) (a : Answer) → IsFineFault fault →
-      answer_in (cond spent (Ended (answer_is.Refused Overrun)) (unless_fault fault (call_or_answer found (values_or_full config.quota.deps obs (final_reads keys rs))))) ≡ Some a → IsFineAnswer a
+      answer_in (cond spent (Ended (answer_is.Refused Overrun)) (unless_fault fault (call_or found (values_or_full config.quota.deps obs (final_reads keys rs))))) ≡ Some a → IsFineAnswer a
   chosen_fine rs true fault found a fine e = let same : answer_is.Refused Overrun ≡ a = cc in subst IsFineAnswer same refl
   chosen_fine rs false (Some fault) found a fine e = let same : answer_is.Refused fault ≡ a = cc in subst IsFineAnswer same fine
   chosen_fine rs false None (Some call) a fine e = cc
@@ -92,7 +93,7 @@ IsFineEnd (Some d) = IsFineDelivery d
 
 module _ (shards : ℕ) (stream : Stream) where
   abbrev end_of_reply : NodeCall → NodeReply → Option Delivery
-  end_of_reply call reply = fault_or_end shards stream call reply (fault_in call reply)
+  end_of_reply call reply = end_of shards stream call reply
 
   -- the reply brings no end, or an expected one
   abbrev pub IsFineStep : Directed → NodeReply → Type 0
@@ -113,7 +114,7 @@ module _ (shards : ℕ) (stream : Stream) where
 
   pub step_fine : (call : NodeCall) (reply : NodeReply) → IsRefusal reply ⊎ (is_asked call reply ≡ true) → is_expected_of_node reply ≡ true → IsOwn call reply → IsFineEnd (end_of_reply call reply)
   step_fine call reply (inl is) expected own = subst (λ r. IsFineEnd (end_of_reply call r)) (sym is.1) (node_fault_usual is.0 is.2)
-  step_fine call reply (inr is) expected own = subst (λ fault. IsFineEnd (fault_or_end shards stream call reply fault)) (sym (asked_faultless call reply is)) (end_fine call reply expected own)
+  step_fine call reply (inr is) expected own = subst (λ fault. IsFineEnd (option_or (option_map delivery.Refused fault) (end_by shards stream call reply))) (sym (asked_faultless call reply is)) (end_fine call reply expected own)
 
   or_end_fine : (a b : Option Delivery) → IsFineEnd a → IsFineEnd b → IsFineEnd (option_or a b)
   or_end_fine None b first second = second
@@ -143,7 +144,7 @@ module _ (shards : ℕ) (stream : Stream) where
       chosen (first_end shards stream (stream_calls shards stream rs) rs) (slice_get (stream_calls shards stream rs) (length rs)) refl refl (first_end_fine (stream_calls shards stream rs) rs z) e
     where
       chosen : (ends : Option Delivery) (found : Option Directed) → first_end shards stream (stream_calls shards stream (carrier_replies log)) (carrier_replies log) ≡ ends →
-          slice_get (stream_calls shards stream (carrier_replies log)) (length (carrier_replies log)) ≡ found → IsFineEnd ends → unless_end ends (call_or_end found (finished_delivery (carrier_replies log))) ≡ Ended ending → IsFineDelivery ending
+          slice_get (stream_calls shards stream (carrier_replies log)) (length (carrier_replies log)) ≡ found → IsFineEnd ends → unless_end ends (call_or found (finished_delivery (carrier_replies log))) ≡ Ended ending → IsFineDelivery ending
       chosen (Some d) found ends is fine e = let same : d ≡ ending = cc in subst IsFineDelivery same fine
       chosen None (Some call) ends is fine e = cc
       chosen None None ends is fine e = let same : finished_delivery (carrier_replies log) ≡ ending = cc in subst IsFineDelivery same (complete_fine (carrier_replies log) ends is)

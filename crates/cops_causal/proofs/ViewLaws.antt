@@ -31,7 +31,7 @@ use Rattle.cops_model.specs.Session.{OpenContext, Running, Session, context_crea
 use Rattle.cops_model.specs.Session as session
 use Rattle.cops_model.specs.Carrier.{Carrier, new_carrier, pair_of_entry}
 use Rattle.cops_model.specs.Causal.{Effect, Returned, Traced, Wrote, effect_of, is_not_older, leads_to, past_after, put_by, stepped_actor}
-use Rattle.cops_model.specs.Cluster.{ActEffect, Actor, NamedActor, OfCarrier, OfSession, SoloCluster, actor_refusal, actor_step, actor_steps, call_node, carrier_stepped, cluster_step, collect_at, find_actor, find_session, goes_on, has_node, has_stream, most_steps, new_cluster, on_found, reply_of_answer, reply_with, session_stepped, unless_refused, with_actor, with_new_actor}
+use Rattle.cops_model.specs.Cluster.{ActEffect, Actor, NamedActor, OfCarrier, OfSession, SoloCluster, actor_refusal, actor_step, actor_steps, call_node, carrier_stepped, cluster_step, collect_at, find_actor, find_session, goes_on, has_node, has_stream, most_steps, new_cluster, on_session, reply_of_answer, reply_with, session_stepped, unless_refused, with_actor, with_new_actor}
 use Rattle.cops_model.specs.Goes.{Goes, Turns}
 use Rattle.cops_model.specs.Lacks.{Lacks, request_dropped}
 use Rattle.cops_model.specs.Told.{Contexts, contexts_after}
@@ -110,7 +110,7 @@ module _ (config : TenantConfig) (dc_of : List ℕ → ℕ) where
 
     -- a session that changes
     changed_placed : (c : SoloCluster) (after : Session → Session) (reply : Session → Reply) (refusal : Session → Option Fault) → ((s : Session) → (after s).dc ≡ s.dc) → ArePlaced dc_of c →
-        ArePlaced dc_of (on_found (find_session name c) c (λ s. unless_refused (refusal s) c (reply_with (reply s) (with_actor name (OfSession (after s)) c)))).after
+        ArePlaced dc_of (on_session (find_session name c) c (λ s. unless_refused (refusal s) c (reply_with (reply s) (with_actor name (OfSession (after s)) c)))).after
     changed_placed c after reply refusal same placed =
         by_session (find_session name c) c (λ s. unless_refused (refusal s) c (reply_with (reply s) (with_actor name (OfSession (after s)) c))) (λ turn. ArePlaced dc_of turn.after) placed
         (λ s found. by_refusal (refusal s) c (reply_with (reply s) (with_actor name (OfSession (after s)) c)) (λ turn. ArePlaced dc_of turn.after) (λ fault. placed)
@@ -265,13 +265,13 @@ module _ (config : TenantConfig) (some : 0 < config.shards) (view : View) where
     act_view (Put name number key value) =
         let asked : Session → ActEffect = λ s. unless_refused (session_put_refusal config number key s) c (reply_with Started (with_actor name (OfSession (request_begun number (Write key value) s)) c)) in
         whole (Put name number key value)
-        (by_refusal (first_refusal ((not (is_key key), BadKey) ∷ (not (is_value value), ValueTooLong) ∷ [])) c (on_found (find_session name c) c asked) (λ turn. ArePlaced view.dc_of turn.after) (λ fault. held.placed)
+        (by_refusal (first_refusal ((not (is_key key), BadKey) ∷ (not (is_value value), ValueTooLong) ∷ [])) c (on_session (find_session name c) c asked) (λ turn. ArePlaced view.dc_of turn.after) (λ fault. held.placed)
         (changed_placed config view.dc_of name c (request_begun number (Write key value)) (λ s. Started) (session_put_refusal config number key) (λ s. refl) held.placed))
     act_view (Get name number keys) =
         let G : ActEffect → Type 0 = ViewAfter (Get name number keys) in
         let starts : Session → ActEffect = λ s. reply_with Started (with_actor name (OfSession (request_begun number (Fetch keys) s)) c) in
         let asked : Session → ActEffect = λ s. unless_refused (get_refusal config number keys s) c (starts s) in
-        by_refusal (first_refusal ((nat_lt (length keys) 1, Syntax) ∷ (not (list_all is_key keys), BadKey) ∷ [])) c (on_found (find_session name c) c asked) G (λ fault. held)
+        by_refusal (first_refusal ((nat_lt (length keys) 1, Syntax) ∷ (not (list_all is_key keys), BadKey) ∷ [])) c (on_session (find_session name c) c asked) G (λ fault. held)
         (by_session (find_session name c) c asked G held
         (λ s found. passes (get_refusal config number keys s) c (starts s) G (λ fault. held) (λ ok. started config view c held shown name number keys s found ok)))
     act_view (Show name number) =

@@ -4,6 +4,7 @@ use Rattle.std.specs.Prelude.{Option, Some, None, is_some, max, nat_le, nat_lt}
 use Rattle.std.specs.List.{list_all}
 use Rattle.std.specs.Option.{option_and_then}
 use Rattle.std.proofs.lemmas.Bool.{lt-leb}
+use Rattle.cops_types.specs.declared.faults.Fault.{Fault}
 use Rattle.cops_types.specs.declared.faults.Fault.TheVariants.{AuditFull, Syntax, BadKey, ValueTooLong, NoSuchPlace, OutOfMemory}
 use Rattle.cops_types.specs.Key.{is_key}
 use Rattle.cops_types.specs.Search.{first_refusal}
@@ -15,20 +16,20 @@ use Rattle.cops_model.specs.declared.calls.NodeCall.TheVariants as node_call
 use Rattle.cops_model.specs.declared.calls.NodeReply.{NodeReply}
 use Rattle.cops_model.specs.declared.calls.NodeReply.TheVariants as node_reply
 use Rattle.cops_model.specs.Goes.{Turns}
-use Rattle.cops_model.specs.Lacks.{ActorStops, CarrierStops, IsLastRead, SessionStops, has_room, is_refusal, request_dropped, without_request}
+use Rattle.cops_model.specs.Lacks.{ActorStops, IsLastRead, SessionStops, has_room, is_refusal, request_dropped, without_request}
 use Rattle.cops_model.specs.Log.{LogStep, Late, Replied, Next, Call, Restart}
 use Rattle.cops_model.specs.Place.{node_number, place_of}
 use Rattle.cops_model.specs.SoloNode.{SoloNode}
 use Rattle.cops_model.specs.Step.{audited, effect, unchanged}
 use Rattle.cops_model.specs.declared.requests.Answer.{Answer}
-use Rattle.cops_model.specs.Request.{next}
-use Rattle.cops_model.specs.Session.{Running, Session, moment_at, new_session, progress, request_of, session_after}
+use Rattle.cops_model.specs.Request.{next, Fetch, Write}
+use Rattle.cops_model.specs.Session.{Running, Session, context_created, context_deleted, context_refusal, create_refusal, get_refusal, moment_at, new_session, progress, request_begun, request_of, session_after, session_put_refusal}
 use Rattle.cops_model.specs.declared.deliveries.Progress.{Progress as CarrierProgress}
 use Rattle.cops_model.specs.declared.deliveries.Progress.TheVariants as carrier_progress
 use Rattle.cops_model.specs.Carrier.{Carrier, carrier_after, carrier_next, delivery_progress, new_carrier}
 use Rattle.cops_model.specs.declared.replies.Reply.{Reply}
-use Rattle.cops_model.specs.declared.replies.Reply.TheVariants.{Opened, Started, Refused}
-use Rattle.cops_model.specs.Cluster.{ActEffect, Actor, OfCarrier, OfSession, SessionAct, SoloCluster, actor_refusal, call_node, carrier_does, carrier_stepped, cluster_step, collect_at, create_act, delete_act, find_actor, get_act, has_node, has_stream, on_found, on_session, put_act, reply_of_collect, reply_of_progress, reply_with, request_does, running_step, session_acts, session_in, session_stepped, step_of, unless_refused, with_actor, with_new_actor, without_actor}
+use Rattle.cops_model.specs.declared.replies.Reply.TheVariants.{Opened, Created, Deleted, Started, Refused}
+use Rattle.cops_model.specs.Cluster.{ActEffect, Actor, OfCarrier, OfSession, SoloCluster, actor_refusal, call_node, carrier_does, carrier_stepped, cluster_step, collect_at, find_actor, find_session, has_node, has_stream, on_session, reply_of_collect, reply_of_progress, reply_with, request_does, running_step, session_acts, session_in, session_stepped, step_of, unless_refused, with_actor, with_new_actor, without_actor}
 use Rattle.cops_history.specs.Turns.{Turn, IsReplyOf, IsRun, effect_at, has_audit_left, node_numbered, nodes_after_turn, nodes_left}
 use Rattle.cops_history.specs.Commands.{Command, Opens, Creates, Deletes, Puts, Gets, Begins, StepsLate, Steps, StepsUnread, Carries, Collects, Does, IsAsked, IsStepped, act_of, carrier_left, reply_of_carrier, turn_made_by}
 use Rattle.cops_history.proofs.Actors.{Locals, Stands, changed, joined, left, stayed, with_local}
@@ -79,17 +80,17 @@ module _ (count : ℕ) (locals : Locals) (nodes : List SoloNode) (c : SoloCluste
 
   -- ---- what is asked of a session
 
-  asked : (act : Session → SessionAct) (actor : List ℕ) (reply : Reply) (new : Option Actor) → IsAsked act (locals actor) reply new →
-      Led (suc count) (with_local actor new locals) nodes reply (on_session actor c (λ s. session_acts actor c (act s)))
-  asked act actor reply new (s, old_is, allowed, reply_is, new_is) =
-      let base : Led (suc count) (with_local actor (Some (OfSession (act s).after)) locals) nodes (act s).reply (reply_with (act s).reply (with_actor actor (OfSession (act s).after) c)) =
-      (refl, changed count locals nodes c stands actor (OfSession s) (OfSession (act s).after) old_is) in
-      let passed : Led (suc count) (with_local actor (Some (OfSession (act s).after)) locals) nodes (act s).reply (session_acts actor c (act s)) =
-      subst (λ r. Led (suc count) (with_local actor (Some (OfSession (act s).after)) locals) nodes (act s).reply (unless_refused r c (reply_with (act s).reply (with_actor actor (OfSession (act s).after) c)))) (sym allowed) base in
-      let found : Led (suc count) (with_local actor (Some (OfSession (act s).after)) locals) nodes (act s).reply (on_session actor c (λ s. session_acts actor c (act s))) =
-      subst (λ o. Led (suc count) (with_local actor (Some (OfSession (act s).after)) locals) nodes (act s).reply (on_found (option_and_then session_in o) c (λ s. session_acts actor c (act s)))) (sym (stands.actors_are actor ∙ old_is)) passed in
-      subst (λ n. Led (suc count) (with_local actor n locals) nodes reply (on_session actor c (λ s. session_acts actor c (act s)))) (sym new_is)
-      (subst (λ r. Led (suc count) (with_local actor (Some (OfSession (act s).after)) locals) nodes r (on_session actor c (λ s. session_acts actor c (act s)))) (sym reply_is) found)
+  asked : (refusal : Session → Option Fault) (answer : Session → Reply) (later : Session → Session) (actor : List ℕ) (reply : Reply) (new : Option Actor) → IsAsked refusal answer later (locals actor) reply new →
+      Led (suc count) (with_local actor new locals) nodes reply (on_session (find_session actor c) c (λ s. session_acts actor c (refusal s) (answer s) (later s)))
+  asked refusal answer later actor reply new (s, old_is, allowed, reply_is, new_is) =
+      let base : Led (suc count) (with_local actor (Some (OfSession (later s))) locals) nodes (answer s) (reply_with (answer s) (with_actor actor (OfSession (later s)) c)) =
+      (refl, changed count locals nodes c stands actor (OfSession s) (OfSession (later s)) old_is) in
+      let passed : Led (suc count) (with_local actor (Some (OfSession (later s))) locals) nodes (answer s) (session_acts actor c (refusal s) (answer s) (later s)) =
+      subst (λ r. Led (suc count) (with_local actor (Some (OfSession (later s))) locals) nodes (answer s) (unless_refused r c (reply_with (answer s) (with_actor actor (OfSession (later s)) c)))) (sym allowed) base in
+      let found : Led (suc count) (with_local actor (Some (OfSession (later s))) locals) nodes (answer s) (on_session (find_session actor c) c (λ s. session_acts actor c (refusal s) (answer s) (later s))) =
+      subst (λ o. Led (suc count) (with_local actor (Some (OfSession (later s))) locals) nodes (answer s) (on_session (option_and_then session_in o) c (λ s. session_acts actor c (refusal s) (answer s) (later s)))) (sym (stands.actors_are actor ∙ old_is)) passed in
+      subst (λ n. Led (suc count) (with_local actor n locals) nodes reply (on_session (find_session actor c) c (λ s. session_acts actor c (refusal s) (answer s) (later s)))) (sym new_is)
+      (subst (λ r. Led (suc count) (with_local actor (Some (OfSession (later s))) locals) nodes r (on_session (find_session actor c) c (λ s. session_acts actor c (refusal s) (answer s) (later s)))) (sym reply_is) found)
 
   -- ---- steps
 
@@ -218,7 +219,7 @@ module _ (config : TenantConfig) (count : ℕ) (locals : Locals) (nodes : List S
       let step : LogStep = record { moment = max k.moment given; outcome = Replied t.reply } in
       let ends = carrier_refused config.shards k (max k.moment given) (record { node = t.node; call = t.call }) t.reply OutOfMemory lack is in
       let gone : new ≡ None = new_is ∙ ap (carrier_left (carrier_after k step)) ends in
-      let stops : CarrierStops config actor k c after = record { directed = record { node = t.node; call = t.call }; calls = is; room = room_there t room; left = refl } in
+      let stops : ActorStops config actor given (Some (OfCarrier k)) c after = (record { node = t.node; call = t.call }, is, room_there t room, refl) in
       record {
         after = after;
         turns = inr (reply_is ∙ ap reply_of_carrier ends, subst (λ o. ActorStops config actor given o c after) (sym (stands.actors_are actor ∙ old_is)) stops);
@@ -270,18 +271,18 @@ module _ (config : TenantConfig) (count : ℕ) (locals : Locals) (nodes : List S
       as_led (Opens dc) reply new (subst (λ n. Led (suc count) (with_local actor n locals) nodes reply (cluster_step config (act_of actor (Opens dc)) c)) (sym new_is)
       (subst (λ r. Led (suc count) (with_local actor (Some (OfSession (new_session dc 1))) locals) nodes r (cluster_step config (act_of actor (Opens dc)) c)) (sym reply_is)
       (begun count locals nodes c stands config (nat_lt dc config.data_centres) actor (OfSession (new_session dc 1)) Opened there none room)))
-  command_leads Creates reply new room does run = as_led Creates reply new (asked count locals nodes c stands config (create_act config) actor reply new does)
-  command_leads (Deletes number) reply new room does run = as_led (Deletes number) reply new (asked count locals nodes c stands config (delete_act number) actor reply new does)
+  command_leads Creates reply new room does run = as_led Creates reply new (asked count locals nodes c stands config (create_refusal config) (λ s. Created s.next_context) context_created actor reply new does)
+  command_leads (Deletes number) reply new room does run = as_led (Deletes number) reply new (asked count locals nodes c stands config (context_refusal number) (λ s. Deleted) (context_deleted number) actor reply new does)
   command_leads (Puts number key value) reply new room (key_is, value_is, does) run =
       let passes : first_refusal ((not (is_key key), BadKey) ∷ (not (is_value value), ValueTooLong) ∷ []) ≡ None = rw (key_is, value_is) refl in
       as_led (Puts number key value) reply new
-      (subst (λ r. Led (suc count) (with_local actor new locals) nodes reply (unless_refused r c (on_session actor c (λ s. session_acts actor c (put_act config number key value s))))) (sym passes)
-      (asked count locals nodes c stands config (put_act config number key value) actor reply new does))
+      (subst (λ r. Led (suc count) (with_local actor new locals) nodes reply (unless_refused r c (on_session (find_session actor c) c (λ s. session_acts actor c (session_put_refusal config number key s) Started (request_begun number (Write key value) s))))) (sym passes)
+      (asked count locals nodes c stands config (session_put_refusal config number key) (λ s. Started) (request_begun number (Write key value)) actor reply new does))
   command_leads (Gets number keys) reply new room (some, are, does) run =
       let passes : first_refusal ((nat_lt (length keys) 1, Syntax) ∷ (not (list_all is_key keys), BadKey) ∷ []) ≡ None = rw (some, are) refl in
       as_led (Gets number keys) reply new
-      (subst (λ r. Led (suc count) (with_local actor new locals) nodes reply (unless_refused r c (on_session actor c (λ s. session_acts actor c (get_act config number keys s))))) (sym passes)
-      (asked count locals nodes c stands config (get_act config number keys) actor reply new does))
+      (subst (λ r. Led (suc count) (with_local actor new locals) nodes reply (unless_refused r c (on_session (find_session actor c) c (λ s. session_acts actor c (get_refusal config number keys s) Started (request_begun number (Fetch keys) s))))) (sym passes)
+      (asked count locals nodes c stands config (get_refusal config number keys) (λ s. Started) (request_begun number (Fetch keys)) actor reply new does))
   command_leads (Begins stream) reply new room (none, there, reply_is, new_is) run =
       as_led (Begins stream) reply new (subst (λ n. Led (suc count) (with_local actor n locals) nodes reply (cluster_step config (act_of actor (Begins stream)) c)) (sym new_is)
       (subst (λ r. Led (suc count) (with_local actor (Some (OfCarrier (new_carrier stream))) locals) nodes r (cluster_step config (act_of actor (Begins stream)) c)) (sym reply_is)

@@ -15,12 +15,12 @@ use Rattle.cops_model.specs.declared.deliveries.Delivery.{Delivery}
 use Rattle.cops_model.specs.declared.deliveries.Delivery.TheVariants as delivery
 use Rattle.cops_model.specs.declared.deliveries.Progress.TheVariants as carrier_progress
 use Rattle.cops_model.specs.Lacks.{request_dropped}
-use Rattle.cops_model.specs.Log.{LogStep, Replied, Call, Directed, Ended, reply_in, replies_of}
+use Rattle.cops_model.specs.Log.{LogStep, Replied, Call, Directed, Ended, call_or, reply_in, replies_of}
 use Rattle.cops_model.specs.Place.{node_number, place_of}
 use Rattle.cops_model.specs.Request.{next}
 use Rattle.cops_model.specs.Session.{Running, Session, has_restarted, moment_after, progress, request_of, session_after}
 use Rattle.cops_model.specs.SoloNode.{SoloNode, new_node}
-use Rattle.cops_model.specs.Carrier.{Carrier, Stream, carrier_next, delivery_progress, end_of, finished_delivery, first_end, next_after, progress_of, stream_calls, pull, call_or_end, unless_end}
+use Rattle.cops_model.specs.Carrier.{Carrier, Stream, carrier_next, delivery_progress, end_of, finished_delivery, first_end, next_after, progress_of, stream_calls, pull, unless_end}
 use Rattle.cops_session.proofs.ContextRows.{context_extended-nothing}
 use Rattle.cops_session.proofs.RefusedRequests.{request_refused}
 use Rattle.cops_history.specs.Turns.{Turn, effect_at, node_numbered, nodes_after_turn, was_refused_memory}
@@ -75,7 +75,7 @@ module _ (shards : ℕ) (stream : Stream) (fault : Fault) where
   none_of None b e = (refl, e)
   none_of (Some x) b e = cc
 
-  goes_on : (ending : Option Delivery) (o : Option Directed) (last : Delivery) (d : Directed) → unless_end ending (call_or_end o last) ≡ Call d → (ending ≡ None) × (o ≡ Some d)
+  goes_on : (ending : Option Delivery) (o : Option Directed) (last : Delivery) (d : Directed) → unless_end ending (call_or o last) ≡ Call d → (ending ≡ None) × (o ≡ Some d)
   goes_on None None last d e = cc
   goes_on None (Some c) last d e = (refl, let same : c ≡ d = cc in ap Some same)
   goes_on (Some x) o last d e = cc
@@ -96,7 +96,7 @@ module _ (shards : ℕ) (stream : Stream) (fault : Fault) where
       let more : List NodeReply = replies ++ node_reply.Refused fault ∷ [] in
       let calls : List Directed = stream_calls shards stream replies in
       let parts = goes_on (first_end shards stream calls replies) (slice_get calls (length replies)) (finished_delivery replies) d e in
-      ap (λ o. unless_end o (call_or_end (slice_get calls (length more)) (finished_delivery more))) (refused_end calls replies d parts.0 parts.1)
+      ap (λ o. unless_end o (call_or (slice_get calls (length more)) (finished_delivery more))) (refused_end calls replies d parts.0 parts.1)
   refused_next (r ∷ rest) d e =
       let parts = goes_on (first_end shards stream (pull stream ∷ []) (r ∷ rest)) (slice_get (pull stream ∷ []) (length (r ∷ rest))) (finished_delivery (r ∷ rest)) d e in
       absurd (let never : None ≡ Some d = parts.1 in cc)

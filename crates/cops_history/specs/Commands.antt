@@ -4,20 +4,21 @@ use Rattle.std.specs.List.{list_all}
 use Rattle.cops_types.specs.Key.{is_key}
 use Rattle.cops_types.specs.TenantConfig.{TenantConfig}
 use Rattle.cops_types.specs.Value.{is_value}
+use Rattle.cops_types.specs.declared.faults.Fault.{Fault}
 use Rattle.cops_types.specs.declared.faults.Fault.TheVariants.{OutOfMemory}
 use Rattle.cops_model.specs.declared.calls.NodeCall.TheVariants as node_call
 use Rattle.cops_model.specs.Log.{LogStep, Late, Replied, Call, Restart}
 use Rattle.cops_model.specs.Lacks.{IsLastRead, request_dropped}
-use Rattle.cops_model.specs.Request.{next}
-use Rattle.cops_model.specs.Session.{Running, Session, moment_at, new_session, progress, request_of, session_after}
+use Rattle.cops_model.specs.Request.{next, Fetch, Write}
+use Rattle.cops_model.specs.Session.{Running, Session, context_created, context_deleted, context_refusal, create_refusal, get_refusal, moment_at, new_session, progress, request_begun, request_of, session_after, session_put_refusal}
 use Rattle.cops_model.specs.Carrier.{Carrier, Stream, carrier_after, carrier_next, delivery_progress, new_carrier}
 use Rattle.cops_model.specs.declared.acts.Act.{Act}
 use Rattle.cops_model.specs.declared.acts.Act.TheVariants.{Open, Create, Delete, Put, Get, Carry, Step, Collect}
 use Rattle.cops_model.specs.declared.deliveries.Progress.{Progress as CarrierProgress}
 use Rattle.cops_model.specs.declared.deliveries.Progress.TheVariants as carrier_progress
 use Rattle.cops_model.specs.declared.replies.Reply.{Reply}
-use Rattle.cops_model.specs.declared.replies.Reply.TheVariants.{Opened, Started, Working, Refused}
-use Rattle.cops_model.specs.Cluster.{Actor, OfCarrier, OfSession, SessionAct, create_act, delete_act, get_act, has_stream, put_act, reply_of_collect, reply_of_delivery, reply_of_progress}
+use Rattle.cops_model.specs.declared.replies.Reply.TheVariants.{Opened, Created, Deleted, Started, Working, Refused}
+use Rattle.cops_model.specs.Cluster.{Actor, OfCarrier, OfSession, has_stream, reply_of_collect, reply_of_delivery, reply_of_progress}
 use Rattle.cops_history.specs.Turns.{Turn}
 
 -- An act without the name of its actor. `Steps`, `StepsUnread`, `Carries` and `Collects` make one turn at a node, the others none. A number before a turn is the timestamp that was passed.
@@ -60,8 +61,8 @@ act_of name (Collects t) = Collect t.node.dc t.node.shard t.moment
 -- ---- what the definition of the actor says
 
 -- the session accepts the command
-abbrev pub IsAsked : (Session → SessionAct) → Option Actor → Reply → Option Actor → Type 0
-IsAsked act old reply new = (s : Session) × (old ≡ Some (OfSession s)) × ((act s).refusal ≡ None) × (reply ≡ (act s).reply) × (new ≡ Some (OfSession (act s).after))
+abbrev pub IsAsked : (Session → Option Fault) → (Session → Reply) → (Session → Session) → Option Actor → Reply → Option Actor → Type 0
+IsAsked refusal answer after old reply new = (s : Session) × (old ≡ Some (OfSession s)) × (refusal s ≡ None) × (reply ≡ answer s) × (new ≡ Some (OfSession (after s)))
 
 -- the session takes this step of its running request
 abbrev pub IsStepped : TenantConfig → Session → Running → LogStep → Reply → Option Actor → Type 0
@@ -81,10 +82,12 @@ reply_of_carrier (carrier_progress.Done ending) = reply_of_delivery ending
 -- The state of an actor (none before its first command), a command, its reply, and the state after it.
 abbrev pub Does : TenantConfig → Option Actor → Command → Reply → Option Actor → Type 0
 Does config old (Opens dc) reply new = (old ≡ None) × (nat_lt dc config.data_centres ≡ true) × (reply ≡ Opened) × (new ≡ Some (OfSession (new_session dc 1)))
-Does config old Creates reply new = IsAsked (create_act config) old reply new
-Does config old (Deletes number) reply new = IsAsked (delete_act number) old reply new
-Does config old (Puts number key value) reply new = (is_key key ≡ true) × (is_value value ≡ true) × IsAsked (put_act config number key value) old reply new
-Does config old (Gets number keys) reply new = (nat_lt (length keys) 1 ≡ false) × (list_all is_key keys ≡ true) × IsAsked (get_act config number keys) old reply new
+Does config old Creates reply new = IsAsked (create_refusal config) (λ s. Created s.next_context) context_created old reply new
+Does config old (Deletes number) reply new = IsAsked (context_refusal number) (λ s. Deleted) (context_deleted number) old reply new
+Does config old (Puts number key value) reply new =
+    (is_key key ≡ true) × (is_value value ≡ true) × IsAsked (session_put_refusal config number key) (λ s. Started) (request_begun number (Write key value)) old reply new
+Does config old (Gets number keys) reply new =
+    (nat_lt (length keys) 1 ≡ false) × (list_all is_key keys ≡ true) × IsAsked (get_refusal config number keys) (λ s. Started) (request_begun number (Fetch keys)) old reply new
 Does config old (Begins stream) reply new =
     (old ≡ None) × (has_stream config stream.origin.dc stream.origin.shard stream.to_dc ≡ true) × (reply ≡ Started) × (new ≡ Some (OfCarrier (new_carrier stream)))
 Does config old (StepsLate given) reply new =

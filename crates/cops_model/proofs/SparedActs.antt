@@ -22,7 +22,7 @@ use Rattle.cops_model.specs.Request.{Fetch, Write}
 use Rattle.cops_model.specs.Session.{Session, context_created, context_deleted, context_refusal, create_refusal, get_refusal, has_repeats, is_busy, is_open, is_spent, new_session, obs_of, request_begun, session_put_refusal}
 use Rattle.cops_model.specs.Carrier.{new_carrier}
 use Rattle.cops_model.specs.Causal.{stepped_actor}
-use Rattle.cops_model.specs.Cluster.{ActEffect, OfCarrier, OfSession, SoloCluster, actor_refusal, cluster_step, collect_at, create_act, delete_act, find_actor, find_session, get_act, has_node, has_stream, on_found, on_session, put_act, reply_of_collect, reply_with, session_acts, session_shows, show_act, unless_refused, with_actor, with_new_actor}
+use Rattle.cops_model.specs.Cluster.{ActEffect, OfCarrier, OfSession, SoloCluster, actor_refusal, cluster_step, collect_at, find_actor, find_session, has_node, has_stream, on_session, reply_of_collect, reply_with, session_acts, unless_refused, with_actor, with_new_actor}
 use Rattle.cops_model.specs.Events.{is_out_of_memory}
 
 abbrev pub lack_of : Option Fault → Bool
@@ -53,7 +53,7 @@ pub unless_spared : (refusal : Option Fault) (cluster : SoloCluster) (turn : Act
 unless_spared (Some fault) cluster turn spared rest = spared
 unless_spared None cluster turn spared rest = rest
 
-pub found_spared : (found : Option Session) (cluster : SoloCluster) (act : Session → ActEffect) → ((s : Session) → is_out_of_memory (act s).reply ≡ false) → is_out_of_memory (on_found found cluster act).reply ≡ false
+pub found_spared : (found : Option Session) (cluster : SoloCluster) (act : Session → ActEffect) → ((s : Session) → is_out_of_memory (act s).reply ≡ false) → is_out_of_memory (on_session found cluster act).reply ≡ false
 found_spared None cluster act spared = refl
 found_spared (Some s) cluster act spared = spared s
 
@@ -63,25 +63,25 @@ module _ (config : TenantConfig) (name : List ℕ) (cluster : SoloCluster) (s : 
   context_spared : (number : ℕ) → lack_of (context_refusal number s) ≡ false
   context_spared number = checks_spared ((is_busy s, Busy) ∷ (not (is_open number s), NoContext) ∷ []) refl
 
-  pub create_spared : is_out_of_memory (session_acts name cluster (create_act config s)).reply ≡ false
+  pub create_spared : is_out_of_memory (session_acts name cluster (create_refusal config s) (Created s.next_context) (context_created s)).reply ≡ false
   create_spared =
       unless_spared (create_refusal config s) cluster (reply_with (Created s.next_context) (with_actor name (OfSession (context_created s)) cluster))
       (checks_spared ((is_busy s, Busy) ∷ (nat_le config.quota.contexts (length s.contexts), TooManyContexts) ∷ (is_spent s.next_context, IdsSpent) ∷ []) refl) refl
 
-  pub delete_spared : (number : ℕ) → is_out_of_memory (session_acts name cluster (delete_act number s)).reply ≡ false
+  pub delete_spared : (number : ℕ) → is_out_of_memory (session_acts name cluster (context_refusal number s) Deleted (context_deleted number s)).reply ≡ false
   delete_spared number = unless_spared (context_refusal number s) cluster (reply_with Deleted (with_actor name (OfSession (context_deleted number s)) cluster)) (context_spared number) refl
 
-  pub put_spared : (number : ℕ) (key value : List ℕ) → is_out_of_memory (session_acts name cluster (put_act config number key value s)).reply ≡ false
+  pub put_spared : (number : ℕ) (key value : List ℕ) → is_out_of_memory (session_acts name cluster (session_put_refusal config number key s) Started (request_begun number (Write key value) s)).reply ≡ false
   put_spared number key value =
       unless_spared (session_put_refusal config number key s) cluster (reply_with Started (with_actor name (OfSession (request_begun number (Write key value) s)) cluster))
       (checks_spared ((is_busy s, Busy) ∷ (not (is_open number s), NoContext) ∷ (not (can_put config.quota.deps (obs_of number s) key), DependenciesFull) ∷ (is_spent s.next_request, IdsSpent) ∷ []) refl) refl
 
-  pub get_spared : (number : ℕ) (keys : List (List ℕ)) → is_out_of_memory (session_acts name cluster (get_act config number keys s)).reply ≡ false
+  pub get_spared : (number : ℕ) (keys : List (List ℕ)) → is_out_of_memory (session_acts name cluster (get_refusal config number keys s) Started (request_begun number (Fetch keys) s)).reply ≡ false
   get_spared number keys =
       unless_spared (get_refusal config number keys s) cluster (reply_with Started (with_actor name (OfSession (request_begun number (Fetch keys) s)) cluster))
       (checks_spared ((nat_lt (length keys) 1, Syntax) ∷ (is_busy s, Busy) ∷ (not (is_open number s), NoContext) ∷ (nat_lt 32 (length keys), TooManyKeys) ∷ (has_repeats keys, RepeatedKey) ∷ (is_spent s.next_request, IdsSpent) ∷ []) refl) refl
 
-  pub show_spared : (number : ℕ) → is_out_of_memory (session_shows cluster (show_act number s)).reply ≡ false
+  pub show_spared : (number : ℕ) → is_out_of_memory (unless_refused (context_refusal number s) cluster (reply_with (Lists (all_of (obs_of number s)) (near_of (obs_of number s))) cluster)).reply ≡ false
   show_spared number = unless_spared (context_refusal number s) cluster (reply_with (Lists (all_of (obs_of number s)) (near_of (obs_of number s))) cluster) (context_spared number) refl
 
 -- ---- actors and collections
@@ -103,17 +103,17 @@ collect_spared place moment solo = by (nat_lt (length solo.trail) place.quota.au
 -- of an act that steps nobody
 pub act_spared : (config : TenantConfig) (act : Act) (c : SoloCluster) → stepped_actor act ≡ None → is_out_of_memory (cluster_step config act c).reply ≡ false
 act_spared config (Open name dc) c none = joined_spared config (nat_lt dc config.data_centres) name c (reply_with Opened (with_new_actor name (OfSession (new_session dc 1)) c)) refl
-act_spared config (Create name) c none = found_spared (find_session name c) c (λ s. session_acts name c (create_act config s)) (create_spared config name c)
-act_spared config (Delete name number) c none = found_spared (find_session name c) c (λ s. session_acts name c (delete_act number s)) (λ s. delete_spared config name c s number)
+act_spared config (Create name) c none = found_spared (find_session name c) c (λ s. session_acts name c (create_refusal config s) (Created s.next_context) (context_created s)) (create_spared config name c)
+act_spared config (Delete name number) c none = found_spared (find_session name c) c (λ s. session_acts name c (context_refusal number s) Deleted (context_deleted number s)) (λ s. delete_spared config name c s number)
 act_spared config (Put name number key value) c none =
-    unless_spared (first_refusal ((not (is_key key), BadKey) ∷ (not (is_value value), ValueTooLong) ∷ [])) c (on_session name c (λ s. session_acts name c (put_act config number key value s)))
+    unless_spared (first_refusal ((not (is_key key), BadKey) ∷ (not (is_value value), ValueTooLong) ∷ [])) c (on_session (find_session name c) c (λ s. session_acts name c (session_put_refusal config number key s) Started (request_begun number (Write key value) s)))
     (checks_spared ((not (is_key key), BadKey) ∷ (not (is_value value), ValueTooLong) ∷ []) refl)
-    (found_spared (find_session name c) c (λ s. session_acts name c (put_act config number key value s)) (λ s. put_spared config name c s number key value))
+    (found_spared (find_session name c) c (λ s. session_acts name c (session_put_refusal config number key s) Started (request_begun number (Write key value) s)) (λ s. put_spared config name c s number key value))
 act_spared config (Get name number keys) c none =
-    unless_spared (first_refusal ((nat_lt (length keys) 1, Syntax) ∷ (not (list_all is_key keys), BadKey) ∷ [])) c (on_session name c (λ s. session_acts name c (get_act config number keys s)))
+    unless_spared (first_refusal ((nat_lt (length keys) 1, Syntax) ∷ (not (list_all is_key keys), BadKey) ∷ [])) c (on_session (find_session name c) c (λ s. session_acts name c (get_refusal config number keys s) Started (request_begun number (Fetch keys) s)))
     (checks_spared ((nat_lt (length keys) 1, Syntax) ∷ (not (list_all is_key keys), BadKey) ∷ []) refl)
-    (found_spared (find_session name c) c (λ s. session_acts name c (get_act config number keys s)) (λ s. get_spared config name c s number keys))
-act_spared config (Show name number) c none = found_spared (find_session name c) c (λ s. session_shows c (show_act number s)) (λ s. show_spared config name c s number)
+    (found_spared (find_session name c) c (λ s. session_acts name c (get_refusal config number keys s) Started (request_begun number (Fetch keys) s)) (λ s. get_spared config name c s number keys))
+act_spared config (Show name number) c none = found_spared (find_session name c) c (λ s. unless_refused (context_refusal number s) c (reply_with (Lists (all_of (obs_of number s)) (near_of (obs_of number s))) c)) (λ s. show_spared config name c s number)
 act_spared config (Carry name dc shard to_dc) c none =
     joined_spared config (has_stream config dc shard to_dc) name c (reply_with Started (with_new_actor name (OfCarrier (new_carrier (record { origin = record { dc = dc; shard = shard }; to_dc = to_dc }))) c)) refl
 act_spared config (Step name moment) c none = absurd cc

@@ -41,13 +41,10 @@ abbrev pub put_by : Effect → List Pair
 put_by (Wrote pair) = pair ∷ []
 put_by (Returned reads) = []
 
-abbrev pub pair_read : Read → List Pair
-pair_read read = if is_some read.value then record { key = read.key; version = read.version } ∷ [] else []
-
--- the pairs that an operation returned
+-- the pairs that an operation returned: those of the reads that found a value
 abbrev pub returned_by : Effect → List Pair
 returned_by (Wrote pair) = []
-returned_by (Returned reads) = flat_map pair_read reads
+returned_by (Returned reads) = flat_map (λ read. if is_some read.value then record { key = read.key; version = read.version } ∷ [] else []) reads
 
 -- an earlier operation leads to a later one: they are of one context, or the later one returned what the earlier one put
 abbrev pub leads_to : Operation → Operation → Bool

@@ -89,12 +89,9 @@ abbrev pub without_actor : List ℕ → SoloCluster → SoloCluster
 without_actor name cluster = record cluster { actors = filter (λ a. not (key_eq a.name name)) cluster.actors }
 
 -- the act on the session; E03 if there is none
-abbrev pub on_found : Option Session → SoloCluster → (Session → ActEffect) → ActEffect
-on_found (Some s) cluster act = act s
-on_found None cluster act = reply_with (Refused UnknownName) cluster
-
-abbrev pub on_session : List ℕ → SoloCluster → (Session → ActEffect) → ActEffect
-on_session name cluster act = on_found (find_session name cluster) cluster act
+abbrev pub on_session : Option Session → SoloCluster → (Session → ActEffect) → ActEffect
+on_session (Some s) cluster act = act s
+on_session None cluster act = reply_with (Refused UnknownName) cluster
 
 -- ---- one node call
 
@@ -137,9 +134,6 @@ running_step config name s moment cluster (Some running) =
     request_does config name s running (moment_at moment s) cluster (request.next config (request_of s running) running.log (moment_at moment s))
 running_step config name s moment cluster None = reply_with (Refused Idle) cluster
 
-abbrev pub session_step : TenantConfig → List ℕ → Session → ℕ → SoloCluster → ActEffect
-session_step config name s moment cluster = running_step config name s moment cluster s.running
-
 -- ---- a step of a carrier
 
 abbrev pub reply_of_delivery : Delivery → Reply
@@ -162,14 +156,11 @@ carrier_does config name c moment cluster (Call directed) =
 carrier_does config name c moment cluster Restart = reply_with Working cluster
 carrier_does config name c moment cluster (Ended ending) = reply_with (reply_of_delivery ending) cluster
 
-abbrev pub carrier_step : TenantConfig → List ℕ → Carrier → ℕ → SoloCluster → ActEffect
-carrier_step config name c moment cluster = carrier_does config name c moment cluster (carrier.carrier_next config.shards c.stream c.log)
-
 -- ---- steps
 
 abbrev pub step_of : TenantConfig → List ℕ → ℕ → SoloCluster → Option Actor → ActEffect
-step_of config name moment cluster (Some (OfSession s)) = session_step config name s moment cluster
-step_of config name moment cluster (Some (OfCarrier c)) = carrier_step config name c (max c.moment moment) cluster
+step_of config name moment cluster (Some (OfSession s)) = running_step config name s moment cluster s.running
+step_of config name moment cluster (Some (OfCarrier c)) = carrier_does config name c (max c.moment moment) cluster (carrier.carrier_next config.shards c.stream c.log)
 step_of config name moment cluster None = reply_with (Refused UnknownName) cluster
 
 abbrev pub actor_step : TenantConfig → List ℕ → ℕ → SoloCluster → ActEffect
@@ -218,35 +209,9 @@ collect_at config id moment cluster =
     let turn = call_node config id moment node_call.Collect cluster in
     reply_with (reply_of_collect turn.reply) turn.after
 
--- ---- an act on a session: what refuses it, and otherwise the reply and the session after it
-
-pub record SessionAct : Type 0 where
-  pub refusal : Option Fault
-  pub reply : Reply
-  pub after : Session
-
-abbrev pub create_act : TenantConfig → Session → SessionAct
-create_act config s = record { refusal = create_refusal config s; reply = Created s.next_context; after = context_created s }
-
-abbrev pub delete_act : ℕ → Session → SessionAct
-delete_act number s = record { refusal = context_refusal number s; reply = Deleted; after = context_deleted number s }
-
-abbrev pub put_act : TenantConfig → ℕ → List ℕ → List ℕ → Session → SessionAct
-put_act config number key value s = record { refusal = session_put_refusal config number key s; reply = Started; after = request_begun number (Write key value) s }
-
-abbrev pub get_act : TenantConfig → ℕ → List (List ℕ) → Session → SessionAct
-get_act config number keys s = record { refusal = get_refusal config number keys s; reply = Started; after = request_begun number (Fetch keys) s }
-
-abbrev pub show_act : ℕ → Session → SessionAct
-show_act number s = record { refusal = context_refusal number s; reply = Lists (all_of (obs_of number s)) (near_of (obs_of number s)); after = s }
-
--- the session of this name does it
-abbrev pub session_acts : List ℕ → SoloCluster → SessionAct → ActEffect
-session_acts name cluster act = unless_refused act.refusal cluster (reply_with act.reply (with_actor name (OfSession act.after) cluster))
-
--- it changes nothing
-abbrev pub session_shows : SoloCluster → SessionAct → ActEffect
-session_shows cluster act = unless_refused act.refusal cluster (reply_with act.reply cluster)
+-- an act on the session of this name: what refuses it, and otherwise the reply and the session after it
+abbrev pub session_acts : List ℕ → SoloCluster → Option Fault → Reply → Session → ActEffect
+session_acts name cluster refusal reply after = unless_refused refusal cluster (reply_with reply (with_actor name (OfSession after) cluster))
 
 -- ---- all acts
 
@@ -255,15 +220,16 @@ abbrev pub cluster_step : TenantConfig → Act → SoloCluster → ActEffect
 cluster_step config (Open name dc) cluster =
     unless_refused (actor_refusal config (nat_lt dc config.data_centres) name cluster) cluster
     (reply_with Opened (with_new_actor name (OfSession (new_session dc 1)) cluster))
-cluster_step config (Create name) cluster = on_session name cluster λ s. session_acts name cluster (create_act config s)
-cluster_step config (Delete name number) cluster = on_session name cluster λ s. session_acts name cluster (delete_act number s)
+cluster_step config (Create name) cluster = on_session (find_session name cluster) cluster λ s. session_acts name cluster (create_refusal config s) (Created s.next_context) (context_created s)
+cluster_step config (Delete name number) cluster = on_session (find_session name cluster) cluster λ s. session_acts name cluster (context_refusal number s) Deleted (context_deleted number s)
 cluster_step config (Put name number key value) cluster =
     unless_refused (first_refusal ((not (is_key key), BadKey) ∷ (not (is_value value), ValueTooLong) ∷ [])) cluster
-    (on_session name cluster λ s. session_acts name cluster (put_act config number key value s))
+    (on_session (find_session name cluster) cluster λ s. session_acts name cluster (session_put_refusal config number key s) Started (request_begun number (Write key value) s))
 cluster_step config (Get name number keys) cluster =
     unless_refused (first_refusal ((nat_lt (length keys) 1, Syntax) ∷ (not (list_all is_key keys), BadKey) ∷ [])) cluster
-    (on_session name cluster λ s. session_acts name cluster (get_act config number keys s))
-cluster_step config (Show name number) cluster = on_session name cluster λ s. session_shows cluster (show_act number s)
+    (on_session (find_session name cluster) cluster λ s. session_acts name cluster (get_refusal config number keys s) Started (request_begun number (Fetch keys) s))
+cluster_step config (Show name number) cluster =
+    on_session (find_session name cluster) cluster λ s. unless_refused (context_refusal number s) cluster (reply_with (Lists (all_of (obs_of number s)) (near_of (obs_of number s))) cluster)
 cluster_step config (Carry name dc shard to_dc) cluster =
     unless_refused (actor_refusal config (has_stream config dc shard to_dc) name cluster) cluster
     (reply_with Started (with_new_actor name (OfCarrier (new_carrier (record { origin = record { dc = dc; shard = shard }; to_dc = to_dc }))) cluster))

@@ -9,7 +9,7 @@ use Rattle.cops_model.specs.SoloNode.{new_node}
 use Rattle.cops_model.specs.declared.requests.Progress.TheVariants as session_progress
 use Rattle.cops_model.specs.Request.{Fetch, Request, attempt_of, next, values_or_full}
 use Rattle.cops_model.specs.Session.{Running, Session, has_restarted, moment_at, progress, request_of}
-use Rattle.cops_model.specs.Carrier.{Carrier, carrier_next}
+use Rattle.cops_model.specs.Carrier.{carrier_next}
 use Rattle.cops_model.specs.declared.acts.Act.{Act}
 use Rattle.cops_model.specs.declared.acts.Act.TheVariants.{Delete, Step, Done}
 use Rattle.cops_model.specs.declared.replies.Reply.{Reply}
@@ -51,17 +51,11 @@ pub record SessionStops (config : TenantConfig) (name : List ℕ) (moment : ℕ)
       (IsTrue (has_room config directed.node before) × (after ≡ without_request name moment session before))
       ⊎ (IsLastRead config session running (record { moment = moment_at moment session; outcome = Replied turn.reply }) × (after ≡ without_request name moment session turn.after))
 
--- a carrier stopped where it was to make a call: it is gone, and no node was changed
-pub record CarrierStops (config : TenantConfig) (name : List ℕ) (carrier : Carrier) (before after : SoloCluster) : Type 0 where
-  pub directed : Directed
-  pub calls : carrier_next config.shards carrier.stream carrier.log ≡ Call directed
-  pub room : IsTrue (has_room config directed.node before)
-  pub left : after ≡ without_actor name before
-
--- the step of an actor stopped
+-- the step of an actor stopped; a carrier stopped where it was to make a call: it is gone, and no node was changed
 abbrev pub ActorStops : TenantConfig → List ℕ → ℕ → Option Actor → SoloCluster → SoloCluster → Type 0
 ActorStops config name moment (Some (OfSession session)) before after = SessionStops config name moment session before after
-ActorStops config name moment (Some (OfCarrier carrier)) before after = CarrierStops config name carrier before after
+ActorStops config name moment (Some (OfCarrier carrier)) before after =
+    (directed : Directed) × (carrier_next config.shards carrier.stream carrier.log ≡ Call directed) × IsTrue (has_room config directed.node before) × (after ≡ without_actor name before)
 ActorStops config name moment None before after = ⊥
 
 abbrev pub StepStops : TenantConfig → List ℕ → ℕ → SoloCluster → SoloCluster → Type 0
@@ -80,13 +74,9 @@ abbrev pub is_refusal : Reply → Bool
 is_refusal (Refused fault) = true
 is_refusal reply = false
 
--- nothing changed, by an act that the definition doesn't refuse: a refusal needs no memory
-abbrev pub Stays : TenantConfig → Act → SoloCluster → SoloCluster → Type 0
-Stays config act before after = (is_refusal (cluster_step config act before).reply ≡ false) × (after ≡ before)
-
--- An act changes nothing, unless it takes steps, of which the last stopped. A deletion needs no memory.
+-- An act changes nothing, unless it takes steps, of which the last stopped. A deletion needs no memory, and neither does a refusal.
 abbrev pub Lacks : TenantConfig → Act → SoloCluster → SoloCluster → Type 0
 Lacks config (Delete name number) before after = ⊥
 Lacks config (Step name moment) before after = StepStops config name moment before after
 Lacks config (Done name moment) before after = StepsStop (most_steps config) config name moment before after
-Lacks config act before after = Stays config act before after
+Lacks config act before after = (is_refusal (cluster_step config act before).reply ≡ false) × (after ≡ before)

@@ -23,7 +23,7 @@ use Rattle.cops_model.specs.Causal.{Operation, Traced, answers_consistently, dep
 use Rattle.cops_model.specs.Cluster.{SoloCluster, cluster_step, goes_on, new_cluster}
 use Rattle.cops_model.specs.Goes.{Goes}
 use Rattle.cops_model.specs.Precedence.{AreLeastPasts}
-use Rattle.cops_model.specs.Restarts.{ends_when_due, moments_in, steps_of}
+use Rattle.cops_model.specs.Restarts.{ends_when_due, moment_in, steps_of}
 use Rattle.cops_model.specs.Told.{history_told, operations_told}
 
 -- ---- nodes of a cluster
@@ -41,22 +41,15 @@ AtEachNode config P = (dc shard : ℕ) → dc < config.data_centres → shard < 
 
 -- ---- pasts
 
--- some operation put the pair
-abbrev pub was_put : List Traced → Pair → Bool
-was_put ts pair = list_any (λ t. holds (put_by t.operation.effect) pair) ts
-
 -- each of the entries comes from a put, and its deps are exactly those of that put
 abbrev pub AreExactDeps : List Traced → List Entry → Type 0
 AreExactDeps history entries =
-    IsTrue (list_all (λ e. was_put history (pair_of_entry e)) entries) × (map (λ e. e.deps) entries ≡ map (λ e. deps_of history (pair_of_entry e)) entries)
+    IsTrue (list_all (λ e. list_any (λ t. holds (put_by t.operation.effect) (pair_of_entry e)) history) entries)
+    × (map (λ e. e.deps) entries ≡ map (λ e. deps_of history (pair_of_entry e)) entries)
 
 -- the pair was committed in the data centre
 abbrev pub is_committed_in : TenantConfig → SoloCluster → ℕ → Pair → Bool
 is_committed_in config cluster dc pair = holds (map pair_of_entry (committed_entries config cluster dc (shard_of pair.key config.shards))) pair
-
--- the whole past of each of the entries is committed
-abbrev pub AreCommittedPasts : List Traced → (Pair → Bool) → List Entry → Type 0
-AreCommittedPasts history is_committed entries = IsTrue (list_all (λ e. list_all is_committed (past_of_put history (pair_of_entry e))) entries)
 
 -- each transaction's answer is causally consistent
 abbrev pub AreConsistent : List Traced → Type 0
@@ -91,16 +84,11 @@ AreConvergent config cluster =
     IsPermutation (entries_of key (node_in config cluster one shard)) (entries_of key (node_in config cluster other shard)) →
     latest_entry key (node_in config cluster one shard) ≡ latest_entry key (node_in config cluster other shard)
 
--- no queue of the tenant has an entry for another data centre
-abbrev pub AreQueuesEmpty : TenantConfig → SoloCluster → Type 0
-AreQueuesEmpty config cluster =
-    AtEachNode config (λ dc shard. (to : ℕ) → to < config.data_centres → to ≢ dc →
-    queue (place_of config (record { dc = dc; shard = shard })) to (node_in config cluster dc shard) ≡ [])
-
--- if no queue has an entry, every two equivalent nodes show the same latest entry of each key
+-- if no queue has an entry for another data centre, every two equivalent nodes show the same latest entry of each key
 abbrev pub AreSettled : TenantConfig → SoloCluster → Type 0
 AreSettled config cluster =
-    AreQueuesEmpty config cluster → (one other shard : ℕ) → one < config.data_centres → other < config.data_centres → shard < config.shards → (key : List ℕ) →
+    AtEachNode config (λ dc shard. (to : ℕ) → to < config.data_centres → to ≢ dc → queue (place_of config (record { dc = dc; shard = shard })) to (node_in config cluster dc shard) ≡ []) →
+    (one other shard : ℕ) → one < config.data_centres → other < config.data_centres → shard < config.shards → (key : List ℕ) →
     latest_entry key (node_in config cluster one shard) ≡ latest_entry key (node_in config cluster other shard)
 
 -- ---- all laws
@@ -116,7 +104,9 @@ pub record IsCausal (config : TenantConfig) (acts : List Act) (told : List Reply
   -- each stored record was put, and has exactly the dependencies of its put
   pub exact_deps : AtEachNode config (λ dc shard. AreExactDeps (history_told acts told) (committed_entries config cluster dc shard))
   -- if a record was committed in a data centre, so was its whole past
-  pub committed : AtEachNode config (λ dc shard. AreCommittedPasts (history_told acts told) (is_committed_in config cluster dc) (committed_entries config cluster dc shard))
+  pub committed :
+      AtEachNode config (λ dc shard.
+      IsTrue (list_all (λ e. list_all (is_committed_in config cluster dc) (past_of_put (history_told acts told) (pair_of_entry e))) (committed_entries config cluster dc shard)))
   -- nothing is torn, not yet there or out of order
   pub expected : IsTrue (list_all is_expected told)
   pub expected_of_nodes : AtEachNode config (λ dc shard. IsTrue (list_all (λ (entry : AuditEntry). is_expected_of_node entry.reply) (node_in config cluster dc shard).trail))
@@ -128,7 +118,7 @@ pub record IsCausal (config : TenantConfig) (acts : List Act) (told : List Reply
   -- in the steps of each act a transaction begins again only if a moment passed by then is late for its attempt
   pub restarts :
       (before later : List Act) (act : Act) → acts ≡ before ++ act ∷ later → (from : SoloCluster) → Goes config before (take (length before) told) (new_cluster config) from →
-      IsTrue (list_all (ends_when_due config (moments_in (before ++ act ∷ []))) (steps_of config act from))
+      IsTrue (list_all (ends_when_due config (filter_map moment_in (before ++ act ∷ []))) (steps_of config act from))
 
 -- every run keeps them, however often memory runs out
 abbrev pub AllAreCausal : TenantConfig → Type 0

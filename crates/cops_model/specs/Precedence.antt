@@ -8,19 +8,10 @@ use Rattle.cops_model.specs.Causal.{Operation, Traced, put_by, returned_by, trac
 abbrev pub PutsAt : List Operation → ℕ → Pair → Type 0
 PutsAt ops place pair = (o : Operation) × (slice_get ops place ≡ Some o) × IsTrue (holds (put_by o.effect) pair)
 
--- the operation at this place returned the pair
-abbrev pub ReturnsAt : List Operation → ℕ → Pair → Type 0
-ReturnsAt ops place pair = (o : Operation) × (slice_get ops place ≡ Some o) × IsTrue (holds (returned_by o.effect) pair)
-
--- the operations at these places are of one context
-abbrev pub AreInOneContext : List Operation → ℕ → ℕ → Type 0
-AreInOneContext ops one other =
-    (a b : Operation) × (slice_get ops one ≡ Some a) × (slice_get ops other ≡ Some b) × (a.session ≡ b.session) × (a.context ≡ b.context)
-
 -- one operation is earlier than the other in the same context, or put a pair that the other returned, or a third lies between them
 pub data Precedes (ops : List Operation) : ℕ → ℕ → Type 0 where
-  Earlier : (one other : ℕ) → one < other → AreInOneContext ops one other → Precedes ops one other
-  Returned : (one other : ℕ) (pair : Pair) → PutsAt ops one pair → ReturnsAt ops other pair → Precedes ops one other
+  Earlier : (one other : ℕ) (a b : Operation) → one < other → slice_get ops one ≡ Some a → slice_get ops other ≡ Some b → a.session ≡ b.session → a.context ≡ b.context → Precedes ops one other
+  Returned : (one other : ℕ) (pair : Pair) (o : Operation) → PutsAt ops one pair → slice_get ops other ≡ Some o → IsTrue (holds (returned_by o.effect) pair) → Precedes ops one other
   Between : (one third other : ℕ) → Precedes ops one third → Precedes ops third other → Precedes ops one other
 
 -- the past of each operation consists of exactly the pairs put by the operations that precede it

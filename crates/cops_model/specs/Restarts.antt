@@ -1,7 +1,7 @@
 -- Restarts: an attempt of a transaction ends in a restart only at a timestamp that is late for it.
-use Rattle.std.specs.Prelude.{ℕ, Bool, true, false, ◌+◌, nat_lt, List, [], ◌∷◌, filter_map, zero, suc, Option, Some, None, if◌then◌else◌}
+use Rattle.std.specs.Prelude.{ℕ, Bool, true, false, ◌+◌, nat_lt, List, [], ◌∷◌, slice_get, zero, suc, Option, Some, None, if◌then◌else◌}
 use Rattle.std.specs.List.{list_any}
-use Rattle.std.specs.Option.{option_and_then}
+use Rattle.std.specs.Option.{option_and_then, option_map, option_map_or}
 use Rattle.cops_types.specs.declared.faults.Fault.TheVariants.{Overrun}
 use Rattle.cops_types.specs.TenantConfig.{TenantConfig}
 use Rattle.cops_model.specs.Request.{attempt_of}
@@ -11,17 +11,14 @@ use Rattle.cops_model.specs.declared.acts.Act.TheVariants.{Step, Done, Collect}
 use Rattle.cops_model.specs.declared.replies.Reply.{Reply}
 use Rattle.cops_model.specs.declared.replies.Reply.TheVariants.{Restarted, Refused}
 use Rattle.cops_model.specs.Cluster.{SoloCluster, find_session, actor_step, goes_on, most_steps}
-use Rattle.cops_model.specs.Log.{first_moment}
+use Rattle.cops_model.specs.Log.{LogStep}
 
--- the timestamp that an act passes, and those of a list of acts
+-- the timestamp that an act passes
 abbrev pub moment_in : Act → Option ℕ
 moment_in (Step name moment) = Some moment
 moment_in (Done name moment) = Some moment
 moment_in (Collect dc shard moment) = Some moment
 moment_in act = None
-
-abbrev pub moments_in : List Act → List ℕ
-moments_in acts = filter_map moment_in acts
 
 -- ---- the steps of an act
 
@@ -30,9 +27,6 @@ pub record ActorStep : Type 0 where
   pub name : List ℕ
   pub moment : ℕ
   pub from : SoloCluster
-
-abbrev pub reply_to : TenantConfig → ActorStep → Reply
-reply_to config step = (actor_step config step.name step.moment step.from).reply
 
 -- the steps at one timestamp until the reply is neither working nor restarted; at most `more` after the first
 abbrev pub steps_from : ℕ → TenantConfig → List ℕ → ℕ → SoloCluster → List ActorStep
@@ -55,18 +49,15 @@ ends_attempt (Restarted times) = true
 ends_attempt (Refused Overrun) = true
 ends_attempt reply = false
 
--- the start of the attempt of the request that the session of this name runs
+-- the timestamp of the first step of the attempt of the request that the session of this name runs
 abbrev pub attempt_start : List ℕ → SoloCluster → Option ℕ
 attempt_start name cluster =
-    option_and_then (λ (r : Running). first_moment (attempt_of r.action r.log).steps)
+    option_and_then (λ (r : Running). option_map (λ (first : LogStep). first.moment) (slice_get (attempt_of r.action r.log).steps 0))
     (option_and_then (λ (s : Session). s.running) (find_session name cluster))
-
--- one of the timestamps is past the start by more than this time
-abbrev pub has_passed : ℕ → List ℕ → Option ℕ → Bool
-has_passed trans_time moments (Some start) = list_any (nat_lt (start + trans_time)) moments
-has_passed trans_time moments None = false
 
 -- a step ends an attempt only if one of the timestamps is past the attempt's start by more than `trans_time`
 abbrev pub ends_when_due : TenantConfig → List ℕ → ActorStep → Bool
 ends_when_due config moments step =
-    if ends_attempt (reply_to config step) then has_passed config.trans_time moments (attempt_start step.name step.from) else true
+    if ends_attempt (actor_step config step.name step.moment step.from).reply
+    then option_map_or (λ start. list_any (nat_lt (start + config.trans_time)) moments) (attempt_start step.name step.from) false
+    else true

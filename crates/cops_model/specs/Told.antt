@@ -7,27 +7,23 @@ use Rattle.cops_model.specs.declared.acts.Act.{Act}
 use Rattle.cops_model.specs.declared.acts.Act.TheVariants.{Put, Get}
 use Rattle.cops_model.specs.declared.replies.Reply.{Reply}
 use Rattle.cops_model.specs.declared.replies.Reply.TheVariants.{Started}
-use Rattle.cops_model.specs.Causal.{Effect, Operation, Traced, effect_of, stepped_actor, traced}
+use Rattle.cops_model.specs.Causal.{Operation, Traced, effect_of, stepped_actor, traced}
 
 -- the context that the last put or get of each session names
 abbrev pub Contexts : Type 0
 Contexts = List ℕ → Option ℕ
 
-abbrev pub with_context : List ℕ → ℕ → Contexts → Contexts
-with_context session number contexts name = if key_eq name session then Some number else contexts name
-
 -- a put or a get sets the session's context, if the reply is that it started
 abbrev pub contexts_after : Act → Reply → Contexts → Contexts
-contexts_after (Put session number key value) Started contexts = with_context session number contexts
-contexts_after (Get session number keys) Started contexts = with_context session number contexts
+contexts_after (Put session number key value) Started contexts = λ name. if key_eq name session then Some number else contexts name
+contexts_after (Get session number keys) Started contexts = λ name. if key_eq name session then Some number else contexts name
 contexts_after act reply contexts = contexts
 
 -- an operation ends at the step whose reply reports the stored pair or the reads
-abbrev pub operation_of : Contexts → Effect → List ℕ → Option Operation
-operation_of contexts effect session = option_map (λ number. record { session = session; context = number; effect = effect }) (contexts session)
-
 abbrev pub operation_told : Contexts → Act → Reply → Option Operation
-operation_told contexts act reply = option_and_then (λ effect. option_and_then (operation_of contexts effect) (stepped_actor act)) (effect_of reply)
+operation_told contexts act reply =
+    option_and_then (λ effect. option_and_then (λ session. option_map (λ number. record { session = session; context = number; effect = effect }) (contexts session))
+    (stepped_actor act)) (effect_of reply)
 
 -- the operations in the order of their ends
 abbrev pub operations_told_from : List Act → List Reply → Contexts → List Operation

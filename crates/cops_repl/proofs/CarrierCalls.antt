@@ -1,14 +1,14 @@
 -- What a carrier calls carrier_next, from the replies so far.
-use Rattle.std.proofs.Common.{◌≡◌, ℕ, List, [], ◌∷◌, map, inl, inr, refl, sym, ◌∙◌, ap, subst}
+use Rattle.std.proofs.Common.{◌≡◌, ℕ, List, [], ◌∷◌, ◌++◌, map, inl, inr, refl, sym, ◌∙◌, ap, subst}
 use Rattle.std.specs.Prelude.{Option, Some, None, filter_map, length, slice_get}
 use Rattle.std.specs.List.{AllByRecursion, cons_option}
 use Rattle.cops_types.specs.declared.pairs.Pair.{Pair}
 use Rattle.cops_types.specs.declared.records.EntryParts.{EntryParts as Entry}
 use Rattle.cops_model.specs.declared.calls.NodeReply.{NodeReply}
 use Rattle.cops_model.specs.declared.calls.NodeReply.TheVariants.{Pulled}
-use Rattle.cops_model.specs.Log.{LogStep, Outcome, Late, Replied, reply_in, Directed, Call}
+use Rattle.cops_model.specs.Log.{LogStep, Outcome, Late, Replied, call_or, reply_in, Directed, Call}
 use Rattle.cops_model.specs.declared.deliveries.Delivery.{Delivery}
-use Rattle.cops_model.specs.Carrier.{Stream, ack_call, call_or_end, carrier_next, check, commit_call, delivery, finished_delivery, first_end, pull, stream_calls, unless_end}
+use Rattle.cops_model.specs.Carrier.{Stream, ack_call, carrier_next, check, commit_call, finished_delivery, first_end, pull, stream_calls, unless_end}
 use Rattle.cops_types.proofs.Elements.{Among, Among-cases, map-Among, slice_get-Among}
 
 abbrev pub carrier_replies : List LogStep → List NodeReply
@@ -24,7 +24,7 @@ carrier-next shards stream log directed e =
     chosen (first_end shards stream (stream_calls shards stream (carrier_replies log)) (carrier_replies log)) (slice_get (stream_calls shards stream (carrier_replies log)) (length (carrier_replies log))) refl refl e
   where
     chosen : (ends : Option Delivery) (found : Option Directed) → first_end shards stream (stream_calls shards stream (carrier_replies log)) (carrier_replies log) ≡ ends →
-        slice_get (stream_calls shards stream (carrier_replies log)) (length (carrier_replies log)) ≡ found → unless_end ends (call_or_end found (finished_delivery (carrier_replies log))) ≡ Call directed → NextOf shards stream log directed
+        slice_get (stream_calls shards stream (carrier_replies log)) (length (carrier_replies log)) ≡ found → unless_end ends (call_or found (finished_delivery (carrier_replies log))) ≡ Call directed → NextOf shards stream log directed
     chosen (Some ending) found ends is e = cc
     chosen None None ends is e = cc
     chosen None (Some call) ends is e = let same : call ≡ directed = cc in record { place = is ∙ ap Some same; no_end = ends }
@@ -39,6 +39,10 @@ pub data IsCallOf (shards : ℕ) (stream : Stream) (replies : List NodeReply) (d
 pull_only : (shards : ℕ) (stream : Stream) (replies : List NodeReply) (directed : Directed) → Among directed (pull stream ∷ []) → IsCallOf shards stream replies directed
 pull_only shards stream replies directed (inl is) = IsPull (sym is)
 pull_only shards stream replies directed (inr never) = absurd never
+
+-- the calls for one entry
+abbrev pub delivery : ℕ → Stream → Entry → List Directed
+delivery shards stream entry = map (check shards stream) entry.near ++ commit_call stream entry ∷ ack_call stream entry ∷ []
 
 with_entry : (shards : ℕ) (stream : Stream) (e : Entry) (replies : List NodeReply) (directed : Directed) → Among directed (pull stream ∷ delivery shards stream e) → IsCallOf shards stream (Pulled e ∷ replies) directed
 with_entry shards stream e replies directed (inl is) = IsPull (sym is)

@@ -5,12 +5,12 @@ use Rattle.std.proofs.lemmas.List.{length-map}
 use Rattle.cops_types.proofs.Elements.{slice_get-within}
 use Rattle.cops_model.specs.declared.calls.NodeReply.{NodeReply}
 use Rattle.cops_model.specs.declared.calls.NodeReply.TheVariants.{Pulled}
-use Rattle.cops_model.specs.Log.{LogStep, Directed, Next, Call, Restart, Ended}
+use Rattle.cops_model.specs.Log.{LogStep, Directed, Next, Call, Restart, Ended, call_or}
 use Rattle.cops_model.specs.declared.deliveries.Delivery.{Delivery}
 use Rattle.cops_model.specs.declared.deliveries.Progress.TheVariants.{Working}
 use Rattle.cops_repl.specs.Bounds.{IsDeliveryBounded, near_in}
-use Rattle.cops_model.specs.Carrier.{Stream, ack_call, call_or_end, carrier_next, check, commit_call, delivery, finished_delivery, first_end, progress_of, stream_calls, unless_end}
-use Rattle.cops_repl.proofs.CarrierCalls.{carrier_replies, carrier-next}
+use Rattle.cops_model.specs.Carrier.{Stream, ack_call, carrier_next, check, commit_call, finished_delivery, first_end, progress_of, stream_calls, unless_end}
+use Rattle.cops_repl.proofs.CarrierCalls.{carrier_replies, carrier-next, delivery}
 
 calls-few : (shards : ℕ) (stream : Stream) (rs : List NodeReply) → length (stream_calls shards stream rs) ≤ length (near_in rs) + 3
 calls-few shards stream [] = omega arith
@@ -29,7 +29,7 @@ call-within shards stream log directed e =
     omega arith
 
 -- a carrier never restarts
-pub never-restarts : (ends : Option Delivery) (found : Option Directed) (last : Delivery) → unless_end ends (call_or_end found last) ≡ Restart → ⊥
+pub never-restarts : (ends : Option Delivery) (found : Option Directed) (last : Delivery) → unless_end ends (call_or found last) ≡ Restart → ⊥
 never-restarts (Some ending) found last e = cc
 never-restarts None (Some call) last e = cc
 never-restarts None None last e = cc

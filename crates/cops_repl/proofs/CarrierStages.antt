@@ -11,8 +11,8 @@ use Rattle.cops_model.specs.declared.calls.NodeReply.{NodeReply}
 use Rattle.cops_model.specs.declared.calls.NodeReply.TheVariants.{Checked, Pulled, Committed, Already, OutOfOrder}
 use Rattle.cops_model.specs.Log.{LogStep, Replied, reply_in, Directed, fault_in}
 use Rattle.cops_model.specs.declared.deliveries.Delivery.{Delivery}
-use Rattle.cops_model.specs.Carrier.{Stream, ack_call, check, commit_call, delivery, fault_or_end, first_end, pull, stream_calls}
-use Rattle.cops_repl.proofs.CarrierCalls.{carrier_replies, NextOf}
+use Rattle.cops_model.specs.Carrier.{Stream, ack_call, check, commit_call, end_of, first_end, pull, stream_calls}
+use Rattle.cops_repl.proofs.CarrierCalls.{carrier_replies, NextOf, delivery}
 use Rattle.cops_types.proofs.Elements.{Among}
 use Rattle.cops_types.proofs.Zipped.{Zipped, Zipped-push}
 
@@ -27,13 +27,13 @@ no_end_rest None b e = e
 no_end_rest (Some x) b e = cc
 
 -- a check was answered by yes
-checked : (shards : ℕ) (stream : Stream) (p : Pair) (r : NodeReply) → fault_or_end shards stream (node_call.DepCheck p.key p.version) r (fault_in (node_call.DepCheck p.key p.version) r) ≡ None → r ≡ Checked true
+checked : (shards : ℕ) (stream : Stream) (p : Pair) (r : NodeReply) → end_of shards stream (node_call.DepCheck p.key p.version) r ≡ None → r ≡ Checked true
 checked shards stream p (Checked true) e = refl
 checked shards stream p (Checked false) e = cc
 checked shards stream p r e = cc
 
 -- a commit_call was answered by Committed or Already
-arrived : (shards : ℕ) (stream : Stream) (entry : Entry) (r : NodeReply) → fault_or_end shards stream (node_call.Commit entry) r (fault_in (node_call.Commit entry) r) ≡ None → (r ≡ Committed) ⊎ (r ≡ Already)
+arrived : (shards : ℕ) (stream : Stream) (entry : Entry) (r : NodeReply) → end_of shards stream (node_call.Commit entry) r ≡ None → (r ≡ Committed) ⊎ (r ≡ Already)
 arrived shards stream entry Committed e = inl refl
 arrived shards stream entry Already e = inr refl
 arrived shards stream entry (OutOfOrder mark) e = cc
@@ -55,7 +55,7 @@ module _ (R : Directed → NodeReply → Type 0) (shards : ℕ) (stream : Stream
       first_end shards stream (commit_call stream e ∷ ack_call stream e ∷ []) rs ≡ None → AllByRecursion (λ near. R (check shards stream near) (Checked true)) e.near → InDelivery e next
   after_checks e next [] at z no_end near = Committing near (let both : Some (commit_call stream e) ≡ Some next = at in cc)
   after_checks e next (r ∷ []) at z no_end near =
-      Acking r z.0 (arrived shards stream e r (no_end_first (fault_or_end shards stream (node_call.Commit e) r (fault_in (node_call.Commit e) r)) None no_end)) (let both : Some (ack_call stream e) ≡ Some next = at in cc)
+      Acking r z.0 (arrived shards stream e r (no_end_first (end_of shards stream (node_call.Commit e) r) None no_end)) (let both : Some (ack_call stream e) ≡ Some next = at in cc)
   after_checks e next (r ∷ s ∷ rs) at z no_end near = let never : None ≡ Some next = at in cc
 
   abbrev last_calls : Entry → List Directed
@@ -69,7 +69,7 @@ module _ (R : Directed → NodeReply → Type 0) (shards : ℕ) (stream : Stream
   in_checks e next (p ∷ left) [] among at z no_end near = Checking p (among p (inl refl)) (let both : Some (check shards stream p) ≡ Some next = at in cc)
   in_checks e next (p ∷ left) (r ∷ rs) among at z no_end near =
       let rest = first_end shards stream (map (check shards stream) left ++ last_calls e) rs in
-      let first = fault_or_end shards stream (node_call.DepCheck p.key p.version) r (fault_in (node_call.DepCheck p.key p.version) r) in
+      let first = end_of shards stream (node_call.DepCheck p.key p.version) r in
       let yes = checked shards stream p r (no_end_first first rest no_end) in
       in_checks e next left rs (λ q there. among q (inr there)) at z.1 (no_end_rest first rest no_end) (λ later. near (subst (R (check shards stream p)) yes z.0, later))
 
@@ -80,7 +80,7 @@ module _ (R : Directed → NodeReply → Type 0) (shards : ℕ) (stream : Stream
   stage_of next [] at z no_end = Pulling (let both : Some (pull stream) ≡ Some next = at in cc)
   stage_of next (Pulled e ∷ rs) at z no_end =
       Delivering e z.0 (in_checks e next e.near rs (λ p there. there) at z.1
-      (no_end_rest (fault_or_end shards stream (node_call.Pull stream.to_dc) (Pulled e) (fault_in (node_call.Pull stream.to_dc) (Pulled e))) (first_end shards stream (delivery shards stream e) rs) no_end) (λ all. all))
+      (no_end_rest (end_of shards stream (node_call.Pull stream.to_dc) (Pulled e)) (first_end shards stream (delivery shards stream e) rs) no_end) (λ all. all))
   stage_of next (r ∷ rs) at z no_end = pulled_only next r rs at
 
   pub stage : (log : List LogStep) (next : Directed) → NextOf shards stream log next → Zipped R (stream_calls shards stream (carrier_replies log)) (carrier_replies log) → Stage next

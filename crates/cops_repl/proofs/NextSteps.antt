@@ -10,12 +10,12 @@ use Rattle.cops_types.specs.Version.{Timestamp}
 use Rattle.cops_model.specs.declared.calls.NodeCall.TheVariants.{Ack, Commit, DepCheck}
 use Rattle.cops_model.specs.declared.calls.NodeReply.{NodeReply}
 use Rattle.cops_model.specs.declared.calls.NodeReply.TheVariants.{Checked, Pulled, Committed, Already, Acked, NotFront}
-use Rattle.cops_model.specs.Log.{Directed, Next, Call, Ended}
+use Rattle.cops_model.specs.Log.{Directed, Next, Call, Ended, call_or}
 use Rattle.cops_model.specs.declared.deliveries.Delivery.{Delivery}
 use Rattle.cops_model.specs.declared.deliveries.Delivery.TheVariants.{Carried}
 use Rattle.cops_repl.specs.declared.stages.After.TheVariants.{Goes, Ends}
 use Rattle.cops_repl.specs.declared.stages.Stage.TheVariants.{Pulling, Carrying, Stored}
-use Rattle.cops_model.specs.Carrier.{Stream, ack_call, call_or_end, check, commit_call, end_of, first_end, is_acked, is_committed, is_foreign, next_after, pair_of_entry, pull, unless_end}
+use Rattle.cops_model.specs.Carrier.{Stream, ack_call, check, commit_call, end_of, first_end, is_acked, is_committed, is_foreign, next_after, pair_of_entry, pull, unless_end}
 use Rattle.cops_repl.specs.Stands.{AsksNext, FollowsReply, reply_of_ack, reply_of_commit}
 
 module _ (shards : ℕ) (stream : Stream) where
@@ -45,12 +45,12 @@ module _ (shards : ℕ) (stream : Stream) where
   next-checked : (entry : Entry) (k : ℕ) (rest : List NodeReply) → is_foreign shards stream entry ≡ false → k ≤ length entry.near →
       next_after shards stream (Pulled entry ∷ (replicate k (Checked true) ++ rest))
       ≡ unless_end (first_end shards stream (left entry k) rest)
-      (call_or_end (slice_get (left entry k) (length rest)) (Carried (pair_of_entry entry) (list_any is_committed rest) (list_any is_acked rest)))
+      (call_or (slice_get (left entry k) (length rest)) (Carried (pair_of_entry entry) (list_any is_committed rest) (list_any is_acked rest)))
   next-checked entry k rest own within =
       let calls = commit_call stream entry ∷ ack_call stream entry ∷ [] in
       rw own (λ i.
       unless_end (first_end-checked entry.near calls k rest within i)
-      (call_or_end (call-checked entry.near calls k rest within i) (Carried (pair_of_entry entry) (any-checked is_committed k rest refl i) (any-checked is_acked k rest refl i))))
+      (call_or (call-checked entry.near calls k rest within i) (Carried (pair_of_entry entry) (any-checked is_committed k rest refl i) (any-checked is_acked k rest refl i))))
 
   -- ---- the next call of each stage
 
@@ -78,11 +78,11 @@ module _ (shards : ℕ) (stream : Stream) where
   next-from : (entry : Entry) (k : ℕ) (calls : List Directed) (rest : List NodeReply) (replies : List NodeReply) → is_foreign shards stream entry ≡ false → k ≤ length entry.near →
       left entry k ≡ calls → replies ≡ Pulled entry ∷ (replicate k (Checked true) ++ rest) →
       next_after shards stream replies
-      ≡ unless_end (first_end shards stream calls rest) (call_or_end (slice_get calls (length rest)) (Carried (pair_of_entry entry) (list_any is_committed rest) (list_any is_acked rest)))
+      ≡ unless_end (first_end shards stream calls rest) (call_or (slice_get calls (length rest)) (Carried (pair_of_entry entry) (list_any is_committed rest) (list_any is_acked rest)))
   next-from entry k calls rest replies own within are led =
       ap (next_after shards stream) led
       ∙ next-checked entry k rest own within
-      ∙ ap (λ cs. unless_end (first_end shards stream cs rest) (call_or_end (slice_get cs (length rest)) (Carried (pair_of_entry entry) (list_any is_committed rest) (list_any is_acked rest)))) are
+      ∙ ap (λ cs. unless_end (first_end shards stream cs rest) (call_or (slice_get cs (length rest)) (Carried (pair_of_entry entry) (list_any is_committed rest) (list_any is_acked rest)))) are
 
   led-nothing : (entry : Entry) (k : ℕ) (replies : List NodeReply) → replies ≡ Pulled entry ∷ replicate k (Checked true) → replies ≡ Pulled entry ∷ (replicate k (Checked true) ++ [])
   led-nothing entry k replies led = led ∙ ap (λ rs. Pulled entry ∷ rs) (sym (append-nil (replicate k (Checked true))))
@@ -122,7 +122,7 @@ module _ (shards : ℕ) (stream : Stream) where
   ends_check entry k p reply ending is ends replies led =
       next-from entry k (check shards stream p ∷ left entry (suc k)) (reply ∷ []) (replies ++ reply ∷ []) led.0 led.1 (left-check entry k p is) (led-one entry k replies reply led.2)
       ∙ ended (check shards stream p) reply [] (left entry (suc k)) ending
-      (call_or_end (slice_get (check shards stream p ∷ left entry (suc k)) 1) (Carried (pair_of_entry entry) (list_any is_committed (reply ∷ [])) (list_any is_acked (reply ∷ []))))
+      (call_or (slice_get (check shards stream p ∷ left entry (suc k)) 1) (Carried (pair_of_entry entry) (list_any is_committed (reply ∷ [])) (list_any is_acked (reply ∷ []))))
       ends
 
   pub ends_commit : (entry : Entry) (reply : NodeReply) (ending : Delivery) → end_of shards stream (Commit entry) reply ≡ Some ending →
@@ -130,7 +130,7 @@ module _ (shards : ℕ) (stream : Stream) where
   ends_commit entry reply ending ends replies led =
       next-from entry (length entry.near) (commit_call stream entry ∷ ack_call stream entry ∷ []) (reply ∷ []) (replies ++ reply ∷ []) led.0 led.1 (left-all entry) (led-one entry (length entry.near) replies reply led.2)
       ∙ ended (commit_call stream entry) reply [] (ack_call stream entry ∷ []) ending
-      (call_or_end (Some (ack_call stream entry)) (Carried (pair_of_entry entry) (list_any is_committed (reply ∷ [])) (list_any is_acked (reply ∷ []))))
+      (call_or (Some (ack_call stream entry)) (Carried (pair_of_entry entry) (list_any is_committed (reply ∷ [])) (list_any is_acked (reply ∷ []))))
       ends
 
   -- a check that brings no end found the pair committed
@@ -155,13 +155,13 @@ module _ (shards : ℕ) (stream : Stream) where
       next-from entry (length entry.near) (commit_call stream entry ∷ ack_call stream entry ∷ []) (Committed ∷ reply ∷ []) (replies ++ reply ∷ []) own (omega arith) (left-all entry)
       (led-two entry (length entry.near) replies Committed reply led)
       ∙ ended (ack_call stream entry) reply [] [] ending
-      (call_or_end None (Carried (pair_of_entry entry) (list_any is_committed (Committed ∷ reply ∷ [])) (list_any is_acked (Committed ∷ reply ∷ []))))
+      (call_or None (Carried (pair_of_entry entry) (list_any is_committed (Committed ∷ reply ∷ [])) (list_any is_acked (Committed ∷ reply ∷ []))))
       ends
   after-commit false entry reply ending own ends replies led =
       next-from entry (length entry.near) (commit_call stream entry ∷ ack_call stream entry ∷ []) (Already ∷ reply ∷ []) (replies ++ reply ∷ []) own (omega arith) (left-all entry)
       (led-two entry (length entry.near) replies Already reply led)
       ∙ ended (ack_call stream entry) reply [] [] ending
-      (call_or_end None (Carried (pair_of_entry entry) (list_any is_committed (Already ∷ reply ∷ [])) (list_any is_acked (Already ∷ reply ∷ []))))
+      (call_or None (Carried (pair_of_entry entry) (list_any is_committed (Already ∷ reply ∷ [])) (list_any is_acked (Already ∷ reply ∷ []))))
       ends
 
   pub ends_acknowledge : (pair : Pair) (fresh : Bool) (reply : NodeReply) (ending : Delivery) → end_of shards stream (Ack stream.to_dc pair.version) reply ≡ Some ending →
@@ -175,7 +175,7 @@ module _ (shards : ℕ) (stream : Stream) where
       from : (first reply : NodeReply) → replies ≡ Pulled led.0 ∷ (replicate (length led.0.near) (Checked true) ++ first ∷ []) →
           next_after shards stream (replies ++ reply ∷ [])
           ≡ unless_end (first_end shards stream (commit_call stream led.0 ∷ ack_call stream led.0 ∷ []) (first ∷ reply ∷ []))
-          (call_or_end None (Carried (pair_of_entry led.0) (list_any is_committed (first ∷ reply ∷ [])) (list_any is_acked (first ∷ reply ∷ []))))
+          (call_or None (Carried (pair_of_entry led.0) (list_any is_committed (first ∷ reply ∷ [])) (list_any is_acked (first ∷ reply ∷ []))))
       from first reply is =
           next-from led.0 (length led.0.near) (commit_call stream led.0 ∷ ack_call stream led.0 ∷ []) (first ∷ reply ∷ []) (replies ++ reply ∷ []) led.1 (omega arith) (left-all led.0)
           (led-two led.0 (length led.0.near) replies first reply is)

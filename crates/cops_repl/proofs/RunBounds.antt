@@ -6,12 +6,12 @@ use Rattle.std.proofs.lemmas.Option.{slice_get_within}
 use Rattle.cops_types.specs.declared.pairs.Pair.{Pair}
 use Rattle.cops_model.specs.declared.calls.NodeReply.{NodeReply}
 use Rattle.cops_model.specs.declared.calls.NodeReply.TheVariants.{Pulled}
-use Rattle.cops_model.specs.Log.{Directed, LogStep, replies_of}
+use Rattle.cops_model.specs.Log.{Directed, LogStep, call_or, replies_of}
 use Rattle.cops_model.specs.declared.deliveries.Delivery.{Delivery}
-use Rattle.cops_model.specs.Carrier.{Stream, ack_call, call_or_end, carrier_next, check, commit_call, finished_delivery, first_end, has_answer, near_pairs, stream_calls, unless_end}
+use Rattle.cops_model.specs.Carrier.{Stream, ack_call, carrier_next, check, commit_call, finished_delivery, first_end, has_answer, near_pairs, stream_calls, unless_end}
 
 -- a carrier without an answer has a call left
-unanswered : (ending : Option Delivery) (call : Option Directed) (answer : Delivery) → has_answer (unless_end ending (call_or_end call answer)) ≡ false → (d : Directed) × (call ≡ Some d)
+unanswered : (ending : Option Delivery) (call : Option Directed) (answer : Delivery) → has_answer (unless_end ending (call_or call answer)) ≡ false → (d : Directed) × (call ≡ Some d)
 unanswered (Some ending) call answer none = cc
 unanswered None (Some d) answer none = (d, refl)
 unanswered None None answer none = cc

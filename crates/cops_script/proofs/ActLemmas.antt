@@ -10,7 +10,7 @@ use Rattle.cops_types.specs.Words.{space, is_word, is_u64, number_of, parts_at}
 use Rattle.cops_types.proofs.WordLemmas.{both, same_value, same_bytes, bytes_from_test, Lacks, parts_joined, lacks_from_test, word_lacks, space_foreign, name_lacks, decimal_lacks, number_of-decimal}
 use Rattle.cops_model.specs.declared.acts.Act.{Act}
 use Rattle.cops_model.specs.declared.acts.Act.TheVariants.{Open, Create, Delete, Put, Get, Show, Carry, Step, Done, Collect}
-use Rattle.cops_script.specs.ActLines.{words_of_act, act_line, has_line, is_value_word, IsActLine, act_of_words, with_numbers, checked_act, act_in}
+use Rattle.cops_script.specs.ActLines.{words_of_act, act_line, has_line, IsActLine, act_of_words, with_numbers, checked_act, act_in}
 
 -- ---- no word of an act has a space
 
@@ -35,7 +35,7 @@ words_free (Open name dc) h = (lacks_from_test space (codes "open") refl, named_
 words_free (Create name) h = (lacks_from_test space (codes "ctx") refl, (name_free name h, tt))
 words_free (Delete name number) h = (lacks_from_test space (codes "drop") refl, named_free name number h)
 words_free (Put name number key value) h =
-    let a = both (is_name name && is_u64 number && is_word key) (is_value_word value) h in
+    let a = both (is_name name && is_u64 number && is_word key) (is_word value && list_all (is_between 33 126) value) h in
     let b = both (is_name name && is_u64 number) (is_word key) a.0 in
     let c = both (is_name name) (is_u64 number) b.0 in
     let d = both (is_word value) (list_all (is_between 33 126) value) a.1 in
@@ -72,7 +72,7 @@ words_back tenant (Open name dc) h = named_back Open name dc h
 words_back tenant (Create name) h = refl
 words_back tenant (Delete name number) h = named_back Delete name number h
 words_back tenant (Put name number key value) h =
-    let a = both (is_name name && is_u64 number && is_word key) (is_value_word value) h in
+    let a = both (is_name name && is_u64 number && is_word key) (is_word value && list_all (is_between 33 126) value) h in
     let b = both (is_name name && is_u64 number) (is_word key) a.0 in
     ap (option_map (λ n. Put name n key value)) (number_of-decimal number (both (is_name name) (is_u64 number) b.0).1)
 words_back tenant (Get name number keys) h =

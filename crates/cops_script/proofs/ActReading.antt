@@ -15,8 +15,12 @@ use Rattle.cops_types.proofs.WordLemmas.{Lacks, and, both, bytes_from_test, firs
 use Rattle.cops_types.proofs.FrontWords.{same_front}
 use Rattle.cops_model.specs.declared.acts.Act.{Act}
 use Rattle.cops_model.specs.declared.acts.Act.TheVariants.{Open, Create, Delete, Put, Get, Show, Carry, Step, Done, Collect}
-use Rattle.cops_script.specs.ActLines.{words_of_act, act_line, has_line, is_value_word, with_numbers, create_of, named_of, put_of, get_of, carry_of, collect_of, act_of_verb, act_of_words, checked_act, act_in}
+use Rattle.cops_script.specs.ActLines.{words_of_act, act_line, has_line, with_numbers, create_of, named_of, put_of, get_of, carry_of, collect_of, act_of_verb, act_of_words, checked_act, act_in}
 use Rattle.cops_script.specs.ActWords.{AreUnspaced, keys_of, with_line}
+
+-- the word may be a value
+abbrev pub is_value_word : List ℕ → Bool
+is_value_word value = is_word value && list_all (is_between 33 126) value
 
 -- ---- the words of an act are those that it was read from
 

@@ -17,15 +17,17 @@ use Rattle.cops_types.specs.Words.{first_word}
 use Rattle.cops_types.proofs.OpenSlotLemmas.{none_named, none_passes}
 use Rattle.cops_types.proofs.WordLemmas.{bytes_from_test, same_bytes}
 use Rattle.cops_model.specs.declared.acts.Act.{Act}
+use Rattle.cops_model.specs.declared.replies.Reply.{Reply}
+use Rattle.cops_model.specs.declared.replies.Reply.TheVariants.{Refused}
 use Rattle.cops_model.specs.Setups.{next_slot}
 use Rattle.cops_script.specs.ActLines.{IsActLine, act_in}
-use Rattle.cops_script.specs.Answers.{Answer, is_lack}
+use Rattle.cops_script.specs.Answers.{Answer, ToHost, ToTenant, is_lack, reply_to_host}
 use Rattle.cops_script.specs.HostLines.{admitted_in, closed_in}
 use Rattle.cops_script.specs.Lives.{Lives, lives_after, of_life, of_lives_from}
-use Rattle.cops_script.specs.Meaning.{Action, Admission, AreMeant, BadAction, BadAdmission, BadClosing, Closing, IsAdmissionLine, IsClosingLine, KnownTenant, Means, NoMemory, NoRoom, NoneToClose, Stray, free_slot}
+use Rattle.cops_script.specs.Meaning.{Action, Admission, AreMeant, BadAction, BadAdmission, BadClosing, Closing, IsAdmissionLine, IsClosingLine, KnownTenant, Means, NoMemory, NoRoom, NoneToClose, Stray}
 use Rattle.cops_script.specs.OpenNames.{AreOpenNamed}
 use Rattle.cops_script.specs.Said.{Admits, Closes, Refuses, Said, OfHost, Unformed, Acts, admission_of, admission_unless, begins_admission, begins_closing, closing_at, closing_of, said_by, said_found, said_in, tenants_after}
-use Rattle.cops_script.specs.ScriptRuns.{AreAnswersTo, IsAnswerTo, heard, said_from}
+use Rattle.cops_script.specs.ScriptRuns.{AreAnswersTo, heard, said_from}
 use Rattle.cops_script.proofs.ActLemmas.{act_in-finds, act_in-is}
 use Rattle.cops_script.proofs.HostLineLemmas.{admission_first, admitted_in-finds, admitted_in-is, closed_in-finds, closed_in-is, closing_first}
 use Rattle.cops_script.proofs.LifeLines.{heard_named}
@@ -36,6 +38,9 @@ none_some : {A : Type 0} {x : A} → None ≡ Some x → ⊥
 none_some e = cc
 
 -- ---- the least free slot
+
+abbrev free_slot : List (Option Tenant) → Option ℕ
+free_slot tenants = position is_none (take most_tenants tenants)
 
 -- a slot that is found is the one that an admission asks for, and is free
 free_is_next : (tenants : List (Option Tenant)) (slot : ℕ) → free_slot tenants ≡ Some slot → next_slot tenants ≡ slot
@@ -107,6 +112,19 @@ slot_is tenants name = sym (itself (position (has_name name) tenants)) ∙ first
     itself : (o : Option ℕ) → option_map (λ i. 0 + i) o ≡ o
     itself None = refl
     itself (Some i) = let same : 0 + i ≡ i = omega arith in ap Some same
+
+-- ---- the answer to a request
+
+abbrev pub IsAnswerTo : Said → Answer → Type 0
+IsAnswerTo (OfHost deed) answer = answer ≡ ToHost (reply_to_host deed)
+IsAnswerTo (Unformed number) answer = answer ≡ ToTenant number (Refused Syntax)
+IsAnswerTo (Acts event) answer = (reply : Reply) × (answer ≡ ToTenant event.slot reply)
+
+-- the first request gets the first answer
+pub first_answered : (said : Said) (more : List Said) (answer : Answer) (told : List Answer) → AreAnswersTo (said ∷ more) (answer ∷ told) → IsAnswerTo said answer × AreAnswersTo more told
+first_answered (OfHost deed) more answer told each = each
+first_answered (Unformed number) more answer told each = each
+first_answered (Acts event) more answer told each = each
 
 -- ---- from `said_in`
 
@@ -334,7 +352,8 @@ meant_are_said tenants [] lives (one ∷ said) told named meant each = absurd me
 meant_are_said tenants (line ∷ lines) lives [] told named meant each = absurd meant
 meant_are_said tenants (line ∷ lines) lives (one ∷ said) [] named meant each = absurd each
 meant_are_said tenants (line ∷ lines) lives (one ∷ said) (answer ∷ told) named meant each =
-    let same = heard_is_meant tenants line named lives one answer meant.0 each.0 in
+    let first = first_answered (of_life lives one) (of_lives_from (lives_after lives one) said) answer told each in
+    let same = heard_is_meant tenants line named lives one answer meant.0 first.0 in
     let goes = subst (AdmitsNamed tenants) same (heard_named tenants (said_in tenants line) answer (said_in-named tenants line)) in
-    let rest = meant_are_said (tenants_after tenants one) lines (lives_after lives one) said told (named_after tenants one named goes) meant.1 each.1 in
+    let rest = meant_are_said (tenants_after tenants one) lines (lives_after lives one) said told (named_after tenants one named goes) meant.1 first.1 in
     (ap suc rest.0, ap (λ s. s ∷ said_from (tenants_after tenants s) lines told) same ∙ ap (λ more. one ∷ more) rest.1)

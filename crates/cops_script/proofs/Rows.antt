@@ -2,6 +2,7 @@
 use Rattle.std.proofs.Common.{◌≡◌, ℕ, zero, suc, ◌<◌, true, false, List, [], ◌∷◌, ◌++◌, refl, arith}
 use Rattle.std.specs.Prelude.{codes, IsTrue}
 use Rattle.std.specs.List.{list_all}
+use Rattle.cops_types.specs.declared.records.EntryParts.{EntryParts as Entry}
 use Rattle.cops_types.specs.declared.faults.Fault.TheVariants.{UnknownName, NameTaken, Busy, Idle, NoContext, TooManyContexts, VersionQuota, ByteQuota, OutboxFull, DependenciesFull, ClockFull, AuditFull, Overrun, NoSuchPlace, RepeatedKey, ActorsFull}
 use Rattle.cops_model.specs.declared.acts.Act.{Act}
 use Rattle.cops_model.specs.declared.acts.Act.TheVariants.{Open, Create, Delete, Put, Get, Show, Carry, Step, Done, Collect}
@@ -11,8 +12,9 @@ use Rattle.cops_model.specs.declared.acts.Event.{Event}
 use Rattle.cops_model.specs.Causal.{Returned, past_of_put, deps_of, answers_consistently, Traced}
 use Rattle.cops_types.specs.TenantConfig.{TenantConfig}
 use Rattle.cops_model.specs.Events.{cluster_of, own, solo_replies}
-use Rattle.cops_model.specs.Laws.{AreCommittedPasts, AreConsistent, AreExactDeps, committed_entries, is_committed_in, is_expected}
+use Rattle.cops_model.specs.Laws.{AreConsistent, AreExactDeps, committed_entries, is_committed_in, is_expected}
 use Rattle.cops_model.specs.Told.{history_told}
+use Rattle.cops_model.specs.Carrier.{pair_of_entry}
 use Rattle.cops_script.proofs.Words.{cluster, quota, a, b, c, d, p, q, r, x, y, z, pair, read, absent}
 
 -- a session of this name at a data centre, with its first context
@@ -274,7 +276,7 @@ carried = session a 0 ++ Put a 1 x (codes "10") ∷ Done a 0 ∷ Put a 1 y (code
 
 committed_pasts :
     let left = cluster_of (cluster 2 2) carried in
-    AreCommittedPasts (history (cluster 2 2) carried) (is_committed_in (cluster 2 2) left 1) (committed_entries (cluster 2 2) left 1 1)
+    list_all (λ (e : Entry). list_all (is_committed_in (cluster 2 2) left 1) (past_of_put (history (cluster 2 2) carried) (pair_of_entry e))) (committed_entries (cluster 2 2) left 1 1) ≡ true
 committed_pasts = refl
 
 past_of_the_carried : past_of_put (history (cluster 2 2) carried) (pair y 2 1) ≡ pair x 1 0 ∷ []

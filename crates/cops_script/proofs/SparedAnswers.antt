@@ -31,12 +31,12 @@ use Rattle.cops_script.specs.Lives.{Lives, admitted_by, first_lives, lives_after
 use Rattle.cops_script.specs.Said.{Said, OfHost, Unformed, Acts, tenants_after, tenants_past}
 use Rattle.cops_script.specs.OpenNames.{AreOpenNamed}
 use Rattle.cops_script.specs.Script.{Written, answers_of, answers_to, events_in, said_by_lines, said_to, script_after, script_out, script_text}
-use Rattle.cops_script.specs.ScriptRuns.{AnswersScript, AreAnswersTo, AreSpared, IsAnswerTo, act_replies, said_told}
+use Rattle.cops_script.specs.ScriptRuns.{AnswersScript, AreAnswersTo, AreSpared, act_replies, said_told}
 use Rattle.cops_script.proofs.AnswersTo.{answers_of-from, new_at}
 use Rattle.cops_script.proofs.Fronts.{ActsGo}
 use Rattle.cops_script.proofs.LifeAnswers.{all_there, said_from-placed, said_spared, said_to-append, said_to-placed}
 use Rattle.cops_script.proofs.LifeLines.{name_there}
-use Rattle.cops_script.proofs.Meanings.{meant_are_said}
+use Rattle.cops_script.proofs.Meanings.{first_answered, meant_are_said, IsAnswerTo}
 use Rattle.cops_script.proofs.Numbered.{AreNumbered, AreOf, ArePlaced, IsPlaced, next_numbered, numbered_first, of_all_lives, of_front, placed_before}
 use Rattle.cops_script.proofs.SaidLines.{named_begun}
 use Rattle.cops_script.proofs.ScriptHeadLemmas.{whole_head}
@@ -118,8 +118,9 @@ texts_alike one other tenants lives [] [] numbered too placed of also each = ref
 texts_alike one other tenants lives [] (answer ∷ told) numbered too placed of also each = absurd each
 texts_alike one other tenants lives (said ∷ more) [] numbered too placed of also each = absurd each
 texts_alike one other tenants lives (said ∷ more) (answer ∷ told) numbered too placed of also each =
-    let rest = texts_alike one other (tenants_after tenants said) (lives_after lives said) more told (next_numbered one tenants lives said numbered placed.0 of.0) (next_numbered other tenants lives said too placed.0 also.0) placed.1 of.1 also.1 each.1 in
-    (λ i. same said each.0 placed.0 i ++ rest i)
+    let first = first_answered (of_life lives said) (of_lives_from (lives_after lives said) more) answer told each in
+    let rest = texts_alike one other (tenants_after tenants said) (lives_after lives said) more told (next_numbered one tenants lives said numbered placed.0 of.0) (next_numbered other tenants lives said too placed.0 also.0) placed.1 of.1 also.1 first.1 in
+    (λ i. same said first.0 placed.0 i ++ rest i)
   where
     named : (slot : ℕ) (reply : Reply) → (tenant : Tenant) × (open_at slot tenants ≡ Some tenant) → answer_line one.tenants (ToTenant (lives.last_at slot) reply) ≡ answer_line other.tenants (ToTenant (lives.last_at slot) reply)
     named slot reply (tenant, there) =

@@ -26,16 +26,12 @@ words_of_act (Collect dc shard moment) = codes "collect" ∷ decimal dc ∷ deci
 
 -- ---- which acts have a line
 
--- a value is a word of visible bytes
-abbrev pub is_value_word : List ℕ → Bool
-is_value_word value = is_word value && list_all (is_between 33 126) value
-
--- names are valid, numbers are below 2 to the 64, a key may be any word, and a transaction has at least one key
+-- names are valid, numbers are below 2 to the 64, a key may be any word, a value is a word of visible bytes, and a transaction has at least one key
 abbrev pub has_line : Act → Bool
 has_line (Open name dc) = is_name name && is_u64 dc
 has_line (Create name) = is_name name
 has_line (Delete name number) = is_name name && is_u64 number
-has_line (Put name number key value) = is_name name && is_u64 number && is_word key && is_value_word value
+has_line (Put name number key value) = is_name name && is_u64 number && is_word key && (is_word value && list_all (is_between 33 126) value)
 has_line (Get name number keys) = is_name name && is_u64 number && nat_lt 0 (length keys) && list_all is_word keys
 has_line (Show name number) = is_name name && is_u64 number
 has_line (Carry name dc shard to_dc) = is_name name && is_u64 dc && is_u64 shard && is_u64 to_dc

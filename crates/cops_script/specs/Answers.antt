@@ -4,14 +4,14 @@ use Rattle.std.specs.Option.{option_map_or}
 use Rattle.cops_types.specs.declared.configs.Tenant.{Tenant}
 use Rattle.cops_types.specs.FaultText.{fault_text}
 use Rattle.cops_types.specs.OpenSlots.{open_at}
-use Rattle.cops_types.specs.Words.{newline}
+use Rattle.cops_types.specs.Words.{newline, spaced}
 use Rattle.cops_model.specs.declared.replies.HostReply.{HostReply}
 use Rattle.cops_model.specs.declared.replies.HostReply.TheVariants.{Admitted, Closed, Denied}
 use Rattle.cops_model.specs.declared.replies.Reply.{Reply}
 use Rattle.cops_model.specs.declared.replies.Reply.TheVariants.{Refused}
 use Rattle.cops_model.specs.Events.{is_out_of_memory}
 use Rattle.cops_script.specs.Said.{HostDeed, Admits, Closes, Refuses}
-use Rattle.cops_script.specs.ReplyText.{text_of_reply}
+use Rattle.cops_script.specs.ReplyText.{words_of_reply}
 
 -- an answer to a tenant, by the number of its life or of its slot
 pub data Answer : Type 0 where
@@ -31,18 +31,15 @@ is_lack (ToTenant number reply) = is_out_of_memory reply
 
 -- ---- as text
 
-abbrev pub host_text : HostReply → List ℕ
-host_text (Admitted name) = codes "admitted" ++ 32 ∷ name
-host_text (Closed name) = codes "closed" ++ 32 ∷ name
-host_text (Denied fault) = fault_text fault
-
 -- a hyphen, a space, the reply
 abbrev pub host_line : HostReply → List ℕ
-host_line reply = codes "-" ++ 32 ∷ host_text reply ++ newline ∷ []
+host_line (Admitted name) = codes "- admitted " ++ name ++ newline ∷ []
+host_line (Closed name) = codes "- closed " ++ name ++ newline ∷ []
+host_line (Denied fault) = codes "- " ++ fault_text fault ++ newline ∷ []
 
 -- the tenant's name, a space, the reply
 abbrev pub reply_line : List ℕ → Reply → List ℕ
-reply_line name reply = name ++ 32 ∷ text_of_reply reply ++ newline ∷ []
+reply_line name reply = name ++ 32 ∷ spaced (words_of_reply reply) ++ newline ∷ []
 
 abbrev pub name_at : List Tenant → ℕ → List ℕ
 name_at tenants number = slice_index_or (map (λ (tenant : Tenant). tenant.name) tenants) number []

@@ -22,17 +22,13 @@ pub record IsClosingLine (line name : List ℕ) : Type 0 where
   pub signed : line ≡ codes "- " ++ name
   pub named : IsTrue (is_name name)
 
--- the least free slot
-abbrev pub free_slot : List (Option Tenant) → Option ℕ
-free_slot tenants = position is_none (take most_tenants tenants)
-
 -- while these tenants are open, the line means this request
 pub data Means (tenants : List (Option Tenant)) (line : List ℕ) : Said → Type 0 where
-  -- an admission, unless memory runs out for it
-  Admission : (tenant : Tenant) (slot : ℕ) → IsAdmissionLine line tenant → IsTrue (is_new tenants tenant) → free_slot tenants ≡ Some slot → Means tenants line (OfHost (Admits slot tenant))
-  NoMemory : (tenant : Tenant) (slot : ℕ) → IsAdmissionLine line tenant → IsTrue (is_new tenants tenant) → free_slot tenants ≡ Some slot → Means tenants line (OfHost (Refuses OutOfMemory))
+  -- an admission, which gets the least free slot, unless memory runs out for it
+  Admission : (tenant : Tenant) (slot : ℕ) → IsAdmissionLine line tenant → IsTrue (is_new tenants tenant) → position is_none (take most_tenants tenants) ≡ Some slot → Means tenants line (OfHost (Admits slot tenant))
+  NoMemory : (tenant : Tenant) (slot : ℕ) → IsAdmissionLine line tenant → IsTrue (is_new tenants tenant) → position is_none (take most_tenants tenants) ≡ Some slot → Means tenants line (OfHost (Refuses OutOfMemory))
   KnownTenant : (tenant : Tenant) → IsAdmissionLine line tenant → IsFalse (is_new tenants tenant) → Means tenants line (OfHost (Refuses NameTaken))
-  NoRoom : (tenant : Tenant) → IsAdmissionLine line tenant → IsTrue (is_new tenants tenant) → free_slot tenants ≡ None → Means tenants line (OfHost (Refuses NoSlot))
+  NoRoom : (tenant : Tenant) → IsAdmissionLine line tenant → IsTrue (is_new tenants tenant) → position is_none (take most_tenants tenants) ≡ None → Means tenants line (OfHost (Refuses NoSlot))
   BadAdmission : first_word line ≡ codes "+" → ((tenant : Tenant) → IsAdmissionLine line tenant → ⊥) → Means tenants line (OfHost (Refuses Syntax))
   -- a close
   Closing : (name : List ℕ) (slot : ℕ) → IsClosingLine line name → position (has_name name) tenants ≡ Some slot → Means tenants line (OfHost (Closes slot name))

@@ -49,18 +49,14 @@ lives_told config lines told = of_lives config (said_told config lines told)
 
 -- ---- who gets which reply
 
--- the host gets the reply to its line, a tenant's line that is no act a syntax fault, however much memory there is, and an act a reply
-abbrev pub IsAnswerTo : Said → Answer → Type 0
-IsAnswerTo (OfHost deed) answer = answer ≡ ToHost (reply_to_host deed)
-IsAnswerTo (Unformed number) answer = answer ≡ ToTenant number (Refused Syntax)
-IsAnswerTo (Acts event) answer = (reply : Reply) × (answer ≡ ToTenant event.slot reply)
-
--- so does each request, one after another
+-- one after another, the host gets the reply to its line, a tenant's line that is no act a syntax fault, however much memory there is, and an act a reply
 abbrev pub AreAnswersTo : List Said → List Answer → Type 0
 AreAnswersTo [] [] = Unit {0}
 AreAnswersTo [] (answer ∷ told) = ⊥
 AreAnswersTo (said ∷ more) [] = ⊥
-AreAnswersTo (said ∷ more) (answer ∷ told) = IsAnswerTo said answer × AreAnswersTo more told
+AreAnswersTo (OfHost deed ∷ more) (answer ∷ told) = (answer ≡ ToHost (reply_to_host deed)) × AreAnswersTo more told
+AreAnswersTo (Unformed number ∷ more) (answer ∷ told) = (answer ≡ ToTenant number (Refused Syntax)) × AreAnswersTo more told
+AreAnswersTo (Acts event ∷ more) (answer ∷ told) = ((reply : Reply) × (answer ≡ ToTenant event.slot reply)) × AreAnswersTo more told
 
 -- the replies to the tenant of a number
 abbrev pub replies_to : ℕ → List Answer → List Reply

@@ -1,10 +1,12 @@
 //! The acts that the lines of a tenant write.
-ghost use Rattle.std.specs.Prelude.{◌≡◌, ◌≤◌, ◌+◌, [], ◌∷◌, ℕ, List, drop, length, IsTrue, IfSome, IfNone, decimal};
+ghost use Rattle.std.specs.Prelude.{◌≡◌, ◌≤◌, ◌&&◌, ◌+◌, [], ◌∷◌, ℕ, List, drop, length, IsTrue, IfSome, IfNone, decimal};
+ghost use Rattle.std.specs.List.{list_all};
 ghost use Rattle.std.specs.Option.{option_and_then, option_map_or};
+ghost use Rattle.cops_types.specs.HeadLines.{is_between};
 ghost use Rattle.cops_types.specs.Key.{is_name};
 ghost use Rattle.cops_types.specs.Words.{first_word, is_u64, is_word, parts_at, space};
 ghost use Rattle.cops_model.specs.declared.acts.Act.TheVariants.{Open, Delete, Show, Step, Done};
-ghost use Rattle.cops_script.specs.ActLines.{act_in, act_of_words, carry_of, collect_of, create_of, get_of, is_value_word, named_of, put_of};
+ghost use Rattle.cops_script.specs.ActLines.{act_in, act_of_words, carry_of, collect_of, create_of, get_of, named_of, put_of};
 ghost use Rattle.cops_script.specs.ActWords.{keys_of, with_line};
 
 use cops_model::{Act, ByteSlice, ByteSlices};
@@ -253,8 +255,8 @@ fn last_three_numbers(words: &[u8]) -> Option<(u64, u64, u64)>
 /// so there is no search for one behind the key.
 #[inline(always)]
 fn last_key_and_value(words: &[u8]) -> Option<(&[u8], &[u8])>
-    ensures some { IfSome result (λ both. IsTrue (is_word both.0.now) × IsTrue (is_value_word both.1.now) × (parts_at space words.now ≡ both.0.now ∷ both.1.now ∷ [])) }
-    ensures none { IfNone result ((key value : List ℕ) → IsTrue (is_word key) → IsTrue (is_value_word value) → parts_at space words.now ≡ key ∷ value ∷ [] → ⊥) }
+    ensures some { IfSome result (λ both. IsTrue (is_word both.0.now) × IsTrue (is_word both.1.now && list_all (is_between 33 126) both.1.now) × (parts_at space words.now ≡ both.0.now ∷ both.1.now ∷ [])) }
+    ensures none { IfNone result ((key value : List ℕ) → IsTrue (is_word key) → IsTrue (is_word value && list_all (is_between 33 126) value) → parts_at space words.now ≡ key ∷ value ∷ [] → ⊥) }
 {
     let (key, value) = split_at_space(words)?;
     if key.is_empty() {
@@ -269,7 +271,7 @@ fn last_key_and_value(words: &[u8]) -> Option<(&[u8], &[u8])>
 /// Returns `true` if a word is a value: at least one byte, all visible. It reads every byte, so
 /// that many are read at a time.
 fn is_value_word(word: &[u8]) -> bool
-    ensures { result ≡ is_value_word word.now }
+    ensures { result ≡ (is_word word.now && list_all (is_between 33 126) word.now) }
 {
     let mut seen = true;
     for byte in word {

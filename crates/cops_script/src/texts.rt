@@ -1,10 +1,10 @@
 //! Texts of replies, appended to a vector.
 ghost use Rattle.std.specs.Option.{option_copied};
-ghost use Rattle.std.specs.Prelude.{◌≡◌, ◌++◌, [], ◌∷◌, ℕ, List, decimal, map, OnOk};
-ghost use Rattle.cops_types.specs.Words.{spaced};
+ghost use Rattle.std.specs.Prelude.{◌≡◌, ◌++◌, [], ◌∷◌, ℕ, List, codes, decimal, map, OnOk, unwrap_or};
+ghost use Rattle.cops_types.specs.Words.{spaced, version_text};
 ghost use Rattle.cops_model.specs.declared.replies.Reply.TheVariants.{Carried, Lists, OutOfOrder, Refused};
 ghost use Rattle.cops_model.specs.declared.replies.HostReply.TheVariants.{Denied};
-ghost use Rattle.cops_script.specs.ReplyText.{pair_words, read_text, text_of_reply, value_text};
+ghost use Rattle.cops_script.specs.ReplyText.{read_text, words_of_reply};
 ghost use Rattle.cops_script.specs.ReplyWords.{later_texts};
 ghost use Rattle.cops_script.specs.Answers.{host_line, reply_line};
 ghost use Rattle.cops_types.specs.declared.faults.Fault.TheVariants.{UnknownTenant};
@@ -17,7 +17,7 @@ use std::alloc::AllocError;
 /// Appends the text of a reply. On `Err` a prefix of it may have been appended. Fails with
 /// `AllocError` if memory runs out.
 pub fn push_reply(out: &mut Vec<u8>, reply: &Reply) -> Result<(), AllocError>
-    ensures { OnOk result (out.new.items ≡ out.old.items ++ text_of_reply reply.now) }
+    ensures { OnOk result (out.new.items ≡ out.old.items ++ spaced (words_of_reply reply.now)) }
 {
     match reply {
         Reply::Opened => push_word(out, b"opened"),
@@ -118,7 +118,7 @@ fn push_count(out: &mut Vec<u8>, word: &[u8], number: u64) -> Result<(), AllocEr
 
 /// Appends a word, a key and a version.
 fn push_pair_after(out: &mut Vec<u8>, word: &[u8], pair: &Pair) -> Result<(), AllocError>
-    ensures { OnOk result (out.new.items ≡ out.old.items ++ spaced (word.now ∷ pair_words pair.now)) }
+    ensures { OnOk result (out.new.items ≡ out.old.items ++ spaced (word.now ∷ pair.now.key ∷ version_text pair.now.version ∷ [])) }
 {
     push_word(out, word)?;
     out.push(b' ')?;
@@ -129,7 +129,7 @@ fn push_pair_after(out: &mut Vec<u8>, word: &[u8], pair: &Pair) -> Result<(), Al
 
 /// Appends the two lists of a context.
 fn push_lists(out: &mut Vec<u8>, all: &Deps, near: &Near) -> Result<(), AllocError>
-    ensures { OnOk result (out.new.items ≡ out.old.items ++ text_of_reply (Lists all.now near.now)) }
+    ensures { OnOk result (out.new.items ≡ out.old.items ++ spaced (words_of_reply (Lists all.now near.now))) }
 {
     push_word(out, b"all ")?;
     push_deps(out, all.owned())?;
@@ -139,7 +139,7 @@ fn push_lists(out: &mut Vec<u8>, all: &Deps, near: &Near) -> Result<(), AllocErr
 
 /// Appends the outcome for a stream's head.
 fn push_carried(out: &mut Vec<u8>, pair: &Pair, fresh: bool, acked: bool) -> Result<(), AllocError>
-    ensures { OnOk result (out.new.items ≡ out.old.items ++ text_of_reply (Carried pair.now fresh acked)) }
+    ensures { OnOk result (out.new.items ≡ out.old.items ++ spaced (words_of_reply (Carried pair.now fresh acked))) }
 {
     let committed: &[u8] = if fresh { b"committed" } else { b"already" };
     let taken: &[u8] = if acked { b" acked" } else { b" notfront" };
@@ -149,7 +149,7 @@ fn push_carried(out: &mut Vec<u8>, pair: &Pair, fresh: bool, acked: bool) -> Res
 
 /// Appends the version that was committed last.
 fn push_mark(out: &mut Vec<u8>, mark: Version) -> Result<(), AllocError>
-    ensures { OnOk result (out.new.items ≡ out.old.items ++ text_of_reply (OutOfOrder mark)) }
+    ensures { OnOk result (out.new.items ≡ out.old.items ++ spaced (words_of_reply (OutOfOrder mark))) }
 {
     push_word(out, b"outoforder ")?;
     push_version(out, mark)
@@ -190,7 +190,7 @@ fn push_read(out: &mut Vec<u8>, read: &Read) -> Result<(), AllocError>
 
 /// Appends the value, or `none`.
 fn push_value(out: &mut Vec<u8>, value: Option<&OwnedValue>) -> Result<(), AllocError>
-    ensures { OnOk result (out.new.items ≡ out.old.items ++ value_text (option_copied value.entry)) }
+    ensures { OnOk result (out.new.items ≡ out.old.items ++ unwrap_or (option_copied value.entry) (codes "none")) }
 {
     match value {
         Some(value) => push_word(out, value.bytes()),

@@ -13,7 +13,7 @@ use Rattle.cops_model.specs.declared.calls.NodeCall.TheVariants.{Get}
 use Rattle.cops_model.specs.declared.calls.NodeReply.{NodeReply}
 use Rattle.cops_model.specs.declared.calls.NodeReply.TheVariants.{Gone, Refused}
 use Rattle.cops_model.specs.declared.calls.Wanted.TheVariants.{Latest, Exactly}
-use Rattle.cops_model.specs.Log.{Call, Directed, Ended, LogStep, Replied, Restart, fault_in, first_fault, is_asked, replies_of, reply_in, first_moment}
+use Rattle.cops_model.specs.Log.{Call, Directed, Ended, LogStep, Replied, Restart, call_or, fault_in, first_fault, is_asked, replies_of, reply_in}
 use Rattle.cops_model.specs.declared.requests.Answer.{Answer}
 use Rattle.cops_model.specs.declared.requests.Answer.TheVariants as ended
 use Rattle.cops_model.specs.declared.requests.Progress.TheVariants as shows
@@ -22,8 +22,8 @@ use Rattle.cops_session.specs.declared.ongoing.Round.{Round}
 use Rattle.cops_session.specs.declared.ongoing.Round.TheVariants.{First, Second}
 use Rattle.cops_session.specs.declared.rounds.Wish.{Wish}
 use Rattle.cops_session.specs.Asking.{is_gone}
-use Rattle.cops_session.specs.Reading.{IsOfAttempt, IsReading, RoundStandsFor, is_past}
-use Rattle.cops_model.specs.Request.{Attempt, Fetch, Request, answer_in, attempt_of, begins_again, call_after, call_or_answer, complete, is_late, key_home, next, request_calls, unless_fault, unless_late, values_or_full}
+use Rattle.cops_session.specs.Reading.{IsOfAttempt, IsReading, RoundStandsFor, first_moment, is_past}
+use Rattle.cops_model.specs.Request.{Attempt, Fetch, Request, answer_in, attempt_of, begins_again, call_after, complete, is_late, key_home, next, request_calls, unless_fault, unless_late, values_or_full}
 use Rattle.cops_session.specs.Rounds.{FirstReads, wishes_of}
 use Rattle.cops_model.specs.Session.{has_restarted, progress, shown}
 use Rattle.cops_session.specs.Stands.{IsFirstOf, IsOver}
@@ -108,8 +108,8 @@ module _ (config : TenantConfig) (dc : ℕ) (obs : List Observation) (keys : Lis
       let replies = replies_of attempt.steps in
       let direct : ReadRequest → Directed = λ g. record { node = key_home config dc g.key; call = Get g.key g.wanted } in
       let calls = request_calls config of_keys replies (Fetch keys) in
-      rw few (ap (λ f. unless_fault f (call_or_answer (slice_get calls (length replies)) (complete config of_keys replies (Fetch keys)))) none
-      ∙ ap (λ c. call_or_answer c (complete config of_keys replies (Fetch keys))) (slice_get-map direct (gets keys replies) (length replies) asked is))
+      rw few (ap (λ f. unless_fault f (call_or (slice_get calls (length replies)) (complete config of_keys replies (Fetch keys)))) none
+      ∙ ap (λ c. call_or c (complete config of_keys replies (Fetch keys))) (slice_get-map direct (gets keys replies) (length replies) asked is))
 
   module _ (log : List LogStep) (reading : Reading) (stands : IsReading config of_keys keys log reading) where
     abbrev attempt : Attempt

@@ -10,11 +10,11 @@ use Rattle.cops_types.specs.TenantConfig.{TenantConfig}
 use Rattle.cops_model.specs.declared.calls.NodeCall.TheVariants.{Get}
 use Rattle.cops_model.specs.declared.calls.NodeReply.{NodeReply}
 use Rattle.cops_model.specs.declared.calls.NodeReply.TheVariants as node_reply
-use Rattle.cops_model.specs.Log.{Call, Directed, Ended, LogStep, Next, Replied, Restart, first_fault, replies_of, reply_in}
+use Rattle.cops_model.specs.Log.{Call, Directed, Ended, LogStep, Next, Replied, Restart, call_or, first_fault, replies_of, reply_in}
 use Rattle.cops_model.specs.declared.requests.Answer.{Answer}
 use Rattle.cops_model.specs.declared.requests.Answer.TheVariants.{Refused}
 use Rattle.cops_model.specs.declared.requests.Progress.TheVariants as progress
-use Rattle.cops_model.specs.Request.{Action, Attempt, Fetch, Request, Write, answer_in, attempt_of, begins_again, call_after, call_or_answer, complete, is_late, key_home, next, request_calls, unless_fault, unless_late}
+use Rattle.cops_model.specs.Request.{Action, Attempt, Fetch, Request, Write, answer_in, attempt_of, begins_again, call_after, complete, is_late, key_home, next, request_calls, unless_fault, unless_late}
 use Rattle.cops_model.specs.Session.{progress, has_restarted}
 use Rattle.cops_model.specs.Session as session
 use Rattle.cops_model.specs.Transaction.{ReadRequest, gets}
@@ -26,7 +26,7 @@ not_late true Restart d e = e
 not_late true (Ended a) d e = e
 not_late false n d e = e
 
-asks : (fault : Option Fault) (o : Option Directed) (a : Answer) (d : Directed) → unless_fault fault (call_or_answer o a) ≡ Call d → (fault ≡ None) × (o ≡ Some d)
+asks : (fault : Option Fault) (o : Option Directed) (a : Answer) (d : Directed) → unless_fault fault (call_or o a) ≡ Call d → (fault ≡ None) × (o ≡ Some d)
 asks None None a d e = cc
 asks None (Some c) a d e = (refl, let same : c ≡ d = cc in ap Some same)
 asks (Some x) o a d e = cc
@@ -79,8 +79,8 @@ request_refused config request log at moment d fault e = by_restarts (nat_lt con
     ends : nat_lt config.restarts attempt.restarts ≡ false → first_fault (request_calls config request replies request.action) replies ≡ None → slice_get (request_calls config request replies request.action) (length replies) ≡ Some d →
         call_after config request later ≡ Ended (Refused fault)
     ends few none there =
-        rw few (ap (λ rs. unless_fault (first_fault (request_calls config request rs request.action) rs) (call_or_answer (slice_get (request_calls config request rs request.action) (length rs)) (complete config request rs request.action))) replies_are
-        ∙ ap (λ f. unless_fault f (call_or_answer (slice_get (request_calls config request more request.action) (length more)) (complete config request more request.action))) (refused_fault config request replies d fault request.action none there))
+        rw few (ap (λ rs. unless_fault (first_fault (request_calls config request rs request.action) rs) (call_or (slice_get (request_calls config request rs request.action) (length rs)) (complete config request rs request.action))) replies_are
+        ∙ ap (λ f. unless_fault f (call_or (slice_get (request_calls config request more request.action) (length more)) (complete config request more request.action))) (refused_fault config request replies d fault request.action none there))
       where
         more : List NodeReply
         more = replies ++ node_reply.Refused fault ∷ []

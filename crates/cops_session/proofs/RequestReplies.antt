@@ -14,10 +14,10 @@ use Rattle.cops_types.specs.Version.{Timestamp}
 use Rattle.cops_model.specs.declared.calls.NodeCall.TheVariants.{Get, Put}
 use Rattle.cops_model.specs.declared.calls.NodeReply.{NodeReply}
 use Rattle.cops_model.specs.declared.calls.NodeReply.TheVariants as node_reply
-use Rattle.cops_model.specs.Log.{Call, Directed, Ended, Late, LogStep, Next, Outcome, Replied, first_fault, replies_of, reply_in}
+use Rattle.cops_model.specs.Log.{Call, Directed, Ended, Late, LogStep, Next, Outcome, Replied, call_or, first_fault, replies_of, reply_in}
 use Rattle.cops_model.specs.declared.requests.Answer.{Answer}
 use Rattle.cops_model.specs.declared.requests.Answer.TheVariants.{Stored, Values, Refused}
-use Rattle.cops_model.specs.Request.{Attempt, Fetch, Request, Write, answer, answer_in, attempt_after, attempt_of, begins_again, call_or_answer, is_late, key_home, next, unless_fault, unless_late, values_or_full}
+use Rattle.cops_model.specs.Request.{Attempt, Fetch, Request, Write, answer, answer_in, attempt_after, attempt_of, begins_again, is_late, key_home, next, unless_fault, unless_late, values_or_full}
 use Rattle.cops_model.specs.Transaction.{ReadRequest, gets, first_round, second_round, reads_of, final_reads}
 use Rattle.cops_types.proofs.Elements.{fold-push, slice_get-within}
 use Rattle.cops_types.proofs.PairSets.{at}
@@ -84,7 +84,7 @@ slice_get-none (x ∷ xs) (suc i) e = let later = slice_get-none xs i e in omega
 -- what comes next of the calls, for a transaction
 abbrev chosen : TenantConfig → ℕ → List Observation → List (List ℕ) → List NodeReply → Bool → Option Fault → Option Directed → Next Answer
 chosen config dc obs keys rs spent fault found =
-    cond spent (Ended (Refused Overrun)) (unless_fault fault (call_or_answer found (values_or_full config.quota.deps obs (final_reads keys rs))))
+    cond spent (Ended (Refused Overrun)) (unless_fault fault (call_or found (values_or_full config.quota.deps obs (final_reads keys rs))))
 
 module _ (config : TenantConfig) (dc : ℕ) (obs : List Observation) (keys : List (List ℕ)) where
   abbrev faults_in : List NodeReply → Option Fault
@@ -243,6 +243,6 @@ get-open config dc obs (key ∷ keys) some = rw (never_less config.restarts) (by
   where
     by_more : (b : Bool) →
         let asked = cond b (first_round (key ∷ keys)) (first_round (key ∷ keys) ++ second_round (reads_of (key ∷ keys) [])) in
-        answer_in (unless_fault (first_fault (map (call_of config dc) asked) []) (call_or_answer (slice_get (map (call_of config dc) asked) 0) (values_or_full config.quota.deps obs (final_reads (key ∷ keys) [])))) ≡ None
+        answer_in (unless_fault (first_fault (map (call_of config dc) asked) []) (call_or (slice_get (map (call_of config dc) asked) 0) (values_or_full config.quota.deps obs (final_reads (key ∷ keys) [])))) ≡ None
     by_more true = refl
     by_more false = refl

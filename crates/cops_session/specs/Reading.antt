@@ -1,8 +1,8 @@
 -- A running get transaction represents the log of its steps.
-use Rattle.std.specs.Prelude.{◌≡◌, ℕ, Bool, false, ◌+◌, ◌-◌, ◌<◌, nat_lt, List, length, Option, Some, None}
+use Rattle.std.specs.Prelude.{◌≡◌, ℕ, Bool, false, ◌+◌, ◌-◌, ◌<◌, nat_lt, List, [], ◌∷◌, length, Option, Some, None}
 use Rattle.cops_types.specs.TenantConfig.{TenantConfig}
 use Rattle.cops_model.specs.declared.calls.NodeReply.{NodeReply}
-use Rattle.cops_model.specs.Log.{LogStep, first_fault, replies_of, first_moment}
+use Rattle.cops_model.specs.Log.{LogStep, first_fault, replies_of}
 use Rattle.cops_session.specs.declared.ongoing.Ongoing.{Ongoing}
 use Rattle.cops_session.specs.declared.ongoing.Reading.{Reading}
 use Rattle.cops_session.specs.declared.ongoing.Round.{Round}
@@ -11,6 +11,11 @@ use Rattle.cops_session.specs.declared.ongoing.Work.{Work}
 use Rattle.cops_session.specs.declared.ongoing.Work.TheVariants.{Put, Get}
 use Rattle.cops_model.specs.Request.{Attempt, Fetch, Request, attempt_of, request_calls}
 use Rattle.cops_session.specs.Stands.{AreDistinctKeys, IsFirstOf, IsSecondOf}
+
+-- the timestamp of the first step, if there is one
+abbrev pub first_moment : List LogStep → Option ℕ
+first_moment [] = None
+first_moment (first ∷ steps) = Some first.moment
 
 -- the timestamp is more than `trans_time` past the start
 abbrev pub is_past : ℕ → Option ℕ → ℕ → Bool

@@ -15,8 +15,8 @@ use Rattle.cops_model.specs.declared.deliveries.Delivery.{Delivery}
 use Rattle.cops_model.specs.declared.requests.Answer.{Answer}
 use Rattle.cops_model.specs.declared.requests.Progress.{Progress}
 use Rattle.cops_model.specs.declared.requests.Progress.TheVariants.{Done}
-use Rattle.cops_model.specs.Carrier.{Carrier, Stream, call_or_end, carrier_next, check, finished_delivery, first_end, new_carrier, stream_calls, unless_end}
-use Rattle.cops_model.specs.Log.{Call, Directed, Ended, LogStep, Next, Restart, replies_of}
+use Rattle.cops_model.specs.Carrier.{Carrier, Stream, carrier_next, check, finished_delivery, first_end, new_carrier, stream_calls, unless_end}
+use Rattle.cops_model.specs.Log.{Call, Directed, Ended, LogStep, Next, Restart, call_or, replies_of}
 use Rattle.cops_model.specs.Request.{Action, Fetch, Write, next}
 use Rattle.cops_model.specs.Session.{Running, Session, moment_at, new_session, request_begun, request_of}
 use Rattle.cops_service.specs.Carried.{Delivers, TakesSteps}
@@ -205,7 +205,7 @@ module _ (shards : ℕ) (some : 0 < shards) (stream : Stream) (origin : stream.o
   listed_in (c ∷ calls) zero d all is = let same : c ≡ d = cc in subst IsIn same all.0
   listed_in (c ∷ calls) (suc n) d all is = listed_in calls n d all.1 is
 
-  asks : (ending : Option Delivery) (o : Option Directed) (last : Delivery) (d : Directed) → unless_end ending (call_or_end o last) ≡ Call d → o ≡ Some d
+  asks : (ending : Option Delivery) (o : Option Directed) (last : Delivery) (d : Directed) → unless_end ending (call_or o last) ≡ Call d → o ≡ Some d
   asks None None last d is = cc
   asks None (Some c) last d is = let same : c ≡ d = cc in ap Some same
   asks (Some x) o last d is = cc

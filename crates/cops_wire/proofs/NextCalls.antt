@@ -9,8 +9,8 @@ use Rattle.cops_model.specs.declared.calls.NodeReply.{NodeReply}
 use Rattle.cops_model.specs.declared.requests.Answer.{Answer}
 use Rattle.cops_model.specs.declared.requests.Answer.TheVariants.{Refused}
 use Rattle.cops_types.specs.declared.faults.Fault.TheVariants.{Overrun}
-use Rattle.cops_model.specs.Log.{Call, Directed, Ended, LogStep, Next, Restart, first_fault, replies_of}
-use Rattle.cops_model.specs.Request.{Action, Attempt, Fetch, Request, Write, attempt_of, call_after, call_or_answer, complete, is_late, key_home, next, request_calls, unless_fault, unless_late}
+use Rattle.cops_model.specs.Log.{Call, Directed, Ended, LogStep, Next, Restart, call_or, first_fault, replies_of}
+use Rattle.cops_model.specs.Request.{Action, Attempt, Fetch, Request, Write, attempt_of, call_after, complete, is_late, key_home, next, request_calls, unless_fault, unless_late}
 use Rattle.cops_model.specs.Transaction.{ReadRequest, gets}
 
 -- the node of the call has a shard that there is, if there are shards
@@ -44,7 +44,7 @@ not_late true Restart d e = e
 not_late true (Ended a) d e = e
 not_late false n d e = e
 
-asks : (fault : Option Fault) (o : Option Directed) (a : Answer) (d : Directed) → unless_fault fault (call_or_answer o a) ≡ Call d → o ≡ Some d
+asks : (fault : Option Fault) (o : Option Directed) (a : Answer) (d : Directed) → unless_fault fault (call_or o a) ≡ Call d → o ≡ Some d
 asks None None a d e = cc
 asks None (Some c) a d e = let same : c ≡ d = cc in ap Some same
 asks (Some x) o a d e = cc
@@ -65,5 +65,5 @@ next_has config request log moment d e = by_restarts (nat_lt config.restarts att
     by_restarts true many is = let clash : Ended (Refused Overrun) ≡ Call d = sym (over many) ∙ is in cc
     by_restarts false few is =
         let calls = request_calls config request replies request.action in
-        let there : unless_fault (first_fault calls replies) (call_or_answer (slice_get calls (length replies)) (complete config request replies request.action)) ≡ Call d = sym (rw few refl) ∙ is in
+        let there : unless_fault (first_fault calls replies) (call_or (slice_get calls (length replies)) (complete config request replies request.action)) ≡ Call d = sym (rw few refl) ∙ is in
         called config request replies (length replies) d request.action (asks (first_fault calls replies) (slice_get calls (length replies)) (complete config request replies request.action) d there)

@@ -14,8 +14,8 @@ use Rattle.cops_model.specs.declared.requests.Answer.{Answer}
 use Rattle.cops_model.specs.declared.requests.Answer.TheVariants as answer_is
 use Rattle.cops_model.specs.declared.requests.Progress.{Progress}
 use Rattle.cops_model.specs.declared.requests.Progress.TheVariants.{Working, Restarted, Done}
-use Rattle.cops_model.specs.Log.{Call, Directed, Ended, Late, LogStep, Next, Replied, Restart, first_fault, replies_of}
-use Rattle.cops_model.specs.Request.{Action, Fetch, Request, Write, answer, answer_in, attempt_of, call_or_answer, complete, next, request_calls, unless_fault}
+use Rattle.cops_model.specs.Log.{Call, Directed, Ended, Late, LogStep, Next, Replied, Restart, call_or, first_fault, replies_of}
+use Rattle.cops_model.specs.Request.{Action, Fetch, Request, Write, answer, answer_in, attempt_of, complete, next, request_calls, unless_fault}
 use Rattle.cops_model.specs.Session.{Running, Session, moment_at, obs_of, progress, request_of, shown}
 use Rattle.cops_wire.specs.Limits.{IsHeldOrTyped}
 use Rattle.cops_wire.specs.Requests.{Backend, DoesNext, EndsAfter, is_one_frame, message_of_answer, whole_message}
@@ -79,7 +79,7 @@ stored_or_torn config request key value (node_reply.Stored version ∷ replies) 
 stored_or_torn config request key value (reply ∷ replies) reads e = cc
 
 no_read : (spent : Bool) (fault : Option Fault) (found : Option Directed) (ended : Answer) (reads : List Read) → IsNoRead ended
-    → answer_in (cond spent (Ended (answer_is.Refused Overrun)) (unless_fault fault (call_or_answer found ended))) ≡ Some (answer_is.Values reads) → ⊥
+    → answer_in (cond spent (Ended (answer_is.Refused Overrun)) (unless_fault fault (call_or found ended))) ≡ Some (answer_is.Values reads) → ⊥
 no_read true fault found ended reads none e = cc
 no_read false (Some fault) found ended reads none e = cc
 no_read false None (Some call) ended reads none e = cc

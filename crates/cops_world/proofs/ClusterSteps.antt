@@ -28,7 +28,7 @@ use Rattle.cops_model.specs.Carrier as carrier
 use Rattle.cops_repl.specs.Stands.{KeptCarrier, StandsIfWorking, is_done, told_progress}
 use Rattle.cops_model.specs.declared.replies.Reply.{Reply}
 use Rattle.cops_model.specs.declared.replies.Reply.TheVariants.{Refused}
-use Rattle.cops_model.specs.Cluster.{ActEffect, Actor, OfCarrier, OfSession, SoloCluster, actor_step, call_node, carrier_does, carrier_step, carrier_stepped, find_actor, reply_of_progress, request_does, running_step, session_stepped, step_of, with_actor, without_actor}
+use Rattle.cops_model.specs.Cluster.{ActEffect, Actor, OfCarrier, OfSession, SoloCluster, actor_step, call_node, carrier_does, carrier_stepped, find_actor, reply_of_progress, request_does, running_step, session_stepped, step_of, with_actor, without_actor}
 use Rattle.cops_model.specs.Events.{is_out_of_memory}
 use Rattle.cops_world.specs.declared.actors.Actor.{Actor as Kept}
 use Rattle.cops_world.specs.declared.actors.Actor.TheVariants as kept
@@ -112,7 +112,7 @@ module _ (config : TenantConfig) (name : List ℕ) (before : SoloCluster) (nodes
   -- ---- carriers
 
   carrier_turn : (c : Carrier) (kept_after : KeptCarrier) (stepped : Stepped) → IsFalse (is_out_of_memory (told_act stepped.answered)) → CarrierSteps AtNodes config c moment stepped kept_after →
-      StepsCluster config name before nodes (carrier_step config name c (max c.moment moment) before) stepped (kept.OfCarrier kept_after)
+      StepsCluster config name before nodes (carrier_does config name c (max c.moment moment) before (carrier.carrier_next config.shards c.stream c.log)) stepped (kept.OfCarrier kept_after)
   carrier_turn c kept_after stepped spared p = by_turn p.made
     where
       at : ℕ
@@ -145,10 +145,10 @@ module _ (config : TenantConfig) (name : List ℕ) (before : SoloCluster) (nodes
             (ap (λ actors. (without_actor name (record before { actors = actors })).actors) same_actors);
       }
 
-      whole_turn : carrier_step config name c at before ≡ carrier_does config name c at before (Call d)
+      whole_turn : carrier_does config name c at before (carrier.carrier_next config.shards c.stream c.log) ≡ carrier_does config name c at before (Call d)
       whole_turn = ap (carrier_does config name c at before) p.step_of.asked
 
-      by_turn : AtNodes at d.node d.call p.reply → TookOver (carrier_step config name c at before)
+      by_turn : AtNodes at d.node d.call p.reply → TookOver (carrier_does config name c at before (carrier.carrier_next config.shards c.stream c.log))
       by_turn (inl (lack, room, stays)) =
           let ends : carrier.delivery_progress config.shards c (step_of_reply p.reply) ≡ carrying.Done (delivery.Refused OutOfMemory) =
           ap (λ r. carrier.delivery_progress config.shards c (step_of_reply r)) lack ∙ ap carrier.progress_of (carrier_refused config.shards c.stream c.log d at OutOfMemory p.step_of.asked) in

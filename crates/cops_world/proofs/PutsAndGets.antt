@@ -21,7 +21,7 @@ use Rattle.cops_model.specs.Session.{get_refusal, request_begun, session_put_ref
 use Rattle.cops_model.specs.declared.acts.Act.TheVariants as acts
 use Rattle.cops_model.specs.declared.replies.Reply.{Reply}
 use Rattle.cops_model.specs.declared.replies.Reply.TheVariants.{Started, Refused}
-use Rattle.cops_model.specs.Cluster.{ActEffect, OfSession, SoloCluster, cluster_step, on_session, reply_with, unless_refused, with_actor}
+use Rattle.cops_model.specs.Cluster.{ActEffect, OfSession, SoloCluster, cluster_step, find_session, on_session, reply_with, unless_refused, with_actor}
 use Rattle.cops_model.specs.Setups.{config_in}
 use Rattle.cops_world.specs.declared.actors.Deed.TheVariants as deeds
 use Rattle.cops_world.specs.Deeds.{deed_step}
@@ -92,7 +92,7 @@ module _ (old : World) (slot : ℕ) (name : List ℕ) (number : ℕ) (key value 
   put_if k v cluster =
       let config = config_in old.setup slot in
       unless_refused (first_refusal ((not k, BadKey) ∷ (not v, ValueTooLong) ∷ [])) cluster
-      (on_session name cluster λ s.
+      (on_session (find_session name cluster) cluster λ s.
       unless_refused (session_put_refusal config number key s) cluster
       (reply_with Started (with_actor name (OfSession (request_begun number (Write key value) s)) cluster)))
 
@@ -133,7 +133,7 @@ module _ (old : World) (slot : ℕ) (name : List ℕ) (number : ℕ) (keys : Lis
   get_if none all cluster =
       let config = config_in old.setup slot in
       unless_refused (first_refusal ((none, Syntax) ∷ (not all, BadKey) ∷ [])) cluster
-      (on_session name cluster λ s.
+      (on_session (find_session name cluster) cluster λ s.
       unless_refused (get_refusal config number keys s) cluster
       (reply_with Started (with_actor name (OfSession (request_begun number (Fetch keys) s)) cluster)))
 

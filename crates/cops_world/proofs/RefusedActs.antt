@@ -14,11 +14,12 @@ use Rattle.cops_model.specs.declared.acts.Act.TheVariants as acts
 use Rattle.cops_model.specs.declared.replies.Reply.{Reply}
 use Rattle.cops_model.specs.declared.replies.Reply.TheVariants.{Refused, Started}
 use Rattle.cops_model.specs.Causal.{stepped_actor}
-use Rattle.cops_model.specs.Cluster.{ActEffect, Actor, OfCarrier, OfSession, SessionAct, SoloCluster, cluster_step, find_actor, get_act, on_found, put_act, reply_with, session_acts, session_in, unless_refused, with_actor}
+use Rattle.cops_model.specs.Cluster.{ActEffect, Actor, OfCarrier, OfSession, SoloCluster, cluster_step, find_actor, on_session, reply_with, session_acts, session_in, unless_refused, with_actor}
 use Rattle.cops_model.specs.Events.{is_out_of_memory}
 use Rattle.cops_model.specs.Lacks.{Lacks, is_refusal}
-use Rattle.cops_model.specs.Session.{Session, get_refusal, session_put_refusal}
+use Rattle.cops_model.specs.Session.{Session, get_refusal, request_begun, session_put_refusal}
 use Rattle.cops_model.specs.Setups.{config_in}
+use Rattle.cops_model.specs.Request.{Write, Fetch}
 use Rattle.cops_model.proofs.SparedActs.{act_spared}
 use Rattle.cops_world.specs.declared.actors.Actor.{Actor as Kept}
 use Rattle.cops_world.specs.ActorTurns.{actor_refusal_by}
@@ -31,28 +32,28 @@ use Rattle.cops_world.proofs.WorldJoins.{refused_moves}
 
 -- ---- an act on a session, once its words are good
 
-module _ (config : TenantConfig) (act : Act) (name : List ℕ) (cluster : SoloCluster) (asked : Session → SessionAct) (started : (s : Session) → (asked s).reply ≡ Started)
-    (step_is : cluster_step config act cluster ≡ on_found (option_and_then session_in (find_actor name cluster)) cluster (λ s. session_acts name cluster (asked s))) where
+module _ (config : TenantConfig) (act : Act) (name : List ℕ) (cluster : SoloCluster) (refusal_of : Session → Option Fault) (began : Session → Session)
+    (step_is : cluster_step config act cluster ≡ on_session (option_and_then session_in (find_actor name cluster)) cluster (λ s. session_acts name cluster (refusal_of s) Started (began s))) where
   abbrev turn_of : Option Actor → ActEffect
-  turn_of found = on_found (option_and_then session_in found) cluster (λ s. session_acts name cluster (asked s))
+  turn_of found = on_session (option_and_then session_in found) cluster (λ s. session_acts name cluster (refusal_of s) Started (began s))
 
   nobody_refuses : find_actor name cluster ≡ None → IsRefusalOf config act cluster (Some UnknownName)
   nobody_refuses none = step_is ∙ ap turn_of none
 
-  by_refusal : (s : Session) (refusal : Option Fault) → find_actor name cluster ≡ Some (OfSession s) → (asked s).refusal ≡ refusal → IsRefusalOf config act cluster refusal
+  by_refusal : (s : Session) (refusal : Option Fault) → find_actor name cluster ≡ Some (OfSession s) → refusal_of s ≡ refusal → IsRefusalOf config act cluster refusal
   by_refusal s refusal found is = by refusal is
     where
       after : ActEffect
-      after = reply_with (asked s).reply (with_actor name (OfSession (asked s).after) cluster)
+      after = reply_with Started (with_actor name (OfSession (began s)) cluster)
 
-      step : (r : Option Fault) → (asked s).refusal ≡ r → cluster_step config act cluster ≡ unless_refused r cluster after
+      step : (r : Option Fault) → refusal_of s ≡ r → cluster_step config act cluster ≡ unless_refused r cluster after
       step r e = step_is ∙ ap turn_of found ∙ ap (λ x. unless_refused x cluster after) e
 
-      by : (r : Option Fault) → (asked s).refusal ≡ r → IsRefusalOf config act cluster r
+      by : (r : Option Fault) → refusal_of s ≡ r → IsRefusalOf config act cluster r
       by (Some fault) e = step (Some fault) e
-      by None e = ap (λ (t : ActEffect). is_refusal t.reply) (step None e) ∙ ap is_refusal (started s)
+      by None e = ap (λ (t : ActEffect). is_refusal t.reply) (step None e)
 
-  actor_refuses : (actor : Actor) (refusal : Option Fault) → find_actor name cluster ≡ Some actor → refusal ≡ actor_refusal_by (λ s. (asked s).refusal) actor → IsRefusalOf config act cluster refusal
+  actor_refuses : (actor : Actor) (refusal : Option Fault) → find_actor name cluster ≡ Some actor → refusal ≡ actor_refusal_by refusal_of actor → IsRefusalOf config act cluster refusal
   actor_refuses (OfSession s) refusal found is = by_refusal s refusal found (sym is)
   actor_refuses (OfCarrier c) refusal found is = subst (IsRefusalOf config act cluster) (sym is) (step_is ∙ ap turn_of found)
 
@@ -62,7 +63,7 @@ module _ (config : TenantConfig) (name : List ℕ) (number : ℕ) (key value : L
   abbrev put_if : Bool → Bool → ActEffect
   put_if k v =
       unless_refused (first_refusal ((not k, BadKey) ∷ (not v, ValueTooLong) ∷ [])) cluster
-      (on_found (option_and_then session_in (find_actor name cluster)) cluster (λ s. session_acts name cluster (put_act config number key value s)))
+      (on_session (option_and_then session_in (find_actor name cluster)) cluster (λ s. session_acts name cluster (session_put_refusal config number key s) Started (request_begun number (Write key value) s)))
 
   pub long_put_refused : is_key key ≡ true → is_value value ≡ false → IsRefusalOf config (acts.Put name number key value) cluster (Some ValueTooLong)
   long_put_refused good long = λ i. put_if (good i) (long i)
@@ -76,7 +77,7 @@ module _ (config : TenantConfig) (name : List ℕ) (number : ℕ) (keys : List (
   abbrev get_if : Bool → Bool → ActEffect
   get_if none all =
       unless_refused (first_refusal ((none, Syntax) ∷ (not all, BadKey) ∷ [])) cluster
-      (on_found (option_and_then session_in (find_actor name cluster)) cluster (λ s. session_acts name cluster (get_act config number keys s)))
+      (on_session (option_and_then session_in (find_actor name cluster)) cluster (λ s. session_acts name cluster (get_refusal config number keys s) Started (request_begun number (Fetch keys) s)))
 
   pub bad_get_refused : nat_lt (length keys) 1 ≡ false → list_all is_key keys ≡ false → IsRefusalOf config (acts.Get name number keys) cluster (Some BadKey)
   bad_get_refused some bad = λ i. get_if (some i) (bad i)
@@ -96,26 +97,26 @@ module _ (old : World) (slot : ℕ) (name : List ℕ) (number : ℕ) where
   module _ (key value : List ℕ) (good : is_key key ≡ true) (short : is_value value ≡ true) (cluster : SoloCluster) (stands : ClusterStandsAt old slot cluster) where
     pub put_by_nobody : kept name ≡ None → IsRefusalOf config (acts.Put name number key value) cluster (Some UnknownName)
     put_by_nobody none =
-        nobody_refuses config (acts.Put name number key value) name cluster (put_act config number key value) (λ s. refl) (put_is config name number key value cluster good short)
+        nobody_refuses config (acts.Put name number key value) name cluster (session_put_refusal config number key) (request_begun number (Write key value)) (put_is config name number key value cluster good short)
         (absent_too (ActorStandsFor config) name kept kept cluster stands.actors_are none)
 
     pub put_by_actor : (before : Kept) (refusal : Option Fault) → kept name ≡ Some before → ((solo : Actor) → ActorStandsFor config before solo → refusal ≡ actor_refusal_by (session_put_refusal config number key) solo) →
         IsRefusalOf config (acts.Put name number key value) cluster refusal
     put_by_actor before refusal there is =
         let solo = found_too (ActorStandsFor config) name kept kept cluster stands.actors_are before there in
-        actor_refuses config (acts.Put name number key value) name cluster (put_act config number key value) (λ s. refl) (put_is config name number key value cluster good short) solo.0 refusal solo.1 (is solo.0 solo.2)
+        actor_refuses config (acts.Put name number key value) name cluster (session_put_refusal config number key) (request_begun number (Write key value)) (put_is config name number key value cluster good short) solo.0 refusal solo.1 (is solo.0 solo.2)
 
   module _ (keys : List (List ℕ)) (some : nat_lt (length keys) 1 ≡ false) (all : list_all is_key keys ≡ true) (cluster : SoloCluster) (stands : ClusterStandsAt old slot cluster) where
     pub get_by_nobody : kept name ≡ None → IsRefusalOf config (acts.Get name number keys) cluster (Some UnknownName)
     get_by_nobody none =
-        nobody_refuses config (acts.Get name number keys) name cluster (get_act config number keys) (λ s. refl) (get_is config name number keys cluster some all)
+        nobody_refuses config (acts.Get name number keys) name cluster (get_refusal config number keys) (request_begun number (Fetch keys)) (get_is config name number keys cluster some all)
         (absent_too (ActorStandsFor config) name kept kept cluster stands.actors_are none)
 
     pub get_by_actor : (before : Kept) (refusal : Option Fault) → kept name ≡ Some before → ((solo : Actor) → ActorStandsFor config before solo → refusal ≡ actor_refusal_by (get_refusal config number keys) solo) →
         IsRefusalOf config (acts.Get name number keys) cluster refusal
     get_by_actor before refusal there is =
         let solo = found_too (ActorStandsFor config) name kept kept cluster stands.actors_are before there in
-        actor_refuses config (acts.Get name number keys) name cluster (get_act config number keys) (λ s. refl) (get_is config name number keys cluster some all) solo.0 refusal solo.1 (is solo.0 solo.2)
+        actor_refuses config (acts.Get name number keys) name cluster (get_refusal config number keys) (request_begun number (Fetch keys)) (get_is config name number keys cluster some all) solo.0 refusal solo.1 (is solo.0 solo.2)
 
 -- ---- where memory ran out before the session was asked
 

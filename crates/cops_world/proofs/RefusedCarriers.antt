@@ -7,10 +7,10 @@ use Rattle.cops_types.specs.declared.faults.Fault.{Fault}
 use Rattle.cops_model.specs.declared.calls.NodeReply.{NodeReply}
 use Rattle.cops_model.specs.declared.calls.NodeReply.TheVariants as node_reply
 use Rattle.cops_model.specs.declared.calls.NodeReply.TheVariants.{Pulled}
-use Rattle.cops_model.specs.Log.{LogStep, Replied, replies_of, reply_in, Directed, Call, Ended}
+use Rattle.cops_model.specs.Log.{LogStep, Replied, call_or, replies_of, reply_in, Directed, Call, Ended}
 use Rattle.cops_model.specs.declared.deliveries.Delivery.{Delivery}
 use Rattle.cops_model.specs.declared.deliveries.Delivery.TheVariants as delivery
-use Rattle.cops_model.specs.Carrier.{Stream, call_or_end, end_of, first_end, next_after, unless_end}
+use Rattle.cops_model.specs.Carrier.{Stream, end_of, first_end, next_after, unless_end}
 use Rattle.cops_model.specs.Carrier as carrier
 
 calls_same : (shards : ℕ) (stream : Stream) (replies : List NodeReply) (fault : Fault) → carrier.stream_calls shards stream (replies ++ node_reply.Refused fault ∷ []) ≡ carrier.stream_calls shards stream replies
@@ -18,7 +18,7 @@ calls_same shards stream [] fault = refl
 calls_same shards stream (Pulled entry ∷ replies) fault = refl
 calls_same shards stream (reply ∷ replies) fault = refl
 
-goes_on : (ending : Option Delivery) (o : Option Directed) (last : Delivery) (d : Directed) → unless_end ending (call_or_end o last) ≡ Call d → (ending ≡ None) × (o ≡ Some d)
+goes_on : (ending : Option Delivery) (o : Option Directed) (last : Delivery) (d : Directed) → unless_end ending (call_or o last) ≡ Call d → (ending ≡ None) × (o ≡ Some d)
 goes_on None None last d e = cc
 goes_on None (Some c) last d e = (refl, let same : c ≡ d = cc in ap Some same)
 goes_on (Some x) o last d e = cc
@@ -44,5 +44,5 @@ carrier_refused shards stream log d moment fault e =
     let parts = goes_on (first_end shards stream calls replies) (slice_get calls (length replies)) (carrier.finished_delivery replies) d e in
     let more = replies ++ node_reply.Refused fault ∷ [] in
     ap (next_after shards stream) (filter_map-append (λ (s : LogStep). reply_in s.outcome) log (record { moment = moment; outcome = Replied (node_reply.Refused fault) } ∷ []))
-    ∙ ap (λ cs. unless_end (first_end shards stream cs more) (call_or_end (slice_get cs (length more)) (carrier.finished_delivery more))) (calls_same shards stream replies fault)
-    ∙ ap (λ x. unless_end x (call_or_end (slice_get calls (length more)) (carrier.finished_delivery more))) (first_end-push shards stream calls replies d fault parts.0 parts.1)
+    ∙ ap (λ cs. unless_end (first_end shards stream cs more) (call_or (slice_get cs (length more)) (carrier.finished_delivery more))) (calls_same shards stream replies fault)
+    ∙ ap (λ x. unless_end x (call_or (slice_get calls (length more)) (carrier.finished_delivery more))) (first_end-push shards stream calls replies d fault parts.0 parts.1)

@@ -1,7 +1,7 @@
 -- A carrier of the definition replies that memory ran out only if its node does.
 use Rattle.std.proofs.Common.{◌≡◌, ℕ, Bool, true, false, cond, List, [], ◌∷◌, ◌++◌, length, refl, ◌∙◌, ap, max}
 use Rattle.std.specs.Prelude.{Option, Some, None, slice_get, nat_lt}
-use Rattle.std.specs.Option.{option_or}
+use Rattle.std.specs.Option.{option_map, option_or}
 use Rattle.std.proofs.lemmas.List.Elements.{filter_map-append}
 use Rattle.cops_types.specs.declared.faults.Fault.TheVariants.{Torn}
 use Rattle.cops_types.specs.declared.pairs.Pair.{Pair}
@@ -9,10 +9,10 @@ use Rattle.cops_model.specs.declared.calls.NodeCall.{NodeCall}
 use Rattle.cops_model.specs.declared.calls.NodeCall.TheVariants.{Get, Put, DepCheck, Pull, Commit, Ack, Collect}
 use Rattle.cops_model.specs.declared.calls.NodeReply.{NodeReply}
 use Rattle.cops_model.specs.declared.calls.NodeReply.TheVariants as node_reply
-use Rattle.cops_model.specs.Log.{LogStep, Replied, replies_of, reply_in, Directed, Next, Call, is_asked}
+use Rattle.cops_model.specs.Log.{LogStep, Replied, call_or, replies_of, reply_in, Directed, Next, Call, is_asked}
 use Rattle.cops_model.specs.declared.deliveries.Delivery.{Delivery}
 use Rattle.cops_model.specs.declared.deliveries.Delivery.TheVariants as delivery
-use Rattle.cops_model.specs.Carrier.{Stream, call_or_end, end_by, end_of, fault_or_end, finished_delivery, first_end, is_foreign, next_after, progress_of, unless_end}
+use Rattle.cops_model.specs.Carrier.{Stream, end_by, end_of, finished_delivery, first_end, is_foreign, next_after, progress_of, unless_end}
 use Rattle.cops_model.specs.Carrier as carrier
 use Rattle.cops_model.specs.declared.replies.Reply.TheVariants.{Refused}
 use Rattle.cops_model.specs.Cluster.{reply_of_delivery}
@@ -39,7 +39,7 @@ module _ (shards : ℕ) (stream : Stream) where
   end_by_spared (Commit entry) (node_reply.OutOfOrder mark) = refl
   end_by_spared call reply = refl
 
-  torn_or_end : (call : NodeCall) (reply : NodeReply) (b : Bool) → lacks_end (fault_or_end shards stream call reply (cond b None (Some Torn))) ≡ false
+  torn_or_end : (call : NodeCall) (reply : NodeReply) (b : Bool) → lacks_end (option_or (option_map delivery.Refused (cond b None (Some Torn))) (end_by shards stream call reply)) ≡ false
   torn_or_end call reply true = end_by_spared call reply
   torn_or_end call reply false = refl
 
@@ -75,12 +75,12 @@ module _ (shards : ℕ) (stream : Stream) where
   finished_spared (node_reply.Pulled entry ∷ replies) = refl
   finished_spared (reply ∷ replies) = refl
 
-  call_spared : (ending : Option Delivery) (o : Option Directed) (last : Delivery) → lacks_end ending ≡ false → is_out_of_memory (reply_of_delivery last) ≡ false → lacks_next (unless_end ending (call_or_end o last)) ≡ false
+  call_spared : (ending : Option Delivery) (o : Option Directed) (last : Delivery) → lacks_end ending ≡ false → is_out_of_memory (reply_of_delivery last) ≡ false → lacks_next (unless_end ending (call_or o last)) ≡ false
   call_spared (Some ending) o last spared finished = spared
   call_spared None (Some c) last spared finished = refl
   call_spared None None last spared finished = finished
 
-  goes_on : (ending : Option Delivery) (o : Option Directed) (last : Delivery) (d : Directed) → unless_end ending (call_or_end o last) ≡ Call d → (ending ≡ None) × (o ≡ Some d)
+  goes_on : (ending : Option Delivery) (o : Option Directed) (last : Delivery) (d : Directed) → unless_end ending (call_or o last) ≡ Call d → (ending ≡ None) × (o ≡ Some d)
   goes_on None None last d e = cc
   goes_on None (Some c) last d e = (refl, let same : c ≡ d = cc in ap Some same)
   goes_on (Some x) o last d e = cc
@@ -92,7 +92,7 @@ module _ (shards : ℕ) (stream : Stream) where
     where
       first_spared : (reply : NodeReply) → lacks reply ≡ false → lacks_end (first_end shards stream (carrier.stream_calls shards stream (reply ∷ [])) (reply ∷ [])) ≡ false
       first_spared (node_reply.Pulled entry) spared =
-          ap lacks_end (first_end-push (carrier.pull stream ∷ carrier.delivery shards stream entry) [] (carrier.pull stream) (node_reply.Pulled entry) refl refl) ∙ end_spared (Pull stream.to_dc) (node_reply.Pulled entry) refl
+          ap lacks_end (first_end-push (carrier.stream_calls shards stream (node_reply.Pulled entry ∷ [])) [] (carrier.pull stream) (node_reply.Pulled entry) refl refl) ∙ end_spared (Pull stream.to_dc) (node_reply.Pulled entry) refl
       first_spared reply spared = ap lacks_end (first_end-push (carrier.pull stream ∷ []) [] (carrier.pull stream) reply refl refl) ∙ end_spared (Pull stream.to_dc) reply spared
   after_spared (node_reply.Pulled entry ∷ rest) d reply e spared =
       let replies = node_reply.Pulled entry ∷ rest in

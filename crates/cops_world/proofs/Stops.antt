@@ -22,7 +22,7 @@ use Rattle.cops_model.specs.Session.{OpenContext, Running, Session, context_exte
 use Rattle.cops_session.specs.SessionStands.{SessionStandsFor}
 use Rattle.cops_session.specs.Stepping.{DoesNext, HasStepped, told_shown}
 use Rattle.cops_session.proofs.StepLaws.{as_told}
-use Rattle.cops_model.specs.Lacks.{EndsRound, ActorStops, CarrierStops, IsLastRead, SessionStops, StepStops, has_room, without_request}
+use Rattle.cops_model.specs.Lacks.{EndsRound, ActorStops, IsLastRead, SessionStops, StepStops, has_room, without_request}
 use Rattle.cops_session.specs.Wants.{WantsMemory}
 use Rattle.cops_model.specs.declared.deliveries.Progress.{Progress as CarrierProgress}
 use Rattle.cops_model.specs.declared.deliveries.Progress.TheVariants as carrying
@@ -133,18 +133,13 @@ module _ (config : TenantConfig) (name : List ℕ) (before : SoloCluster) (nodes
   -- ---- carriers
 
   carrier_stops : (c : Carrier) (kept_after : KeptCarrier) (stepped : Stepped) → is_out_of_memory (told_act stepped.answered) ≡ true → CarrierSteps AtNodes config c moment stepped kept_after →
-      (after : SoloCluster) × CarrierStops config name c before after
+      (after : SoloCluster) × ActorStops config name moment (Some (OfCarrier c)) before after
       × StepsCluster config name before nodes (record { reply = told_act stepped.answered; after = after }) stepped (kept.OfCarrier kept_after)
   carrier_stops c kept_after stepped lack p =
       let over : stepped.is_over ≡ true = p.over_is ∙ carrying_of_lack (told_progress p.told) (ap is_out_of_memory (sym reply_told) ∙ lack) in
       let after : SoloCluster = record { nodes = nodes; actors = (without_actor name before).actors } in (
         after,
-        (let stayed = by_turn p.made in record {
-          directed = d;
-          calls = p.step_of.asked;
-          room = stayed.0;
-          left = ap (λ (ns : List SoloNode). record { nodes = ns; actors = (without_actor name before).actors }) stayed.1;
-        }),
+        (let stayed = by_turn p.made in (d, p.step_of.asked, stayed.0, ap (λ (ns : List SoloNode). record { nodes = ns; actors = (without_actor name before).actors }) stayed.1)),
         record { reply_is = refl; nodes_are = refl; actors_are = subst (IsAfter config name before after (kept.OfCarrier kept_after)) (sym over) refl },
       )
     where

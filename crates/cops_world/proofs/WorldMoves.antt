@@ -14,7 +14,7 @@ use Rattle.cops_model.specs.Request.{Write, Fetch}
 use Rattle.cops_model.specs.Session.{Session, context_created, context_deleted, context_refusal, create_refusal, get_refusal, obs_of, request_begun, session_put_refusal}
 use Rattle.cops_model.specs.declared.replies.Reply.{Reply}
 use Rattle.cops_model.specs.declared.replies.Reply.TheVariants.{Created, Deleted, Started, Lists, Refused}
-use Rattle.cops_model.specs.Cluster.{ActEffect, Actor, NamedActor, OfCarrier, OfSession, SoloCluster, find_actor, on_found, reply_with, session_in, unless_refused, with_actor}
+use Rattle.cops_model.specs.Cluster.{ActEffect, Actor, NamedActor, OfCarrier, OfSession, SoloCluster, find_actor, on_session, reply_with, session_in, unless_refused, with_actor}
 use Rattle.cops_model.specs.Lacks.{is_refusal}
 use Rattle.cops_model.specs.Setups.{config_in}
 use Rattle.cops_world.specs.declared.actors.Actor.{Actor as Kept}
@@ -62,10 +62,10 @@ module _ (name : List ℕ) (cluster : SoloCluster) (distinct : HaveDistinctNames
 deed_found : (config : TenantConfig) (name : List ℕ) (deed : Deed) (cluster : SoloCluster) (actor : Actor) → HaveDistinctNames cluster.actors → find_actor name cluster ≡ Some actor →
     Agrees name cluster (deed_step config name deed cluster) (actor_does config deed actor)
 deed_found config name deed cluster (OfSession s) distinct found =
-    subst (λ o. Agrees name cluster (on_found (option_and_then session_in o) cluster (session_deed config name cluster deed)) (session_does config s deed)) (sym found)
+    subst (λ o. Agrees name cluster (on_session (option_and_then session_in o) cluster (session_deed config name cluster deed)) (session_does config s deed)) (sym found)
     (deed_of_session name cluster distinct s found config deed)
 deed_found config name deed cluster (OfCarrier c) distinct found =
-    subst (λ o. Agrees name cluster (on_found (option_and_then session_in o) cluster (session_deed config name cluster deed)) (actor_turn (Refused UnknownName) (OfCarrier c))) (sym found)
+    subst (λ o. Agrees name cluster (on_session (option_and_then session_in o) cluster (session_deed config name cluster deed)) (actor_turn (Refused UnknownName) (OfCarrier c))) (sym found)
     (record { reply_is = refl; actors_are = sym (with_actor-same name (OfCarrier c) cluster distinct found); nodes_stay = refl })
 
 -- what is not refused of the actor is not refused of the cluster
@@ -78,7 +78,7 @@ deed_unrefused old slot name deed before there cluster h unrefused =
     ap is_refusal (deed_found config name deed cluster solo.0 h.actors_are.distinct solo.1).reply_is ∙ unrefused solo.0 solo.2
 
 deed_absent : (config : TenantConfig) (name : List ℕ) (deed : Deed) (cluster : SoloCluster) → find_actor name cluster ≡ None → deed_step config name deed cluster ≡ reply_with (Refused UnknownName) cluster
-deed_absent config name deed cluster none = ap (λ o. on_found (option_and_then session_in o) cluster (session_deed config name cluster deed)) none
+deed_absent config name deed cluster none = ap (λ o. on_session (option_and_then session_in o) cluster (session_deed config name cluster deed)) none
 
 -- ---- what is not touched
 

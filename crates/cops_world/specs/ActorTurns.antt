@@ -3,10 +3,12 @@ use Rattle.std.specs.Prelude.{Option, Some, None}
 use Rattle.cops_types.specs.declared.faults.Fault.{Fault}
 use Rattle.cops_types.specs.declared.faults.Fault.TheVariants.{UnknownName}
 use Rattle.cops_types.specs.TenantConfig.{TenantConfig}
-use Rattle.cops_model.specs.Session.{Session}
+use Rattle.cops_types.specs.Context.{all_of, near_of}
+use Rattle.cops_model.specs.Session.{Session, context_created, context_deleted, context_refusal, create_refusal, get_refusal, obs_of, request_begun, session_put_refusal}
 use Rattle.cops_model.specs.declared.replies.Reply.{Reply}
-use Rattle.cops_model.specs.declared.replies.Reply.TheVariants.{Refused}
-use Rattle.cops_model.specs.Cluster.{Actor, OfSession, OfCarrier, SessionAct, create_act, delete_act, get_act, put_act, show_act}
+use Rattle.cops_model.specs.declared.replies.Reply.TheVariants.{Created, Deleted, Lists, Refused, Started}
+use Rattle.cops_model.specs.Cluster.{Actor, OfSession, OfCarrier}
+use Rattle.cops_model.specs.Request.{Write, Fetch}
 use Rattle.cops_world.specs.declared.actors.Deed.{Deed}
 use Rattle.cops_world.specs.declared.actors.Deed.TheVariants.{Create, Delete, Put, Get, Show}
 
@@ -24,15 +26,15 @@ unless_actor_refused (Some fault) actor turn = actor_turn (Refused fault) actor
 unless_actor_refused None actor turn = turn
 
 -- what is asked of a session, as a turn of that actor
-abbrev pub session_turn : Session → SessionAct → ActorTurn
-session_turn s act = unless_actor_refused act.refusal (OfSession s) (actor_turn act.reply (OfSession act.after))
+abbrev pub session_turn : Session → Option Fault → Reply → Session → ActorTurn
+session_turn s refusal reply after = unless_actor_refused refusal (OfSession s) (actor_turn reply (OfSession after))
 
 abbrev pub session_does : TenantConfig → Session → Deed → ActorTurn
-session_does config s Create = session_turn s (create_act config s)
-session_does config s (Delete number) = session_turn s (delete_act number s)
-session_does config s (Put number key value) = session_turn s (put_act config number key value s)
-session_does config s (Get number keys) = session_turn s (get_act config number keys s)
-session_does config s (Show number) = session_turn s (show_act number s)
+session_does config s Create = session_turn s (create_refusal config s) (Created s.next_context) (context_created s)
+session_does config s (Delete number) = session_turn s (context_refusal number s) Deleted (context_deleted number s)
+session_does config s (Put number key value) = session_turn s (session_put_refusal config number key s) Started (request_begun number (Write key value) s)
+session_does config s (Get number keys) = session_turn s (get_refusal config number keys s) Started (request_begun number (Fetch keys) s)
+session_does config s (Show number) = session_turn s (context_refusal number s) (Lists (all_of (obs_of number s)) (near_of (obs_of number s))) s
 
 -- only a session does anything
 abbrev pub actor_does : TenantConfig → Deed → Actor → ActorTurn

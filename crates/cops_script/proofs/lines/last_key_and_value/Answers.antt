@@ -2,10 +2,9 @@ use Rattle.std.proofs.Common.{◌≡◌, ap, sym, ◌∙◌, arith, length, true
 use Rattle.std.specs.Prelude.{◌==◌}
 use Rattle.std.proofs.lemmas.Bool.{eqb-true}
 use Rattle.std.proofs.lemmas.Bool.Decides.{nat_tests}
-use Rattle.cops_script.specs.ActLines.{is_value_word}
 use Rattle.cops_types.proofs.FrontWords.{no_front}
 use Rattle.cops_types.proofs.WordLemmas.{word_lacks}
-use Rattle.cops_script.proofs.ActReading.{filled_word, key_and_value, other_value, two_parts}
+use Rattle.cops_script.proofs.ActReading.{filled_word, is_value_word, key_and_value, other_value, two_parts}
 use Rattle.cops_script.proofs.lines.last_key_and_value.Goals as goal
 
 pub returns-in_err-key-clause-none : goal.returns-in_err-key-clause-none
