@@ -21,7 +21,7 @@ use Rattle.cops_model.specs.declared.deliveries.Delivery.{Delivery}
 use Rattle.cops_model.specs.declared.deliveries.Delivery.TheVariants as delivery
 use Rattle.cops_model.specs.declared.deliveries.Progress.{Progress as CarrierProgress}
 use Rattle.cops_model.specs.declared.deliveries.Progress.TheVariants as carrier_progress
-use Rattle.cops_model.specs.Carrier.{Stream, carrier_next, end_by, end_of, finished_delivery, first_end, is_foreign, pull, stream_calls, unless_end}
+use Rattle.cops_model.specs.Carrier.{Stream, carrier_next, end_by, end_of, finished_delivery, first_end, is_foreign, stream_calls, unless_end}
 use Rattle.cops_model.specs.Carrier as carrier
 use Rattle.cops_model.specs.Cluster.{reply_of_answer, reply_of_progress, reply_of_delivery}
 use Rattle.cops_model.specs.Laws.{is_expected_of_node}

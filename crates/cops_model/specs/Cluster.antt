@@ -22,7 +22,7 @@ use Rattle.cops_model.specs.declared.requests.Answer.{Answer}
 use Rattle.cops_model.specs.declared.requests.Answer.TheVariants as answer
 use Rattle.cops_model.specs.declared.requests.Progress.{Progress}
 use Rattle.cops_model.specs.declared.requests.Progress.TheVariants as session_progress
-use Rattle.cops_model.specs.Request.{Action, Write, Fetch}
+use Rattle.cops_model.specs.Request.{Write, Fetch}
 use Rattle.cops_model.specs.Request as request
 use Rattle.cops_model.specs.Session.{Running, Session, context_created, context_deleted, context_refusal, create_refusal, get_refusal, moment_at, new_session, obs_of, request_begun, request_of, session_after, session_put_refusal}
 use Rattle.cops_model.specs.Session as session

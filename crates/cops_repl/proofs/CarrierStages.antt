@@ -9,7 +9,7 @@ use Rattle.cops_types.specs.declared.records.EntryParts.{EntryParts as Entry}
 use Rattle.cops_model.specs.declared.calls.NodeCall.TheVariants as node_call
 use Rattle.cops_model.specs.declared.calls.NodeReply.{NodeReply}
 use Rattle.cops_model.specs.declared.calls.NodeReply.TheVariants.{Checked, Pulled, Committed, Already, OutOfOrder}
-use Rattle.cops_model.specs.Log.{LogStep, Replied, reply_in, Directed, fault_in}
+use Rattle.cops_model.specs.Log.{LogStep, Replied, reply_in, Directed}
 use Rattle.cops_model.specs.declared.deliveries.Delivery.{Delivery}
 use Rattle.cops_model.specs.Carrier.{Stream, ack_call, check, commit_call, end_of, first_end, pull, stream_calls}
 use Rattle.cops_repl.proofs.CarrierCalls.{carrier_replies, NextOf, delivery}

@@ -1,4 +1,4 @@
-use Rattle.std.proofs.Common.{◌≡◌, true, false, ◌∙◌, sym, ap, get_or}
+use Rattle.std.proofs.Common.{◌≡◌, false, ◌∙◌, sym, ap, get_or}
 use Rattle.std.specs.Prelude.{◌||◌}
 use Rattle.std.proofs.lemmas.List.Folds.{list_any_at, list_any_more}
 use Rattle.cops_types.specs.Pairs.{holds}

@@ -1,4 +1,4 @@
-use Rattle.std.proofs.Common.{◌≡◌, true, false, [], ◌∷◌, ◌∙◌, ap, get_or, is_lt, sym}
+use Rattle.std.proofs.Common.{[], ◌∷◌, ◌∙◌, ap, get_or, is_lt, sym}
 use Rattle.std.proofs.lemmas.List.{get_or_default}
 use Rattle.cops_types.specs.declared.pairs.Pair.{Pair}
 use Rattle.cops_types.specs.Version.{version_cmp, version_eq}
