@@ -5,16 +5,19 @@ ghost use Rattle.cops_store.specs.Dues.{extended_dues as line_with, IsDueAdded, 
 ghost use Rattle.slab.specs.Slab.{HasRoomFor, slab_len};
 
 use crate::chain;
+use crate::kept_due::KeptDue;
 use crate::table::Due;
+use cops_types::Key;
 use slab::Slab;
 use std::alloc::{AllocError, Global};
+use std::boxed::Box;
 use std::marker::Model;
 
 /// A garbage-collection entry of a slot, and the place of the slot's next one.
 #[derive(Debug, Drop)]
 pub struct DueRow {
     pub slot: usize,
-    pub due: Due,
+    pub due: KeptDue,
     pub next: usize,
 }
 
@@ -29,7 +32,7 @@ pub struct DueLine {
 }
 
 // Stores an entry of the slot in the table, and links it to the last one of the line.
-fn link(rows: &mut Slab<DueRow>, line: &DueLine, slot: usize, due: Due) -> usize
+fn link(rows: &mut Slab<DueRow>, line: &DueLine, slot: usize, due: KeptDue) -> usize
     requires room { HasRoomFor rows.old 1 }
     requires line { IsDueLine rows.old.slots slot line.now }
     ensures added { IsDueAdded rows.old.slots rows.new.slots slot line.now.last line.now.count result due }
@@ -56,7 +59,7 @@ fn move_behind(rows: &mut Slab<DueRow>, first: usize, last: usize, stale: u64) -
     end.next = first;
     // An entry that is alone has become its own next.
     let row = &mut rows[first];
-    row.due.stale = stale;
+    row.due.put_off(stale);
     row.next
 }
 
@@ -111,13 +114,15 @@ impl DueLine {
 #[derive(Debug, Drop)]
 pub struct DueRows {
     rows: Slab<DueRow>,
+    /// A block for the next long key.
+    block: Option<Box<Key>>,
     /// There is room for one more entry. Entries that are removed make no difference to it, so a
     /// slot's room doesn't depend on the entries of others.
     is_ready: bool,
 }
 
 impl Model for DueRows {
-    ghost use Rattle.std.specs.Prelude.{IsTrue};
+    ghost use Rattle.std.specs.Prelude.{IsTrue, IsSome};
     ghost use Rattle.slab.specs.Slab.{HasRoomFor};
     ghost use Rattle.cops_store.specs.Dues.{Dues};
 
@@ -125,7 +130,7 @@ impl Model for DueRows {
 
     ghost view = { λ d. record { slots = d.rows.slots; room = d.is_ready } };
 
-    ghost invariant = { λ d. IsTrue d.is_ready → HasRoomFor d.rows 1 };
+    ghost invariant = { λ d. IsTrue d.is_ready → HasRoomFor d.rows 1 × IsSome d.block };
 }
 
 impl DueRows {
@@ -135,18 +140,22 @@ impl DueRows {
     {
         DueRows {
             rows: Slab::new(alloc),
+            block: None,
             is_ready: false,
         }
     }
 
-    // Makes room for one more entry.
-    pub(crate) fn reserve(&mut self) -> Result<(), AllocError>
+    // Makes room for one more entry. Any key may fill the block.
+    pub(crate) fn reserve(&mut self, alloc: Global, key: &Key) -> Result<(), AllocError>
         ensures slots { self.new.slots ≡ self.old.slots }
         ensures room { OnOk result (IsTrue self.new.room) }
         ensures succeeds { IsTrue self.old.room → IsOk result }
     {
         if !self.is_ready {
             self.rows.reserve(1)?;
+            if self.block.is_none() {
+                self.block = Some(Box::new(alloc, *key)?);
+            }
             self.is_ready = true;
         }
         Ok(())
@@ -162,7 +171,8 @@ impl DueRows {
         ensures least { line.new.least ≡ min line.old.least due.stale }
     {
         let stale = due.stale;
-        let at = link(&mut self.rows, line, slot, due);
+        let kept = KeptDue::of(due, &mut self.block);
+        let at = link(&mut self.rows, line, slot, kept);
         // No line has more rows than the table, so one more can be counted.
         let _rows = self.rows.len();
         *line = line.extended(at, stale);
@@ -170,7 +180,7 @@ impl DueRows {
     }
 
     // Returns the first entry of a line.
-    pub(crate) fn first(&self, line: &DueLine) -> &Due
+    pub(crate) fn first(&self, line: &DueLine) -> &KeptDue
         requires line { (slot : ℕ) × IsDueLine self.now.slots slot line.now }
         requires some { 0 < line.now.count }
         ensures { slice_get (dues_in self.now.slots line.now) 0 ≡ Some result.now }

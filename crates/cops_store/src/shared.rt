@@ -54,7 +54,7 @@ impl Tables {
         ensures rows { all_rows (chains_at slot self.new.table) ≡ all_rows (chains_at slot self.old.table) }
         ensures others { OtherSlotsStay slot self.old.table self.new.table }
     {
-        self.due.reserve()?;
+        self.due.reserve(alloc, key)?;
         self.table.reserve(alloc, slot, key)?;
         Ok(())
     }
@@ -75,16 +75,17 @@ impl Tables {
         ensures others { OtherSlotsStay slot self.old.table self.new.table }
     {
         let first = self.due.first(dues);
-        let stale = first.stale;
         if !table::is_hit(first, now, trans_time) {
+            let stale = first.stale();
             self.due.pass(dues, stale);
             return Cleaned {
                 least: stale,
                 ..nothing_cleaned()
             };
         }
-        let freed = self.table.clean_at(slot, &first.key, now, trans_time);
-        match self.table.oldest_at(slot, &first.key) {
+        let key = first.key();
+        let freed = self.table.clean_at(slot, &key, now, trans_time);
+        match self.table.oldest_at(slot, &key) {
             Some(oldest) => {
                 let least = oldest.max(now.saturating_sub(trans_time));
                 self.due.pass(dues, least);

@@ -83,8 +83,8 @@ impl Shelf {
             return Err(RequestError::Refused(fault));
         }
         let due = &mut tables.due;
-        due.reserve()?;
         let key = entry.key();
+        due.reserve(alloc, &key)?;
         let kept = entry.committed(now);
         tables
             .table

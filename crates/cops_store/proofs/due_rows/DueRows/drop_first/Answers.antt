@@ -8,7 +8,7 @@ pub release-line-requires : goal.release-line-requires
 release-line-requires c = record { row = (c.requires.line.0, first_there c.self.inside.rows.slots c.requires.line.0 c.args.line.now c.requires.some (subst (λ (d : Dues). IsDueLine d.slots c.requires.line.0 c.args.line.now) (sym c.self.view_is) c.requires.line.1)) }
 
 pub invariant_of-self : goal.invariant_of-self
-invariant_of-self c = λ ready. c.release-line.ensures.room
+invariant_of-self c = λ ready. (c.release-line.ensures.room, (c.self.invariant ready).1)
 
 pub returns-clause-turn : goal.returns-clause-turn
 returns-clause-turn c = λ slot line.

@@ -22,7 +22,7 @@ returns-clause-dues c =
 
 pub invariant_of-self : goal.invariant_of-self
 invariant_of-self c = λ ready.
-    let before = c.self.invariant ready in
+    let before = (c.self.invariant ready).0 in
     let len = c.move_behind-line.ensures.len in
     let capacity = c.move_behind-line.ensures.capacity in
-    omega (arith, before, len, capacity)
+    (omega (arith, before, len, capacity), (c.self.invariant ready).1)
