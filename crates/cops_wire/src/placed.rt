@@ -83,7 +83,8 @@ pub(crate) fn put_head(
     count: u8,
 ) -> usize
     requires { at + 15 ≤ length bytes.old }
-    ensures text { take result bytes.new ≡ take at bytes.old ++ (big_bytes 4 len ++ (tag ∷ (handle.now ++ (count ∷ [])))) }
+    ensures text { take result bytes.new ≡ take at bytes.old
+        ++ (big_bytes 4 len ++ (tag ∷ (handle.now ++ (count ∷ [])))) }
     ensures end { result ≡ at + 15 }
 {
     let of_tag = put_number_32(bytes, at, len);
@@ -98,7 +99,8 @@ pub(crate) fn put_head(
 pub(crate) fn put_keys(bytes: &mut [u8], at: usize, keys: &[Bytes]) -> Option<usize>
     requires within { at ≤ length bytes.old }
     requires counted { PartsFit 1 (IsCounted 1) keys.now }
-    ensures text { IfSome result (λ end. take end bytes.new ≡ take at bytes.old ++ flat_map spelled_key keys.now) }
+    ensures text { IfSome result (λ end. take end bytes.new
+        ≡ take at bytes.old ++ flat_map spelled_key keys.now) }
     ensures within { IfSome result (λ end. (at ≤ end) × (end ≤ length bytes.old)) }
     ensures front { take at bytes.new ≡ take at bytes.old }
 {

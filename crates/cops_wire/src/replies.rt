@@ -94,7 +94,8 @@ fn push_short_pair(out: &mut Vec<u8>, pair: &ShortPair) -> Result<(), AllocError
 
 /// Appends pairs with short keys. On `Err` a prefix of them may be there.
 fn push_short_pairs(out: &mut Vec<u8>, pairs: &[ShortPair]) -> Result<(), AllocError>
-    ensures ok { OnOk result (out.new.items ≡ out.old.items ++ flat_map link_of (map link_to pairs.now)) }
+    ensures ok { OnOk result (out.new.items ≡ out.old.items
+        ++ flat_map link_of (map link_to pairs.now)) }
     ensures front { StartsWith out.new.items out.old.items }
 {
     for pair in pairs {
@@ -106,7 +107,8 @@ fn push_short_pairs(out: &mut Vec<u8>, pairs: &[ShortPair]) -> Result<(), AllocE
 /// Appends dependencies of any kind. On `Err` a prefix of them may be there.
 #[inline(never)]
 fn push_any_pairs(out: &mut Vec<u8>, deps: &OwnedDeps) -> Result<(), AllocError>
-    ensures ok { OnOk result (out.new.items ≡ out.old.items ++ flat_map link_of (map link_to deps.now)) }
+    ensures ok { OnOk result (out.new.items ≡ out.old.items
+        ++ flat_map link_of (map link_to deps.now)) }
     ensures front { StartsWith out.new.items out.old.items }
 {
     for place in 0..deps.len() {
@@ -117,7 +119,8 @@ fn push_any_pairs(out: &mut Vec<u8>, deps: &OwnedDeps) -> Result<(), AllocError>
 
 /// Appends the dependencies. On `Err` a prefix of them may be there.
 fn push_pairs(out: &mut Vec<u8>, deps: &OwnedDeps) -> Result<(), AllocError>
-    ensures ok { OnOk result (out.new.items ≡ out.old.items ++ flat_map link_of (map link_to deps.now)) }
+    ensures ok { OnOk result (out.new.items ≡ out.old.items
+        ++ flat_map link_of (map link_to deps.now)) }
     ensures front { StartsWith out.new.items out.old.items }
 {
     match deps.short() {
@@ -139,7 +142,9 @@ fn put_held(
     requires key { length key.now ≤ 64 }
     requires value { length value.now ≤ SHORT_VALUE }
     requires room { at + SHORT_HELD ≤ length bytes.old }
-    ensures text { take result bytes.new ≡ take at bytes.old ++ (spelled_key key.now ++ (1 ∷ (spelled_value value.now ++ (spelled_version version ++ big_bytes 2 deps)))) }
+    ensures text { take result bytes.new ≡ take at bytes.old
+        ++ (spelled_key key.now
+        ++ (1 ∷ (spelled_value value.now ++ (spelled_version version ++ big_bytes 2 deps)))) }
     ensures end { result ≤ at + SHORT_HELD }
 {
     let of_held = put_key(bytes, at, key);
@@ -160,7 +165,9 @@ fn push_short_held(
 ) -> Result<(), AllocError>
     requires key { length key.now ≤ 64 }
     requires value { length value.now ≤ SHORT_VALUE }
-    ensures ok { OnOk result (out.new.items ≡ out.old.items ++ (spelled_key key.now ++ (1 ∷ (spelled_value value.now ++ (spelled_version version ++ big_bytes 2 deps))))) }
+    ensures ok { OnOk result (out.new.items ≡ out.old.items
+        ++ (spelled_key key.now
+        ++ (1 ∷ (spelled_value value.now ++ (spelled_version version ++ big_bytes 2 deps))))) }
     ensures front { StartsWith out.new.items out.old.items }
 {
     let start = out.len();
@@ -178,7 +185,8 @@ fn push_valued(
     deps: u16,
 ) -> Result<(), AllocError>
     requires { length value.now ≤ 65535 }
-    ensures ok { OnOk result (out.new.items ≡ out.old.items ++ (spelled_value value.now ++ (spelled_version version ++ big_bytes 2 deps))) }
+    ensures ok { OnOk result (out.new.items ≡ out.old.items
+        ++ (spelled_value value.now ++ (spelled_version version ++ big_bytes 2 deps))) }
     ensures front { StartsWith out.new.items out.old.items }
 {
     push_value(out, value)?;
@@ -197,7 +205,9 @@ fn push_long_held(
 ) -> Result<(), AllocError>
     requires key { length key.now ≤ 64 }
     requires value { length value.now ≤ 65535 }
-    ensures ok { OnOk result (out.new.items ≡ out.old.items ++ (spelled_key key.now ++ (1 ∷ (spelled_value value.now ++ (spelled_version version ++ big_bytes 2 deps))))) }
+    ensures ok { OnOk result (out.new.items ≡ out.old.items
+        ++ (spelled_key key.now
+        ++ (1 ∷ (spelled_value value.now ++ (spelled_version version ++ big_bytes 2 deps))))) }
     ensures front { StartsWith out.new.items out.old.items }
 {
     push_key(out, key)?;
@@ -218,7 +228,9 @@ fn push_held(
 ) -> Result<(), AllocError>
     requires key { length key.now ≤ 64 }
     requires value { length value.now ≤ 65535 }
-    ensures ok { OnOk result (out.new.items ≡ out.old.items ++ (spelled_key key.now ++ (1 ∷ (spelled_value value.now ++ (spelled_version version ++ big_bytes 2 deps))))) }
+    ensures ok { OnOk result (out.new.items ≡ out.old.items
+        ++ (spelled_key key.now
+        ++ (1 ∷ (spelled_value value.now ++ (spelled_version version ++ big_bytes 2 deps))))) }
     ensures front { StartsWith out.new.items out.old.items }
 {
     if value.len() <= SHORT_VALUE {
@@ -240,7 +252,8 @@ fn push_absent(out: &mut Vec<u8>, key: &[u8]) -> Result<(), AllocError>
 #[tactic(auto, using(crate::proofs::ReplyLemmas::replies))]
 fn push_read(out: &mut Vec<u8>, read: &Read) -> Result<(), AllocError>
     requires { is_counted read.now ≡ true }
-    ensures ok { OnOk result (out.new.items ≡ out.old.items ++ outcome_of (outcome_of_read read.now)) }
+    ensures ok { OnOk result (out.new.items ≡ out.old.items
+        ++ outcome_of (outcome_of_read read.now)) }
     ensures front { StartsWith out.new.items out.old.items }
 {
     let key = key_bytes(read.key());
@@ -269,7 +282,8 @@ fn can_be_counted(read: &Read) -> bool
 ///
 /// A prefix of them may be there if it finds so, and on `Err`.
 fn push_reads(out: &mut Vec<u8>, reads: &[Read]) -> Result<bool, AllocError>
-    ensures ok { IfOk result (λ counted. (counted ≡ are_counted reads.now) × OnTrue counted (out.new.items ≡ out.old.items ++ body_of (values_of reads.now))) }
+    ensures ok { IfOk result (λ counted. (counted ≡ are_counted reads.now)
+        × OnTrue counted (out.new.items ≡ out.old.items ++ body_of (values_of reads.now))) }
     ensures front { StartsWith out.new.items out.old.items }
 {
     if reads.len() > 255 {
@@ -289,7 +303,9 @@ fn push_reads(out: &mut Vec<u8>, reads: &[Read]) -> Result<bool, AllocError>
 /// Appends a frame with the reads, if one can hold them. Otherwise, and on `Err`, a prefix of it may be there.
 fn push_values(out: &mut Vec<u8>, reads: &[Read]) -> Result<bool, AllocError>
     ensures held { IfOk result (λ held. held ≡ is_one_frame reads.now) }
-    ensures ok { IfOk result (λ held. MatchBool held (out.new.items ≡ out.old.items ++ spelling (values_of reads.now)) (StartsWith out.new.items out.old.items)) }
+    ensures ok { IfOk result (λ held. MatchBool held
+        (out.new.items ≡ out.old.items ++ spelling (values_of reads.now))
+        (StartsWith out.new.items out.old.items)) }
     ensures front { OnErr result (StartsWith out.new.items out.old.items) }
 {
     let start = out.len();
@@ -309,7 +325,8 @@ fn push_values(out: &mut Vec<u8>, reads: &[Read]) -> Result<bool, AllocError>
 #[inline(always)]
 fn put_stored(bytes: &mut [u8], at: usize, pair: &Pair) -> usize
     requires { at + 5 + LONGEST_PAIR ≤ length bytes.old }
-    ensures text { take result bytes.new ≡ take at bytes.old ++ spelling (Message.Stored pair.now.key pair.now.version) }
+    ensures text { take result bytes.new ≡ take at bytes.old
+        ++ spelling (Message.Stored pair.now.key pair.now.version) }
     ensures end { result ≤ at + 5 + LONGEST_PAIR }
 {
     let len = (10 + key_bytes(&pair.key).len()) as u32;
@@ -320,7 +337,8 @@ fn put_stored(bytes: &mut [u8], at: usize, pair: &Pair) -> usize
 
 /// Appends a frame with a stored pair. On `Err` nothing is appended.
 fn push_stored(out: &mut Vec<u8>, pair: &Pair) -> Result<(), AllocError>
-    ensures ok { OnOk result (out.new.items ≡ out.old.items ++ spelling (Message.Stored pair.now.key pair.now.version)) }
+    ensures ok { OnOk result (out.new.items ≡ out.old.items
+        ++ spelling (Message.Stored pair.now.key pair.now.version)) }
     ensures err { OnErr result (out.new.items ≡ out.old.items) }
 {
     let start = out.len();
@@ -367,7 +385,8 @@ fn see_reads(reads: &[Read])
 
 /// Appends the reply with an answer. On `Err` nothing is appended.
 pub(crate) fn push_reply(out: &mut Vec<u8>, answer: &Answer) -> Result<(), AllocError>
-    ensures ok { OnOk result (out.new.items ≡ out.old.items ++ spelling (message_of_answer answer.now)) }
+    ensures ok { OnOk result (out.new.items ≡ out.old.items
+        ++ spelling (message_of_answer answer.now)) }
     ensures err { OnErr result (out.new.items ≡ out.old.items) }
     ensures typed { IsHeldOrTyped answer.now }
 {

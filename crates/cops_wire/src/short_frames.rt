@@ -23,7 +23,8 @@ fn put_put(bytes: &mut [u8], at: usize, handle: &[u8; 9], key: &[u8], value: &[u
     requires key { IsCounted 1 key.now }
     requires value { IsCounted 2 value.now }
     requires room { at + 17 + length key.now + length value.now ≤ length bytes.old }
-    ensures text { take result bytes.new ≡ take at bytes.old ++ spelling (Message.Put handle.now key.now value.now) }
+    ensures text { take result bytes.new ≡ take at bytes.old
+        ++ spelling (Message.Put handle.now key.now value.now) }
     ensures end { result ≡ at + 17 + length key.now + length value.now }
 {
     let len = (13 + key.len() + value.len()) as u32;
@@ -37,7 +38,8 @@ fn put_put(bytes: &mut [u8], at: usize, handle: &[u8; 9], key: &[u8], value: &[u
 fn put_get(bytes: &mut [u8], at: usize, handle: &[u8; 9], keys: &[Bytes]) -> Option<usize>
     requires counted { PartsFit 1 (IsCounted 1) keys.now }
     requires room { at + 15 ≤ length bytes.old }
-    ensures text { IfSome result (λ end. take end bytes.new ≡ take at bytes.old ++ (0 ∷ 0 ∷ 0 ∷ 0 ∷ body_of (Message.GetTrans handle.now keys.now))) }
+    ensures text { IfSome result (λ end. take end bytes.new
+        ≡ take at bytes.old ++ (0 ∷ 0 ∷ 0 ∷ 0 ∷ body_of (Message.GetTrans handle.now keys.now))) }
     ensures within { IfSome result (λ end. (at + 15 ≤ end) × (end ≤ length bytes.old)) }
     ensures front { take at bytes.new ≡ take at bytes.old }
 {
@@ -51,7 +53,9 @@ fn end_frame(out: &mut Vec<u8>, start: usize, end: usize)
     requires start { start + 4 ≤ end }
     requires end { end ≤ length out.old.items }
     requires size { end - start < 2 ^ 32 }
-    ensures { (front body : List ℕ) → length front ≡ start → take end out.old.items ≡ front ++ (0 ∷ 0 ∷ 0 ∷ 0 ∷ body) → out.new.items ≡ front ++ spelled_text 4 body }
+    ensures { (front body : List ℕ) → length front ≡ start →
+        take end out.old.items ≡ front ++ (0 ∷ 0 ∷ 0 ∷ 0 ∷ body) →
+        out.new.items ≡ front ++ spelled_text 4 body }
 {
     out.truncate(end);
     let len = (end - start - 4) as u32;
@@ -70,7 +74,8 @@ fn push_put_within<const ROOM: usize>(
     requires value { IsCounted 2 value.now }
     requires room { 17 + length key.now + length value.now ≤ ROOM }
     requires few { ROOM ≤ SHORT_FRAME }
-    ensures ok { OnOk result (out.new.items ≡ out.old.items ++ spelling (Message.Put handle.now key.now value.now)) }
+    ensures ok { OnOk result (out.new.items ≡ out.old.items
+        ++ spelling (Message.Put handle.now key.now value.now)) }
     ensures err { OnErr result (out.new.items ≡ out.old.items) }
 {
     let start = out.len();
@@ -89,7 +94,9 @@ fn push_short_put(
 ) -> Result<bool, AllocError>
     requires key { IsCounted 1 key.now }
     requires value { IsCounted 2 value.now }
-    ensures ok { IfOk result (λ short. MatchBool short (out.new.items ≡ out.old.items ++ spelling (Message.Put handle.now key.now value.now)) (out.new.items ≡ out.old.items)) }
+    ensures ok { IfOk result (λ short. MatchBool short
+        (out.new.items ≡ out.old.items ++ spelling (Message.Put handle.now key.now value.now))
+        (out.new.items ≡ out.old.items)) }
     ensures err { OnErr result (out.new.items ≡ out.old.items) }
 {
     let size = 17 + key.len() + value.len();
@@ -107,7 +114,9 @@ fn push_short_put(
 /// Appends the frame of a get transaction if it is short, and returns whether it is.
 fn push_short_get(out: &mut Vec<u8>, handle: &[u8; 9], keys: &[Bytes]) -> Result<bool, AllocError>
     requires { PartsFit 1 (IsCounted 1) keys.now }
-    ensures ok { IfOk result (λ short. MatchBool short (out.new.items ≡ out.old.items ++ spelling (Message.GetTrans handle.now keys.now)) (out.new.items ≡ out.old.items)) }
+    ensures ok { IfOk result (λ short. MatchBool short
+        (out.new.items ≡ out.old.items ++ spelling (Message.GetTrans handle.now keys.now))
+        (out.new.items ≡ out.old.items)) }
     ensures err { OnErr result (out.new.items ≡ out.old.items) }
 {
     let start = out.len();
@@ -123,7 +132,8 @@ fn push_short_get(out: &mut Vec<u8>, handle: &[u8; 9], keys: &[Bytes]) -> Result
 /// Appends the frame of a put or a get transaction if it is short, and returns whether it is.
 pub(crate) fn push_short(out: &mut Vec<u8>, message: &Message) -> Result<bool, AllocError>
     requires { CanBeWritten message.now }
-    ensures ok { IfOk result (λ short. MatchBool short (out.new.items ≡ out.old.items ++ spelling message.now) (out.new.items ≡ out.old.items)) }
+    ensures ok { IfOk result (λ short. MatchBool short
+        (out.new.items ≡ out.old.items ++ spelling message.now) (out.new.items ≡ out.old.items)) }
     ensures err { OnErr result (out.new.items ≡ out.old.items) }
 {
     match message {

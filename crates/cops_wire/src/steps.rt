@@ -26,10 +26,14 @@ fn step_once<N: Nodes, M: Moments>(
     moments: &mut M,
     out: &mut Vec<u8>,
 ) -> Option<Result<(), AllocError>>
-    requires fits { IsOfSizes (N.shape nodes.old).data_centres (N.shape nodes.old).shards session.old.setting }
-    ensures stepped { (answer : Option SoloAnswer) × PutsAnswer result out.old.items out.new.items answer
-        × ((config : TenantConfig) (solo : SoloSession) (running : SoloRunning) → SessionStandsFor config session.old solo → solo.running ≡ Some running →
-        HasStepped (KeepsShape N.shape N.Answers) M.Gives config session.old.setting.slot (backend solo nodes.old moments.old) session.new nodes.new moments.new answer) }
+    requires fits { IsOfSizes (N.shape nodes.old).data_centres (N.shape nodes.old).shards
+        session.old.setting }
+    ensures stepped { (answer : Option SoloAnswer)
+        × PutsAnswer result out.old.items out.new.items answer
+        × ((config : TenantConfig) (solo : SoloSession) (running : SoloRunning) →
+        SessionStandsFor config session.old solo → solo.running ≡ Some running →
+        HasStepped (KeepsShape N.shape N.Answers) M.Gives config session.old.setting.slot
+        (backend solo nodes.old moments.old) session.new nodes.new moments.new answer) }
     ensures setting { session.new.setting ≡ session.old.setting }
     ensures shape { N.shape nodes.new ≡ N.shape nodes.old }
 {
@@ -57,10 +61,15 @@ pub(crate) fn finish<N: Nodes, M: Moments>(
     moments: &mut M,
     out: &mut Vec<u8>,
 ) -> Result<(), AllocError>
-    requires fits { IsOfSizes (N.shape nodes.old).data_centres (N.shape nodes.old).shards session.old.setting }
-    ensures ended { (answer : SoloAnswer) × PutsFrame result out.old.items out.new.items (message_of_answer answer) × IsHeldOrTyped answer
-        × ((config : TenantConfig) (solo : SoloSession) (running : SoloRunning) → HasFewRestarts config → SessionStandsFor config session.old solo → solo.running ≡ Some running → running.log ≡ [] → HasFewKeys running.action →
-        HasEnded (KeepsShape N.shape N.Answers) M.Gives config session.old.setting.slot (backend solo nodes.old moments.old) session.new nodes.new moments.new answer) }
+    requires fits { IsOfSizes (N.shape nodes.old).data_centres (N.shape nodes.old).shards
+        session.old.setting }
+    ensures ended { (answer : SoloAnswer) × PutsFrame result out.old.items out.new.items
+        (message_of_answer answer) × IsHeldOrTyped answer
+        × ((config : TenantConfig) (solo : SoloSession) (running : SoloRunning) →
+        HasFewRestarts config → SessionStandsFor config session.old solo →
+        solo.running ≡ Some running → running.log ≡ [] → HasFewKeys running.action →
+        HasEnded (KeepsShape N.shape N.Answers) M.Gives config session.old.setting.slot
+        (backend solo nodes.old moments.old) session.new nodes.new moments.new answer) }
     ensures setting { session.new.setting ≡ session.old.setting }
     ensures shape { N.shape nodes.new ≡ N.shape nodes.old }
 {
