@@ -9,7 +9,7 @@ ghost use Rattle.cops_model.specs.Session.{Session as SoloSession, context_creat
 ghost use Rattle.cops_session.specs.SessionStands.{SessionStandsFor};
 ghost use Rattle.cops_wire.specs.declared.messages.Message.{Message};
 ghost use Rattle.cops_wire.specs.Fitting.{CanBeWritten};
-ghost use Rattle.cops_wire.specs.Reading.{all_at, text_at};
+ghost use Rattle.cops_wire.specs.Reading.{all_at, put_message_of, text_at};
 ghost use Rattle.cops_wire.specs.Requests.{KeepsShape, HasAnswered, backend, deletion_refusal, naming_refusal, number_in, reading_refusal, writing_refusal};
 ghost use Rattle.cops_wire.specs.Running.{AreKeysOf, HasRun, IsRequestDone, PutsFrame};
 ghost use Rattle.cops_wire.specs.Serving.{is_request};
@@ -19,7 +19,7 @@ ghost use Rattle.cops_session.specs.Tags.{context_tag};
 
 use crate::messages::Message;
 use crate::moments::Moments;
-use crate::reading::Unseen;
+use crate::reading::{GetCells, PutParts, Unseen};
 use crate::steps::finish;
 use crate::writing::{encode, push_failure};
 use cops_handles::Handle;
@@ -31,8 +31,10 @@ use std::alloc::{AllocError, Global};
 /// The context that a handle names, while no request runs.
 fn context_of(session: &Session, handle: &[u8; 9]) -> Result<Handle<Contexts>, Fault>
     ensures named { IfOk result (λ context. context ≡ number_in handle.now) }
-    ensures refused { (config : TenantConfig) (solo : SoloSession) → SessionStandsFor config session.now solo →
-        MatchResult result (λ _. naming_refusal handle.now solo ≡ None) (λ fault. naming_refusal handle.now solo ≡ Some fault) }
+    ensures refused { (config : TenantConfig) (solo : SoloSession) →
+        SessionStandsFor config session.now solo →
+        MatchResult result (λ _. naming_refusal handle.now solo ≡ None)
+        (λ fault. naming_refusal handle.now solo ≡ Some fault) }
 {
     if session.running().is_some() {
         return Err(Fault::Busy);
@@ -42,11 +44,16 @@ fn context_of(session: &Session, handle: &[u8; 9]) -> Result<Handle<Contexts>, F
 
 /// Opens a context and returns its handle. Fails with `AllocError` if memory runs out.
 fn create(session: &mut Session) -> Result<Message, AllocError>
-    ensures created { (config : TenantConfig) (solo : SoloSession) → SessionStandsFor config session.old solo →
-        IfOk result (λ reply. IsRequestDone config (create_refusal config solo) solo (context_created solo) (Message.Created (wire_of context_tag solo.next_context)) session.new reply) }
+    ensures created { (config : TenantConfig) (solo : SoloSession) →
+        SessionStandsFor config session.old solo →
+        IfOk result (λ reply. IsRequestDone config (create_refusal config solo) solo
+        (context_created solo) (Message.Created (wire_of context_tag solo.next_context)) session.new
+        reply) }
     ensures setting { session.new.setting ≡ session.old.setting }
     ensures fits { IfOk result (λ reply. CanBeWritten reply) }
-    ensures allowed { (config : TenantConfig) (solo : SoloSession) → SessionStandsFor config session.old solo → OnErr result (create_refusal config solo ≡ None) }
+    ensures allowed { (config : TenantConfig) (solo : SoloSession) →
+        SessionStandsFor config session.old solo →
+        OnErr result (create_refusal config solo ≡ None) }
     ensures err { OnErr result (session.new ≡ session.old) }
 {
     match session.create_context() {
@@ -58,10 +65,14 @@ fn create(session: &mut Session) -> Result<Message, AllocError>
 
 /// Closes the context that a handle names.
 fn close(session: &mut Session, handle: &[u8; 9]) -> Result<(), Fault>
-    ensures closed { (config : TenantConfig) (solo : SoloSession) → SessionStandsFor config session.old solo →
-        OnOk result (SessionStandsFor config session.new (context_deleted (number_in handle.now) solo)) }
-    ensures refused { (config : TenantConfig) (solo : SoloSession) → SessionStandsFor config session.old solo →
-        MatchResult result (λ _. deletion_refusal handle.now solo ≡ None) (λ fault. deletion_refusal handle.now solo ≡ Some fault) }
+    ensures closed { (config : TenantConfig) (solo : SoloSession) →
+        SessionStandsFor config session.old solo →
+        OnOk result (SessionStandsFor config session.new
+        (context_deleted (number_in handle.now) solo)) }
+    ensures refused { (config : TenantConfig) (solo : SoloSession) →
+        SessionStandsFor config session.old solo →
+        MatchResult result (λ _. deletion_refusal handle.now solo ≡ None)
+        (λ fault. deletion_refusal handle.now solo ≡ Some fault) }
     ensures setting { session.new.setting ≡ session.old.setting }
     ensures err { OnErr result (session.new ≡ session.old) }
 {
@@ -71,8 +82,10 @@ fn close(session: &mut Session, handle: &[u8; 9]) -> Result<(), Fault>
 
 /// Closes a context.
 fn delete(session: &mut Session, handle: &[u8; 9]) -> Message
-    ensures deleted { (config : TenantConfig) (solo : SoloSession) → SessionStandsFor config session.old solo →
-        IsRequestDone config (deletion_refusal handle.now solo) solo (context_deleted (number_in handle.now) solo) Message.Deleted session.new result }
+    ensures deleted { (config : TenantConfig) (solo : SoloSession) →
+        SessionStandsFor config session.old solo →
+        IsRequestDone config (deletion_refusal handle.now solo) solo
+        (context_deleted (number_in handle.now) solo) Message.Deleted session.new result }
     ensures setting { session.new.setting ≡ session.old.setting }
     ensures fits { CanBeWritten result }
 {
@@ -90,9 +103,12 @@ fn begin_put(
     key: &[u8],
     value: &[u8],
 ) -> Result<(), RequestError>
-    ensures begun { (config : TenantConfig) (solo : SoloSession) → SessionStandsFor config session.old solo →
-        OnOk result (SessionStandsFor config session.new (request_begun (number_in handle.now) (Write key.now value.now) solo)) }
-    ensures told { (config : TenantConfig) (solo : SoloSession) → SessionStandsFor config session.old solo →
+    ensures begun { (config : TenantConfig) (solo : SoloSession) →
+        SessionStandsFor config session.old solo →
+        OnOk result (SessionStandsFor config session.new
+        (request_begun (number_in handle.now) (Write key.now value.now) solo)) }
+    ensures told { (config : TenantConfig) (solo : SoloSession) →
+        SessionStandsFor config session.old solo →
         AnswersUnless (writing_refusal config handle.now key.now value.now solo) result }
     ensures allowed { OnOutOfMemory result (is_key key.now ≡ true) }
     ensures setting { session.new.setting ≡ session.old.setting }
@@ -127,7 +143,8 @@ fn take_keys(keys: &mut Vec<Key>, lists: &ByteLists) -> Result<(), RequestError>
 ///
 /// They replace the earlier ones in the same room.
 fn take_keys_at(keys: &mut Vec<Key>, count: u8, bytes: &[u8]) -> Result<(), RequestError>
-    ensures { (lists : List (List ℕ)) → all_at (text_at 1) count bytes.now ≡ Some (lists, []) → AreKeysOf lists result keys.new.items }
+    ensures { (lists : List (List ℕ)) → all_at (text_at 1) count bytes.now ≡ Some (lists, []) →
+        AreKeysOf lists result keys.new.items }
 {
     if count == 0 {
         return Err(RequestError::Refused(Fault::Syntax));
@@ -151,9 +168,12 @@ fn begin_get(
     made: Result<(), RequestError>,
     keys: &[Key],
 ) -> Result<(), RequestError>
-    ensures begun { (lists : List (List ℕ)) → AreKeysOf lists made keys.now → (config : TenantConfig) (solo : SoloSession) → SessionStandsFor config session.old solo →
-        OnOk result (SessionStandsFor config session.new (request_begun (number_in handle.now) (Fetch lists) solo)) }
-    ensures told { (lists : List (List ℕ)) → AreKeysOf lists made keys.now → (config : TenantConfig) (solo : SoloSession) → SessionStandsFor config session.old solo →
+    ensures begun { (lists : List (List ℕ)) → AreKeysOf lists made keys.now →
+        (config : TenantConfig) (solo : SoloSession) → SessionStandsFor config session.old solo →
+        OnOk result (SessionStandsFor config session.new
+        (request_begun (number_in handle.now) (Fetch lists) solo)) }
+    ensures told { (lists : List (List ℕ)) → AreKeysOf lists made keys.now →
+        (config : TenantConfig) (solo : SoloSession) → SessionStandsFor config session.old solo →
         AnswersUnless (reading_refusal config handle.now lists solo) result }
     ensures setting { session.new.setting ≡ session.old.setting }
     ensures err { OnErr result (session.new ≡ session.old) }
@@ -172,8 +192,11 @@ fn run<N: Nodes, M: Moments>(
     begun: Result<(), RequestError>,
     out: &mut Vec<u8>,
 ) -> Result<(), AllocError>
-    requires fits { IsOfSizes (N.shape nodes.old).data_centres (N.shape nodes.old).shards session.old.setting }
-    ensures ran { HasRun (KeepsShape N.shape N.Answers) M.Gives (backend session.old nodes.old moments.old) begun (backend session.new nodes.new moments.new) (PutsFrame result out.old.items out.new.items) }
+    requires fits { IsOfSizes (N.shape nodes.old).data_centres (N.shape nodes.old).shards
+        session.old.setting }
+    ensures ran { HasRun (KeepsShape N.shape N.Answers) M.Gives
+        (backend session.old nodes.old moments.old) begun
+        (backend session.new nodes.new moments.new) (PutsFrame result out.old.items out.new.items) }
     ensures setting { session.new.setting ≡ session.old.setting }
     ensures shape { N.shape nodes.new ≡ N.shape nodes.old }
 {
@@ -189,19 +212,20 @@ pub(crate) fn answer_put<N: Nodes, M: Moments>(
     session: &mut Session,
     nodes: &mut N,
     moments: &mut M,
-    handle: &[u8; 9],
-    key: &[u8],
-    value: &[u8],
+    put: PutParts,
     out: &mut Vec<u8>,
 ) -> Result<(), AllocError>
-    requires fits { IsOfSizes (N.shape nodes.old).data_centres (N.shape nodes.old).shards session.old.setting }
+    requires fits { IsOfSizes (N.shape nodes.old).data_centres (N.shape nodes.old).shards
+        session.old.setting }
     ensures answered { (reply : Message)
-        × HasAnswered (KeepsShape N.shape N.Answers) M.Gives (backend session.old nodes.old moments.old) (Message.Put handle.now key.now value.now) reply (backend session.new nodes.new moments.new)
+        × HasAnswered (KeepsShape N.shape N.Answers) M.Gives
+        (backend session.old nodes.old moments.old) (put_message_of put.entry) reply
+        (backend session.new nodes.new moments.new)
         × PutsFrame result out.old.items out.new.items reply }
     ensures setting { session.new.setting ≡ session.old.setting }
     ensures shape { N.shape nodes.new ≡ N.shape nodes.old }
 {
-    let begun = begin_put(alloc, session, handle, key, value);
+    let begun = begin_put(alloc, session, &put.handle, put.key, put.value);
     run(session, nodes, moments, begun, out)
 }
 
@@ -215,9 +239,12 @@ fn answer_get<N: Nodes, M: Moments>(
     keys: &[Key],
     out: &mut Vec<u8>,
 ) -> Result<(), AllocError>
-    requires fits { IsOfSizes (N.shape nodes.old).data_centres (N.shape nodes.old).shards session.old.setting }
+    requires fits { IsOfSizes (N.shape nodes.old).data_centres (N.shape nodes.old).shards
+        session.old.setting }
     ensures answered { (lists : List (List ℕ)) → AreKeysOf lists made keys.now → (reply : Message)
-        × HasAnswered (KeepsShape N.shape N.Answers) M.Gives (backend session.old nodes.old moments.old) (Message.GetTrans handle.now lists) reply (backend session.new nodes.new moments.new)
+        × HasAnswered (KeepsShape N.shape N.Answers) M.Gives
+        (backend session.old nodes.old moments.old) (Message.GetTrans handle.now lists) reply
+        (backend session.new nodes.new moments.new)
         × PutsFrame result out.old.items out.new.items reply }
     ensures setting { session.new.setting ≡ session.old.setting }
     ensures shape { N.shape nodes.new ≡ N.shape nodes.old }
@@ -232,20 +259,30 @@ pub(crate) fn answer_get_at<N: Nodes, M: Moments>(
     nodes: &mut N,
     moments: &mut M,
     keys: &mut Vec<Key>,
-    handle: &[u8; 9],
-    count: u8,
-    bytes: &[u8],
+    get: GetCells,
     out: &mut Vec<u8>,
 ) -> Result<(), AllocError>
-    requires fits { IsOfSizes (N.shape nodes.old).data_centres (N.shape nodes.old).shards session.old.setting }
-    ensures answered { (lists : List (List ℕ)) → all_at (text_at 1) count bytes.now ≡ Some (lists, []) → (reply : Message)
-        × HasAnswered (KeepsShape N.shape N.Answers) M.Gives (backend session.old nodes.old moments.old) (Message.GetTrans handle.now lists) reply (backend session.new nodes.new moments.new)
+    requires fits { IsOfSizes (N.shape nodes.old).data_centres (N.shape nodes.old).shards
+        session.old.setting }
+    ensures answered { (lists : List (List ℕ)) →
+        all_at (text_at 1) get.entry.count get.entry.keys.now ≡ Some (lists, []) → (reply : Message)
+        × HasAnswered (KeepsShape N.shape N.Answers) M.Gives
+        (backend session.old nodes.old moments.old) (Message.GetTrans get.entry.handle lists) reply
+        (backend session.new nodes.new moments.new)
         × PutsFrame result out.old.items out.new.items reply }
     ensures setting { session.new.setting ≡ session.old.setting }
     ensures shape { N.shape nodes.new ≡ N.shape nodes.old }
 {
-    let made = take_keys_at(keys, count, bytes);
-    answer_get(session, nodes, moments, handle, made, keys.as_slice(), out)
+    let made = take_keys_at(keys, get.count, get.keys);
+    answer_get(
+        session,
+        nodes,
+        moments,
+        &get.handle,
+        made,
+        keys.as_slice(),
+        out,
+    )
 }
 
 /// Answers a request, and puts its reply at the end.
@@ -259,10 +296,13 @@ pub(crate) fn answer<N: Nodes, M: Moments>(
     request: &Message,
     out: &mut Vec<u8>,
 ) -> Result<(), AllocError>
-    requires fits { IsOfSizes (N.shape nodes.old).data_centres (N.shape nodes.old).shards session.old.setting }
+    requires fits { IsOfSizes (N.shape nodes.old).data_centres (N.shape nodes.old).shards
+        session.old.setting }
     requires request { IsTrue (is_request request.now) }
     ensures answered { (reply : Message)
-        × HasAnswered (KeepsShape N.shape N.Answers) M.Gives (backend session.old nodes.old moments.old) request.now reply (backend session.new nodes.new moments.new)
+        × HasAnswered (KeepsShape N.shape N.Answers) M.Gives
+        (backend session.old nodes.old moments.old) request.now reply
+        (backend session.new nodes.new moments.new)
         × PutsFrame result out.old.items out.new.items reply }
     ensures setting { session.new.setting ≡ session.old.setting }
     ensures shape { N.shape nodes.new ≡ N.shape nodes.old }
@@ -278,9 +318,11 @@ pub(crate) fn answer<N: Nodes, M: Moments>(
             session,
             nodes,
             moments,
-            handle,
-            key.as_slice(),
-            value.as_slice(),
+            PutParts {
+                handle: *handle,
+                key: key.as_slice(),
+                value: value.as_slice(),
+            },
             out,
         ),
         Message::GetTrans(handle, lists) => {

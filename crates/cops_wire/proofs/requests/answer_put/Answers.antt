@@ -7,9 +7,9 @@ use Rattle.cops_wire.proofs.requests.answer_put.Goals as goal
 
 pub returns-clause-answered : goal.returns-clause-answered
 returns-clause-answered g c =
-    let handle = c.args.handle.now in
-    let key = c.args.key.now in
-    let value = c.args.value.now in
+    let handle = c.args.put.handle in
+    let key = c.args.put.key.now in
+    let value = c.args.put.value.now in
     answered_by_steps (KeepsShape g.N.Nodes.shape g.N.Nodes.Answers) g.M.Moments.Gives (Put handle key value) (λ config session. writing_refusal config handle key value session) (number_in handle) (Write key value)
     (λ config slot old new reply so. so) (λ config session none. tt) c.args.session.now c.begin_put-begun.new.session (backend c.run.new.session c.run.new.nodes c.run.new.moments) c.args.nodes.now c.args.moments.now
     c.begin_put-begun.result (PutsFrame c.run.result c.args.out.now.items c.run.new.out.items) c.begin_put-begun.ensures.setting c.run.ensures.setting c.begin_put-begun.ensures.told c.begin_put-begun.ensures.begun c.begin_put-begun.ensures.err c.run.ensures.ran

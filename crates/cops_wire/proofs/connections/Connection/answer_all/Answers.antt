@@ -16,20 +16,20 @@ pub returns-in_err-all-clause-front : goal.returns-in_err-all-clause-front
 returns-in_err-all-clause-front g c = λ stream answered e f.
     on_err c.from_residual.result
     (stops (HasAnswered (KeepsShape g.N.Nodes.shape g.N.Nodes.Answers) g.M.Moments.Gives) stream answered _ _ _ _ _ _ _ _ _ _ (served_start (HasAnswered (KeepsShape g.N.Nodes.shape g.N.Nodes.Answers) g.M.Moments.Gives) stream answered _ _ _ c.args.self.now.decoder c.args.self.now.waiting.items e f)
-    (subst (λ l. WritesSomeReplies (HasAnswered (KeepsShape g.N.Nodes.shape g.N.Nodes.Answers) g.M.Moments.Gives) (backend c.args.session.now c.args.nodes.now c.args.moments.now) (backend c.answer_waiting.new.session c.answer_waiting.new.nodes c.answer_waiting.new.moments) l (g.W.Write.contents (sink_writer c.args.self.now.sink)) (g.W.Write.contents (sink_writer c.answer_waiting.new.sink))) c.as_slice.ensures.value c.in_err-all.ensures.front))
+    (subst (λ l. WritesSomeReplies (HasAnswered (KeepsShape g.N.Nodes.shape g.N.Nodes.Answers) g.M.Moments.Gives) (backend c.args.session.now c.args.nodes.now c.args.moments.now) (backend c.answer_waiting.new.session c.answer_waiting.new.nodes c.answer_waiting.new.moments) l (g.W.Write.contents (sink_writer c.args.self.now.responder.sink)) (g.W.Write.contents (sink_writer c.answer_waiting.new.self.sink))) c.as_slice.ensures.value c.in_err-all.ensures.front))
 
 pub returns-then-is_torn-clause-served : goal.returns-then-is_torn-clause-served
 returns-then-is_torn-clause-served g c = λ stream answered e f.
-    let written : WritesReplyFront (HasAnswered (KeepsShape g.N.Nodes.shape g.N.Nodes.Answers) g.M.Moments.Gives) (backend c.args.session.now c.args.nodes.now c.args.moments.now) (backend c.answer_waiting.new.session c.answer_waiting.new.nodes c.answer_waiting.new.moments) c.args.self.now.waiting.items (g.W.Write.contents (sink_writer c.args.self.now.sink)) (g.W.Write.contents (sink_writer c.answer_waiting.new.sink)) c.in_ok-all.all =
-    subst (λ l. WritesReplyFront (HasAnswered (KeepsShape g.N.Nodes.shape g.N.Nodes.Answers) g.M.Moments.Gives) (backend c.args.session.now c.args.nodes.now c.args.moments.now) (backend c.answer_waiting.new.session c.answer_waiting.new.nodes c.answer_waiting.new.moments) l (g.W.Write.contents (sink_writer c.args.self.now.sink)) (g.W.Write.contents (sink_writer c.answer_waiting.new.sink)) c.in_ok-all.all) c.as_slice.ensures.value c.in_ok-all.ensures.ok in
+    let written : WritesReplyFront (HasAnswered (KeepsShape g.N.Nodes.shape g.N.Nodes.Answers) g.M.Moments.Gives) (backend c.args.session.now c.args.nodes.now c.args.moments.now) (backend c.answer_waiting.new.session c.answer_waiting.new.nodes c.answer_waiting.new.moments) c.args.self.now.waiting.items (g.W.Write.contents (sink_writer c.args.self.now.responder.sink)) (g.W.Write.contents (sink_writer c.answer_waiting.new.self.sink)) c.in_ok-all.all =
+    subst (λ l. WritesReplyFront (HasAnswered (KeepsShape g.N.Nodes.shape g.N.Nodes.Answers) g.M.Moments.Gives) (backend c.args.session.now c.args.nodes.now c.args.moments.now) (backend c.answer_waiting.new.session c.answer_waiting.new.nodes c.answer_waiting.new.moments) l (g.W.Write.contents (sink_writer c.args.self.now.responder.sink)) (g.W.Write.contents (sink_writer c.answer_waiting.new.self.sink)) c.in_ok-all.all) c.as_slice.ensures.value c.in_ok-all.ensures.ok in
     let begun = served_start (HasAnswered (KeepsShape g.N.Nodes.shape g.N.Nodes.Answers) g.M.Moments.Gives) stream answered _ _ _ c.args.self.now.decoder c.args.self.now.waiting.items e f in
     let torn = torn_by (HasAnswered (KeepsShape g.N.Nodes.shape g.N.Nodes.Answers) g.M.Moments.Gives) stream answered _ _ _ _ _ _ _ _ _ c.args.self.now.decoder _ c.in_ok-all.all (sym c.is_torn.ensures ∙ c.if-is_torn.true) begun written (λ every. refl) in
     torn_if c.tear.result _ _ c.tear.ensures.ended c.tear.ensures.ok (λ refusal. torn_told (HasAnswered (KeepsShape g.N.Nodes.shape g.N.Nodes.Answers) g.M.Moments.Gives) stream answered _ _ _ _ _ _ _ torn refusal)
 
 pub returns-then-is_torn-clause-front : goal.returns-then-is_torn-clause-front
 returns-then-is_torn-clause-front g c = λ stream answered e f.
-    let written : WritesReplyFront (HasAnswered (KeepsShape g.N.Nodes.shape g.N.Nodes.Answers) g.M.Moments.Gives) (backend c.args.session.now c.args.nodes.now c.args.moments.now) (backend c.answer_waiting.new.session c.answer_waiting.new.nodes c.answer_waiting.new.moments) c.args.self.now.waiting.items (g.W.Write.contents (sink_writer c.args.self.now.sink)) (g.W.Write.contents (sink_writer c.answer_waiting.new.sink)) c.in_ok-all.all =
-    subst (λ l. WritesReplyFront (HasAnswered (KeepsShape g.N.Nodes.shape g.N.Nodes.Answers) g.M.Moments.Gives) (backend c.args.session.now c.args.nodes.now c.args.moments.now) (backend c.answer_waiting.new.session c.answer_waiting.new.nodes c.answer_waiting.new.moments) l (g.W.Write.contents (sink_writer c.args.self.now.sink)) (g.W.Write.contents (sink_writer c.answer_waiting.new.sink)) c.in_ok-all.all) c.as_slice.ensures.value c.in_ok-all.ensures.ok in
+    let written : WritesReplyFront (HasAnswered (KeepsShape g.N.Nodes.shape g.N.Nodes.Answers) g.M.Moments.Gives) (backend c.args.session.now c.args.nodes.now c.args.moments.now) (backend c.answer_waiting.new.session c.answer_waiting.new.nodes c.answer_waiting.new.moments) c.args.self.now.waiting.items (g.W.Write.contents (sink_writer c.args.self.now.responder.sink)) (g.W.Write.contents (sink_writer c.answer_waiting.new.self.sink)) c.in_ok-all.all =
+    subst (λ l. WritesReplyFront (HasAnswered (KeepsShape g.N.Nodes.shape g.N.Nodes.Answers) g.M.Moments.Gives) (backend c.args.session.now c.args.nodes.now c.args.moments.now) (backend c.answer_waiting.new.session c.answer_waiting.new.nodes c.answer_waiting.new.moments) l (g.W.Write.contents (sink_writer c.args.self.now.responder.sink)) (g.W.Write.contents (sink_writer c.answer_waiting.new.self.sink)) c.in_ok-all.all) c.as_slice.ensures.value c.in_ok-all.ensures.ok in
     let begun = served_start (HasAnswered (KeepsShape g.N.Nodes.shape g.N.Nodes.Answers) g.M.Moments.Gives) stream answered _ _ _ c.args.self.now.decoder c.args.self.now.waiting.items e f in
     let torn = torn_by (HasAnswered (KeepsShape g.N.Nodes.shape g.N.Nodes.Answers) g.M.Moments.Gives) stream answered _ _ _ _ _ _ _ _ _ c.args.self.now.decoder _ c.in_ok-all.all (sym c.is_torn.ensures ∙ c.if-is_torn.true) begun written (λ every. refl) in
     map_err c.tear.result c.tear.ensures.front (λ refusal. torn_told_in_part (HasAnswered (KeepsShape g.N.Nodes.shape g.N.Nodes.Answers) g.M.Moments.Gives) stream answered _ _ _ _ _ _ _ torn refusal)
@@ -37,8 +37,8 @@ returns-then-is_torn-clause-front g c = λ stream answered e f.
 pub loop-init : goal.loop-init
 loop-init g c = record {
   goes = λ stream answered e f.
-      let written : WritesReplyFront (HasAnswered (KeepsShape g.N.Nodes.shape g.N.Nodes.Answers) g.M.Moments.Gives) (backend c.args.session.now c.args.nodes.now c.args.moments.now) (backend c.answer_waiting.new.session c.answer_waiting.new.nodes c.answer_waiting.new.moments) c.args.self.now.waiting.items (g.W.Write.contents (sink_writer c.args.self.now.sink)) (g.W.Write.contents (sink_writer c.answer_waiting.new.sink)) c.in_ok-all.all =
-      subst (λ l. WritesReplyFront (HasAnswered (KeepsShape g.N.Nodes.shape g.N.Nodes.Answers) g.M.Moments.Gives) (backend c.args.session.now c.args.nodes.now c.args.moments.now) (backend c.answer_waiting.new.session c.answer_waiting.new.nodes c.answer_waiting.new.moments) l (g.W.Write.contents (sink_writer c.args.self.now.sink)) (g.W.Write.contents (sink_writer c.answer_waiting.new.sink)) c.in_ok-all.all) c.as_slice.ensures.value c.in_ok-all.ensures.ok in
+      let written : WritesReplyFront (HasAnswered (KeepsShape g.N.Nodes.shape g.N.Nodes.Answers) g.M.Moments.Gives) (backend c.args.session.now c.args.nodes.now c.args.moments.now) (backend c.answer_waiting.new.session c.answer_waiting.new.nodes c.answer_waiting.new.moments) c.args.self.now.waiting.items (g.W.Write.contents (sink_writer c.args.self.now.responder.sink)) (g.W.Write.contents (sink_writer c.answer_waiting.new.self.sink)) c.in_ok-all.all =
+      subst (λ l. WritesReplyFront (HasAnswered (KeepsShape g.N.Nodes.shape g.N.Nodes.Answers) g.M.Moments.Gives) (backend c.args.session.now c.args.nodes.now c.args.moments.now) (backend c.answer_waiting.new.session c.answer_waiting.new.nodes c.answer_waiting.new.moments) l (g.W.Write.contents (sink_writer c.args.self.now.responder.sink)) (g.W.Write.contents (sink_writer c.answer_waiting.new.self.sink)) c.in_ok-all.all) c.as_slice.ensures.value c.in_ok-all.ensures.ok in
       let begun = served_start (HasAnswered (KeepsShape g.N.Nodes.shape g.N.Nodes.Answers) g.M.Moments.Gives) stream answered _ _ _ c.args.self.now.decoder c.args.self.now.waiting.items e f in
       goes_by (HasAnswered (KeepsShape g.N.Nodes.shape g.N.Nodes.Answers) g.M.Moments.Gives) stream answered _ _ _ _ _ _ _ _ _ c.args.self.now.decoder _ c.in_ok-all.all (sym c.is_torn.ensures ∙ c.if-is_torn.false) begun written (λ every. refl);
   reads = HasRisenBy-start _;

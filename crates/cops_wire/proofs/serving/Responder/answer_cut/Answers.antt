@@ -3,7 +3,7 @@ use Rattle.std.proofs.lemmas.List.{take_rest}
 use Rattle.cops_wire.specs.Requests.{KeepsShape, HasAnswered}
 use Rattle.cops_wire.proofs.AnsweredRequests.{map_err, map_ok, on_err}
 use Rattle.cops_wire.proofs.WalkLemmas.{cut_broken, cut_fails, cut_stays, cut_then, cut_then_fails}
-use Rattle.cops_wire.proofs.walks.answer_cut.Goals as goal
+use Rattle.cops_wire.proofs.serving.Responder.answer_cut.Goals as goal
 
 pub returns-in_err-all-clause-front : goal.returns-in_err-all-clause-front
 returns-in_err-all-clause-front g c =

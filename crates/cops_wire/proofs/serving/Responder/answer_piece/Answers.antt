@@ -1,6 +1,6 @@
 use Rattle.cops_wire.specs.Requests.{KeepsShape, HasAnswered}
 use Rattle.cops_wire.proofs.AnsweredRequests.{front_unsent, on_err, some_written}
-use Rattle.cops_wire.proofs.walks.answer_piece.Goals as goal
+use Rattle.cops_wire.proofs.serving.Responder.answer_piece.Goals as goal
 
 pub returns-in_err-send-clause-front : goal.returns-in_err-send-clause-front
 returns-in_err-send-clause-front g c =

@@ -4,11 +4,11 @@ use Rattle.cops_types.specs.Sink.{sink_writer}
 use Rattle.cops_wire.specs.Requests.{KeepsShape, HasAnswered, backend}
 use Rattle.cops_wire.proofs.AnsweredRequests.{on_err}
 use Rattle.cops_wire.proofs.WalkLemmas.{walk_begins, walk_sent, walk_ungathered, walk_unsent, walked_broken, walked_partial, walked_unasked, walked_whole}
-use Rattle.cops_wire.proofs.walks.answer_frames.Goals as goal
+use Rattle.cops_wire.proofs.serving.Responder.answer_frames.Goals as goal
 
 pub loop-size-init : goal.loop-size-init
 loop-size-init g c = record {
-  walked = walk_begins (HasAnswered (KeepsShape g.N.Nodes.shape g.N.Nodes.Answers) g.M.Moments.Gives) c.args.bytes.now (backend c.args.session.now c.args.nodes.now c.args.moments.now) (g.W.Write.contents (sink_writer c.args.sink.now)) c.args.out.now.items;
+  walked = walk_begins (HasAnswered (KeepsShape g.N.Nodes.shape g.N.Nodes.Answers) g.M.Moments.Gives) c.args.bytes.now (backend c.args.session.now c.args.nodes.now c.args.moments.now) (g.W.Write.contents (sink_writer c.args.self.now.sink)) c.args.self.now.out.items;
   failures = refl;
   setting = refl;
   shape = refl;

@@ -4,11 +4,11 @@ use Rattle.cops_types.specs.Sink.{sink_writer}
 use Rattle.cops_wire.specs.Requests.{KeepsShape, HasAnswered, backend}
 use Rattle.cops_wire.specs.Serving.{Gathers}
 use Rattle.cops_wire.proofs.AnsweredRequests.{none_gathered, on_err, one_more, one_unkept, sent_on, some_gathered}
-use Rattle.cops_wire.proofs.serving.answer_messages.Goals as goal
+use Rattle.cops_wire.proofs.serving.Responder.answer_messages.Goals as goal
 
 pub loop-message-init : goal.loop-message-init
 loop-message-init g c = record {
-  so_far = none_gathered (HasAnswered (KeepsShape g.N.Nodes.shape g.N.Nodes.Answers) g.M.Moments.Gives) (backend c.args.session.now c.args.nodes.now c.args.moments.now) (g.W.Write.contents (sink_writer c.args.sink.now)) c.args.out.now.items;
+  so_far = none_gathered (HasAnswered (KeepsShape g.N.Nodes.shape g.N.Nodes.Answers) g.M.Moments.Gives) (backend c.args.session.now c.args.nodes.now c.args.moments.now) (g.W.Write.contents (sink_writer c.args.self.now.sink)) c.args.self.now.out.items;
   failures = refl;
   setting = refl;
   shape = refl;
@@ -60,7 +60,7 @@ loop-message-preserved g c =
     let done = c.in_ok-answer.ensures.answered in
     record {
       so_far = subst (λ l. Gathers (HasAnswered (KeepsShape g.N.Nodes.shape g.N.Nodes.Answers) g.M.Moments.Gives) (backend c.args.session.now c.args.nodes.now c.args.moments.now) (backend c.answer.new.session c.answer.new.nodes c.answer.new.moments) l
-          (g.W.Write.contents (sink_writer c.args.sink.now)) (g.W.Write.contents (sink_writer c.send.new.sink)) c.args.out.now.items c.send.new.out.items) front
+          (g.W.Write.contents (sink_writer c.args.self.now.sink)) (g.W.Write.contents (sink_writer c.send.new.self.sink)) c.args.self.now.out.items c.send.new.self.out.items) front
           (sent_on (HasAnswered (KeepsShape g.N.Nodes.shape g.N.Nodes.Answers) g.M.Moments.Gives) _ _ (take i messages ++ m ∷ []) _ _ _ _ _ _
           (one_more (HasAnswered (KeepsShape g.N.Nodes.shape g.N.Nodes.Answers) g.M.Moments.Gives) _ _ _ (take i messages) m done.0 _ _ _ _ _ c.loop-message.invariant.so_far (sym c.is_asked.ensures ∙ c.if-not-is_asked.false) done.1 done.2.0) c.in_ok-send.ensures.sent);
       failures = c.in_ok-send.ensures.same ∙ c.loop-message.invariant.failures;
