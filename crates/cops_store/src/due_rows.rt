@@ -146,6 +146,7 @@ impl DueRows {
     }
 
     // Makes room for one more entry. Any key may fill the block.
+    #[inline(always)]
     pub(crate) fn reserve(&mut self, alloc: Global, key: &Key) -> Result<(), AllocError>
         ensures slots { self.new.slots ≡ self.old.slots }
         ensures room { OnOk result (IsTrue self.new.room) }
