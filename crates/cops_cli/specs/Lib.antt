@@ -1,4 +1,5 @@
 pub mod CommandLine
 pub mod Commands
 pub mod Faults
+pub mod Program
 pub mod Statuses

@@ -2,8 +2,10 @@
 //! it or migrates it, or serves clients.
 #![tactic(auto)]
 
-ghost use Rattle.std.specs.Prelude.{◌≡◌};
+ghost use Rattle.std.specs.Prelude.{◌≡◌, map};
 ghost use Rattle.std.specs.Process.{exit_status};
+ghost use Rattle.cops_cli.specs.Commands.{streams};
+ghost use Rattle.cops_cli.specs.Program.{EndsProgram};
 ghost use Rattle.cops_cli.specs.Statuses.{status_of};
 
 mod command_line;
@@ -21,7 +23,8 @@ use cops_types::{Sink, Source};
 use faults::CliFault;
 use program::answer;
 use progress::{Progress, WatchedReader};
-use std::io::{ErrorKind, IsTerminal};
+use std::convert::AsStr;
+use std::io::{ErrorKind, IsTerminal, Read, Write};
 use std::net::{Net, TcpListener, TcpStream};
 use std::process::ExitCode;
 use std::rt::Env;
@@ -48,21 +51,34 @@ fn reads_a_file(words: &[String]) -> bool {
     }
 }
 
-/// Runs the command that the words name, and reports its progress if asked to.
-fn run<R>(rt: &R, shows_progress: bool) -> Result<(), CliFault>
-where
-    R: Env + Input + Print + Eprint + AllocGlobal + Hosted,
-    R: Net<Listener = TcpListener, Stream = TcpStream> + Threads + Wait + Clock + Sync,
-{
-    let words = words_of(rt)?;
-    let progress = if shows_progress && reads_a_file(words.as_slice()) {
+/// Returns what reports the progress of the command that the words name. On a terminal alone, and
+/// not for input that is typed.
+fn progress_of<'a>(rt: &'a HostRuntime, words: &[String]) -> Option<Progress<'a, HostRuntime>> {
+    let shows_progress = rt.stderr().is_terminal() && !rt.stdin().is_terminal();
+    if shows_progress && reads_a_file(words) {
         Progress::new(rt)
     } else {
         None
-    };
-    let mut source = Source::new(WatchedReader::new(rt.reader(), progress));
-    let mut sink = Sink::new(io::writer(rt));
-    answer(rt, rt.alloc(), words.as_slice(), &mut source, &mut sink)
+    }
+}
+
+/// Runs the command that the words name, writes the text of its fault to standard error, and
+/// returns the exit status. The first word is the program's name.
+fn run<T, S: AsStr, R: Read, O: Write>(
+    rt: &T,
+    words: &[S],
+    source: &mut Source<R>,
+    sink: &mut Sink<O>,
+) -> ExitCode
+where
+    T: Net<Listener = TcpListener, Stream = TcpStream> + Threads + Wait + Clock + Sync,
+    T: AllocGlobal + Eprint + Hosted,
+    ensures { EndsProgram (map S.text words.now)
+        (streams R.remaining O.contents source.old sink.old)
+        (streams R.remaining O.contents source.new sink.new) (exit_status result) }
+{
+    let outcome = answer(rt, rt.alloc(), words, source, sink);
+    end(rt, outcome)
 }
 
 /// Writes the text of a fault to standard error, and returns the exit status.
@@ -78,7 +94,12 @@ fn end<R: Eprint>(rt: &R, outcome: Result<(), CliFault>) -> ExitCode
 }
 
 fn main(rt: HostRuntime) -> ExitCode {
-    // On a terminal alone, and not for input that is typed.
-    let shows_progress = rt.stderr().is_terminal() && !rt.stdin().is_terminal();
-    end(&rt, run(&rt, shows_progress))
+    let words = match words_of(&rt) {
+        Ok(words) => words,
+        Err(fault) => return end(&rt, Err(fault)),
+    };
+    let progress = progress_of(&rt, words.as_slice());
+    let mut source = Source::new(WatchedReader::new(rt.reader(), progress));
+    let mut sink = Sink::new(io::writer(&rt));
+    run(&rt, words.as_slice(), &mut source, &mut sink)
 }

@@ -1,0 +1,15 @@
+-- What the program does with its words.
+use Rattle.std.specs.Prelude.{◌≡◌, ◌⊎◌, ℕ, List, Result, IfErr, IsErrAnd}
+use Rattle.cops_cli.specs.CommandLine.{ArePlain}
+use Rattle.cops_cli.specs.Commands.{EndsTask, RefusesTask, Streams}
+use Rattle.cops_cli.specs.Faults.{IsOfWords}
+use Rattle.cops_cli.specs.Statuses.{status_of}
+use Rattle.cops_cli.specs.declared.faults.CliFault.{CliFault}
+
+-- the words have an outcome, of which the exit status tells
+pub record EndsProgram (words : List (List ℕ)) (old new : Streams) (status : ℕ) : Type 0 where
+  pub outcome : Result Unit CliFault
+  -- the words are refused, and nothing is read or written; or the command that they ask for ends so
+  pub ends : IsErrAnd outcome (RefusesTask words old new) ⊎ EndsTask words old new outcome
+  pub plain : ArePlain words → IfErr outcome (λ ended. IsOfWords ended → ⊥)
+  pub status_is : status ≡ status_of outcome
