@@ -93,14 +93,6 @@ named_with_given word (Some p) rows named with_rows =
     let its : p.1 ≡ rows = ap (λ o. unwrap_or o []) with_rows in
     ap₂ (λ (n : Text) (r : List Row). Some (with_given_tenant (n, r))) name its
 
--- a subcommand that is named with a tenant is named
-pub word_of_named : (word other tenant : Text) (found : Option (Text × List Row)) → option_map (λ (p : Text × List Row). p.0) found ≡ Some word → option_map with_tenant_word found ≡ Some (other, tenant) → word ≡ other
-word_of_named word other tenant None named with_name = absurd (none_is_some named)
-word_of_named word other tenant (Some p) named with_name =
-    let name : p.0 ≡ word = ap (λ o. unwrap_or o []) named in
-    let its : with_tenant_word p ≡ (other, tenant) = ap (λ (o : Option (Text × Text)). unwrap_or o (other, tenant)) with_name in
-    sym name ∙ ap (λ (t : Text × Text). t.0) its
-
 -- where the subcommand is `serve`, these are the rows of what follows it
 pub serve_is_named : (found : Option (Text × List Row)) (rows : List Row) → option_map (λ (p : Text × List Row). p.0) found ≡ Some (codes "serve") → option_map (λ (p : Text × List Row). p.1) found ≡ Some rows
     → found ≡ Some (codes "serve", rows)

@@ -85,39 +85,3 @@ concludes old new (Err ended) config nodes served all front stopped lost rises =
         | inr gone ↦ subst (MayFail serving old new) (sym gone) (record { why = inr (inr (config, nodes, served, lost (ap Err gone))); begun = inr (config, nodes, served, front) })
       ]
     ]
-
--- the faults of a service
-pub of_service_stop : (why : Fault) (ended : CliFault) → ended ≡ ended_serving_by why → (why ≡ fault.OutOfMemory) ⊎ (why ≡ fault.Torn)
-    → (ended ≡ OutOfMemory) ⊎ ((ended ≡ ReadFault) ⊎ (ended ≡ Torn))
-of_service_stop why ended is refused = elim refused [
-  | inl lack ↦ inl (is ∙ ap ended_serving_by lack)
-  | inr torn ↦ inr (inr (is ∙ ap ended_serving_by torn))
-]
-
--- the faults of an audit
-pub of_audit_stop : (why : Fault) (ended : CliFault) → ended ≡ ended_serving_by why → (why ≡ fault.OutOfMemory) ⊎ (why ≡ fault.WriteFault)
-    → (ended ≡ OutOfMemory) ⊎ ((ended ≡ WriteFault) ⊎ (ended ≡ ReadFault))
-of_audit_stop why ended is refused = elim refused [
-  | inl lack ↦ inl (is ∙ ap ended_serving_by lack)
-  | inr failed ↦ inr (inl (is ∙ ap ended_serving_by failed))
-]
-
--- a write fault of the program was one of the audit
-pub of_audit : (P : Type 0) (why : Fault) (ended : CliFault) → ended ≡ ended_serving_by why → (why ≡ fault.OutOfMemory) ⊎ (why ≡ fault.WriteFault) → (why ≡ fault.WriteFault → P) → ended ≡ WriteFault → P
-of_audit P why ended is refused rises failed = elim refused [
-  | inl lack ↦
-      let clash : OutOfMemory ≡ WriteFault = sym (ap ended_serving_by lack) ∙ sym is ∙ failed in
-      absurd (let bad : ⊥ = cc in bad)
-  | inr write ↦ rises write
-]
-
--- and a read fault was none of the audit
-pub not_of_audit : (P : Type 0) (why : Fault) (ended : CliFault) → ended ≡ ended_serving_by why → (why ≡ fault.OutOfMemory) ⊎ (why ≡ fault.WriteFault) → ended ≡ ReadFault → P
-not_of_audit P why ended is refused failed = elim refused [
-  | inl lack ↦
-      let clash : OutOfMemory ≡ ReadFault = sym (ap ended_serving_by lack) ∙ sym is ∙ failed in
-      absurd (let bad : ⊥ = cc in bad)
-  | inr write ↦
-      let clash : WriteFault ≡ ReadFault = sym (ap ended_serving_by write) ∙ sym is ∙ failed in
-      absurd (let bad : ⊥ = cc in bad)
-]

@@ -33,14 +33,21 @@ use std::thread::Threads;
 use std::time::Clock;
 use std::{env, io};
 
+/// Returns the fault of a command line that can't be read.
+fn unread_words(error: &io::Error) -> CliFault {
+    match error.kind() {
+        ErrorKind::OutOfMemory => CliFault::OutOfMemory,
+        _ => CliFault::NoText,
+    }
+}
+
 /// Returns the words of the command line, the program's name first.
 fn words_of<R: Env + AllocGlobal>(rt: &R) -> Result<Vec<String>, CliFault> {
     let words = match env::args(rt) {
         Ok(words) => words,
-        Err(error) if error.kind() == ErrorKind::OutOfMemory => return Err(CliFault::OutOfMemory),
-        Err(_) => return Err(CliFault::NoText),
+        Err(error) => return Err(unread_words(&error)),
     };
-    words.collect(rt.alloc()).map_err(|_| CliFault::OutOfMemory)
+    Ok(words.collect(rt.alloc())?)
 }
 
 /// Returns `true` unless the words ask for a service, which reads a head alone.

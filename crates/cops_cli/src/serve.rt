@@ -21,7 +21,7 @@ use crate::moments::SteadyMoments;
 use cops_replay::write_audit;
 use cops_script::{BadConfig, RunFault, read_config};
 use cops_service::{Cause, Counts, Options, Reports, Served, ServiceEnd, Stop, serve_with};
-use cops_types::{Config, Sink, Source};
+use cops_types::{Config, RequestError, Sink, Source};
 use std::alloc::{AllocError, Global};
 use std::io::{Read, Write};
 use std::net::{Net, SocketAddr, TcpListener, TcpStream};
@@ -204,7 +204,8 @@ fn conclude<R: Eprint, O: Write>(
 {
     match write_audit(alloc, sink, config, served.nodes.as_slice()) {
         Ok(()) => (),
-        Err(fault) => return Err(CliFault::of_service(fault)),
+        Err(RequestError::Refused(_)) => return Err(CliFault::WriteFault),
+        Err(RequestError::OutOfMemory) => return Err(CliFault::OutOfMemory),
     }
     match served.end {
         ServiceEnd::Done => Ok(()),

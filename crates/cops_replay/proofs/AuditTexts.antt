@@ -20,11 +20,6 @@ use Rattle.cops_replay.specs.Audits.{record_of, records_from, records_of}
 use Rattle.cops_replay.specs.AuditText.{audit_text, ended, head_text, his_nodes, records_text, tenants_text}
 use Rattle.cops_replay.specs.RecordText.{record_line}
 
--- a word and numbers, each after a space
-pub numbers_spaced : (word : List ℕ) (numbers : List ℕ) → join_with_byte 32 (word ∷ map decimal numbers) ≡ word ++ flat_map (λ number. 32 ∷ decimal number) numbers
-numbers_spaced word [] = sym (append-nil word)
-numbers_spaced word (n ∷ numbers) = ap (λ text. word ++ (32 ∷ text)) (numbers_spaced (decimal n) numbers)
-
 -- the list, cut at an element
 pub cut_at : {A : Type 0} (xs : List A) (i : ℕ) (x : A) → slice_get xs i ≡ Some x → xs ≡ take i xs ++ (x ∷ drop (suc i) xs)
 cut_at [] i x e = cc
@@ -69,10 +64,6 @@ take_whole (x ∷ xs) zero h = absurd (omega arith)
 take_whole (x ∷ xs) (suc n) h = ap (λ l. x ∷ l) (take_whole xs n (omega arith))
 
 -- ---- texts of lists, cut at an element
-
-pub flat_map_one_more : {A : Type 0} (f : A → List ℕ) (xs : List A) (i : ℕ) (x : A) → slice_get xs i ≡ Some x → flat_map f (take (i + 1) xs) ≡ flat_map f (take i xs) ++ f x
-flat_map_one_more f xs i x e =
-    ap (flat_map f) (take_one_more xs i x e) ∙ flat_map-append f (take i xs) (x ∷ []) ∙ ap (λ l. flat_map f (take i xs) ++ l) (flat_map-cons f x [] ∙ append-nil (f x))
 
 -- the lines of a node's audit
 pub node_text_cut : (name : List ℕ) (id : NodeId) (trail : List AuditEntry) (i : ℕ) (entry : AuditEntry) → slice_get trail i ≡ Some entry →

@@ -87,9 +87,6 @@ step_alike place moment call solo c first all =
 
 -- ---- layout 2 is today's
 
-next_today : (clock deps_clock node : ℕ) → next_under layout_2 clock deps_clock node ≡ next_version clock deps_clock node
-next_today clock deps_clock node = refl
-
 effect_today : (place : Place) (call : NodeCall) (solo : SoloNode) → effect_under layout_2 place call solo ≡ effect place call solo
 effect_today place (Get key wanted) solo = refl
 effect_today place (Put key value deps near) solo = refl

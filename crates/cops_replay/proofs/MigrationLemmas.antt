@@ -130,9 +130,6 @@ head_line number (Begun config) line later found still e = absurd (true≢false 
 
 -- ---- one line
 
-with_nothing : (rest : Migration) → rest ≡ with_text [] rest
-with_nothing rest = refl
-
 with_both : (one other : List ℕ) (rest : Migration) → with_text one (with_text other rest) ≡ with_text (one ++ other) rest
 with_both one other rest = ap (λ text. record { text = text; outcome = rest.outcome }) (sym (append_assoc one other rest.text))
 

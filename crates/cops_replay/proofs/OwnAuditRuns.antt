@@ -160,10 +160,6 @@ module _ (world : KeptWorld) (bytes : List ℕ) (left : IsLeftBy open_setup HasO
 
 -- ---- the tenant of a name
 
--- a slot that was found has a tenant
-pub slot_has : (tenants : List (Option Tenant)) (name : List ℕ) (slot : ℕ) → open_slot_of_name tenants name ≡ Some slot → None ≡ open_at slot tenants → ⊥
-slot_has tenants name slot found none = let clash : None ≡ Some (open_found tenants name slot found).0 = none ∙ (open_found tenants name slot found).1 in (let no : ⊥ = cc in no)
-
 -- the tenants that are shown are the world's
 pub opened_at : (world : KeptWorld) (tenants : List (Option Tenant)) (name : List ℕ) (slot : ℕ) (tenant : Tenant) → tenants ≡ world.setup.tenants → open_slot_of_name tenants name ≡ Some slot → open_at slot tenants ≡ Some tenant → IsOpenAt world name slot tenant
 opened_at world tenants name slot tenant same found has = record {

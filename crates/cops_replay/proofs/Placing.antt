@@ -11,18 +11,6 @@ use Rattle.cops_replay.specs.Room.{front_text}
 use Rattle.cops_replay.specs.RecordText.{byte_text, bytes_text, call_words, digit_text, node_text, record_line, reply_words}
 use Rattle.cops_replay.proofs.RecordTexts.{line_in_parts}
 
--- two digits of one more byte
-pub digits_more : (value : List ℕ) (i byte : ℕ) (t0 t1 t2 t3 : List ℕ) → i < length value → byte ≡ get_or value i byte → t1 ≡ t0 ++ bytes_text (take i value) → t2 ≡ t1 ++ digit_text (byte / 16) ∷ [] → t3 ≡ t2 ++ digit_text (byte % 16) ∷ []
-    → t3 ≡ t0 ++ bytes_text (take (i + 1) value)
-digits_more value i byte t0 t1 t2 t3 below is e1 e2 e3 =
-    let before = bytes_text (take i value) in
-    let last : take (i + 1) value ≡ take i value ++ byte ∷ [] = take_more value i byte below ∙ ap (λ b. take i value ++ b ∷ []) (sym is) in
-    let more : bytes_text (take (i + 1) value) ≡ before ++ byte_text byte = ap bytes_text last ∙ flat_map-append byte_text (take i value) (byte ∷ []) in
-    e3 ∙ ap (λ t. t ++ digit_text (byte % 16) ∷ []) (e2 ∙ ap (λ t. t ++ digit_text (byte / 16) ∷ []) e1)
-    ∙ append_assoc (t0 ++ before) (digit_text (byte / 16) ∷ []) (digit_text (byte % 16) ∷ [])
-    ∙ append_assoc t0 before (byte_text byte)
-    ∙ ap (λ t. t0 ++ t) (sym more)
-
 -- an entry, part by part
 pub entry_placed : (out o1 o2 o3 o4 o5 o6 o7 key version value deps near prev : List ℕ) → o1 ≡ out ++ key → o2 ≡ o1 ++ space ∷ [] → o3 ≡ o2 ++ version → o4 ≡ o3 ++ space ∷ [] → o5 ≡ o4 ++ (value ++ (space ∷ (deps ++ (space ∷ near)))) → o6 ≡ o5 ++ space ∷ [] → o7 ≡ o6 ++ prev
     → o7 ≡ out ++ (key ++ (space ∷ (version ++ (space ∷ (value ++ (space ∷ (deps ++ (space ∷ (near ++ (space ∷ prev))))))))))
@@ -44,7 +32,3 @@ pub line_placed : (out tenant : List ℕ) (told : Record) (o1 o2 o3 o4 : List �
 line_placed out tenant told o1 o2 o3 o4 e1 e2 e3 e4 =
     joined_parts out o1 o2 o3 o4 tenant (node_text told.node) (decimal told.moment) (spaced (call_words told.call)) (spaced (reply_words told.reply)) e1 e2 e3 e4
     ∙ ap (λ l. out ++ l) (sym (line_in_parts tenant told))
-
--- what was put over zeros behind a text is behind that text
-pub put_behind : (items zeros held line : List ℕ) (before : ℕ) → length items ≡ before → held ≡ take before (items ++ zeros) ++ line → held ≡ items ++ line
-put_behind items zeros held line before size put = put ∙ ap (λ l. l ++ line) ((λ i. take (sym size i) (items ++ zeros)) ∙ take-append_seam items zeros)

@@ -19,50 +19,7 @@ use Rattle.cops_replay.specs.Replayings.{IsLineReplayed, IsRecordCounted, IsRepl
 use Rattle.cops_replay.specs.Replays.{IsAlone}
 use Rattle.cops_replay.proofs.EarlyRecords.{early_record}
 
--- ---- clocks that are too great
-
-no_read : (b c : Bool) → b && false && c ≡ false
-no_read true c = refl
-no_read false c = refl
-
--- not in a line that is too long
-pub great_long : (layout : Layout) (line : List ℕ) → nat_le (length line) longest_record ≡ false → great_clock_of layout line ≡ None
-great_long Today line h = refl
-great_long Early line h = ap (λ (b : Bool). refused_if (b && is_none (old_record_in line) && is_old_record line) fault.ClockTooGreat) h
-
--- not in one that was read
-pub great_read : (layout : Layout) (line : List ℕ) (read : List ℕ × Record) → record_by (versions_in layout) line ≡ Some read → great_clock_of layout line ≡ None
-great_read Today line read e = refl
-great_read Early line read e =
-    ap (λ (r : Option (List ℕ × Record)). refused_if (nat_le (length line) longest_record && is_none r && is_old_record line) fault.ClockTooGreat) e
-    ∙ ap (λ (b : Bool). refused_if b fault.ClockTooGreat) (no_read (nat_le (length line) longest_record) (is_old_record line))
-
-pub great_unread : (line : List ℕ) (old : Bool) → IsTrue (nat_le (length line) longest_record) → record_by (versions_in Early) line ≡ None → old ≡ is_old_record line → great_clock_of Early line ≡ refused_if old fault.ClockTooGreat
-great_unread line old short unread is =
-    ap (λ (b : Bool). refused_if (b && is_none (old_record_in line) && is_old_record line) fault.ClockTooGreat) short
-    ∙ ap (λ (r : Option (List ℕ × Record)). refused_if (is_none r && is_old_record line) fault.ClockTooGreat) unread
-    ∙ ap (λ (b : Bool). refused_if b fault.ClockTooGreat) (sym is)
-
-from_none : (b : Bool) → refused_if b fault.ClockTooGreat ≡ None → b ≡ false
-from_none true e = absurd (let clash : Some fault.ClockTooGreat ≡ None = e in cc)
-from_none false e = refl
-
-from_some : (b : Bool) (f : Fault) → refused_if b fault.ClockTooGreat ≡ Some f → b ≡ true
-from_some true f e = refl
-from_some false f e = absurd (let clash : None ≡ Some f = e in cc)
-
-pub not_great : (layout : Layout) (line : List ℕ) → great_clock_of layout line ≡ None → IsFalse (is_great_in layout line)
-not_great layout line e = from_none (is_great_in layout line) e
-
-pub is_great : (layout : Layout) (line : List ℕ) → (fault.ClockTooGreat ≡ fault.OutOfMemory) ⊎ (great_clock_of layout line ≡ Some fault.ClockTooGreat) → IsTrue (is_great_in layout line)
-is_great layout line (inl e) = absurd cc
-is_great layout line (inr e) = from_some (is_great_in layout line) fault.ClockTooGreat e
-
 -- ---- a line
-
-pub if_done : {E : Type 0} (r : Result (Unit {0}) E) (P : Type 0) → P → OnOk r P
-if_done (Ok done) P p = p
-if_done (Err error) P p = tt
 
 none_from : (found : Option ℕ) (over : Bool) → over ≡ false → over ≡ is_some found → found ≡ None
 none_from None over e is = refl
@@ -124,9 +81,6 @@ read_line line old mid new over agreed e is told_is layout replayed passed found
 
 -- ---- what a line may be
 
-pub long_line : (layout : Layout) (line : List ℕ) → nat_le (length line) longest_record ≡ false → MayAgree layout line false
-long_line layout line long = ap (λ (b : Bool). cond b (option_map (λ (read : List ℕ × Record). read.1) (record_by (versions_in layout) line)) None) long
-
 pub todays_line : (line : List ℕ) → IsTrue (nat_le (length line) longest_record) → MayAgree Today line true
 todays_line line short = ap (λ (b : Bool). cond b (record_told line) None) short
 
@@ -140,23 +94,3 @@ module _ (line : List ℕ) (short : IsTrue (nat_le (length line) longest_record)
       by_read : (read : Option (List ℕ × Record)) → old_record_in line ≡ read → is_some read ≡ true → option_map (λ (read : List ℕ × Record). read.1) read ≡ record_told line
       by_read None e h = absurd cc
       by_read (Some read) e h = ap (option_map (λ (read : List ℕ × Record). read.1)) (sym (early_record line read e))
-
-  pub great_early : is_some (old_record_in line) ≡ true → great_clock_of Early line ≡ None
-  great_early some = by_read (old_record_in line) refl some
-    where
-      by_read : (read : Option (List ℕ × Record)) → old_record_in line ≡ read → is_some read ≡ true → great_clock_of Early line ≡ None
-      by_read None e h = absurd cc
-      by_read (Some read) e h = great_read Early line read e
-
-  unread_early : is_some (old_record_in line) ≡ false → old_record_in line ≡ None
-  unread_early none = by_read (old_record_in line) none
-    where
-      by_read : (read : Option (List ℕ × Record)) → is_some read ≡ false → read ≡ None
-      by_read None h = refl
-      by_read (Some read) h = absurd cc
-
-  pub no_early_line : is_some (old_record_in line) ≡ false → MayAgree Early line false
-  no_early_line none = early_is ∙ ap (option_map (λ (read : List ℕ × Record). read.1)) (unread_early none)
-
-  pub great_by_old : (old : Bool) → is_some (old_record_in line) ≡ false → old ≡ is_old_record line → great_clock_of Early line ≡ refused_if old fault.ClockTooGreat
-  great_by_old old none is = great_unread line old short (unread_early none) is

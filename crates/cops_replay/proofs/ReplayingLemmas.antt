@@ -84,14 +84,3 @@ goes_on script head later line out at h = in_head script head line (Head later) 
 pub goes_on_old : (script : ReplayScript) (head later : OldHeadSoFar) (line out : List ℕ) (told : Bool) → script.stage ≡ OldHead head → told ≡ tells_today head line → told ≡ false → OldHeadContinues head.reader head.lines line later.reader later.lines →
     Answers (replay_answers script line) (record { name = script.name; stage = OldHead later }) out out
 goes_on_old script head later line out told at is isnt h = in_old_head script head line (OldHead later) false at (sym isnt ∙ is) (Within h.config, h.found, refl, (h.kept, h.counts)) out
-
--- the line tells today's layout
-pub tells : (script : ReplayScript) (head : OldHeadSoFar) (line out : List ℕ) (new : ReplayStage) (told : Bool) → script.stage ≡ OldHead head → told ≡ tells_today head line → told ≡ true → IsHeadBy Today AtStart 1 new →
-    Answers (replay_answers script line) (record { name = script.name; stage = new }) out out
-tells script head line out new told at is yes_it_does begun = in_old_head script head line new true at (sym yes_it_does ∙ is) (refl, begun) out
-
--- a refusal of a line in a head of layout 1
-pub refuses_old : (script : ReplayScript) (head : OldHeadSoFar) (line : List ℕ) (told : Bool) → script.stage ≡ OldHead head → told ≡ tells_today head line → told ≡ false → (refusal : ReplayRefusal) → HeadRefusesBy Early script.name head.reader head.lines line refusal →
-    replay_refuses script line refusal
-refuses_old script head line told at is isnt refusal refused =
-    subst (λ (s : ReplayStage). replay_refuses_in script.name s line refusal) (sym at) (subst (λ (b : Bool). OldHeadRefuses b script.name head line refusal) (sym isnt ∙ is) refused)

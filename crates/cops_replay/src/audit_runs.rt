@@ -1,11 +1,12 @@
 //! The audit of a script, over any reader and any writer.
 ghost use Rattle.std.specs.Prelude.{◌≡◌, ◌⊎◌, ℕ, List, IfErr, IfOk, IfSome, IsErrOf, OnErr, OnOk};
 ghost use Rattle.std.specs.Io.KnownBytes.{Appends, IsAtEnd, Keeps};
-ghost use Rattle.cops_types.specs.declared.faults.Fault.TheVariants.{OutOfMemory, WriteFault};
+ghost use Rattle.cops_types.specs.declared.faults.Fault.TheVariants.{WriteFault};
 ghost use Rattle.cops_types.specs.Counts.{HasRisen, HasRisenBy};
 ghost use Rattle.cops_types.specs.Head.{BadAt, head_of};
 ghost use Rattle.cops_script.specs.LineRuns.{IfRunRefused};
 ghost use Rattle.cops_types.specs.Lines.{lines_of};
+ghost use Rattle.cops_types.specs.RequestErrors.{IfRefusal, OnRefusal};
 ghost use Rattle.cops_types.specs.Sink.{AppendsFront, sink_failures, sink_writer};
 ghost use Rattle.cops_types.specs.Source.{source_failures, source_reader, source_reads};
 ghost use Rattle.cops_types.specs.TenantConfig.{TenantConfig};
@@ -19,7 +20,7 @@ ghost use Rattle.cops_replay.specs.WrittenAudits.{AreFormed, AreFormedFor, SaysS
 
 use crate::audits::write_audit_at;
 use cops_script::{BadConfig, RunFault};
-use cops_types::{Fault, Sink, Source, Tenant};
+use cops_types::{RequestError, Sink, Source, Tenant};
 use cops_world::{World, script_world};
 use std::alloc::{AllocError, Global};
 use std::io::{Read, Write};
@@ -52,14 +53,18 @@ fn open_slots(alloc: Global, tenants: &[Option<Tenant>]) -> Result<Vec<u64>, All
 }
 
 /// Writes the audit of the open tenants of a world, by slot.
-fn write_open<O: Write>(alloc: Global, sink: &mut Sink<O>, world: &World) -> Result<(), Fault>
+fn write_open<O: Write>(
+    alloc: Global,
+    sink: &mut Sink<O>,
+    world: &World,
+) -> Result<(), RequestError>
     requires { HasItsTenants world.now }
     ensures ok { OnOk result (Appends (O.contents (sink_writer sink.old)) (O.contents (sink_writer sink.new)) (audit_text (open_config world.now) (open_nodes world.now))) }
     ensures front { AppendsFront (O.contents (sink_writer sink.old)) (O.contents (sink_writer sink.new)) (audit_text (open_config world.now) (open_nodes world.now)) }
     ensures replays { (config : TenantConfig) (slot : ℕ) → HasShape config (shape_of world.now.setup.head) → ReplaysSame config (nodes_of config slot world.now.nodes) }
     ensures formed { OnOk result (AreFormed (open_config world.now) (open_nodes world.now)) }
-    ensures fault { IfErr result (λ fault. (fault ≡ OutOfMemory) ⊎ (fault ≡ WriteFault)) }
-    ensures write_fault { IsErrOf result Fault.WriteFault → HasRisen (sink_failures sink.old) (sink_failures sink.new) }
+    ensures fault { IfRefusal result (λ fault. fault ≡ WriteFault) }
+    ensures write_fault { OnRefusal result (HasRisen (sink_failures sink.old) (sink_failures sink.new)) }
 {
     let nodes = world.nodes();
     let by_slot = world.tenants().as_slice();
@@ -91,8 +96,8 @@ fn write_world<O: Write>(
 {
     match write_open(alloc, sink, world) {
         Ok(()) => Ok(()),
-        Err(Fault::WriteFault) => Err(RunFault::WriteFault),
-        Err(_) => Err(RunFault::OutOfMemory),
+        Err(RequestError::Refused(_)) => Err(RunFault::WriteFault),
+        Err(RequestError::OutOfMemory) => Err(RunFault::OutOfMemory),
     }
 }
 

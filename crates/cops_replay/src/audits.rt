@@ -1,11 +1,12 @@
 //! Audits as text.
-ghost use Rattle.std.specs.Prelude.{◌≡◌, ◌<◌, ◌++◌, ◌⊎◌, ℕ, List, map, length, IfOk, OnOk, IfErr, IsErrOf, IsTrue, Some};
+ghost use Rattle.std.specs.Prelude.{◌≡◌, ◌<◌, ◌++◌, ℕ, List, map, length, IfOk, OnOk, IsTrue, Some};
 ghost use Rattle.std.specs.List.{AllByRecursion, range_with_len};
 ghost use Rattle.std.specs.Io.KnownBytes.{Appends};
-ghost use Rattle.cops_types.specs.declared.faults.Fault.TheVariants.{OutOfMemory, WriteFault};
+ghost use Rattle.cops_types.specs.declared.faults.Fault.TheVariants.{WriteFault};
 ghost use Rattle.cops_types.specs.Counts.{HasRisen};
 ghost use Rattle.cops_types.specs.Head.{Whole, head_of};
 ghost use Rattle.cops_types.specs.HeadLines.{are_sizes};
+ghost use Rattle.cops_types.specs.RequestErrors.{IfRefusal, OnRefusal};
 ghost use Rattle.cops_types.specs.Sink.{AppendsFront, sink_failures, sink_writer};
 ghost use Rattle.cops_types.specs.TenantConfig.{tenant_config};
 ghost use Rattle.cops_node.specs.Clusters.{HasTenant, IsCluster, shape_of};
@@ -23,7 +24,7 @@ use crate::heads::push_head;
 use crate::pages::{drain, drain_full};
 use crate::row_lines::push_row;
 use cops_node::{AuditRow, Node, NodeId};
-use cops_types::{Config, Fault, Name, Sink, Tenant};
+use cops_types::{Config, Name, RequestError, Sink, Tenant};
 use std::alloc::{AllocError, Global};
 use std::io::Write;
 
@@ -35,7 +36,7 @@ fn put_row<W: Write>(
     name: &Name,
     id: NodeId,
     row: &AuditRow,
-) -> Result<(), Fault>
+) -> Result<(), RequestError>
     ensures text { PutsText (ended (record_line name.now (record_of id row.now)))
         (page out.old.items (W.contents (sink_writer sink.old)) (sink_failures sink.old)) result
         (page out.new.items (W.contents (sink_writer sink.new)) (sink_failures sink.new)) }
@@ -54,7 +55,7 @@ fn put_node<W: Write>(
     slot: u64,
     id: NodeId,
     node: &Node,
-) -> Result<(), Fault>
+) -> Result<(), RequestError>
     requires { place_at slot node.now ≡ Some (place_of (tenant_config config.now tenant.now) id) }
     ensures text { PutsText (records_text tenant.now.name (map (record_of id) (solo_of slot (place_of (tenant_config config.now tenant.now) id) node.now).trail))
         (page out.old.items (W.contents (sink_writer sink.old)) (sink_failures sink.old)) result
@@ -67,8 +68,8 @@ fn put_node<W: Write>(
         let Some(row) = node.audit(slot, place) else {
             unreachable!()
         };
-        if let Err(fault) = put_row(out, &mut row_place, sink, &name, id, row) {
-            return Err(fault);
+        if let Err(error) = put_row(out, &mut row_place, sink, &name, id, row) {
+            return Err(error);
         }
     }
     Ok(())
@@ -82,7 +83,7 @@ fn put_tenant<W: Write>(
     tenant: &Tenant,
     slot: u64,
     nodes: &[Node],
-) -> Result<(), Fault>
+) -> Result<(), RequestError>
     requires sizes { IsTrue (are_sizes config.now) }
     requires nodes { IsCluster (shape_of config.now) nodes.now }
     requires tenant { HasTenant (tenant_config config.now tenant.now) slot (record { shape = shape_of config.now; nodes = nodes.now }) }
@@ -99,8 +100,8 @@ fn put_tenant<W: Write>(
             shard: number % shards,
         };
         let node = &nodes[place];
-        if let Err(fault) = put_node(out, sink, config, tenant, slot, id, node) {
-            return Err(fault);
+        if let Err(error) = put_node(out, sink, config, tenant, slot, id, node) {
+            return Err(error);
         }
     }
     Ok(())
@@ -114,7 +115,7 @@ fn put_records<W: Write>(
     tenants: &[Tenant],
     slots: &[u64],
     nodes: &[Node],
-) -> Result<(), Fault>
+) -> Result<(), RequestError>
     requires sizes { IsTrue (are_sizes config.now) }
     requires nodes { AreNodesAt config.now tenants.now slots.now nodes.now }
     ensures text { PutsText (tenants_text (with_tenants config.now tenants.now) (nodes_at config.now slots.now nodes.now) 0 tenants.now)
@@ -125,8 +126,8 @@ fn put_records<W: Write>(
     for place in 0..tenants.len() {
         let tenant = &tenants[place];
         let slot = slots[place];
-        if let Err(fault) = put_tenant(out, sink, config, tenant, slot, nodes) {
-            return Err(fault);
+        if let Err(error) = put_tenant(out, sink, config, tenant, slot, nodes) {
+            return Err(error);
         }
     }
     Ok(())
@@ -138,7 +139,7 @@ fn put_head<W: Write>(
     sink: &mut Sink<W>,
     config: &Config,
     tenants: &[Tenant],
-) -> Result<(), Fault>
+) -> Result<(), RequestError>
     ensures { PutsText (head_text (with_tenants config.now tenants.now))
         (page out.old.items (W.contents (sink_writer sink.old)) (sink_failures sink.old)) result
         (page out.new.items (W.contents (sink_writer sink.new)) (sink_failures sink.new)) }
@@ -160,7 +161,7 @@ pub(crate) fn write_audit_at<W: Write>(
     tenants: &[Tenant],
     slots: &[u64],
     nodes: &[Node],
-) -> Result<(), Fault>
+) -> Result<(), RequestError>
     requires sizes { IsTrue (are_sizes config.now) }
     requires nodes { AreNodesAt config.now tenants.now slots.now nodes.now }
 
@@ -172,16 +173,16 @@ pub(crate) fn write_audit_at<W: Write>(
     ensures formed { OnOk result (AreFormed (with_tenants config.now tenants.now) (nodes_at config.now slots.now nodes.now)) }
 
     // Memory ran out, or the writer failed in this call.
-    ensures fault { IfErr result (λ fault. (fault ≡ OutOfMemory) ⊎ (fault ≡ WriteFault)) }
+    ensures fault { IfRefusal result (λ fault. fault ≡ WriteFault) }
     ensures same { OnOk result (sink_failures sink.new ≡ sink_failures sink.old) }
-    ensures write_fault { IsErrOf result Fault.WriteFault → HasRisen (sink_failures sink.old) (sink_failures sink.new) }
+    ensures write_fault { OnRefusal result (HasRisen (sink_failures sink.old) (sink_failures sink.new)) }
 {
     let mut out = Vec::new(alloc);
-    if let Err(fault) = put_head(&mut out, sink, config, tenants) {
-        return Err(fault);
+    if let Err(error) = put_head(&mut out, sink, config, tenants) {
+        return Err(error);
     }
-    if let Err(fault) = put_records(&mut out, sink, config, tenants, slots, nodes) {
-        return Err(fault);
+    if let Err(error) = put_records(&mut out, sink, config, tenants, slots, nodes) {
+        return Err(error);
     }
     drain(&mut out, sink)
 }
@@ -217,7 +218,7 @@ pub fn write_audit<W: Write>(
     sink: &mut Sink<W>,
     config: &Config,
     nodes: &[Node],
-) -> Result<(), Fault>
+) -> Result<(), RequestError>
     requires sizes { IsTrue (are_sizes config.now) }
     requires nodes { AreNodesOf config.now nodes.now }
 
@@ -235,9 +236,9 @@ pub fn write_audit<W: Write>(
         SaysSame config.now (his_nodes config.now nodes.now) (audit_of config.now nodes.now) }
 
     // Memory ran out, or the writer failed in this call.
-    ensures fault { IfErr result (λ fault. (fault ≡ OutOfMemory) ⊎ (fault ≡ WriteFault)) }
+    ensures fault { IfRefusal result (λ fault. fault ≡ WriteFault) }
     ensures same { OnOk result (sink_failures sink.new ≡ sink_failures sink.old) }
-    ensures write_fault { IsErrOf result Fault.WriteFault → HasRisen (sink_failures sink.old) (sink_failures sink.new) }
+    ensures write_fault { OnRefusal result (HasRisen (sink_failures sink.old) (sink_failures sink.new)) }
 {
     audits_fit(nodes);
     let tenants = config.tenants.as_slice();

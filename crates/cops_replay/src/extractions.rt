@@ -50,9 +50,6 @@ pub fn extract_text<R: Read, O: Write>(
         ⊎ HasRisenBy (source_reads source.old) (source_reads source.new) 4294967296 }
     ensures write_fault { IsErrOf result RunFault.WriteFault → HasRisen (sink_failures sink.old) (sink_failures sink.new) }
 {
-    let Ok(script) = new_part_script(alloc, tenant) else {
-        return Err(RunFault::OutOfMemory);
-    };
-    let mut script: PartScript = script;
+    let mut script: PartScript = new_part_script(alloc, tenant)?;
     run_lines(&mut script, alloc, TURNS, LONGEST_RECORD, source, sink)
 }

@@ -1,11 +1,12 @@
 //! One tenant's part of the audit of a script, over any reader and any writer.
 ghost use Rattle.std.specs.Prelude.{◌≡◌, ◌⊎◌, [], ◌∷◌, ℕ, List, IfErr, IfSome, IsErrOf, None, OnErr, OnOk, Some};
 ghost use Rattle.std.specs.Io.KnownBytes.{Appends, IsAtEnd, Keeps};
-ghost use Rattle.cops_types.specs.declared.faults.Fault.TheVariants.{OutOfMemory, WriteFault};
+ghost use Rattle.cops_types.specs.declared.faults.Fault.TheVariants.{WriteFault};
 ghost use Rattle.cops_types.specs.Counts.{HasRisen, HasRisenBy};
 ghost use Rattle.cops_types.specs.Head.{head_of};
 ghost use Rattle.cops_types.specs.Lines.{lines_of};
 ghost use Rattle.cops_types.specs.OpenSlots.{open_at};
+ghost use Rattle.cops_types.specs.RequestErrors.{IfRefusal, OnRefusal};
 ghost use Rattle.cops_types.specs.Sink.{AppendsFront, sink_failures, sink_writer};
 ghost use Rattle.cops_types.specs.Source.{source_failures, source_reader, source_reads};
 ghost use Rattle.cops_types.specs.TenantConfig.{TenantConfig};
@@ -18,7 +19,7 @@ ghost use Rattle.cops_replay.specs.OwnAudits.{IsOwnAuditOf, IsSlotFormed, LacksT
 use crate::audits::write_audit_at;
 use crate::refusals::PartRefusal;
 use cops_script::{BadConfig, RunFault};
-use cops_types::{Fault, Sink, Source, Tenant};
+use cops_types::{RequestError, Sink, Source, Tenant};
 use cops_world::{World, script_world};
 use std::alloc::Global;
 use std::io::{Read, Write};
@@ -43,7 +44,7 @@ fn write_slot<O: Write>(
     world: &World,
     slot: u64,
     tenant: Tenant,
-) -> Result<(), Fault>
+) -> Result<(), RequestError>
     requires tenants { HasItsTenants world.now }
     requires there { open_at slot world.now.setup.tenants ≡ Some tenant }
     ensures ok { OnOk result (Appends (O.contents (sink_writer sink.old))
@@ -54,9 +55,8 @@ fn write_slot<O: Write>(
         HasShape config (shape_of world.now.setup.head) →
         ReplaysSame config (nodes_of config slot world.now.nodes) }
     ensures formed { OnOk result (IsSlotFormed world.now slot tenant) }
-    ensures fault { IfErr result (λ fault. (fault ≡ OutOfMemory) ⊎ (fault ≡ WriteFault)) }
-    ensures write_fault { IsErrOf result Fault.WriteFault →
-        HasRisen (sink_failures sink.old) (sink_failures sink.new) }
+    ensures fault { IfRefusal result (λ fault. fault ≡ WriteFault) }
+    ensures write_fault { OnRefusal result (HasRisen (sink_failures sink.old) (sink_failures sink.new)) }
 {
     let nodes = world.nodes();
     let tenants = [tenant];
@@ -95,8 +95,8 @@ fn write_own<O: Write>(
     };
     match write_slot(alloc, sink, world, slot, *tenant) {
         Ok(()) => Ok(()),
-        Err(Fault::WriteFault) => Err(RunFault::WriteFault),
-        Err(_) => Err(RunFault::OutOfMemory),
+        Err(RequestError::Refused(_)) => Err(RunFault::WriteFault),
+        Err(RequestError::OutOfMemory) => Err(RunFault::OutOfMemory),
     }
 }
 

@@ -13,18 +13,15 @@ use cops_types::placed::{put_byte, put_deps, put_key, put_version, put_word};
 use cops_types::{Entry, Fault, Key, OwnedDeps, OwnedNear, OwnedValue, Version};
 use std::alloc::AllocError;
 
-/// No value and no list is longer: memory could not hold it.
-const MOST: usize = 1 << 50;
-
 /// Returns the most room that a value of this many bytes and lists of this many pairs take.
 fn room_of_parts(value: usize, deps: usize, near: usize) -> usize
     ensures enough { IsRoomFor (2 * value + 107 * deps + 107 * near) result }
     ensures no_more { IsNoMoreThan (2 * value + 107 * deps + 107 * near) result }
 {
-    if value > MOST || deps > MOST || near > MOST {
-        return usize::MAX;
-    }
-    2 * value + 107 * deps + 107 * near
+    let value = value.saturating_mul(2);
+    let deps = deps.saturating_mul(107);
+    let near = near.saturating_mul(107);
+    value.saturating_add(deps).saturating_add(near)
 }
 
 /// Returns the most room that the value and the lists of an entry take.

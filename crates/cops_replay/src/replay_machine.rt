@@ -25,7 +25,7 @@ use crate::replayings::Replay;
 use cops_script::{BadConfig, HeadSoFar, LineMachine, Stop, read_head};
 use cops_types::texts::push_number;
 use cops_types::words::split_word;
-use cops_types::{Bytes, Config, ConfigReader, Fault, Tenant};
+use cops_types::{Bytes, Config, ConfigReader, RequestError, Tenant};
 use std::alloc::{AllocError, Global};
 
 /// The progress of an audit.
@@ -173,8 +173,8 @@ fn replay_own(
     }
     match replay.line(alloc, line) {
         Ok(()) => Ok(()),
-        Err(Fault::ClockTooGreat) => Err(Stop::Refused(ReplayRefusal::ClockTooGreat)),
-        Err(_) => Err(Stop::OutOfMemory),
+        Err(RequestError::Refused(_)) => Err(Stop::Refused(ReplayRefusal::ClockTooGreat)),
+        Err(RequestError::OutOfMemory) => Err(Stop::OutOfMemory),
     }
 }
 

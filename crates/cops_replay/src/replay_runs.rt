@@ -54,10 +54,7 @@ pub fn replay_text<R: Read, O: Write>(
         ⊎ HasRisenBy (source_reads source.old) (source_reads source.new) 4294967296 }
     ensures write_fault { IsErrOf result RunFault.WriteFault → HasRisen (sink_failures sink.old) (sink_failures sink.new) }
 {
-    let Ok(replay) = new_replay_script(alloc, tenant) else {
-        return Err(RunFault::OutOfMemory);
-    };
-    let mut replay: ReplayScript = replay;
+    let mut replay: ReplayScript = new_replay_script(alloc, tenant)?;
     let ended = run_lines(&mut replay, alloc, TURNS, LONGEST_RECORD, source, sink);
     // The process ends soon, and frees its memory at once.
     mem::forget(replay);

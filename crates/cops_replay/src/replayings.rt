@@ -3,7 +3,7 @@ ghost use Rattle.std.specs.Prelude.{◌≡◌, ◌<◌, ℕ, Some, IfOk, IsTrue,
 ghost use Rattle.std.specs.Option.{is_some};
 ghost use Rattle.cops_types.specs.declared.configs.Tenant.{Tenant};
 ghost use Rattle.cops_types.specs.HeadLines.{are_sizes};
-ghost use Rattle.cops_types.specs.Refusal.{IsAnswer};
+ghost use Rattle.cops_types.specs.RequestErrors.{AnswersUnless};
 ghost use Rattle.cops_types.specs.TenantConfig.{TenantConfig, tenant_config};
 ghost use Rattle.cops_node.specs.Parts.{are_clocks};
 ghost use Rattle.cops_model.specs.MainTheorem.{with_tenant_alone};
@@ -19,7 +19,7 @@ use crate::replaying::{ask, with_tenant_alone};
 use crate::reply_texts::is_told;
 use cops_node::Cluster0;
 use cops_types::words::Words;
-use cops_types::{Config, Fault};
+use cops_types::{Config, Fault, RequestError};
 use std::alloc::{AllocError, Global};
 use std::marker::Model;
 
@@ -49,12 +49,12 @@ impl Model for Replay {
     ghost invariant = { λ r. HasSizesOf r.alone r.nodes };
 }
 
-/// Returns `true` if a short line of layout 1 is a record that today's layout has too. Fails if
-/// only a clock is too great.
-fn is_early(alloc: Global, line: &[u8]) -> Result<bool, Fault>
+/// Returns `true` if a short line of layout 1 is a record that today's layout has too. Is refused
+/// if only a clock is too great.
+fn is_early(alloc: Global, line: &[u8]) -> Result<bool, RequestError>
     requires short { IsTrue (nat_le (length line.now) longest_record) }
     ensures early { IfOk result (λ early. MayAgree Early line.now early) }
-    ensures great { IsAnswer (great_clock_of Early line.now) result }
+    ensures great { AnswersUnless (great_clock_of Early line.now) result }
 {
     let early = is_record(alloc, VersionSet::Both, line)?;
     if early {
@@ -62,16 +62,16 @@ fn is_early(alloc: Global, line: &[u8]) -> Result<bool, Fault>
     }
     let old = is_record(alloc, VersionSet::Layout1, line)?;
     if old {
-        return Err(Fault::ClockTooGreat);
+        return Err(RequestError::Refused(Fault::ClockTooGreat));
     }
     Ok(false)
 }
 
 /// Returns `true` if the line may be a record that agrees: if it is one in today's layout, it is
 /// the same in its own.
-fn may_agree(alloc: Global, layout: Layout, line: &[u8]) -> Result<bool, Fault>
+fn may_agree(alloc: Global, layout: Layout, line: &[u8]) -> Result<bool, RequestError>
     ensures may { IfOk result (λ may. MayAgree layout line.now may) }
-    ensures great { IsAnswer (great_clock_of layout line.now) result }
+    ensures great { AnswersUnless (great_clock_of layout line.now) result }
 {
     if line.len() > LONGEST_RECORD {
         return Ok(false);
@@ -176,11 +176,11 @@ impl Replay {
         self.found.is_some()
     }
 
-    /// Replays the record of the next line, unless one differed before it. In either case fails if
-    /// it is a line of layout 1 in which only a clock is too great.
-    pub(crate) fn line(&mut self, alloc: Global, line: &[u8]) -> Result<(), Fault>
+    /// Replays the record of the next line, unless one differed before it. In either case is refused
+    /// if it is a line of layout 1 in which only a clock is too great.
+    pub(crate) fn line(&mut self, alloc: Global, line: &[u8]) -> Result<(), RequestError>
         ensures replayed { OnOk result (IsReplayedLine line.now self.old self.new) }
-        ensures great { IsAnswer (great_clock_of self.old.layout line.now) result }
+        ensures great { AnswersUnless (great_clock_of self.old.layout line.now) result }
     {
         let may_agree = may_agree(alloc, self.layout, line)?;
         if self.is_over() {

@@ -21,8 +21,11 @@ abbrev SaysSameOf : Config → List Shared → Type 0
 SaysSameOf config nodes =
     (lines rest : List (List ℕ)) → head_of lines ≡ Whole config rest → HaveLines config (his_nodes config nodes) → SaysSame config (his_nodes config nodes) (audit_of config nodes)
 
-pub returns-in-Err-clause-says_same : goal.returns-in-Err-clause-says_same
-returns-in-Err-clause-says_same g c = subst (SaysSameOf c.args.config.now) c.as_slice.ensures.value c.in-Err.ensures.says_same
+pub returns-in-Err-Refused-clause-says_same : goal.returns-in-Err-Refused-clause-says_same
+returns-in-Err-Refused-clause-says_same g c = subst (SaysSameOf c.args.config.now) c.as_slice.ensures.value c.in-Err-Refused.ensures.says_same
+
+pub returns-in-Err-OutOfMemory-clause-says_same : goal.returns-in-Err-OutOfMemory-clause-says_same
+returns-in-Err-OutOfMemory-clause-says_same g c = subst (SaysSameOf c.args.config.now) c.as_slice.ensures.value c.in-Err-OutOfMemory.ensures.says_same
 
 pub returns-in-Done-clause-says_same : goal.returns-in-Done-clause-says_same
 returns-in-Done-clause-says_same g c = subst (SaysSameOf c.args.config.now) c.as_slice.ensures.value c.in-Ok.ensures.says_same

@@ -25,7 +25,7 @@ returns-in-Err-clause-text g c =
     sym (c.in-Some.ensures.solo place c.requires) in
     Puts-ends (records_text name (map (record_of id) (take c.loop-place.place trail))) (ended (record_line name (record_of id entry)))
     (records_text name (map (record_of id) (drop (suc c.loop-place.place) trail))) (records_text name (map (record_of id) trail))
-    (page c.args.out.now.items (g.W.Write.contents (sink_writer c.args.sink.now)) (sink_failures c.args.sink.now)) (page c.loop-place.out.items (g.W.Write.contents (sink_writer c.loop-place.sink)) (sink_failures c.loop-place.sink)) tt c.in-Err.fault (page c.put_row.new.out.items (g.W.Write.contents (sink_writer c.put_row.new.sink)) (sink_failures c.put_row.new.sink))
+    (page c.args.out.now.items (g.W.Write.contents (sink_writer c.args.sink.now)) (sink_failures c.args.sink.now)) (page c.loop-place.out.items (g.W.Write.contents (sink_writer c.loop-place.sink)) (sink_failures c.loop-place.sink)) tt c.in-Err.error (page c.put_row.new.out.items (g.W.Write.contents (sink_writer c.put_row.new.sink)) (sink_failures c.put_row.new.sink))
     (node_text_cut name id trail c.loop-place.place entry found) c.loop-place.invariant.text c.in-Err.ensures.text
 
 pub loop-place-preserved : goal.loop-place-preserved

@@ -23,7 +23,7 @@ returns-in-Err-clause-text g c =
     let found : slice_get tenants i ≡ Some tenant = slice_get-get_or tenants i tenant below ∙ ap Some (sym c.index-tenants-place.is) in
     Puts-ends (tenants_text config nodes 0 (take i tenants)) (records_text tenant.name (records_of (tenant_config config tenant) (nodes (tenant_config config tenant) i)))
     (tenants_text config nodes (i + 1) (drop (suc i) tenants)) (tenants_text config nodes 0 tenants)
-    (page c.args.out.now.items (g.W.Write.contents (sink_writer c.args.sink.now)) (sink_failures c.args.sink.now)) (page c.loop-place.out.items (g.W.Write.contents (sink_writer c.loop-place.sink)) (sink_failures c.loop-place.sink)) tt c.in-Err.fault (page c.put_tenant.new.out.items (g.W.Write.contents (sink_writer c.put_tenant.new.sink)) (sink_failures c.put_tenant.new.sink))
+    (page c.args.out.now.items (g.W.Write.contents (sink_writer c.args.sink.now)) (sink_failures c.args.sink.now)) (page c.loop-place.out.items (g.W.Write.contents (sink_writer c.loop-place.sink)) (sink_failures c.loop-place.sink)) tt c.in-Err.error (page c.put_tenant.new.out.items (g.W.Write.contents (sink_writer c.put_tenant.new.sink)) (sink_failures c.put_tenant.new.sink))
     (tenants_text_cut config nodes tenants i tenant found) c.loop-place.invariant.text c.in-Err.ensures.text
 
 pub loop-place-preserved : goal.loop-place-preserved

@@ -24,7 +24,7 @@ returns-in-Err-clause-text g c =
     let found = his_node c.args.config.now tenant c.args.slot c.args.nodes.now i c.index-nodes-place.result c.requires.nodes below c.index-nodes-place.is in
     Puts-ends (records_text name (records_from shards 0 (take i nodes))) (records_text name (map (record_of (id_of shards i)) solo.trail))
     (records_text name (records_from shards (i + 1) (drop (suc i) nodes))) (records_text name (records_from shards 0 nodes))
-    (page c.args.out.now.items (g.W.Write.contents (sink_writer c.args.sink.now)) (sink_failures c.args.sink.now)) (page c.loop-place.out.items (g.W.Write.contents (sink_writer c.loop-place.sink)) (sink_failures c.loop-place.sink)) tt c.in-Err.fault (page c.put_node.new.out.items (g.W.Write.contents (sink_writer c.put_node.new.sink)) (sink_failures c.put_node.new.sink))
+    (page c.args.out.now.items (g.W.Write.contents (sink_writer c.args.sink.now)) (sink_failures c.args.sink.now)) (page c.loop-place.out.items (g.W.Write.contents (sink_writer c.loop-place.sink)) (sink_failures c.loop-place.sink)) tt c.in-Err.error (page c.put_node.new.out.items (g.W.Write.contents (sink_writer c.put_node.new.sink)) (sink_failures c.put_node.new.sink))
     (nodes_text_cut name shards nodes i solo found) c.loop-place.invariant.text c.in-Err.ensures.text
 
 pub loop-place-preserved : goal.loop-place-preserved

@@ -20,16 +20,16 @@ returns-in-Ok-clause-ok g c = record {
   written = c.in-Ok.ensures.ok;
 }
 
-pub returns-in-Err-WriteFault-clause-front : goal.returns-in-Err-WriteFault-clause-front
-returns-in-Err-WriteFault-clause-front g c = inr (
+pub returns-in-Err-Refused-clause-front : goal.returns-in-Err-Refused-clause-front
+returns-in-Err-Refused-clause-front g c = inr (
   c.in-Some.slot,
   c.in-Some-tenant.tenant.now,
   opened_at c.args.world.now c.tenants-tenants.result.now c.args.name.now c.in-Some.slot c.in-Some-tenant.tenant.now c.tenants-tenants.ensures (sym c.slot_of_name.ensures ∙ c.in-Some.is) (sym c.tenant.ensures ∙ ap option_copied c.in-Some-tenant.is),
   c.write_slot.ensures.front,
 )
 
-pub returns-in-Err-clause-front : goal.returns-in-Err-clause-front
-returns-in-Err-clause-front g c = inr (
+pub returns-in-Err-OutOfMemory-clause-front : goal.returns-in-Err-OutOfMemory-clause-front
+returns-in-Err-OutOfMemory-clause-front g c = inr (
   c.in-Some.slot,
   c.in-Some-tenant.tenant.now,
   opened_at c.args.world.now c.tenants-tenants.result.now c.args.name.now c.in-Some.slot c.in-Some-tenant.tenant.now c.tenants-tenants.ensures (sym c.slot_of_name.ensures ∙ c.in-Some.is) (sym c.tenant.ensures ∙ ap option_copied c.in-Some-tenant.is),
