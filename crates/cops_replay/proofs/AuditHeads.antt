@@ -30,7 +30,7 @@ use Rattle.cops_replay.specs.ReplayRules.{GoesOnBy, HeadAnswersBy, IsHeadBy, Old
 use Rattle.cops_replay.specs.ReplayText.{longest_record}
 use Rattle.cops_replay.proofs.OldFronts.{OldFollows, old_front_after-is, old_front_after-short}
 
-by_test : {C : Type 0} (b : Bool) → (b ≡ true → C) → (b ≡ false → C) → C
+pub by_test : {C : Type 0} (b : Bool) → (b ≡ true → C) → (b ≡ false → C) → C
 by_test {C} true holds fails = holds refl
 by_test {C} false holds fails = fails refl
 

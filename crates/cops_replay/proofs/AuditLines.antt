@@ -30,6 +30,7 @@ use Rattle.cops_replay.specs.RecordText.{call_words, is_record, node_text, recor
 use Rattle.cops_replay.specs.WrittenAudits.{AreFormed, his_records}
 use Rattle.cops_replay.proofs.HeadsBack.{lines_of-lines}
 use Rattle.cops_replay.proofs.LinesBack.{line_lacks}
+use Rattle.cops_replay.proofs.AuditHeads.{by_test}
 
 -- ---- the tenants of a head
 
@@ -65,10 +66,6 @@ head_known lines rest config e =
     leads_known AtStart head (Begun config) none_known is
 
 -- ---- a tenant among them
-
-by_test : {C : Type 0} (b : Bool) → (b ≡ true → C) → (b ≡ false → C) → C
-by_test {C} true holds fails = holds refl
-by_test {C} false holds fails = fails refl
 
 others_apart : (first : Tenant) (tenants : List Tenant) → AreApart (first ∷ tenants) → AreApart tenants
 others_apart first tenants apart name = by_test (bytes_eq first.name name)

@@ -21,7 +21,7 @@ use Rattle.cops_script.specs.LineRules.{Run}
 use Rattle.cops_script.specs.LineRuns.{AnswersAll, IfRunRefused, StopsEarly}
 use Rattle.cops_script.proofs.ApartTenants.{found_at, name_of, short_name}
 use Rattle.cops_script.proofs.HeadRuns.{real_lines}
-use Rattle.cops_script.proofs.KnownLemmas.{AppendsFront-more, AppendsFront-nil, input_is, known_lines, known_whole}
+use Rattle.cops_script.proofs.KnownLemmas.{AppendsFront-more, AppendsFront-nil, Run-quiet, input_is, known_lines, known_whole}
 use Rattle.cops_replay.specs.declared.extraction_machine.PartScript.{PartScript}
 use Rattle.cops_replay.specs.declared.extraction_machine.PartStage.{PartStage}
 use Rattle.cops_replay.specs.declared.extraction_machine.PartStage.TheVariants.{OldHead, Head, Records}
@@ -37,13 +37,9 @@ use Rattle.cops_replay.specs.OwnParts.{IsPartOf, RefusesPartBy, RefusesPartOf, W
 use Rattle.cops_replay.specs.ReplayParts.{seen_lines}
 use Rattle.cops_replay.specs.ReplayRules.{front_by, tells_today}
 use Rattle.cops_replay.specs.ReplayText.{head_by, layout_of, longest_record}
-use Rattle.cops_replay.proofs.AuditHeads.{IsCounted, bad_end, bad_first, counted-small, counted_next, cut_in_head, grows_by, named_begun, read_once, read_whole, reading_by, start, tells, tells_not}
+use Rattle.cops_replay.proofs.AuditHeads.{IsCounted, bad_end, bad_first, by_test, counted-small, counted_next, cut_in_head, grows_by, named_begun, read_once, read_whole, reading_by, start, tells, tells_not}
 use Rattle.cops_replay.proofs.RecordRuns.{same_own}
-use Rattle.cops_replay.proofs.ReplayRunLemmas.{cut_layout, layout_first}
-
-by_test : {C : Type 0} (b : Bool) → (b ≡ true → C) → (b ≡ false → C) → C
-by_test {C} true holds fails = holds refl
-by_test {C} false holds fails = fails refl
+use Rattle.cops_replay.proofs.ReplayRunLemmas.{cut_layout, kept, layout_first}
 
 -- ---- the tenant's lines
 
@@ -392,14 +388,8 @@ refuses_end_in_head (Head head) refusal h = tt
 refuses_end_in_head Records refusal h = absurd h
 
 run_silent : (old : PartScript) (lines : List (List ℕ)) (text : List ℕ) (new : PartScript) → Run extraction_rules old lines text new → IsInHead new.stage → text ≡ []
-run_silent old lines text new run quiet = (quiet_run old lines text new run quiet).1
-  where
-    quiet_run : (old : PartScript) (lines : List (List ℕ)) (text : List ℕ) (new : PartScript) → Run extraction_rules old lines text new → IsInHead new.stage → IsInHead old.stage × (text ≡ [])
-    quiet_run old [] text new h quiet = (subst (λ (s : PartScript). IsInHead s.stage) h.1 quiet, h.0)
-    quiet_run old (line ∷ lines) text new (first, mid, later, answered, run, whole) quiet =
-        let rest = quiet_run mid lines later new run quiet in
-        let one = line_silent old.name old.stage line first mid.stage answered.1 rest.0 in
-        (one.0, whole ∙ (λ i. one.1 i ++ rest.1 i))
+run_silent old lines text new run quiet =
+    (Run-quiet extraction_rules (λ (s : PartScript). IsInHead s.stage) (λ s line answer after answered still. line_silent s.name s.stage line answer after.stage answered.1 still) old lines text new run quiet).1
 
 pub nothing_written : (old_contents new_contents new_remaining : Option (List ℕ)) (begins : PartScript) (known : Option (List ℕ)) (why : RunFault PartRefusal) →
     StopsEarly extraction_rules longest_record known new_remaining begins old_contents new_contents why → IfRunRefused why (λ refusal. Keeps old_contents new_contents)
@@ -413,11 +403,7 @@ nothing_written old_contents new_contents new_remaining begins known fault.OutOf
 nothing_written old_contents new_contents new_remaining begins known fault.ReadFault p = tt
 nothing_written old_contents new_contents new_remaining begins known fault.WriteFault p = tt
 
-stays_as_it_is : (contents : Option (List ℕ)) → Keeps contents contents
-stays_as_it_is None = tt
-stays_as_it_is (Some bytes) = refl
-
 -- nothing was done
 pub nothing_extracted : (name : List ℕ) (known contents : Option (List ℕ)) → IfSome known (λ bytes. WritesPartFront name bytes contents contents)
 nothing_extracted name None contents = tt
-nothing_extracted name (Some bytes) contents = inl (stays_as_it_is contents)
+nothing_extracted name (Some bytes) contents = inl (kept contents)

@@ -36,6 +36,7 @@ use Rattle.cops_replay.proofs.AuditRunLemmas.{formed_for}
 use Rattle.cops_replay.proofs.HeadsBack.{written_head}
 use Rattle.cops_replay.proofs.OpenHeads.{lone_head}
 use Rattle.cops_replay.proofs.OwnAuditParts.{has_place, open_found, own_audit_text_is}
+use Rattle.cops_replay.proofs.ReplayRunLemmas.{kept}
 use Rattle.cops_replay.proofs.ShortLines.{lines_at}
 use Rattle.cops_replay.proofs.WrittenAudits.{says_same}
 use Rattle.cops_replay.proofs.WrittenForms.{AllFormed}
@@ -238,19 +239,15 @@ bad_refused name known fault why is bad = subst (λ w. IfRunRefused w (λ refusa
     by ReadFault h = tt
     by WriteFault h = tt
 
-keeps : (contents : Option (List ℕ)) → Keeps contents contents
-keeps None = tt
-keeps (Some bytes) = refl
-
 pub nothing_kept : (contents : Option (List ℕ)) (why : RunFault PartRefusal) → IfRunRefused why (λ refusal. Keeps contents contents)
-nothing_kept contents (Refused refusal) = keeps contents
+nothing_kept contents (Refused refusal) = kept contents
 nothing_kept contents OutOfMemory = tt
 nothing_kept contents ReadFault = tt
 nothing_kept contents WriteFault = tt
 
 pub no_own_front : (name : List ℕ) (known contents : Option (List ℕ)) → IfSome known (λ bytes. WritesOwnAuditFront name bytes contents contents)
 no_own_front name None contents = tt
-no_own_front name (Some bytes) contents = inl (keeps contents)
+no_own_front name (Some bytes) contents = inl (kept contents)
 
 -- a read fault, or a write fault, was one of the script
 read_is : (fault : RunFault BadHead) → as_part_fault fault ≡ ReadFault → fault ≡ ReadFault

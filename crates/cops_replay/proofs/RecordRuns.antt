@@ -27,11 +27,7 @@ use Rattle.cops_replay.specs.Replayings.{Differs, IsReplayedLine, Passes, Standi
 use Rattle.cops_replay.specs.ReplayRules.{ReplaysOwn, replay_answers_in, replay_rules}
 use Rattle.cops_replay.specs.ReplayText.{FindsBy, is_great_in, longest_record, replayed_text, told_number, told_of}
 use Rattle.cops_replay.specs.Replays.{IsAlone}
-use Rattle.cops_replay.proofs.AuditHeads.{take_all}
-
-by_test : {C : Type 0} (b : Bool) → (b ≡ true → C) → (b ≡ false → C) → C
-by_test {C} true holds fails = holds refl
-by_test {C} false holds fails = fails refl
+use Rattle.cops_replay.proofs.AuditHeads.{by_test, take_all}
 
 -- ---- lines, as they are cut
 

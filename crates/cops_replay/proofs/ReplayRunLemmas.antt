@@ -16,7 +16,7 @@ use Rattle.cops_types.specs.Sink.{AppendsFront}
 use Rattle.cops_types.specs.Slots.{AreNamed, slot_of_name}
 use Rattle.cops_types.specs.TenantConfig.{TenantConfig, tenant_config}
 use Rattle.cops_types.specs.Words.{first_word}
-use Rattle.cops_script.proofs.KnownLemmas.{AppendsFront-nil, input_is, known_lines, known_whole}
+use Rattle.cops_script.proofs.KnownLemmas.{AppendsFront-nil, Run-silent, input_is, known_lines, known_whole}
 use Rattle.cops_types.proofs.WordLemmas.{bytes_from_test}
 use Rattle.cops_model.specs.SoloNode.{SoloNode}
 use Rattle.cops_script.proofs.ApartTenants.{found_at}
@@ -38,13 +38,9 @@ use Rattle.cops_replay.specs.Replaying.{fresh_nodes}
 use Rattle.cops_replay.specs.Replayings.{Standing, found_of}
 use Rattle.cops_replay.specs.ReplayRules.{HeadRefusesBy, IsBadAfter, IsHeadBy, OldHeadAnswers, OldHeadRefuses, SaysAtEnd, StartsFor, front_by, replay_answers_in, replay_end_answers, replay_end_refuses, replay_end_refuses_in, replay_refuses, replay_refuses_in, replay_rules, tells_today}
 use Rattle.cops_replay.specs.ReplayText.{FindsBy, IsRefusedBy, IsReplayBy, IsReplayOf, RefusesReplayOf, ReplaysFront, head_by, is_great_in, layout_of, longest_record, replayed_text, starts_great_in}
-use Rattle.cops_replay.proofs.AuditHeads.{HeadRun, InHead, IsCounted, PastHead, TellsNot, bad_end, bad_first, counted-small, cut_in_head, heads, read_once, read_whole, reading_by, start, take_all, tells, tells_not}
+use Rattle.cops_replay.proofs.AuditHeads.{HeadRun, InHead, IsCounted, PastHead, TellsNot, bad_end, bad_first, by_test, counted-small, cut_in_head, heads, read_once, read_whole, reading_by, start, take_all, tells, tells_not}
 use Rattle.cops_replay.proofs.EarlySteps.{by_its_rules}
 use Rattle.cops_replay.proofs.RecordRuns.{TellsAs, any_great, great_cut, running, same_own}
-
-by_test : {C : Type 0} (b : Bool) → (b ≡ true → C) → (b ≡ false → C) → C
-by_test {C} true holds fails = holds refl
-by_test {C} false holds fails = fails refl
 
 -- ---- the first line
 
@@ -69,6 +65,20 @@ layout_first line lines t e = ap (λ b. cond b Today Early) e
 layout_unless : (others : List (List ℕ)) → TellsNot Early 0 others → layout_of others ≡ Early
 layout_unless [] h = refl
 layout_unless (line ∷ others) h = layout_first line others false (sym (cut_layout line) ∙ h)
+
+-- ---- nothing is written before the end
+
+old_silent : (b : Bool) (name : List ℕ) (head : OldHeadSoFar) (line text : List ℕ) (new : ReplayStage) → OldHeadAnswers b name head line text new → text ≡ []
+old_silent true name head line text new h = h.0
+old_silent false name head line text new h = h.2
+
+line_silent : (name : List ℕ) (old : ReplayStage) (line text : List ℕ) (new : ReplayStage) → replay_answers_in name old line text new → text ≡ []
+line_silent name (OldHead head) line text new h = old_silent (tells_today head line) name head line text new h
+line_silent name (Head head) line text new h = h.2
+line_silent name (Running replay) line text new h = h.0
+
+run_silent : (old : ReplayScript) (lines : List (List ℕ)) (text : List ℕ) (new : ReplayScript) → Run replay_rules old lines text new → text ≡ []
+run_silent = Run-silent replay_rules (λ old line text new answered. line_silent old.name old.stage line text new.stage answered.1)
 
 -- ---- a file
 
@@ -232,10 +242,6 @@ module _ (name : List ℕ) where
           ran = file_run real.0 begins text machine named begun (subst (λ ls. Run replay_rules begins ls text machine) real.3 run);
         }
 
-    silent_run : (lines : List (List ℕ)) (text : List ℕ) (machine : ReplayScript) → FileRun lines text machine → text ≡ []
-    silent_run lines text machine (BeforeRecords layout next later n still is same silent told reads) = silent
-    silent_run lines text machine (AmongRecords layout config rest s replay names at same starts run told reads) = (found_in layout config rest s replay text machine names at same starts run).silent
-
     no_rest : (rest : List (List ℕ)) → [] ≡ map (cut_line longest_record) rest → rest ≡ []
     no_rest [] e = refl
     no_rest (line ∷ rest) e = cc
@@ -246,10 +252,7 @@ module _ (name : List ℕ) where
     front_replayed (Some bytes) why p = by_end p.ended
       where
         by_end : (p.last ≡ []) ⊎ (IsWhole longest_record p.input new_remaining p.lines × (new : ReplayScript) × replay_end_answers p.machine p.last new) → ReplaysFront name bytes old_contents new_contents
-        by_end (inl e) =
-            let found = known_lines longest_record bytes p.input new_remaining p.lines p.read p.first in
-            let s = stopped bytes p.lines found.0 p.text p.machine found.1 p.run in
-            inl (AppendsFront-nil old_contents new_contents (subst (AppendsFront old_contents new_contents) (λ i. silent_run s.front p.text p.machine s.ran i ++ e i) p.written))
+        by_end (inl e) = inl (AppendsFront-nil old_contents new_contents (subst (AppendsFront old_contents new_contents) (λ i. run_silent begins p.lines p.text p.machine p.run i ++ e i) p.written))
         by_end (inr (whole, new, ends)) =
             let found = known_whole longest_record bytes p.input new_remaining p.lines p.read whole in
             let s = stopped bytes p.lines [] p.text p.machine (found ∙ sym (append-nil p.lines)) p.run in
@@ -385,21 +388,7 @@ module _ (name : List ℕ) where
     refused_for known fault.ReadFault p = tt
     refused_for known fault.WriteFault p = tt
 
--- ---- nothing is written before the end
-
-old_silent : (b : Bool) (name : List ℕ) (head : OldHeadSoFar) (line text : List ℕ) (new : ReplayStage) → OldHeadAnswers b name head line text new → text ≡ []
-old_silent true name head line text new h = h.0
-old_silent false name head line text new h = h.2
-
-line_silent : (name : List ℕ) (old : ReplayStage) (line text : List ℕ) (new : ReplayStage) → replay_answers_in name old line text new → text ≡ []
-line_silent name (OldHead head) line text new h = old_silent (tells_today head line) name head line text new h
-line_silent name (Head head) line text new h = h.2
-line_silent name (Running replay) line text new h = h.0
-
-run_silent : (old : ReplayScript) (lines : List (List ℕ)) (text : List ℕ) (new : ReplayScript) → Run replay_rules old lines text new → text ≡ []
-run_silent old [] text new h = h.0
-run_silent old (line ∷ lines) text new (first, mid, later, answered, run, whole) =
-    whole ∙ (λ i. line_silent old.name old.stage line first mid.stage answered.1 i ++ run_silent mid lines later new run i)
+-- ---- nothing is written if it is refused
 
 pub unwritten : (old_contents new_contents new_remaining : Option (List ℕ)) (begins : ReplayScript) (known : Option (List ℕ)) (why : RunFault ReplayRefusal) →
     StopsEarly replay_rules longest_record known new_remaining begins old_contents new_contents why → IfRunRefused why (λ refusal. Keeps old_contents new_contents)
@@ -409,11 +398,11 @@ unwritten old_contents new_contents new_remaining begins known fault.OutOfMemory
 unwritten old_contents new_contents new_remaining begins known fault.ReadFault p = tt
 unwritten old_contents new_contents new_remaining begins known fault.WriteFault p = tt
 
-stays_as_it_is : (contents : Option (List ℕ)) → Keeps contents contents
-stays_as_it_is None = tt
-stays_as_it_is (Some bytes) = refl
+pub kept : (contents : Option (List ℕ)) → Keeps contents contents
+kept None = tt
+kept (Some bytes) = refl
 
 -- nothing was done
 pub nothing_replayed : (name : List ℕ) (known contents : Option (List ℕ)) → IfSome known (λ bytes. ReplaysFront name bytes contents contents)
 nothing_replayed name None contents = tt
-nothing_replayed name (Some bytes) contents = inl (stays_as_it_is contents)
+nothing_replayed name (Some bytes) contents = inl (kept contents)

@@ -9,14 +9,12 @@ ghost use Rattle.cops_replay.specs.OwnParts.{RefusesPartOf, WritesPart, WritesPa
 
 use crate::extraction_machine::{PartScript, new_part_script};
 use crate::refusals::PartRefusal;
+use crate::replay_runs::TURNS;
 use crate::replayings::LONGEST_RECORD;
 use cops_script::{RunFault, run_lines};
 use cops_types::{Sink, Source};
 use std::alloc::Global;
 use std::io::{Read, Write};
-
-/// The most turns of a reader.
-const TURNS: u64 = 4_294_967_296;
 
 /// Extracts one tenant's part of an audit, an audit that a replay for the tenant reads as the whole
 /// one. Writes the line of the layout, if the file has one, the sizes, the tenant's line with its

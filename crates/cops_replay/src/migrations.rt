@@ -11,14 +11,12 @@ ghost use Rattle.cops_replay.specs.MigratedText.{migration_of};
 ghost use Rattle.cops_replay.specs.MigrationRules.{records_in};
 
 use crate::migration_machine::{OldAudit, OldPart, new_old_audit};
+use crate::replay_runs::TURNS;
 use crate::replayings::LONGEST_RECORD;
 use cops_script::{BadConfig, RunFault, run_lines};
 use cops_types::{Fault, Sink, Source};
 use std::alloc::Global;
 use std::io::{Read, Write};
-
-/// The most turns of a reader.
-const TURNS: u64 = 4_294_967_296;
 
 /// A tenant's line or a record that cannot be migrated.
 #[derive(Clone, Copy, Debug, PartialEq, Eq)]

@@ -17,7 +17,7 @@ use std::io::{Read, Write};
 use std::mem;
 
 /// The most turns of a reader.
-const TURNS: u64 = 4_294_967_296;
+pub(crate) const TURNS: u64 = 4_294_967_296;
 
 /// Replays the records of one tenant of an audit, on new nodes that the tenant has to itself. Reads
 /// the whole audit. Writes `same N` if each of the tenant's N lines is a record whose reply is

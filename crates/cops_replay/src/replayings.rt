@@ -97,8 +97,10 @@ fn agrees(
     ensures shape { nodes.new.shape ≡ nodes.old.shape }
 {
     let mut words = Words::of(line);
-    let Some(found) = next_asked(alloc, VersionSet::Layout2, &mut words)? else {
-        return Ok(false);
+    let found = match next_asked(alloc, VersionSet::Layout2, &mut words) {
+        Ok(found) => found,
+        Err(RequestError::Refused(_)) => return Ok(false),
+        Err(RequestError::OutOfMemory) => return Err(AllocError),
     };
     let Some(text) = words.rest() else {
         return Ok(false);
