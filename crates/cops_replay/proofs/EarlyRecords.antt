@@ -311,41 +311,29 @@ module _ (name : List ℕ) (lines moved : List (List ℕ)) (config : Config) (re
     (clocks : IsTrue (list_all (λ (t : Tenant). nat_le t.first_clock last_early_clock) config.tenants)) (early : AllByRecursion IsEarlyLine records) where
   pub replayed_today : (text : List ℕ) → IsReplayBy Early name lines text → IsReplayBy Today name moved text
   replayed_today text p =
-      let whole = same_whole p.config config p.records records (sym p.head ∙ old) in
-      let starts = starts_early p.config.tenants p.slot p.tenant (subst (λ (c : Config). IsTrue (list_all (λ (t : Tenant). nat_le t.first_clock last_early_clock) c.tenants)) (sym whole.0) clocks) p.tenant_is in
+      let whole = same_whole p.audit.config config p.audit.records records (sym p.audit.head ∙ old) in
+      let starts = starts_early p.audit.config.tenants p.audit.slot p.audit.tenant (subst (λ (c : Config). IsTrue (list_all (λ (t : Tenant). nat_le t.first_clock last_early_clock) c.tenants)) (sym whole.0) clocks) p.audit.tenant_is in
       record {
-        config = p.config;
-        records = p.records;
-        slot = p.slot;
-        tenant = p.tenant;
-        head = new ∙ (λ i. Whole (sym whole.0 i) (sym whole.1 i));
-        there = p.there;
-        tenant_is = p.tenant_is;
-        fits = none_great_today (alone_lines name p.records);
+        audit = record { config = p.audit.config; records = p.audit.records; slot = p.audit.slot; tenant = p.audit.tenant; head = new ∙ (λ i. Whole (sym whole.0 i) (sym whole.1 i)); there = p.audit.there; tenant_is = p.audit.tenant_is };
+        fits = none_great_today (alone_lines name p.audit.records);
         found = p.found;
-        finds = finds_by Early Today (tenant_config p.config p.tenant) 0 (fresh_nodes (tenant_config p.config p.tenant)) (alone_lines name p.records) p.found
-            (all_alike (alone_lines name p.records) (own_early name p.records (subst (AllByRecursion IsEarlyLine) (sym whole.1) early)))
-            (by_rules_of_today p.config p.tenant (alone_lines name p.records) p.found starts p.finds);
+        finds = finds_by Early Today (tenant_config p.audit.config p.audit.tenant) 0 (fresh_nodes (tenant_config p.audit.config p.audit.tenant)) (alone_lines name p.audit.records) p.found
+            (all_alike (alone_lines name p.audit.records) (own_early name p.audit.records (subst (AllByRecursion IsEarlyLine) (sym whole.1) early)))
+            (by_rules_of_today p.audit.config p.audit.tenant (alone_lines name p.audit.records) p.found starts p.finds);
         text_is = p.text_is;
       }
 
   pub replayed_as_old : (text : List ℕ) → IsReplayBy Today name moved text → IsReplayBy Early name lines text
   replayed_as_old text p =
-      let whole = same_whole p.config config p.records records (sym p.head ∙ new) in
-      let own = own_early name p.records (subst (AllByRecursion IsEarlyLine) (sym whole.1) early) in
-      let starts = starts_early p.config.tenants p.slot p.tenant (subst (λ (c : Config). IsTrue (list_all (λ (t : Tenant). nat_le t.first_clock last_early_clock) c.tenants)) (sym whole.0) clocks) p.tenant_is in
+      let whole = same_whole p.audit.config config p.audit.records records (sym p.audit.head ∙ new) in
+      let own = own_early name p.audit.records (subst (AllByRecursion IsEarlyLine) (sym whole.1) early) in
+      let starts = starts_early p.audit.config.tenants p.audit.slot p.audit.tenant (subst (λ (c : Config). IsTrue (list_all (λ (t : Tenant). nat_le t.first_clock last_early_clock) c.tenants)) (sym whole.0) clocks) p.audit.tenant_is in
       record {
-        config = p.config;
-        records = p.records;
-        slot = p.slot;
-        tenant = p.tenant;
-        head = old ∙ (λ i. Whole (sym whole.0 i) (sym whole.1 i));
-        there = p.there;
-        tenant_is = p.tenant_is;
-        fits = ap (λ b. b || list_any (is_great_in Early) (alone_lines name p.records)) starts ∙ none_great_early (alone_lines name p.records) own;
+        audit = record { config = p.audit.config; records = p.audit.records; slot = p.audit.slot; tenant = p.audit.tenant; head = old ∙ (λ i. Whole (sym whole.0 i) (sym whole.1 i)); there = p.audit.there; tenant_is = p.audit.tenant_is };
+        fits = ap (λ b. b || list_any (is_great_in Early) (alone_lines name p.audit.records)) starts ∙ none_great_early (alone_lines name p.audit.records) own;
         found = p.found;
-        finds = by_its_rules Early p.config p.tenant (alone_lines name p.records) p.found starts
-            (finds_by Today Early (tenant_config p.config p.tenant) 0 (fresh_nodes (tenant_config p.config p.tenant)) (alone_lines name p.records) p.found (all_back (alone_lines name p.records) own) p.finds);
+        finds = by_its_rules Early p.audit.config p.audit.tenant (alone_lines name p.audit.records) p.found starts
+            (finds_by Today Early (tenant_config p.audit.config p.audit.tenant) 0 (fresh_nodes (tenant_config p.audit.config p.audit.tenant)) (alone_lines name p.audit.records) p.found (all_back (alone_lines name p.audit.records) own) p.finds);
         text_is = p.text_is;
       }
 
@@ -354,13 +342,13 @@ module _ (name : List ℕ) (lines moved : List (List ℕ)) (config : Config) (re
   refused_today (BadConfig bad) at = absurd (let clash : BadAt bad.line ≡ Whole config records = sym at ∙ old in let no : ⊥ = cc in no)
   refused_today UnknownTenant (found, rest, at, none) = let same = same_whole found config rest records (sym at ∙ old) in (found, rest, new ∙ (λ i. Whole (sym same.0 i) (sym same.1 i)), none)
   refused_today ClockTooGreat p =
-      let whole = same_whole p.config config p.records records (sym p.head ∙ old) in
-      let own = own_early name p.records (subst (AllByRecursion IsEarlyLine) (sym whole.1) early) in
-      let starts = starts_early p.config.tenants p.slot p.tenant (subst (λ (c : Config). IsTrue (list_all (λ (t : Tenant). nat_le t.first_clock last_early_clock) c.tenants)) (sym whole.0) clocks) p.tenant_is in
-      let fits = ap (λ b. b || list_any (is_great_in Early) (alone_lines name p.records)) starts ∙ none_great_early (alone_lines name p.records) own in
+      let whole = same_whole p.audit.config config p.audit.records records (sym p.audit.head ∙ old) in
+      let own = own_early name p.audit.records (subst (AllByRecursion IsEarlyLine) (sym whole.1) early) in
+      let starts = starts_early p.audit.config.tenants p.audit.slot p.audit.tenant (subst (λ (c : Config). IsTrue (list_all (λ (t : Tenant). nat_le t.first_clock last_early_clock) c.tenants)) (sym whole.0) clocks) p.audit.tenant_is in
+      let fits = ap (λ b. b || list_any (is_great_in Early) (alone_lines name p.audit.records)) starts ∙ none_great_early (alone_lines name p.audit.records) own in
       absurd (let clash : false ≡ true = sym fits ∙ p.great in let no : ⊥ = cc in no)
 
   pub refused_as_old : (refusal : ReplayRefusal) → IsRefusedBy Today name moved refusal → IsRefusedBy Early name lines refusal
   refused_as_old (BadConfig bad) at = absurd (let clash : BadAt bad.line ≡ Whole config records = sym at ∙ new in let no : ⊥ = cc in no)
   refused_as_old UnknownTenant (found, rest, at, none) = let same = same_whole found config rest records (sym at ∙ new) in (found, rest, old ∙ (λ i. Whole (sym same.0 i) (sym same.1 i)), none)
-  refused_as_old ClockTooGreat p = absurd (let clash : false ≡ true = sym (none_great_today (alone_lines name p.records)) ∙ p.great in let no : ⊥ = cc in no)
+  refused_as_old ClockTooGreat p = absurd (let clash : false ≡ true = sym (none_great_today (alone_lines name p.audit.records)) ∙ p.great in let no : ⊥ = cc in no)

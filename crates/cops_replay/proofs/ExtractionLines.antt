@@ -227,13 +227,7 @@ module _ (name : List ℕ) where
     extracted bytes lines new text last machine same_lines (BeforeRecords layout next count c still here same silent some told reads) ends = absurd (not_ended layout machine.stage next count last here ends.0)
     extracted bytes lines new text last machine same_lines (AmongRecords layout config rest slot tenant there tenant_is short is same text_is told reads) ends =
         part_of_lines bytes (text ++ last) lines layout same_lines (sym (ap layout_of (append-nil lines)) ∙ told []) (record {
-          config = config;
-          records = rest;
-          slot = slot;
-          tenant = tenant;
-          head = ap (head_by layout) (sym (append-nil lines)) ∙ reads [] ∙ ap (Whole config) (append-nil rest);
-          there = there;
-          tenant_is = tenant_is;
+          audit = record { config = config; records = rest; slot = slot; tenant = tenant; head = ap (head_by layout) (sym (append-nil lines)) ∙ reads [] ∙ ap (Whole config) (append-nil rest); there = there; tenant_is = tenant_is };
           text_is = ap (λ t. text ++ t) (last_silent machine.stage last ends.0) ∙ append-nil text ∙ text_is;
         })
 
@@ -271,13 +265,7 @@ module _ (name : List ℕ) where
         inr (
           text ++ flat_map ended (seen_lines name rest),
           part_of_lines bytes (text ++ flat_map ended (seen_lines name rest)) (front ++ rest) layout whole (told rest) (record {
-            config = config;
-            records = lines ++ rest;
-            slot = slot;
-            tenant = tenant;
-            head = reads rest;
-            there = there;
-            tenant_is = tenant_is;
+            audit = record { config = config; records = lines ++ rest; slot = slot; tenant = tenant; head = reads rest; there = there; tenant_is = tenant_is };
             text_is = text_more name layout config tenant lines rest text text_is;
           }),
           AppendsFront-more old_contents new_contents text (flat_map ended (seen_lines name rest)) written,

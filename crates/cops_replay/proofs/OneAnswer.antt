@@ -19,7 +19,7 @@ use Rattle.cops_replay.specs.OldRecords.{last_early_clock}
 use Rattle.cops_replay.specs.OwnLines.{alone_lines}
 use Rattle.cops_replay.specs.Replaying.{fresh_nodes}
 use Rattle.cops_replay.specs.ReplayParts.{HasPart, seen_lines}
-use Rattle.cops_replay.specs.ReplayText.{FindsBy, IsReplayBy, IsReplayOf, IsRefusedBy, RefusesReplayOf, head_by, is_great_in, longest_record, replayed_text, starts_great_in}
+use Rattle.cops_replay.specs.ReplayText.{IsAuditFor, FindsBy, IsReplayBy, IsReplayOf, IsRefusedBy, RefusesReplayOf, head_by, is_great_in, longest_record, replayed_text, starts_great_in}
 use Rattle.cops_replay.specs.VersionLayouts.{nodes_after_in}
 use Rattle.cops_replay.proofs.RecordRuns.{great_cut, told_cut}
 
@@ -35,56 +35,55 @@ one_found layout rules config passed nodes (line ∷ lines) one other (inr p) (i
 
 module _ (name : List ℕ) (layout : Layout) (lines : List (List ℕ)) where
   -- the head has one tenant of the name
-  record SameTenant (c d : Config) (r s : List (List ℕ)) (t u : Tenant) : Type 0 where
-    config : c ≡ d
-    records : r ≡ s
-    tenant : t ≡ u
+  pub record SameTenant (c d : Config) (r s : List (List ℕ)) (t u : Tenant) : Type 0 where
+    pub config : c ≡ d
+    pub records : r ≡ s
+    pub tenant : t ≡ u
 
   same_whole : (c d : Config) (r s : List (List ℕ)) → head_by layout lines ≡ Whole c r → head_by layout lines ≡ Whole d s → (c ≡ d) × (r ≡ s)
   same_whole c d r s one other = let e : Whole c r ≡ Whole d s = sym one ∙ other in (let same : c ≡ d = cc in same, let same : r ≡ s = cc in same)
 
-  same_tenant : (c d : Config) (r s : List (List ℕ)) (i j : ℕ) (t u : Tenant) → head_by layout lines ≡ Whole c r → head_by layout lines ≡ Whole d s → slot_of_name c.tenants name ≡ Some i → slot_of_name d.tenants name ≡ Some j →
-      slice_get c.tenants i ≡ Some t → slice_get d.tenants j ≡ Some u → SameTenant c d r s t u
-  same_tenant c d r s i j t u one other there here at is =
-      let whole = same_whole c d r s one other in
-      let slots : Some i ≡ Some j = sym there ∙ ap (λ (x : Config). slot_of_name x.tenants name) whole.0 ∙ here in
-      let slot : i ≡ j = cc in
-      let tenants : Some t ≡ Some u = sym at ∙ (λ k. slice_get (whole.0 k).tenants (slot k)) ∙ is in
-      let tenant : t ≡ u = cc in
+  pub same_tenant : (one other : IsAuditFor layout name lines) → SameTenant one.config other.config one.records other.records one.tenant other.tenant
+  same_tenant one other =
+      let whole = same_whole one.config other.config one.records other.records one.head other.head in
+      let slots : Some one.slot ≡ Some other.slot = sym one.there ∙ ap (λ (x : Config). slot_of_name x.tenants name) whole.0 ∙ other.there in
+      let slot : one.slot ≡ other.slot = cc in
+      let tenants : Some one.tenant ≡ Some other.tenant = sym one.tenant_is ∙ (λ k. slice_get (whole.0 k).tenants (slot k)) ∙ other.tenant_is in
+      let tenant : one.tenant ≡ other.tenant = cc in
       record { config = whole.0; records = whole.1; tenant = tenant }
 
   pub one_text : (text other : List ℕ) → IsReplayBy layout name lines text → IsReplayBy layout name lines other → text ≡ other
   one_text text other p q =
-      let same = same_tenant p.config q.config p.records q.records p.slot q.slot p.tenant q.tenant p.head q.head p.there q.there p.tenant_is q.tenant_is in
-      let mine : tenant_config p.config p.tenant ≡ tenant_config q.config q.tenant = λ i. tenant_config (same.config i) (same.tenant i) in
-      let finds : FindsBy layout layout (tenant_config q.config q.tenant) 0 (fresh_nodes (tenant_config q.config q.tenant)) (alone_lines name q.records) p.found =
-      subst (λ ls. FindsBy layout layout (tenant_config q.config q.tenant) 0 (fresh_nodes (tenant_config q.config q.tenant)) (alone_lines name ls) p.found) same.records
-      (subst (λ (c : TenantConfig). FindsBy layout layout c 0 (fresh_nodes c) (alone_lines name p.records) p.found) mine p.finds) in
-      p.text_is ∙ ap replayed_text (one_found layout layout (tenant_config q.config q.tenant) 0 (fresh_nodes (tenant_config q.config q.tenant)) (alone_lines name q.records) p.found q.found finds q.finds) ∙ sym q.text_is
+      let same = same_tenant p.audit q.audit in
+      let mine : tenant_config p.audit.config p.audit.tenant ≡ tenant_config q.audit.config q.audit.tenant = λ i. tenant_config (same.config i) (same.tenant i) in
+      let finds : FindsBy layout layout (tenant_config q.audit.config q.audit.tenant) 0 (fresh_nodes (tenant_config q.audit.config q.audit.tenant)) (alone_lines name q.audit.records) p.found =
+      subst (λ ls. FindsBy layout layout (tenant_config q.audit.config q.audit.tenant) 0 (fresh_nodes (tenant_config q.audit.config q.audit.tenant)) (alone_lines name ls) p.found) same.records
+      (subst (λ (c : TenantConfig). FindsBy layout layout c 0 (fresh_nodes c) (alone_lines name p.audit.records) p.found) mine p.finds) in
+      p.text_is ∙ ap replayed_text (one_found layout layout (tenant_config q.audit.config q.audit.tenant) 0 (fresh_nodes (tenant_config q.audit.config q.audit.tenant)) (alone_lines name q.audit.records) p.found q.found finds q.finds) ∙ sym q.text_is
 
   pub one_refusal : (refusal other : ReplayRefusal) → IsRefusedBy layout name lines refusal → IsRefusedBy layout name lines other → refusal ≡ other
   one_refusal (BadConfig bad) (BadConfig worse) p q = let e : BadAt bad.line ≡ BadAt worse.line = sym p ∙ q in let same : bad.line ≡ worse.line = cc in ap (λ n. BadConfig (record { line = n })) same
   one_refusal (BadConfig bad) UnknownTenant p (config, rest, head, none) = absurd (let e : BadAt bad.line ≡ Whole config rest = sym p ∙ head in let no : ⊥ = cc in no)
-  one_refusal (BadConfig bad) ClockTooGreat p q = absurd (let e : BadAt bad.line ≡ Whole q.config q.records = sym p ∙ q.head in let no : ⊥ = cc in no)
+  one_refusal (BadConfig bad) ClockTooGreat p q = absurd (let e : BadAt bad.line ≡ Whole q.audit.config q.audit.records = sym p ∙ q.audit.head in let no : ⊥ = cc in no)
   one_refusal UnknownTenant (BadConfig bad) (config, rest, head, none) q = absurd (let e : BadAt bad.line ≡ Whole config rest = sym q ∙ head in let no : ⊥ = cc in no)
   one_refusal UnknownTenant UnknownTenant p q = refl
   one_refusal UnknownTenant ClockTooGreat (config, rest, head, none) q =
-      let same = same_whole config q.config rest q.records head q.head in
-      absurd (let e : None ≡ Some q.slot = sym none ∙ ap (λ (x : Config). slot_of_name x.tenants name) same.0 ∙ q.there in let no : ⊥ = cc in no)
-  one_refusal ClockTooGreat (BadConfig bad) p q = absurd (let e : BadAt bad.line ≡ Whole p.config p.records = sym q ∙ p.head in let no : ⊥ = cc in no)
+      let same = same_whole config q.audit.config rest q.audit.records head q.audit.head in
+      absurd (let e : None ≡ Some q.audit.slot = sym none ∙ ap (λ (x : Config). slot_of_name x.tenants name) same.0 ∙ q.audit.there in let no : ⊥ = cc in no)
+  one_refusal ClockTooGreat (BadConfig bad) p q = absurd (let e : BadAt bad.line ≡ Whole p.audit.config p.audit.records = sym q ∙ p.audit.head in let no : ⊥ = cc in no)
   one_refusal ClockTooGreat UnknownTenant p (config, rest, head, none) =
-      let same = same_whole config p.config rest p.records head p.head in
-      absurd (let e : None ≡ Some p.slot = sym none ∙ ap (λ (x : Config). slot_of_name x.tenants name) same.0 ∙ p.there in let no : ⊥ = cc in no)
+      let same = same_whole config p.audit.config rest p.audit.records head p.audit.head in
+      absurd (let e : None ≡ Some p.audit.slot = sym none ∙ ap (λ (x : Config). slot_of_name x.tenants name) same.0 ∙ p.audit.there in let no : ⊥ = cc in no)
   one_refusal ClockTooGreat ClockTooGreat p q = refl
 
   pub not_both : (text : List ℕ) (refusal : ReplayRefusal) → IsReplayBy layout name lines text → IsRefusedBy layout name lines refusal → ⊥
-  not_both text (BadConfig bad) p q = let e : BadAt bad.line ≡ Whole p.config p.records = sym q ∙ p.head in let no : ⊥ = cc in no
+  not_both text (BadConfig bad) p q = let e : BadAt bad.line ≡ Whole p.audit.config p.audit.records = sym q ∙ p.audit.head in let no : ⊥ = cc in no
   not_both text UnknownTenant p (config, rest, head, none) =
-      let same = same_whole config p.config rest p.records head p.head in
-      let e : None ≡ Some p.slot = sym none ∙ ap (λ (x : Config). slot_of_name x.tenants name) same.0 ∙ p.there in
+      let same = same_whole config p.audit.config rest p.audit.records head p.audit.head in
+      let e : None ≡ Some p.audit.slot = sym none ∙ ap (λ (x : Config). slot_of_name x.tenants name) same.0 ∙ p.audit.there in
       let no : ⊥ = cc in no
   not_both text ClockTooGreat p q =
-      let same = same_tenant p.config q.config p.records q.records p.slot q.slot p.tenant q.tenant p.head q.head p.there q.there p.tenant_is q.tenant_is in
+      let same = same_tenant p.audit q.audit in
       let great : false ≡ true = sym p.fits ∙ (λ i. starts_great_in layout (same.tenant i) || list_any (is_great_in layout) (alone_lines name (same.records i))) ∙ q.great in
       let no : ⊥ = cc in no
 
@@ -116,24 +115,18 @@ any_cut layout (line ∷ lines) = λ i. great_cut layout line i || any_cut layou
 module _ (name one other : List ℕ) (layout : Layout) (config : TenantConfig) (own : List (List ℕ)) (p : HasPart name one layout config own) (q : HasPart name other layout config own) where
   replayed_by : (text : List ℕ) → IsReplayBy layout name (lines_of one) text → IsReplayBy layout name (lines_of other) text
   replayed_by text r =
-      let same = same_tenant name layout (lines_of one) r.config p.head_config r.records p.records r.slot p.slot r.tenant p.tenant r.head p.head r.there p.there r.tenant_is p.tenant_is in
-      let mine : tenant_config r.config r.tenant ≡ tenant_config q.head_config q.tenant = (λ i. tenant_config (same.config i) (same.tenant i)) ∙ p.config_is ∙ sym q.config_is in
-      let lines : seen_lines name r.records ≡ seen_lines name q.records = ap (seen_lines name) same.records ∙ p.own_is ∙ sym q.own_is in
-      let any = sym (any_cut layout (alone_lines name q.records)) ∙ ap (list_any (is_great_in layout)) (sym lines) ∙ any_cut layout (alone_lines name r.records) in
+      let same = same_tenant name layout (lines_of one) r.audit p.audit in
+      let mine : tenant_config r.audit.config r.audit.tenant ≡ tenant_config q.audit.config q.audit.tenant = (λ i. tenant_config (same.config i) (same.tenant i)) ∙ p.config_is ∙ sym q.config_is in
+      let lines : seen_lines name r.audit.records ≡ seen_lines name q.audit.records = ap (seen_lines name) same.records ∙ p.own_is ∙ sym q.own_is in
+      let any = sym (any_cut layout (alone_lines name q.audit.records)) ∙ ap (list_any (is_great_in layout)) (sym lines) ∙ any_cut layout (alone_lines name r.audit.records) in
       record {
-        config = q.head_config;
-        records = q.records;
-        slot = q.slot;
-        tenant = q.tenant;
-        head = q.head;
-        there = q.there;
-        tenant_is = q.tenant_is;
-        fits = (λ i. sym (starts_alike layout r.config q.head_config r.tenant q.tenant mine) i || any i) ∙ r.fits;
+        audit = q.audit;
+        fits = (λ i. sym (starts_alike layout r.audit.config q.audit.config r.audit.tenant q.audit.tenant mine) i || any i) ∙ r.fits;
         found = r.found;
-        finds = finds_uncut layout layout (tenant_config q.head_config q.tenant) 0 (fresh_nodes (tenant_config q.head_config q.tenant)) (alone_lines name q.records) r.found
-            (subst (λ ls. FindsBy layout layout (tenant_config q.head_config q.tenant) 0 (fresh_nodes (tenant_config q.head_config q.tenant)) ls r.found) lines
-            (finds_cut layout layout (tenant_config q.head_config q.tenant) 0 (fresh_nodes (tenant_config q.head_config q.tenant)) (alone_lines name r.records) r.found
-            (subst (λ (c : TenantConfig). FindsBy layout layout c 0 (fresh_nodes c) (alone_lines name r.records) r.found) mine r.finds)));
+        finds = finds_uncut layout layout (tenant_config q.audit.config q.audit.tenant) 0 (fresh_nodes (tenant_config q.audit.config q.audit.tenant)) (alone_lines name q.audit.records) r.found
+            (subst (λ ls. FindsBy layout layout (tenant_config q.audit.config q.audit.tenant) 0 (fresh_nodes (tenant_config q.audit.config q.audit.tenant)) ls r.found) lines
+            (finds_cut layout layout (tenant_config q.audit.config q.audit.tenant) 0 (fresh_nodes (tenant_config q.audit.config q.audit.tenant)) (alone_lines name r.audit.records) r.found
+            (subst (λ (c : TenantConfig). FindsBy layout layout c 0 (fresh_nodes c) (alone_lines name r.audit.records) r.found) mine r.finds)));
         text_is = r.text_is;
       }
 
@@ -142,24 +135,18 @@ module _ (name one other : List ℕ) (layout : Layout) (config : TenantConfig) (
       subst (λ l. IsReplayBy l name (lines_of other) text) (sym q.layout_is) (replayed_by text (subst (λ l. IsReplayBy l name (lines_of one) text) p.layout_is r))
 
   refused_by : (refusal : ReplayRefusal) → IsRefusedBy layout name (lines_of one) refusal → IsRefusedBy layout name (lines_of other) refusal
-  refused_by (BadConfig bad) r = absurd (let e : BadAt bad.line ≡ Whole p.head_config p.records = sym r ∙ p.head in let no : ⊥ = cc in no)
+  refused_by (BadConfig bad) r = absurd (let e : BadAt bad.line ≡ Whole p.audit.config p.audit.records = sym r ∙ p.audit.head in let no : ⊥ = cc in no)
   refused_by UnknownTenant (found, rest, head, none) =
-      let same = same_whole name layout (lines_of one) found p.head_config rest p.records head p.head in
-      absurd (let e : None ≡ Some p.slot = sym none ∙ ap (λ (x : Config). slot_of_name x.tenants name) same.0 ∙ p.there in let no : ⊥ = cc in no)
+      let same = same_whole name layout (lines_of one) found p.audit.config rest p.audit.records head p.audit.head in
+      absurd (let e : None ≡ Some p.audit.slot = sym none ∙ ap (λ (x : Config). slot_of_name x.tenants name) same.0 ∙ p.audit.there in let no : ⊥ = cc in no)
   refused_by ClockTooGreat r =
-      let same = same_tenant name layout (lines_of one) r.config p.head_config r.records p.records r.slot p.slot r.tenant p.tenant r.head p.head r.there p.there r.tenant_is p.tenant_is in
-      let mine : tenant_config r.config r.tenant ≡ tenant_config q.head_config q.tenant = (λ i. tenant_config (same.config i) (same.tenant i)) ∙ p.config_is ∙ sym q.config_is in
-      let lines : seen_lines name r.records ≡ seen_lines name q.records = ap (seen_lines name) same.records ∙ p.own_is ∙ sym q.own_is in
-      let any = sym (any_cut layout (alone_lines name q.records)) ∙ ap (list_any (is_great_in layout)) (sym lines) ∙ any_cut layout (alone_lines name r.records) in
+      let same = same_tenant name layout (lines_of one) r.audit p.audit in
+      let mine : tenant_config r.audit.config r.audit.tenant ≡ tenant_config q.audit.config q.audit.tenant = (λ i. tenant_config (same.config i) (same.tenant i)) ∙ p.config_is ∙ sym q.config_is in
+      let lines : seen_lines name r.audit.records ≡ seen_lines name q.audit.records = ap (seen_lines name) same.records ∙ p.own_is ∙ sym q.own_is in
+      let any = sym (any_cut layout (alone_lines name q.audit.records)) ∙ ap (list_any (is_great_in layout)) (sym lines) ∙ any_cut layout (alone_lines name r.audit.records) in
       record {
-        config = q.head_config;
-        records = q.records;
-        slot = q.slot;
-        tenant = q.tenant;
-        head = q.head;
-        there = q.there;
-        tenant_is = q.tenant_is;
-        great = (λ i. sym (starts_alike layout r.config q.head_config r.tenant q.tenant mine) i || any i) ∙ r.great;
+        audit = q.audit;
+        great = (λ i. sym (starts_alike layout r.audit.config q.audit.config r.audit.tenant q.audit.tenant mine) i || any i) ∙ r.great;
       }
 
   pub refused_alike : (refusal : ReplayRefusal) → RefusesReplayOf name one refusal → RefusesReplayOf name other refusal

@@ -38,6 +38,7 @@ use Rattle.cops_replay.proofs.AuditTexts.{take_whole}
 use Rattle.cops_replay.proofs.HeadsBack.{written_head}
 use Rattle.cops_replay.proofs.HeadTexts.{head_text_is, text_is_todays, text_reads_back}
 use Rattle.cops_replay.proofs.OpenHeads.{open_head}
+use Rattle.cops_replay.proofs.OneAnswer.{same_tenant}
 use Rattle.cops_replay.proofs.ShortLines.{lines_at}
 use Rattle.cops_replay.proofs.WrittenAudits.{his_lines}
 
@@ -186,13 +187,7 @@ module _ (read rest : List (List ℕ)) (config : Config) (head : head_of read �
       ∙ uncut own.tenant.name its (lines_at read rest config at.place own.tenant head at.listed (formed at.place own.tenant at.listed))
       ∙ ap (map (record_line own.tenant.name)) at.records in
       subst (λ layout. IsPartBy layout name (lines_of (audit_text left nodes)) part) (sym told) (record {
-        config = left;
-        records = lines_of text;
-        slot = at.place;
-        tenant = own.tenant;
-        head = reads;
-        there = at.found;
-        tenant_is = at.listed;
+        audit = record { config = left; records = lines_of text; slot = at.place; tenant = own.tenant; head = reads; there = at.found; tenant_is = at.listed };
         text_is = own.text_is ∙ ap (part_text Today config own.tenant) (sym seen);
       })
 
@@ -261,14 +256,8 @@ own_refused_alike name bytes text refusal is = refused_by (lines_of bytes) (head
 
 one_by : (layout : Layout) (name : List ℕ) (lines : List (List ℕ)) (part other : List ℕ) → IsPartBy layout name lines part → IsPartBy layout name lines other → part ≡ other
 one_by layout name lines part other p q =
-    let e : Whole p.config p.records ≡ Whole q.config q.records = sym p.head ∙ q.head in
-    let config : p.config ≡ q.config = cc in
-    let records : p.records ≡ q.records = cc in
-    let slots : Some p.slot ≡ Some q.slot = sym p.there ∙ ap (λ (c : Config). slot_of_name c.tenants name) config ∙ q.there in
-    let slot : p.slot ≡ q.slot = cc in
-    let tenants : Some p.tenant ≡ Some q.tenant = sym p.tenant_is ∙ (λ i. slice_get (config i).tenants (slot i)) ∙ q.tenant_is in
-    let tenant : p.tenant ≡ q.tenant = cc in
-    p.text_is ∙ (λ i. part_text layout (config i) (tenant i) (seen_lines name (records i))) ∙ sym q.text_is
+    let same = same_tenant name layout lines p.audit q.audit in
+    p.text_is ∙ (λ i. part_text layout (same.config i) (same.tenant i) (seen_lines name (same.records i))) ∙ sym q.text_is
 
 pub one_part : (name text part other : List ℕ) → IsPartOf name text part → IsPartOf name text other → part ≡ other
 one_part name text part other p q = one_by (layout_of (lines_of text)) name (lines_of text) part other p q

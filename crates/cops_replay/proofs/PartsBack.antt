@@ -219,54 +219,56 @@ module _ (name bytes part : List ℕ) (p : IsPartOf name bytes part) where
   layout = layout_of (lines_of bytes)
 
   abbrev own : List (List ℕ)
-  own = seen_lines name p.records
+  own = seen_lines name p.audit.records
 
-  good : IsGoodHead (Lacks newline) layout p.config p.records
-  good = good_head (Lacks newline) layout (lines_of bytes) p.config p.records (lines_of-lack bytes) p.head
+  good : IsGoodHead (Lacks newline) layout p.audit.config p.audit.records
+  good = good_head (Lacks newline) layout (lines_of bytes) p.audit.config p.audit.records (lines_of-lack bytes) p.audit.head
 
-  its : IsGood layout p.tenant
-  its = all_at (IsGood layout) p.config.tenants p.slot p.tenant good.good.tenants p.tenant_is
+  its : IsGood layout p.audit.tenant
+  its = all_at (IsGood layout) p.audit.config.tenants p.audit.slot p.audit.tenant good.good.tenants p.audit.tenant_is
 
-  named : bytes_eq p.tenant.name name ≡ true
+  named : bytes_eq p.audit.tenant.name name ≡ true
   named =
-      let found = found_at p.config.tenants name p.slot p.there in
-      ap (λ (t : Tenant). bytes_eq t.name name) (same_value p.tenant found.0 (sym p.tenant_is ∙ found.1)) ∙ found.2
+      let found = found_at p.audit.config.tenants name p.audit.slot p.audit.there in
+      ap (λ (t : Tenant). bytes_eq t.name name) (same_value p.audit.tenant found.0 (sym p.audit.tenant_is ∙ found.1)) ∙ found.2
 
   short : length name ≤ 16
   short =
-      let fits = tenant_fits (last_in layout) (last_small layout) p.tenant its.within in
-      subst (λ n. length n ≤ 16) (bytes_from_test p.tenant.name name named) (short_name p.tenant.name fits.name)
+      let fits = tenant_fits (last_in layout) (last_small layout) p.audit.tenant its.within in
+      subst (λ n. length n ≤ 16) (bytes_from_test p.audit.tenant.name name named) (short_name p.audit.tenant.name fits.name)
 
-  part_lines : lines_of part ≡ (layout_lines layout ++ lone_head_lines p.config p.tenant) ++ own
+  part_lines : lines_of part ≡ (layout_lines layout ++ lone_head_lines p.audit.config p.audit.tenant) ++ own
   part_lines =
-      ap lines_of p.text_is ∙ lines_of-more (layout_lines layout ++ lone_head_lines p.config p.tenant) (flat_map ended own) (head_lacks layout p.config p.tenant good.good its)
-      ∙ ap (λ lines. (layout_lines layout ++ lone_head_lines p.config p.tenant) ++ lines) (lines_of-lines own (seen_lack name p.records good.kept))
+      ap lines_of p.text_is ∙ lines_of-more (layout_lines layout ++ lone_head_lines p.audit.config p.audit.tenant) (flat_map ended own) (head_lacks layout p.audit.config p.audit.tenant good.good its)
+      ∙ ap (λ lines. (layout_lines layout ++ lone_head_lines p.audit.config p.audit.tenant) ++ lines) (lines_of-lines own (seen_lack name p.audit.records good.kept))
 
-  of_file : HasPart name bytes layout (tenant_config p.config p.tenant) own
-  of_file = record { head_config = p.config; records = p.records; slot = p.slot; tenant = p.tenant; layout_is = refl; head = p.head; there = p.there; tenant_is = p.tenant_is; config_is = refl; own_is = refl }
+  of_file : HasPart name bytes layout (tenant_config p.audit.config p.audit.tenant) own
+  of_file = record { layout_is = refl; audit = p.audit; config_is = refl; own_is = refl }
 
-  of_part : HasPart name part layout (tenant_config p.config p.tenant) own
+  of_part : HasPart name part layout (tenant_config p.audit.config p.audit.tenant) own
   of_part = record {
-    head_config = with_tenant_alone p.config p.tenant;
-    records = own;
-    slot = 0;
-    tenant = p.tenant;
-    layout_is = ap layout_of part_lines ∙ layout_back p.config p.tenant own layout;
-    head = ap (head_by layout) part_lines ∙ head_back p.config p.tenant own layout good.good its;
-    there = first_found name p.tenant named;
-    tenant_is = refl;
+    layout_is = ap layout_of part_lines ∙ layout_back p.audit.config p.audit.tenant own layout;
+    audit = record {
+      config = with_tenant_alone p.audit.config p.audit.tenant;
+      records = own;
+      slot = 0;
+      tenant = p.audit.tenant;
+      head = ap (head_by layout) part_lines ∙ head_back p.audit.config p.audit.tenant own layout good.good its;
+      there = first_found name p.audit.tenant named;
+      tenant_is = refl;
+    };
     config_is = refl;
-    own_is = seen_twice name short p.records;
+    own_is = seen_twice name short p.audit.records;
   }
 
   pub part_replays : (text : List ℕ) → (IsReplayOf name bytes text → IsReplayOf name part text) × (IsReplayOf name part text → IsReplayOf name bytes text)
   part_replays text = (
-    replayed_alike name bytes part layout (tenant_config p.config p.tenant) own of_file of_part text,
-    replayed_alike name part bytes layout (tenant_config p.config p.tenant) own of_part of_file text,
+    replayed_alike name bytes part layout (tenant_config p.audit.config p.audit.tenant) own of_file of_part text,
+    replayed_alike name part bytes layout (tenant_config p.audit.config p.audit.tenant) own of_part of_file text,
   )
 
   pub part_refuses_alike : (refusal : ReplayRefusal) → (RefusesReplayOf name bytes refusal → RefusesReplayOf name part refusal) × (RefusesReplayOf name part refusal → RefusesReplayOf name bytes refusal)
   part_refuses_alike refusal = (
-    refused_alike name bytes part layout (tenant_config p.config p.tenant) own of_file of_part refusal,
-    refused_alike name part bytes layout (tenant_config p.config p.tenant) own of_part of_file refusal,
+    refused_alike name bytes part layout (tenant_config p.audit.config p.audit.tenant) own of_file of_part refusal,
+    refused_alike name part bytes layout (tenant_config p.audit.config p.audit.tenant) own of_part of_file refusal,
   )

@@ -202,13 +202,7 @@ module _ (name : List ℕ) where
         let f = found_in layout config rest s replay text machine names at same starts run in
         let last_is : last ≡ replayed_text (found_of f.new) = subst (λ (st : ReplayStage). SaysAtEnd st last) f.is ends.0 in
         replay_of_lines bytes lines layout (text ++ last) same_lines (sym (ap layout_of (append-nil lines)) ∙ told []) (record {
-          config = config;
-          records = rest;
-          slot = f.slot;
-          tenant = f.tenant;
-          head = ap (head_by layout) (sym (append-nil lines)) ∙ reads [] ∙ ap (Whole config) (append-nil rest);
-          there = f.there;
-          tenant_is = f.tenant_is;
+          audit = record { config = config; records = rest; slot = f.slot; tenant = f.tenant; head = ap (head_by layout) (sym (append-nil lines)) ∙ reads [] ∙ ap (Whole config) (append-nil rest); there = f.there; tenant_is = f.tenant_is };
           fits = or_false (starts_great_in layout f.tenant) (list_any (is_great_in layout) (alone_lines name rest)) f.starts f.small;
           found = f.found;
           finds = f.finds;
@@ -299,13 +293,7 @@ module _ (name : List ℕ) where
           reads (real ∷ rest) ∙ bad_first layout next (later + 1) real rest still stuck ∙ ap BadAt (sym (number ∙ counted-small layout next later n))
       refused_at real line rest UnknownTenant cut (config, found, none) = (config, rest, ends_here real line rest config cut found, none)
       refused_at real line rest ClockTooGreat cut (config, found, (slot, tenant, there, tenant_is, great)) = record {
-        config = config;
-        records = rest;
-        slot = slot;
-        tenant = tenant;
-        head = ends_here real line rest config cut found;
-        there = there;
-        tenant_is = tenant_is;
+        audit = record { config = config; records = rest; slot = slot; tenant = tenant; head = ends_here real line rest config cut found; there = there; tenant_is = tenant_is };
         great = ap (λ b. b || list_any (is_great_in layout) (alone_lines name rest)) great;
       }
 
@@ -332,13 +320,7 @@ module _ (name : List ℕ) where
         let own : bytes_eq (first_word real) name ≡ true = sym (same_own name real f.short) ∙ ap (λ l. bytes_eq (first_word l) name) (sym cut) ∙ ap (bytes_eq (first_word line)) (sym f.same) ∙ r.0 in
         let great : is_great_in layout real ≡ true = sym (great_cut layout real) ∙ ap (is_great_in layout) (sym cut) ∙ ap (λ (l : Layout). is_great_in l line) (sym f.layout_is) ∙ r.1 in
         subst (IsRefusedBy layout name (front ++ real ∷ rest)) (sym r.2) (record {
-          config = config;
-          records = passed ++ real ∷ rest;
-          slot = f.slot;
-          tenant = f.tenant;
-          head = reads (real ∷ rest);
-          there = f.there;
-          tenant_is = f.tenant_is;
+          audit = record { config = config; records = passed ++ real ∷ rest; slot = f.slot; tenant = f.tenant; head = reads (real ∷ rest); there = f.there; tenant_is = f.tenant_is };
           great = or_true (starts_great_in layout f.tenant) (list_any (is_great_in layout) (alone_lines name (passed ++ real ∷ rest))) (any_great name layout passed real rest own great);
         })
 

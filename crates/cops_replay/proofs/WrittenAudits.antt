@@ -45,13 +45,7 @@ says_same lines rest config nodes slot tenant head all e same =
     let text = tenants_text config nodes 0 config.tenants in
     let own : alone_lines tenant.name (lines_of text) ≡ map (record_line tenant.name) records = his_lines lines rest config nodes slot tenant head (formed config nodes all) e in
     subst (λ layout. IsReplayBy layout tenant.name (lines_of (audit_text config nodes)) (replayed_text (Same (length records)))) (sym (text_is_todays lines rest config text head)) (record {
-      config = config;
-      records = lines_of text;
-      slot = slot;
-      tenant = tenant;
-      head = text_reads_back lines rest config text head;
-      there = named_at config.tenants slot tenant known.apart e;
-      tenant_is = e;
+      audit = record { config = config; records = lines_of text; slot = slot; tenant = tenant; head = text_reads_back lines rest config text head; there = named_at config.tenants slot tenant known.apart e; tenant_is = e };
       fits = none_great_today (alone_lines tenant.name (lines_of text));
       found = Same (length records);
       finds = subst (λ its. FindsBy Today Today his 0 (fresh_nodes his) its (Same (length records))) (sym own)

@@ -15,7 +15,7 @@ use Rattle.cops_replay.specs.declared.refusals.PartRefusal.{PartRefusal}
 use Rattle.cops_replay.specs.declared.refusals.PartRefusal.TheVariants.{BadConfig, UnknownTenant}
 use Rattle.cops_replay.specs.AuditText.{ended, layout_line}
 use Rattle.cops_replay.specs.ReplayParts.{seen_lines}
-use Rattle.cops_replay.specs.ReplayText.{head_by, layout_of}
+use Rattle.cops_replay.specs.ReplayText.{IsAuditFor, head_by, layout_of}
 
 -- ---- the lines of a part
 
@@ -34,17 +34,10 @@ part_text layout config tenant own = flat_map ended (layout_lines layout ++ lone
 
 -- ---- the part of a file
 
--- the lines are an audit in this layout whose head has a tenant of this name; the part has the layout, the sizes, the tenant's line, and the lines
--- that begin with the name, in their order
+-- the part of an audit for a tenant of its head has the layout, the sizes, the tenant's line, and the lines that begin with the name, in their order
 pub record IsPartBy (layout : Layout) (name : List ℕ) (lines : List (List ℕ)) (part : List ℕ) : Type 0 where
-  pub config : Config
-  pub records : List (List ℕ)
-  pub slot : ℕ
-  pub tenant : Tenant
-  pub head : head_by layout lines ≡ Whole config records
-  pub there : slot_of_name config.tenants name ≡ Some slot
-  pub tenant_is : slice_get config.tenants slot ≡ Some tenant
-  pub text_is : part ≡ part_text layout config tenant (seen_lines name records)
+  pub audit : IsAuditFor layout name lines
+  pub text_is : part ≡ part_text layout audit.config audit.tenant (seen_lines name audit.records)
 
 abbrev pub IsPartOf : List ℕ → List ℕ → List ℕ → Type 0
 IsPartOf name bytes part = IsPartBy (layout_of (lines_of bytes)) name (lines_of bytes) part

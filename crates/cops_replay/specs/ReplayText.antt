@@ -110,9 +110,8 @@ head_by Today [] = BadAt 1
 head_by Today (line ∷ lines) = reading_from lines 2 AtStart
 head_by Early lines = old_head_of lines
 
--- the lines are an audit in this layout whose head has a tenant of this name, none of whose clocks is too great, and the text is the result of a
--- replay of its lines by the layout's own rules
-pub record IsReplayBy (layout : Layout) (name : List ℕ) (lines : List (List ℕ)) (text : List ℕ) : Type 0 where
+-- the lines are an audit in this layout whose head has a tenant of this name
+pub record IsAuditFor (layout : Layout) (name : List ℕ) (lines : List (List ℕ)) : Type 0 where
   pub config : Config
   pub records : List (List ℕ)
   pub slot : ℕ
@@ -120,21 +119,19 @@ pub record IsReplayBy (layout : Layout) (name : List ℕ) (lines : List (List �
   pub head : head_by layout lines ≡ Whole config records
   pub there : slot_of_name config.tenants name ≡ Some slot
   pub tenant_is : slice_get config.tenants slot ≡ Some tenant
-  pub fits : IsFalse (is_too_great_in layout tenant (alone_lines name records))
+
+-- none of the tenant's clocks is too great, and the text is the result of a replay of its lines by the layout's own rules
+pub record IsReplayBy (layout : Layout) (name : List ℕ) (lines : List (List ℕ)) (text : List ℕ) : Type 0 where
+  pub audit : IsAuditFor layout name lines
+  pub fits : IsFalse (is_too_great_in layout audit.tenant (alone_lines name audit.records))
   pub found : Replayed
-  pub finds : FindsBy layout layout (tenant_config config tenant) 0 (fresh_nodes (tenant_config config tenant)) (alone_lines name records) found
+  pub finds : FindsBy layout layout (tenant_config audit.config audit.tenant) 0 (fresh_nodes (tenant_config audit.config audit.tenant)) (alone_lines name audit.records) found
   pub text_is : text ≡ replayed_text found
 
--- the lines are an audit in this layout whose head has a tenant of this name, one of whose clocks is too great
+-- one of the tenant's clocks is too great
 pub record IsTooGreatBy (layout : Layout) (name : List ℕ) (lines : List (List ℕ)) : Type 0 where
-  pub config : Config
-  pub records : List (List ℕ)
-  pub slot : ℕ
-  pub tenant : Tenant
-  pub head : head_by layout lines ≡ Whole config records
-  pub there : slot_of_name config.tenants name ≡ Some slot
-  pub tenant_is : slice_get config.tenants slot ≡ Some tenant
-  pub great : IsTrue (is_too_great_in layout tenant (alone_lines name records))
+  pub audit : IsAuditFor layout name lines
+  pub great : IsTrue (is_too_great_in layout audit.tenant (alone_lines name audit.records))
 
 -- the first bad line of the head is this one; or the head is complete and has no tenant of the name, or a clock of the tenant is too great
 abbrev pub IsRefusedBy : Layout → List ℕ → List (List ℕ) → ReplayRefusal → Type 0
